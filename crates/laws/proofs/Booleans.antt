@@ -1,0 +1,50 @@
+-- Tests as facts: `T b` says that the test b passes. Assumes nothing.
+use mathlib.Core.Path.{_≡_, refl, sym, subst}
+use mathlib.Core.Bool.{Bool, true, false, not, _&&_}
+use lib.Dec.{T}
+
+pub T-eq : (a b : Bool) → (T a → T b) → (T b → T a) → a ≡ b
+T-eq true true f g = refl
+T-eq true false f g = absurd (f tt)
+T-eq false true f g = absurd (g tt)
+T-eq false false f g = refl
+
+pub T-true : {a : Bool} → T a → a ≡ true
+T-true {a = true} t = refl
+T-true {a = false} t = absurd t
+
+pub T-false : {a : Bool} → T (not a) → a ≡ false
+T-false {a = true} t = absurd t
+T-false {a = false} t = refl
+
+pub true-T : {a : Bool} → a ≡ true → T a
+true-T e = subst T (sym e) tt
+
+pub false-T : {a : Bool} → a ≡ false → T (not a)
+false-T e = subst (λ (b : Bool). T (not b)) (sym e) tt
+
+pub &&-left : (a b : Bool) → T (a && b) → T a
+&&-left true b t = tt
+&&-left false b t = t
+
+pub &&-right : (a b : Bool) → T (a && b) → T b
+&&-right true b t = t
+&&-right false b t = absurd t
+
+pub &&-both : (a b : Bool) → T a → T b → T (a && b)
+&&-both true b s t = t
+&&-both false b s t = s
+
+-- contraposition
+pub T-contra : (a b : Bool) → (T a → T b) → T (not b) → T (not a)
+T-contra true b f t = absurd (T-clash b t (f tt))
+  where
+    T-clash : (b : Bool) → T (not b) → T b → ⊥
+    T-clash true s t = s
+    T-clash false s t = t
+T-contra false b f t = tt
+
+-- a test that cannot pass is false
+pub never : (b : Bool) → (T b → ⊥) → false ≡ b
+never true f = absurd (f tt)
+never false f = refl

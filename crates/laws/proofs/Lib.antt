@@ -1,0 +1,7 @@
+-- The laws that every crate cites.
+pub mod Booleans
+pub mod Ranges
+pub mod Tables
+pub mod Tests
+pub mod Differences
+pub mod Signed
