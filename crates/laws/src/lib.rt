@@ -8,3 +8,10 @@ pub fn difference(a: u32, b: u32) -> i64
 {
     (a as i64) - (b as i64)
 }
+
+// A word as an index.
+pub fn wide(x: u32) -> usize
+    ensures { λ r. ⌜ r ≡ x ⌝ }
+{
+    x as usize
+}

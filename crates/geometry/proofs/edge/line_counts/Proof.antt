@@ -1,0 +1,28 @@
+-- `geometry::edge::line_counts` meets its contract: each way out rewrites with the tests that led there. Assumes nothing.
+use borrow.Author.Needs.{needs}
+use borrow.Author.Tests.{lt-leb, le-ltb, le-leb, lt-ltb}
+use mathlib.Core.Path.{ap, _∙_}
+use lib.IntN.{pos}
+use lib.Signed.{ltZ}
+use Rattle.laws.proofs.Signed.{read-back}
+use Rattle.geometry.specs.Edges.{lineCounts}
+use Rattle.geometry.proofs.edge.line_counts.Statement.{statement}
+use Rattle.geometry.proofs.edge.line_counts.Tie as tie
+
+returns : tie.Need-returns
+unfolding lineCounts
+returns c = simp (lt-leb _ _ (c .if1 .taken))
+
+returns-2 : tie.Need-returns-2
+unfolding lineCounts
+returns-2 c = simp (le-leb _ _ (c .before .if1 .left), le-ltb _ _ (c .if2 .taken))
+
+signed-product-requires : tie.Need-signed-product-requires
+signed-product-requires c κs = search needs
+
+returns-3 : tie.Need-returns-3
+unfolding lineCounts
+returns-3 c = simp (le-leb _ _ (c .before .before .if1 .left), lt-ltb _ _ (c .before .if2 .left)) (ap (ltZ (pos 0)) (read-back _ (c .signed-product .ok) ∙ c .signed-product .ensures))
+
+pub line-counts-spec : {M : Type 1} → statement M
+line-counts-spec = tie.close (tie.spec returns returns-2 signed-product-requires returns-3)

@@ -1,0 +1,5 @@
+-- Edges, windings, classes in a square and keys, in the order of document 01.
+pub mod Reach
+pub mod Edges
+pub mod FillRules
+pub mod Classes
