@@ -4,3 +4,4 @@ pub mod FillRules
 pub mod Segments
 pub mod Lines
 pub mod Classes
+pub mod Keys

@@ -3,3 +3,4 @@ pub mod Reach
 pub mod Edges
 pub mod FillRules
 pub mod Classes
+pub mod Keys

@@ -2,3 +2,4 @@
 pub mod class;
 pub mod edge;
 pub mod fill;
+pub mod morton;

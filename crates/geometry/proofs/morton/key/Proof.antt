@@ -1,0 +1,27 @@
+-- `geometry::morton::key` meets its contract. Assumes nothing.
+use borrow.Author.Needs.{needs}
+use native.Mathlib.Omega.{arith}
+use Rattle.geometry.specs.Keys.{keyOf}
+use Rattle.geometry.proofs.Keys.{spread-bound}
+use Rattle.geometry.proofs.morton.key.Statement.{statement}
+use Rattle.geometry.proofs.morton.key.Tie as tie
+
+spread-half-requires : tie.Need-spread-half-requires
+spread-half-requires c κs = search needs
+
+spread-half-requires-2 : tie.Need-spread-half-requires-2
+spread-half-requires-2 c κs = search needs
+
+mul-result : tie.Need-mul-result
+mul-result c = omega (arith, c .spread-half2 .ensures, spread-bound 16 (c .before .before .args .y))
+
+add-result : tie.Need-add-result
+add-result c = let a = c .before .before .args in omega (arith, c .before .spread-half .ensures, c .spread-half2 .ensures, spread-bound 16 (a .x), spread-bound 16 (a .y))
+
+returns : tie.Need-returns
+unfolding keyOf
+returns c = omega (arith, c .before .spread-half .ensures, c .spread-half2 .ensures)
+
+pub key-spec : {M : Type 1} → statement M
+key-spec =
+    tie.close (tie.spec spread-half-requires spread-half-requires-2 mul-result add-result returns)
