@@ -5,3 +5,4 @@ pub mod Segments
 pub mod Lines
 pub mod Classes
 pub mod Keys
+pub mod Windings

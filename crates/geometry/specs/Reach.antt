@@ -1,5 +1,8 @@
 -- The ranges that the code asks of its numbers. Assumes nothing.
+use mathlib.Core.Path.{_≡_}
+use mathlib.Core.List.{List}
 use Prim.Native.Nat.{ℕ, _+_, _≤_, _<_}
+use lib.ListN.{length, getD}
 use Rattle.geometry.specs.declared.class.Square.{Square}
 
 -- Corners have coordinates 0 to 65,536 and positions 0 to 65,535. Positions between grid points are whole numbers too, once every
@@ -24,3 +27,9 @@ pub record SquareIn (s : Square) : Type 0 where
   pub some-side : 0 < s .side
   pub right : s .x + s .side ≤ reach
   pub top : s .y + s .side ≤ reach
+
+-- the tables of corners
+pub record CornersIn (xs ys : List ℕ) : Type 0 where
+  pub paired : length xs ≡ length ys
+  pub each-x : (k : ℕ) → k < length xs → getD xs k 0 ≤ reach
+  pub each-y : (k : ℕ) → k < length xs → getD ys k 0 ≤ reach

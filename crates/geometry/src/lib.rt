@@ -3,3 +3,4 @@ pub mod class;
 pub mod edge;
 pub mod fill;
 pub mod morton;
+pub mod winding;

@@ -5,7 +5,7 @@ use mathlib.Core.Bool.{Bool, true, false, not, cond}
 use Prim.Native.Nat.{ℕ, zero, suc, _+_, _*_, _-_, _≤_, _<_}
 use native.Mathlib.Omega.{arith}
 use lib.Dec.{T, ltb, ltb→lt, nltb→le}
-use lib.IntN.{ℤ, pos, negsuc, negℤ, subℕ, _+ℤ_, _-ℤ_, _*ℤ_}
+use lib.IntN.{ℤ, pos, negsuc, negℤ, natAbs, subℕ, _+ℤ_, _-ℤ_, _*ℤ_}
 use lib.Signed.{mag, ltZ}
 use borrow.Author.Tests.{lt-ltb, le-ltb}
 
@@ -97,3 +97,14 @@ above-zero a b =
 -- the magnitude
 pub mag-sub : (a b m : ℕ) → a < m → b ≤ m → mag (subℕ a b) < m
 mag-sub a b m p q = sub-cases (λ z. mag z < m) a b (λ n h. omega arith) (λ n h. omega arith)
+
+-- a sum is no further from 0 than its two parts together
+pub abs-add : (a b : ℤ) → natAbs (a +ℤ b) ≤ natAbs a + natAbs b
+abs-add (pos n) (pos m) = omega arith
+abs-add (pos n) (negsuc m) = sub-cases (λ z. natAbs z ≤ n + suc m) n (suc m) (λ k h. omega arith) (λ k h. omega arith)
+abs-add (negsuc n) (pos m) = sub-cases (λ z. natAbs z ≤ suc n + m) m (suc n) (λ k h. omega arith) (λ k h. omega arith)
+abs-add (negsuc n) (negsuc m) = omega arith
+
+pub mag-abs : (z : ℤ) {m : ℕ} → natAbs z < m → mag z < m
+mag-abs (pos n) h = h
+mag-abs (negsuc n) h = omega arith

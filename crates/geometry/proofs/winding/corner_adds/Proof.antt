@@ -1,0 +1,24 @@
+-- `geometry::winding::corner_adds` meets its contract. Assumes nothing.
+use mathlib.Core.Path.{ap, _∙_}
+use native.Mathlib.Omega.{arith}
+use Rattle.laws.proofs.Signed.{read-back}
+use Rattle.geometry.proofs.Windings.{ends-in}
+use borrow.Author.Needs.{needs}
+use Rattle.geometry.proofs.winding.corner_adds.Statement.{statement}
+use Rattle.geometry.proofs.winding.corner_adds.Tie as tie
+
+next-corner-requires : tie.Need-next-corner-requires
+next-corner-requires c κs = search needs
+
+edge-between-requires : tie.Need-edge-between-requires
+edge-between-requires c κs = search needs
+
+edge-adds-requires : tie.Need-edge-adds-requires
+edge-adds-requires c κs = (ends-in _ _ (c .before .before .before .before .pre .0) _ _ (omega arith) (omega arith) _ (c .edge-between .ensures), search needs)
+
+returns : tie.Need-returns
+returns c = rw (← c .before .before .next-corner .ensures .0, ← c .before .edge-between .ensures) (read-back _ (c .edge-adds .ok) ∙ c .edge-adds .ensures)
+
+pub corner-adds-spec : {M : Type 1} → statement M
+corner-adds-spec =
+    tie.close (tie.spec next-corner-requires edge-between-requires edge-adds-requires returns)

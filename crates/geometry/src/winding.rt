@@ -1,0 +1,99 @@
+// The winding of an area at a position, with no tree.
+use crate::edge;
+use crate::edge::Edge;
+ghost use mathlib.Core.Path.{_≡_};
+ghost use lib.Dec.{T};
+ghost use lib.ListN.{length};
+ghost use Prim.Native.Nat.{_-_, _≤_, _<_};
+ghost use Rattle.geometry.specs.Reach.{EndsIn, PositionIn, CornersIn};
+ghost use Rattle.geometry.specs.Windings.{edgeBetween, nextCorner, linesFrom, adds, sumOf, winding, contoursTo, follow};
+
+// The edge drawn from corner p to corner q.
+pub fn edge_between(xs: &[u32], ys: &[u32], p: usize, q: usize) -> Edge
+    requires { ⌜ p < length (now xs) ⌝ }
+    requires { ⌜ p < length (now ys) ⌝ }
+    requires { ⌜ q < length (now xs) ⌝ }
+    requires { ⌜ q < length (now ys) ⌝ }
+    ensures { λ r. ⌜ r ≡ edgeBetween (now (xs .entry)) (now (ys .entry)) p q ⌝ }
+{
+    Edge {
+        x0: xs[p],
+        y0: ys[p],
+        x1: xs[q],
+        y1: ys[q],
+    }
+}
+
+// What an edge adds to the winding at (x, y).
+pub fn edge_adds(e: Edge, x: u32, y: u32) -> i64
+    requires { ⌜ EndsIn (e .x0) (e .y0) (e .x1) (e .y1) ⌝ }
+    requires { ⌜ PositionIn x y ⌝ }
+    ensures { λ r. ⌜ r ≡ adds e x y ⌝ }
+{
+    if edge::edge_counts(e, x, y) {
+        edge::edge_sign(e)
+    } else {
+        0
+    }
+}
+
+// The corner after corner i, of a contour that begins at corner `first` and ends before corner `end`.
+fn next_corner(first: usize, end: usize, i: usize) -> usize
+    requires { ⌜ first ≤ i ⌝ }
+    requires { ⌜ i < end ⌝ }
+    ensures { λ r. ⌜ r ≡ nextCorner first end i ⌝ }
+    ensures { λ r. ⌜ r < end ⌝ }
+{
+    if i + 1 < end { i + 1 } else { first }
+}
+
+// What the edge from corner i to the next one of its contour adds.
+fn corner_adds(xs: &[u32], ys: &[u32], first: usize, end: usize, i: usize, x: u32, y: u32) -> i64
+    requires { ⌜ CornersIn (now xs) (now ys) ⌝ }
+    requires { ⌜ first ≤ i ⌝ }
+    requires { ⌜ i < end ⌝ }
+    requires { ⌜ end ≤ length (now xs) ⌝ }
+    requires { ⌜ PositionIn x y ⌝ }
+    ensures { λ r. ⌜ r ≡ adds (edgeBetween (now (xs .entry)) (now (ys .entry)) i (nextCorner first end i)) x y ⌝ }
+{
+    let next = next_corner(first, end, i);
+    let e = edge_between(xs, ys, i, next);
+    edge_adds(e, x, y)
+}
+
+// The sum over the edges of one contour, which begins at corner `first` and ends before corner `end`.
+fn contour_winding(xs: &[u32], ys: &[u32], first: usize, end: usize, x: u32, y: u32) -> i64
+    requires { ⌜ CornersIn (now xs) (now ys) ⌝ }
+    requires { ⌜ first ≤ end ⌝ }
+    requires { ⌜ end ≤ length (now xs) ⌝ }
+    requires { ⌜ PositionIn x y ⌝ }
+    ensures { λ r. ⌜ r ≡ sumOf (now (xs .entry)) (now (ys .entry)) (linesFrom first first (end - first)) x y ⌝ }
+{
+    let mut sum: i64 = 0;
+    let mut i = first;
+    while i < end {
+        sum += corner_adds(xs, ys, first, end, i, x, y);
+        i += 1;
+    }
+    sum
+}
+
+// The winding at (x, y) of an area whose contours follow one another in the tables: the first begins at corner 0, and each ends before
+// its number in `ends`.
+pub fn area_winding(xs: &[u32], ys: &[u32], ends: &[u32], x: u32, y: u32) -> i64
+    requires { ⌜ CornersIn (now xs) (now ys) ⌝ }
+    requires { ⌜ T (follow 0 (length (now xs)) (now ends)) ⌝ }
+    requires { ⌜ PositionIn x y ⌝ }
+    ensures { λ r. ⌜ r ≡ winding (now (xs .entry)) (now (ys .entry)) (contoursTo 0 (now (ends .entry))) x y ⌝ }
+{
+    let mut sum: i64 = 0;
+    let mut first = 0;
+    let mut k = 0;
+    while k < ends.len() {
+        let end = laws::wide(ends[k]);
+        sum += contour_winding(xs, ys, first, end, x, y);
+        first = end;
+        k += 1;
+    }
+    sum
+}
