@@ -1,0 +1,66 @@
+// A pixel's sixteen samples, and the pixel that they make.
+use crate::colour::Channels;
+use crate::colour::Colour;
+ghost use mathlib.Core.Path.{_≡_};
+ghost use Prim.Native.Nat.{_≤_, _<_};
+ghost use Rattle.paint.specs.Colours.{ColourIn};
+ghost use Rattle.paint.specs.Pixels.{rowOffset, sampleX, sampleY, plus, sixteenth, SamplesIn};
+
+// The row offsets, for column offsets 0 to 15.
+const ROW_OFFSETS: [u32; 16] = [3, 8, 13, 2, 7, 12, 1, 6, 11, 0, 5, 10, 15, 4, 9, 14];
+
+// The position of a sample.
+pub struct Sample {
+    pub x: u32,
+    pub y: u32,
+}
+
+fn row_offset(i: u32) -> u32
+    requires { ⌜ i < 16 ⌝ }
+    ensures { λ r. ⌜ r ≡ rowOffset i ⌝ }
+    ensures { λ r. ⌜ r < 16 ⌝ }
+{
+    ROW_OFFSETS[i as usize]
+}
+
+// Sample i of a pixel of a row.
+pub fn sample_at(row: u32, pixel: u32, i: u32) -> Sample
+    requires { ⌜ row ≤ 4095 ⌝ }
+    requires { ⌜ pixel ≤ 4095 ⌝ }
+    requires { ⌜ i < 16 ⌝ }
+    ensures { λ r. ⌜ r .x ≡ sampleX pixel i ⌝ }
+    ensures { λ r. ⌜ r .y ≡ sampleY row i ⌝ }
+    ensures { λ r. ⌜ r .x < 65536 ⌝ }
+    ensures { λ r. ⌜ r .y < 65536 ⌝ }
+{
+    Sample {
+        x: 16 * pixel + i,
+        y: 16 * row + row_offset(i),
+    }
+}
+
+// One sample more, of at most sixteen.
+pub fn add_sample(sum: Channels, c: Colour) -> Channels
+    requires { ⌜ SamplesIn 15 sum ⌝ }
+    requires { ⌜ ColourIn c ⌝ }
+    ensures { λ r. ⌜ r ≡ plus sum c ⌝ }
+{
+    Channels {
+        red: sum.red + c.red,
+        green: sum.green + c.green,
+        blue: sum.blue + c.blue,
+    }
+}
+
+// The pixel of sixteen samples.
+pub fn pixel_of(sum: Channels) -> Colour
+    requires { ⌜ SamplesIn 16 sum ⌝ }
+    ensures { λ r. ⌜ r ≡ sixteenth sum ⌝ }
+    ensures { λ r. ⌜ ColourIn r ⌝ }
+{
+    Colour {
+        red: (sum.red + 8) / 16,
+        green: (sum.green + 8) / 16,
+        blue: (sum.blue + 8) / 16,
+    }
+}
