@@ -1,0 +1,3 @@
+-- The starred spots hold.
+pub mod Checked
+pub mod Tables

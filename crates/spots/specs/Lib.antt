@@ -1,0 +1,2 @@
+-- Document 01's starred spots.
+pub mod Starred
