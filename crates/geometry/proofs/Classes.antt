@@ -9,7 +9,7 @@ use mathlib.Core.Logic.{_⊎_, inl, inr}
 use Prim.Native.Nat.{ℕ, _+_, _≤_, _<_, min, max}
 use native.Mathlib.Omega.{arith}
 use native.Mathlib.Decide.{decLe, decLt}
-use lib.Dec.{T, T-not, leb, ltb, eqb}
+use lib.Dec.{T, T-not, leb, eqb}
 use borrow.Author.Tests.{lt-leb, le-leb, lt-ltb, le-ltb, eq-eqb, leb-true, leb-false, eqb-true}
 use Rattle.laws.proofs.Booleans.{T-true, T-false, true-T, false-T}
 use Rattle.geometry.specs.Edges.{isRow}

@@ -1,7 +1,7 @@
--- `odd` is what it should be: 0 is not odd, and one more changes it. Assumes nothing.
-use mathlib.Core.Path.{_≡_, refl, sym, ap, _∙_, subst}
+-- `odd` is what it should be: one more changes it; and what the machine tests. Assumes nothing.
+use mathlib.Core.Path.{_≡_, refl, sym, ap, _∙_}
 use mathlib.Core.Bool.{Bool, true, false, not}
-use Prim.Native.Nat.{ℕ, zero, suc, _+_, _*_, _-_, _/_, _%_, _^_, _≤_, _<_}
+use Prim.Native.Nat.{ℕ, zero, suc, _-_, _/_, _%_, _^_, _<_}
 use native.Mathlib.Omega.{arith}
 use native.Mathlib.Decide.{ℕ-discrete}
 use borrow.Author.Tests.{eq-eqb, ne-eqb}
@@ -11,9 +11,6 @@ use lib.Signed.{mag, remZ, quotZ}
 use mir.Syntax.{w64}
 use mir.Val.{ofZ}
 use Rattle.geometry.specs.FillRules.{odd}
-
-pub odd-zero : odd (pos 0) ≡ false
-odd-zero = refl
 
 step : (n : ℕ) → eqb (suc n % 2) 1 ≡ not (eqb (n % 2) 1)
 step n = go (ℕ-discrete (n % 2) 1)
@@ -41,26 +38,15 @@ pub zero-test : (z : ℤ) → mag z < 2 ^ 63 → eqb (ofZ w64 z) 0 ≡ eqb (natA
 zero-test (pos n) h = refl
 zero-test (negsuc n) h = ne-eqb (2 ^ 64 - suc n) 0 (omega arith) ∙ sym (ne-eqb (suc n) 0 (omega arith))
 
--- `winding % 2 != 0`: the remainder is 0, 1 or -1
+-- `winding % 2 != 0`: the remainder is 0, 1 or −1; g gives its bits
+bit : (g : ℕ → ℕ) → eqb (g 0) 0 ≡ true → eqb (g 1) 0 ≡ false → (m : ℕ) → m < 2 → not (eqb (g m) 0) ≡ eqb m 1
+bit g p q zero h = ap not p
+bit g p q (suc zero) h = ap not q
+bit g p q (suc (suc m)) h = absurd (omega arith)
+
 pub rem-test : (z : ℤ) → not (eqb (ofZ w64 (remZ z (pos 2))) 0) ≡ odd z
-rem-test (pos n) = bit (n % 2) (omega arith)
-  where
-    bit : (m : ℕ) → m < 2 → not (eqb m 0) ≡ eqb m 1
-    bit zero h = refl
-    bit (suc zero) h = refl
-    bit (suc (suc m)) h = absurd (big m h)
-      where
-        big : (m : ℕ) → suc (suc m) < 2 → ⊥
-        big m h = omega arith
-rem-test (negsuc n) = bit (suc n % 2) (omega arith)
-  where
-    bit : (m : ℕ) → m < 2 → not (eqb (ofZ w64 (negℤ (pos m))) 0) ≡ eqb m 1
-    bit zero h = refl
-    bit (suc zero) h = refl
-    bit (suc (suc m)) h = absurd (big m h)
-      where
-        big : (m : ℕ) → suc (suc m) < 2 → ⊥
-        big m h = omega arith
+rem-test (pos n) = bit (λ m. m) refl refl (n % 2) (omega arith)
+rem-test (negsuc n) = bit (λ m. ofZ w64 (negℤ (pos m))) refl refl (suc n % 2) (omega arith)
 
 -- half of a number that fits, fits
 pub half-fits : (z : ℤ) → mag z < 2 ^ 63 → mag (quotZ z (pos 2)) < 2 ^ 63

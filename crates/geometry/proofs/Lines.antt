@@ -1,7 +1,6 @@
 -- A drawn edge is a segment. Assumes nothing.
-use mathlib.Core.Path.{sym, subst, subst₃, fun-ext, _≡_}
-use mathlib.Core.Bool.{Bool}
-use Prim.Native.Nat.{ℕ, _+_, _-_, _≤_, _<_, min, max}
+use mathlib.Core.Path.{subst, subst₃, fun-ext, _≡_}
+use Prim.Native.Nat.{ℕ, _+_, _-_, _≤_, _<_}
 use native.Mathlib.Omega.{arith}
 use native.Mathlib.Decide.{decLe}
 use lib.Dec.{T, leb, leb→le, ltb→lt}

@@ -1,24 +1,23 @@
 -- Sums over the edges of contours: edge by edge, contour by contour, and how large they get. Assumes nothing.
-use mathlib.Core.Path.{_≡_, refl, sym, ap, ap₂, _∙_}
-use mathlib.Core.Bool.{Bool, true, false, cond, _&&_}
+use mathlib.Core.Path.{_≡_, refl, sym, ap, _∙_}
+use mathlib.Core.Bool.{Bool, true, false, cond}
 use mathlib.Core.List.{List, [], _∷_, _++_}
-use Prim.Native.Nat.{ℕ, zero, suc, _+_, _-_, _^_, _≤_, _<_}
+use Prim.Native.Nat.{ℕ, zero, suc, _+_, _-_, _≤_, _<_}
 use native.Mathlib.Numerals.{add-one}
 use native.Mathlib.Omega.{arith}
 use lib.Dec.{T, leb, ltb, leb→le}
 use lib.ListN.{length, getD, drop, drop-of-length-le}
 use lib.Seq.{drop-cons}
-use lib.IntN.{ℤ, pos, negsuc, natAbs, _+ℤ_, +ℤ-idl, +ℤ-idr, +ℤ-assoc}
-use lib.Signed.{mag}
+use lib.IntN.{ℤ, natAbs, _+ℤ_, +ℤ-idl, +ℤ-assoc}
 use mir.Syntax.{w64}
-use mir.Val.{SFits, toZ, ofZ}
+use mir.Val.{toZ}
 use borrow.Author.Tests.{lt-ltb, le-ltb}
 use Rattle.laws.proofs.Booleans.{&&-left, &&-right}
-use Rattle.laws.proofs.Differences.{abs-add, mag-abs}
+use Rattle.laws.proofs.Differences.{abs-add}
 use Rattle.laws.proofs.Signed.{Running, running-end}
 use Rattle.geometry.specs.Reach.{EndsIn, CornersIn}
 use Rattle.geometry.specs.Edges.{counts, sign}
-use Rattle.geometry.specs.Windings.{edgeBetween, Line, line, Contour, contour, linesFrom, linesOf, nextCorner, adds, sumOf, winding, contoursTo, follow}
+use Rattle.geometry.specs.Windings.{edgeBetween, Line, line, linesFrom, linesOf, nextCorner, adds, sumOf, winding, contoursTo, follow}
 use Rattle.geometry.specs.declared.edge.Edge.{Edge}
 
 -- ---- how large a sum gets

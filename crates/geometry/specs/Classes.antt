@@ -2,7 +2,7 @@
 -- with the rows b to d − 1. The square has the low corner (X, Y) and the side S. Assumes nothing.
 use mathlib.Core.Bool.{Bool, true, false, not, cond, _&&_, _||_}
 use Prim.Native.Nat.{ℕ, _+_, _≤_, _<_, min, max}
-use lib.Dec.{leb, ltb, eqb}
+use lib.Dec.{leb, eqb}
 use Rattle.laws.specs.Ranges.{allIn}
 use Rattle.geometry.specs.Edges.{isRow, counts, firstRow, endRow}
 use Rattle.geometry.specs.declared.class.Class.{Class}

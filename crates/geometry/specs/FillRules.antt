@@ -1,6 +1,6 @@
 -- Document 01, "Winding and meaning": the fill rules. Assumes nothing.
 use mathlib.Core.Bool.{Bool, not}
-use Prim.Native.Nat.{ℕ, _%_}
+use Prim.Native.Nat.{_%_}
 use lib.Dec.{eqb}
 use lib.IntN.{ℤ, natAbs}
 use Rattle.geometry.specs.declared.fill.FillRule.{FillRule}

@@ -1,5 +1,5 @@
 -- Weights, what is left, and the range of the sums. Assumes nothing.
-use mathlib.Core.Path.{_≡_, refl, sym, ap, ap₂, _∙_}
+use mathlib.Core.Path.{_≡_, refl, ap, _∙_}
 use mathlib.Core.Bool.{Bool, true, false, cond}
 use Prim.Native.Nat.{ℕ, zero, suc, _+_, _*_, _-_, _/_, _^_, _≤_, _<_}
 use native.Mathlib.Nat.{mul-le-mul, le-refl, zero-add, div-le-self}
@@ -8,12 +8,10 @@ use native.Mathlib.Omega.{arith}
 use lib.Count.{trailingZeros}
 use Rattle.paint.specs.Sets.{has, eachFrom, each}
 use Rattle.paint.specs.Areas.{PaintIn}
-use Rattle.paint.specs.Colours.{weight, addBy, add, start, mixOf, MixIn, Shares, shares, left, weights, share, sharesOf}
+use Rattle.paint.specs.Colours.{weight, add, start, mixOf, MixIn, Shares, shares, left, weights, share, sharesOf}
 use Rattle.paint.proofs.Sets.{has-below, lowest-some, lowest-has, eachLeft, each-turn, each-done, each-begin, left-has}
 use Rattle.paint.specs.declared.area.Paint.{Paint}
 use Rattle.paint.specs.declared.colour.Mix.{Mix}
-use Rattle.paint.specs.declared.colour.Channels.{Channels}
-use Rattle.paint.specs.declared.colour.Colour.{Colour}
 
 -- a weight is at most what is left
 pub weight-le : (left alpha : ℕ) → alpha ≤ 255 → weight left alpha ≤ left

@@ -1,7 +1,7 @@
 -- Document 01, "Winding and meaning": the shown set as a 64-bit mask. Assumes nothing.
-use mathlib.Core.Bool.{Bool, true, false, cond, _||_}
+use mathlib.Core.Bool.{Bool, false, cond, _||_}
 use mathlib.Core.List.{List, [], _∷_}
-use Prim.Native.Nat.{ℕ, zero, suc, _+_, _*_, _/_, _%_, _^_}
+use Prim.Native.Nat.{ℕ, zero, suc, _/_, _%_, _^_}
 use lib.Dec.{eqb}
 use lib.Bits.{bitOr}
 

@@ -1,6 +1,5 @@
 -- Tables that are written out are in range: one test over each. Assumes nothing.
-use mathlib.Core.Path.{_≡_, refl}
-use mathlib.Core.Bool.{true}
+use mathlib.Core.Path.{_≡_}
 use mathlib.Core.List.{List}
 use Prim.Native.Nat.{ℕ, _+_, _*_, _^_, _≤_, _<_}
 use native.Mathlib.Omega.{arith}
@@ -9,8 +8,7 @@ use lib.ListN.{length, getD}
 use Rattle.laws.specs.Tables.{allEntries}
 use Rattle.laws.proofs.Tables.{entry-at}
 use Rattle.geometry.specs.Reach.{reach, CornersIn}
-use Rattle.paint.specs.Sets.{has}
-use Rattle.paint.specs.Areas.{PaintIn, Painted, paintAt}
+use Rattle.paint.specs.Areas.{Painted}
 use Rattle.paint.proofs.Sets.{has-below}
 
 -- every number of a list is at most m

@@ -6,7 +6,7 @@ use Prim.Native.Nat.{ℕ}
 use lib.Dec.{eqb}
 use lib.IntN.{ℤ, pos}
 use Rattle.laws.specs.Integers.{eqZ}
-use Rattle.geometry.specs.Windings.{Contour, contour, winding}
+use Rattle.geometry.specs.Windings.{contour, winding}
 use Rattle.geometry.specs.Keys.{keyOf}
 use Rattle.paint.specs.Areas.{paintAt, materialOf}
 use Rattle.paint.specs.Colours.{mixOf, colourOf}

@@ -202,13 +202,13 @@ fn classes() {
 
 // Black; red before black; two areas of alpha 254; no area.
 fn colours() {
-    write_shown(&[0u32, 0, 128, 0, 0, 0, 7, 0], 1);
-    write_shown(
-        &[0u32, 0, 128, 255, 0, 0, 8, 0, 0, 0, 128, 0, 0, 0, 7, 0],
-        3,
-    );
-    write_shown(&[0u32, 0, 254, 1, 2, 3, 4, 0, 0, 0, 254, 1, 2, 3, 5, 0], 3);
-    write_shown(&[0u32; 0], 0);
+    let black = [0u32, 0, 128, 0, 0, 0, 7, 0];
+    write_shown(&black, 1);
+    let red_black = [0u32, 0, 128, 255, 0, 0, 8, 0, 0, 0, 128, 0, 0, 0, 7, 0];
+    write_shown(&red_black, 3);
+    let two = [0u32, 0, 254, 1, 2, 3, 4, 0, 0, 0, 254, 1, 2, 3, 5, 0];
+    write_shown(&two, 3);
+    write_shown(&[], 0);
 }
 
 fn main() {

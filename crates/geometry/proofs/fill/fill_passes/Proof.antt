@@ -1,16 +1,13 @@
-use mathlib.Core.Path.{_≡_, sym, ap, _∙_}
+use mathlib.Core.Path.{_≡_, ap}
 use mathlib.Core.Bool.{not}
 use native.Mathlib.Omega.{arith}
 use mir.Syntax.{w64}
 use mir.Val.{toZ, ofZ}
 use mir.ValLaws.{toZ-ofZ}
-use Rattle.geometry.specs.FillRules.{passes, odd}
 use Rattle.geometry.proofs.FillRules.{zero-test, rem-test, half-fits}
 use borrow.Author.Needs.{needs}
 use Rattle.geometry.proofs.fill.fill_passes.Statement.{statement}
 use Rattle.geometry.proofs.fill.fill_passes.Tie as tie
-use Rattle.geometry.proofs.fill.fill_passes.Reads as reads
-use Rattle.geometry.proofs.fill.fill_passes.Lts as lts
 
 back : (c : tie.Start) → toZ w64 (ofZ w64 (c .args .winding)) ≡ c .args .winding
 back c = toZ-ofZ w64 (c .args .winding) (c .fits .winding)

@@ -1,10 +1,9 @@
 -- `geometry::winding::contour_winding` meets its contract: the running sum and the edges that are left make the whole. Assumes nothing.
 use borrow.Author.Needs.{needs}
-use mathlib.Core.Path.{_≡_, ap, sym, _∙_}
 use Prim.Native.Nat.{_+_, _-_, _≤_}
 use native.Mathlib.Omega.{arith}
 use denote.Ref.{now}
-use Rattle.laws.proofs.Signed.{Running, running-start, running-fits, running-more, running-end}
+use Rattle.laws.proofs.Signed.{Running, running-start, running-fits, running-more}
 use Rattle.geometry.specs.Windings.{edgeBetween, nextCorner, linesFrom, adds, sumOf}
 use Rattle.geometry.proofs.Windings.{adds-abs, sum-step, sum-done}
 use Rattle.geometry.proofs.winding.contour_winding.Statement.{statement}

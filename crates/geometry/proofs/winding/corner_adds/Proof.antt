@@ -1,5 +1,5 @@
 -- `geometry::winding::corner_adds` meets its contract. Assumes nothing.
-use mathlib.Core.Path.{ap, _∙_}
+use mathlib.Core.Path.{_∙_}
 use native.Mathlib.Omega.{arith}
 use Rattle.laws.proofs.Signed.{read-back}
 use Rattle.geometry.proofs.Windings.{ends-in}

@@ -1,9 +1,6 @@
 -- `paint::area::material_of` meets its contract. Assumes nothing.
-use mathlib.Core.Path.{ap, sym, subst, _≡_, _∙_}
-use mathlib.Core.Bool.{true}
-use Prim.Native.Nat.{ℕ}
+use mathlib.Core.Path.{ap, _∙_}
 use native.Mathlib.Omega.{arith}
-use Rattle.paint.specs.Sets.{has}
 use Rattle.paint.proofs.Sets.{lowest-has, material-some, material-none}
 use borrow.Author.Needs.{needs}
 use Rattle.paint.proofs.area.material_of.Statement.{statement}

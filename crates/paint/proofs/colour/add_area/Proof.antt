@@ -1,6 +1,4 @@
 -- `paint::colour::add_area` meets its contract. Assumes nothing.
-use mathlib.Core.Path.{_≡_, sym}
-use Rattle.paint.specs.Colours.{add}
 use Rattle.paint.proofs.Colours.{add-in}
 use borrow.Author.Needs.{needs}
 use Rattle.paint.proofs.colour.add_area.Statement.{statement}

@@ -1,9 +1,9 @@
 -- `paint::colour::channel_sums` meets its contract: areas are taken from the lowest up, and those that are left make the whole. Assumes nothing.
 use borrow.Author.Needs.{needs}
-use mathlib.Core.Path.{_≡_, ap, sym, subst, _∙_}
+use mathlib.Core.Path.{ap, _∙_}
 use native.Mathlib.Omega.{arith}
 use denote.Ref.{now}
-use Rattle.paint.specs.Areas.{paintAt, PaintIn}
+use Rattle.paint.specs.Areas.{paintAt}
 use Rattle.paint.specs.Colours.{add, over}
 use Rattle.paint.proofs.Colours.{Mixing, mix-begin, mix-bit, mix-area, mix-number, mix-less, mix-turn, mix-done}
 use Rattle.paint.proofs.colour.channel_sums.Statement.{statement}
