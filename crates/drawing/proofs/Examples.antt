@@ -1,0 +1,65 @@
+-- Small files, computed.
+use mathlib.Core.Path.{_≡_, refl}
+use mathlib.Core.List.{List, [], _∷_}
+use Rattle.refusals.specs.declared.Refusal.the-variants.{Length, Field, Unfit, Short, Limit}
+use Rattle.records.specs.declared.Record.{Record}
+use Rattle.records.specs.declared.Record.the-variants.{Area, First, Next, Open, Bar, Close}
+use Rattle.records.specs.Record.{areaRange, cornerOf, delimiterOf}
+use Rattle.records.specs.Bytes.{decodedRaw, unnamed, named, fieldsOf}
+use Rattle.grammar.specs.declared.Verdict.the-variants.{Accepted, Refused}
+use Rattle.grammar.specs.Grammar.{course, checked, counts}
+use Rattle.reader.specs.Words.{spread, fileOf}
+use Rattle.reader.specs.Reading.{decodedFrom, verdictOf}
+
+paint : Record
+paint = Area (record { role = 0; rule = 0; alpha = 255; red = 1; green = 2; blue = 3; material = 500 })
+
+clip : Record
+clip = Area (record { role = 1; rule = 1; alpha = 0; red = 0; green = 0; blue = 0; material = 0 })
+
+-- 8 opening brackets in front
+deep : List Record → List Record
+deep rs = Open ∷ Open ∷ Open ∷ Open ∷ Open ∷ Open ∷ Open ∷ Open ∷ rs
+
+module _ where
+  empty : verdictOf [] ≡ Accepted (counts 0 0 0)
+  unfolding verdictOf decodedFrom course checked
+  empty = refl
+
+  triangle : verdictOf (fileOf (paint ∷ First 0 0 ∷ Next 10 0 ∷ Next 10 65536 ∷ [])) ≡ Accepted (counts 4 1 3)
+  unfolding paint verdictOf decodedFrom course checked spread decodedRaw unnamed named fieldsOf areaRange cornerOf delimiterOf
+  triangle = refl
+
+  group : verdictOf (fileOf (Open ∷ clip ∷ Bar ∷ paint ∷ Close ∷ [])) ≡ Accepted (counts 5 2 0)
+  unfolding paint clip verdictOf decodedFrom course checked spread decodedRaw unnamed named fieldsOf areaRange cornerOf delimiterOf
+  group = refl
+
+  short-end : verdictOf (fileOf (paint ∷ First 0 0 ∷ Next 10 0 ∷ [])) ≡ Refused Short 3
+  unfolding paint verdictOf decodedFrom course checked spread decodedRaw unnamed named fieldsOf areaRange cornerOf delimiterOf
+  short-end = refl
+
+  -- a first corner straight after a first corner fits, and then ends a contour of one
+  twice : verdictOf (fileOf (paint ∷ First 0 0 ∷ First 10 0 ∷ [])) ≡ Refused Short 2
+  unfolding paint verdictOf decodedFrom course checked spread decodedRaw unnamed named fieldsOf areaRange cornerOf delimiterOf
+  twice = refl
+
+  alone : verdictOf (fileOf (First 0 0 ∷ [])) ≡ Refused Unfit 0
+  unfolding verdictOf decodedFrom course checked spread decodedRaw unnamed named fieldsOf areaRange cornerOf delimiterOf
+  alone = refl
+
+  -- open at the end, and short: 4 before 5
+  unclosed : verdictOf (fileOf (Open ∷ clip ∷ First 0 0 ∷ [])) ≡ Refused Unfit 3
+  unfolding clip verdictOf decodedFrom course checked spread decodedRaw unnamed named fieldsOf areaRange cornerOf delimiterOf
+  unclosed = refl
+
+  ninth : verdictOf (fileOf (deep (Open ∷ []))) ≡ Refused Limit 8
+  unfolding deep verdictOf decodedFrom course checked spread decodedRaw unnamed named fieldsOf areaRange cornerOf delimiterOf
+  ninth = refl
+
+  far : verdictOf (fileOf (paint ∷ First 0 65537 ∷ [])) ≡ Refused Field 1
+  unfolding paint verdictOf decodedFrom course checked spread decodedRaw unnamed named fieldsOf areaRange cornerOf delimiterOf
+  far = refl
+
+  odd : verdictOf (0 ∷ []) ≡ Refused Length 0
+  unfolding verdictOf
+  odd = refl

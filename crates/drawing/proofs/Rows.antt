@@ -1,0 +1,214 @@
+-- The loops over a drawing's tables, as plain laws.
+use Prim.Native.Nat.{ℕ, zero, suc, _+_, _*_, _-_, _≤_, _<_}
+use mathlib.Core.Path.{_≡_, refl, sym, ap, _∙_, subst}
+use mathlib.Core.Bool.{Bool, true, false, cond}
+use mathlib.Core.List.{List, [], _∷_}
+use native.Mathlib.Omega.{arith}
+use native.Mathlib.Nat.{le-refl}
+use lib.ListN.{length}
+use lib.Seq.{sets, length-sets}
+use lib.Dec.{eqb, leb}
+use borrow.Author.Tests.{leb-true, eqb-true}
+use Rattle.records.specs.declared.Raw.{Raw}
+use Rattle.refusals.specs.declared.Refusal.{Refusal}
+use Rattle.refusals.specs.declared.Refusal.the-variants.{Argument, Broken}
+use Rattle.records.specs.declared.Record.{Record}
+use Rattle.records.specs.declared.Record.the-variants.{Area, First, Next, Open, Bar, Close}
+use Rattle.records.specs.declared.Decoded.{Decoded}
+use Rattle.records.specs.declared.Decoded.the-variants.{Good, Bad}
+use Rattle.records.specs.Bytes.{rawOf, rawBytes, putRaw, bytesOf}
+use Rattle.records.proofs.Laws.{put-is}
+use Rattle.grammar.specs.declared.Counts.{Counts}
+use Rattle.grammar.specs.declared.Scan.{Scan}
+use Rattle.grammar.specs.declared.Verdict.{Verdict}
+use Rattle.grammar.specs.declared.Verdict.the-variants.{Accepted, Refused}
+use Rattle.grammar.specs.Grammar.{checked}
+use Rattle.grammar.specs.Machine.{advanceN, startN, scanN, isStopped}
+use Rattle.grammar.specs.Lists.{goods, areaOne, cornerOne}
+use Rattle.grammar.proofs.Laws.{sound, stopped-stays}
+use Rattle.drawing.specs.declared.Cursor.{Cursor}
+use Rattle.reader.specs.Words.{spread, onGood, fileOf}
+use Rattle.reader.specs.Reading.{holds}
+use Rattle.drawing.specs.Tables.{Tables, Ready, cursor, rowOf, pastOf, rebuilt, usedOf, rebuiltIn, agreed, countsJudged, drawingOf}
+use Rattle.reader.proofs.Writes.{length-on, turn-table}
+use Rattle.reader.proofs.Files.{file-length, Holds, held}
+
+pub re-step : (t : Tables) (u : Counts) (i e : ℕ) (c : Cursor) → i < e → rebuilt t u i c (e - i) ≡ rowOf t u i c ∷ rebuilt t u (i + 1) (pastOf c (rowOf t u i c)) (e - (i + 1))
+unfolding rebuilt
+re-step t u i e c h =
+    let q : e - i ≡ suc (e - (i + 1)) = omega arith in
+    rw q
+
+pub re-none : (t : Tables) (u : Counts) (i e : ℕ) (c : Cursor) → e ≤ i → rebuilt t u i c (e - i) ≡ []
+unfolding rebuilt
+re-none t u i e c h =
+    let q : e - i ≡ 0 = omega arith in
+    rw q
+
+pub re-zero : (t : Tables) (u : Counts) (c : Cursor) (n : ℕ) → rebuilt t u 0 c (n - 0) ≡ rebuilt t u 0 c n
+re-zero t u c n = ap (rebuilt t u 0 c) (omega arith)
+
+pub re-length : (t : Tables) (u : Counts) (i : ℕ) (c : Cursor) (n : ℕ) → length (rebuilt t u i c n) ≡ n
+unfolding rebuilt
+re-length t u i c zero = refl
+re-length t u i c (suc n) = ap suc (re-length t u (i + 1) (pastOf c (rowOf t u i c)) n)
+
+area-one : (r : Record) → areaOne r ≤ 1
+area-one (Area f) = omega arith
+area-one (First x y) = omega arith
+area-one (Next x y) = omega arith
+area-one Open = omega arith
+area-one Bar = omega arith
+area-one Close = omega arith
+
+corner-one : (r : Record) → cornerOne r ≤ 1
+corner-one (Area f) = omega arith
+corner-one (First x y) = omega arith
+corner-one (Next x y) = omega arith
+corner-one Open = omega arith
+corner-one Bar = omega arith
+corner-one Close = omega arith
+
+pub past-area : (i : ℕ) (c c′ : Cursor) (d : Decoded) → c .area ≤ i → c′ ≡ pastOf c d → c′ .area ≤ i + 1
+past-area i c c′ (Good r) h e = rw e (omega (arith, area-one r))
+past-area i c c′ (Bad x) h e = rw e (omega arith)
+
+pub past-corner : (i : ℕ) (c c′ : Cursor) (d : Decoded) → c .corner ≤ i → c′ ≡ pastOf c d → c′ .corner ≤ i + 1
+past-corner i c c′ (Good r) h e = rw e (omega (arith, corner-one r))
+past-corner i c c′ (Bad x) h e = rw e (omega arith)
+
+-- ---- the check
+pub walk-begin : (t : Tables) (u : Counts) (n : ℕ) (s : Scan) → s ≡ startN → scanN s 0 (rebuilt t u 0 (cursor 0 0) (n - 0)) ≡ scanN startN 0 (rebuilt t u 0 (cursor 0 0) n)
+walk-begin t u n s e = rw (e, re-zero t u (cursor 0 0) n)
+
+pub walk-turn : (t : Tables) (u : Counts) (i e : ℕ) (s s′ whole : Scan) (d : Decoded) (c c′ : Cursor) → i < e → d ≡ rowOf t u i c → s′ ≡ advanceN s d i → c′ ≡ pastOf c d
+    → scanN s i (rebuilt t u i c (e - i)) ≡ whole → scanN s′ (i + 1) (rebuilt t u (i + 1) c′ (e - (i + 1))) ≡ whole
+unfolding scanN
+walk-turn t u i e s s′ whole d c c′ h p q r inv = rw (q, r, p) (rw (re-step t u i e c h) at inv)
+
+pub walk-stops : (t : Tables) (u : Counts) (i e : ℕ) (s s′ whole : Scan) (d : Decoded) (c : Cursor) (b : Bool) → i < e → d ≡ rowOf t u i c → s′ ≡ advanceN s d i → b ≡ isStopped s′ → b ≡ true
+    → scanN s i (rebuilt t u i c (e - i)) ≡ whole → s′ ≡ whole
+walk-stops t u i e s s′ whole d c b h p q k v inv = sym (stopped-stays s′ (i + 1) (rebuilt t u (i + 1) (pastOf c d) (e - (i + 1))) (sym k ∙ v)) ∙ walk-turn t u i e s s′ whole d c (pastOf c d) h p q refl inv
+
+pub walk-done : (t : Tables) (u : Counts) (i e : ℕ) (s whole : Scan) (c : Cursor) → e ≤ i → scanN s i (rebuilt t u i c (e - i)) ≡ whole → s ≡ whole
+unfolding scanN
+walk-done t u i e s whole c h inv = rw (re-none t u i e c h) at inv
+
+-- ---- the bytes: the buffer is b and was b₀; the records from i to n are to come, and their bytes go to `at`
+pub record Copying (t : Tables) (u : Counts) (n : ℕ) (b₀ b : List ℕ) (i at : ℕ) (c : Cursor) : Type 0 where
+  pub size : length b ≡ length b₀
+  pub room : at + length (spread bytesOf (goods (rebuilt t u i c (n - i)))) ≤ length b
+  pub rest : sets b at (spread bytesOf (goods (rebuilt t u i c (n - i)))) ≡ sets b₀ 0 (spread bytesOf (goods (rebuilt t u 0 (cursor 0 0) n)))
+
+goods-length : (ds : List Decoded) → length (goods ds) ≤ length ds
+goods-length [] = le-refl _
+goods-length (Good r ∷ ds) = omega (arith, goods-length ds)
+goods-length (Bad x ∷ ds) = omega (arith, goods-length ds)
+
+pub copy-begin : (t : Tables) (u : Counts) (n : ℕ) (b : List ℕ) → n * 16 ≤ length b → Copying t u n b b 0 0 (cursor 0 0)
+copy-begin t u n b h =
+    let ds : List Decoded = rebuilt t u 0 (cursor 0 0) n in
+    record {
+      size = refl;
+      room = rw (re-zero t u (cursor 0 0) n) (omega (arith, file-length (goods ds), goods-length ds, re-length t u 0 (cursor 0 0) n));
+      rest = rw (re-zero t u (cursor 0 0) n);
+    }
+
+abbrev coming : Tables → Counts → ℕ → ℕ → Cursor → Decoded → List Decoded
+coming t u n i c d = rebuilt t u (i + 1) (pastOf c d) (n - (i + 1))
+
+now-room : (t : Tables) (u : Counts) (n : ℕ) (b₀ b : List ℕ) (i at : ℕ) (c : Cursor) (d : Decoded) → i < n → d ≡ rowOf t u i c → Copying t u n b₀ b i at c → at + length (spread bytesOf (goods (d ∷ coming t u n i c d))) ≤ length b
+now-room t u n b₀ b i at c d h p k = subst (λ (x : Decoded). at + length (spread bytesOf (goods (x ∷ coming t u n i c x))) ≤ length b) (sym p) (rw (re-step t u i n c h) at (k .room))
+
+now-rest : (t : Tables) (u : Counts) (n : ℕ) (b₀ b : List ℕ) (i at : ℕ) (c : Cursor) (d : Decoded) → i < n → d ≡ rowOf t u i c → Copying t u n b₀ b i at c
+    → sets b at (spread bytesOf (goods (d ∷ coming t u n i c d))) ≡ sets b₀ 0 (spread bytesOf (goods (rebuilt t u 0 (cursor 0 0) n)))
+now-rest t u n b₀ b i at c d h p k = subst (λ (x : Decoded). sets b at (spread bytesOf (goods (x ∷ coming t u n i c x))) ≡ sets b₀ 0 (spread bytesOf (goods (rebuilt t u 0 (cursor 0 0) n)))) (sym p) (rw (re-step t u i n c h) at (k .rest))
+
+pub copy-room : (t : Tables) (u : Counts) (n : ℕ) (b₀ b : List ℕ) (i at : ℕ) (c : Cursor) (d : Decoded) → i < n → d ≡ rowOf t u i c → Copying t u n b₀ b i at c → at + length (onGood bytesOf d) ≤ length b
+copy-room t u n b₀ b i at c d h p k = omega (arith, now-room t u n b₀ b i at c d h p k, length-on bytesOf d (coming t u n i c d))
+
+pub copy-turn : (t : Tables) (u : Counts) (n : ℕ) (b₀ b b′ : List ℕ) (i at at′ : ℕ) (c c′ : Cursor) (d : Decoded) → i < n → d ≡ rowOf t u i c → at′ ≡ at + length (onGood bytesOf d) → b′ ≡ sets b at (onGood bytesOf d) → c′ ≡ pastOf c d
+    → Copying t u n b₀ b i at c → Copying t u n b₀ b′ (i + 1) at′ c′
+copy-turn t u n b₀ b b′ i at at′ c c′ d h p q r s k =
+    let ds : List Decoded = coming t u n i c d in
+    let l : length b′ ≡ length b = ap length r ∙ length-sets b at (onGood bytesOf d) in
+    rw s
+    (record {
+      size = l ∙ k .size;
+      room = omega (arith, now-room t u n b₀ b i at c d h p k, length-on bytesOf d ds);
+      rest = turn-table bytesOf b b′ at at′ d ds r q ∙ now-rest t u n b₀ b i at c d h p k;
+    })
+
+pub copy-done : (t : Tables) (u : Counts) (n : ℕ) (b₀ b : List ℕ) (i at : ℕ) (c : Cursor) → n ≤ i → Copying t u n b₀ b i at c → b ≡ sets b₀ 0 (spread bytesOf (goods (rebuilt t u 0 (cursor 0 0) n)))
+unfolding spread
+copy-done t u n b₀ b i at c h k = rw (re-none t u i n c h) at (k .rest)
+
+-- ---- one record's bytes
+pub bytes-table : (t t′ : List ℕ) (at : ℕ) (d : Decoded) (r : Record) (w : Raw) → d ≡ Good r → w ≡ rawOf r → t′ ≡ putRaw t at w → t′ ≡ sets t at (onGood bytesOf d)
+bytes-table t t′ at d r w q e h = rw q (h ∙ put-is t at w ∙ ap (λ (v : Raw). sets t at (rawBytes v)) e)
+
+-- ---- what a drawing that passes has
+refused-not : {A : Type 0} (x : Refusal) (i : ℕ) (k : Counts) → Refused x i ≡ Accepted k → A
+refused-not x i k e = absurd (let z : _≡_ {A = ℕ} 0 1 = cc in omega arith)
+
+pub record Drawn (t : Tables) (k : Counts) : Type 0 where
+  pub used : k ≡ usedOf (t .plan)
+  pub same : length (t .xs) ≡ length (t .ys)
+  pub below : k .records ≤ 4096
+  pub room : Holds (length (t .plan)) (length (t .areas)) (length (t .xs)) k
+  pub fold : checked (rebuiltIn t) ≡ Accepted k
+
+agreed-is : (v : Verdict) (u k : Counts) (ds : List Decoded) → checked ds ≡ v → length ds ≡ u .records → agreed v u ≡ Accepted k → (k ≡ u) × (checked ds ≡ Accepted k)
+agreed-is (Refused r i) u k ds e l h = refused-not Broken 0 k h
+agreed-is (Accepted j) u k ds e l h = go (eqb (j .areas) (u .areas)) (eqb (j .corners) (u .corners)) refl refl h
+  where
+    same : j .areas ≡ u .areas → j .corners ≡ u .corners → j ≡ u
+    same p q = λ i. record { records = (sound ds j e .records ∙ l) i; areas = p i; corners = q i }
+
+    is : Accepted j ≡ Accepted k → j ≡ k
+    is x = cc
+
+    go : (a b : Bool) → eqb (j .areas) (u .areas) ≡ a → eqb (j .corners) (u .corners) ≡ b → cond a (cond b (Accepted j) (Refused Broken 0)) (Refused Broken 0) ≡ Accepted k → (k ≡ u) × (checked ds ≡ Accepted k)
+    go false b p q x = refused-not Broken 0 k x
+    go true false p q x = refused-not Broken 0 k x
+    go true true p q x = (sym (is x) ∙ same (eqb-true _ _ p) (eqb-true _ _ q), e ∙ x)
+
+counts-drawn : (t : Tables) (u k : Counts) → countsJudged t u ≡ Accepted k → (k ≡ u) × (u .records ≤ 4096) × Holds (length (t .plan)) (length (t .areas)) (length (t .xs)) u × (checked (rebuilt t u 0 (cursor 0 0) (u .records)) ≡ Accepted k)
+unfolding countsJudged
+counts-drawn t u k h₀ = go (leb (u .records) 4096) (holds (length (t .plan)) (length (t .areas)) (length (t .xs)) u) refl refl h₀
+  where
+    ds : List Decoded
+    ds = rebuilt t u 0 (cursor 0 0) (u .records)
+
+    go : (a b : Bool) → leb (u .records) 4096 ≡ a → holds (length (t .plan)) (length (t .areas)) (length (t .xs)) u ≡ b → cond a (cond b (agreed (checked ds) u) (Refused Broken 0)) (Refused Broken 0) ≡ Accepted k
+        → (k ≡ u) × (u .records ≤ 4096) × Holds (length (t .plan)) (length (t .areas)) (length (t .xs)) u × (checked ds ≡ Accepted k)
+    go false b p q x = refused-not Broken 0 k x
+    go true false p q x = refused-not Broken 0 k x
+    go true true p q x =
+        let g = agreed-is (checked ds) u k ds refl (re-length t u 0 (cursor 0 0) (u .records)) x in
+        (g .0, leb-true _ _ p, held _ _ _ u q, g .1)
+
+pub drawn : (t : Tables) (k : Counts) → drawingOf t ≡ Accepted k → Drawn t k
+unfolding drawingOf
+drawn t k h₀ = go (eqb (length (t .xs)) (length (t .ys))) (leb 3 (length (t .plan))) refl refl h₀
+  where
+    u : Counts
+    u = usedOf (t .plan)
+
+    go : (a b : Bool) → eqb (length (t .xs)) (length (t .ys)) ≡ a → leb 3 (length (t .plan)) ≡ b → cond a (cond b (countsJudged t (usedOf (t .plan))) (Refused Broken 0)) (Refused Argument 0) ≡ Accepted k → Drawn t k
+    go false b p q x = refused-not Argument 0 k x
+    go true false p q x = refused-not Broken 0 k x
+    go true true p q x =
+        let g = counts-drawn t (usedOf (t .plan)) k x in
+        record { used = g .0; same = eqb-true _ _ p; below = rw (g .0) (g .1); room = rw (g .0) (g .2); fold = g .3 }
+
+pub ready : (t : Tables) (k : Counts) → Drawn t k → Ready (t .plan) (t .areas) (t .xs) (t .ys) k
+ready t k d = record { records = d .room .plan; areas = d .room .areas; xs = d .room .corners; ys = omega (arith, d .room .corners, d .same); few = d .below }
+
+pub holds-ready : (p a x y : List ℕ) (u : Counts) → u .records ≤ 4096 → holds (length p) (length a) (length x) u ≡ true → length x ≡ length y → Ready p a x y u
+holds-ready p a x y u f h e =
+    let g = held (length p) (length a) (length x) u h in
+    record { records = g .plan; areas = g .areas; xs = g .corners; ys = omega (arith, g .corners); few = f }
+
+pub drawn-left : (t : Tables) (k : Counts) → drawingOf t ≡ Accepted k → (o o′ : List ℕ) → o′ ≡ sets o 0 (fileOf (goods (rebuilt t k 0 (cursor 0 0) (k .records)))) → o′ ≡ sets o 0 (fileOf (goods (rebuiltIn t)))
+drawn-left t k e o o′ h = h ∙ ap (λ (u : Counts). sets o 0 (fileOf (goods (rebuilt t u 0 (cursor 0 0) (u .records))))) (drawn t k e .used)

@@ -1,0 +1,54 @@
+-- `drawing::check_drawing` meets its contract. Assumes nothing.
+use borrow.Author.Needs.{needs}
+use borrow.Author.Tests.{eq-eqb, ne-eqb, le-leb, lt-leb}
+use Rattle.drawing.specs.Tables.{drawingOf}
+use Rattle.drawing.proofs.check_drawing.Statement.{statement}
+use Rattle.drawing.proofs.check_drawing.Tie as tie
+
+shared-slice-read-wide : tie.Need-shared-slice-read-wide
+shared-slice-read-wide c = search needs
+
+wide-requires : tie.Need-wide-requires
+wide-requires c κs = search needs
+
+shared-slice-read-wide-2 : tie.Need-shared-slice-read-wide-2
+shared-slice-read-wide-2 c = search needs
+
+wide-requires-2 : tie.Need-wide-requires-2
+wide-requires-2 c κs = search needs
+
+shared-slice-read-wide-3 : tie.Need-shared-slice-read-wide-3
+shared-slice-read-wide-3 c = search needs
+
+wide-requires-3 : tie.Need-wide-requires-3
+wide-requires-3 c κs = search needs
+
+check-counts-requires : tie.Need-check-counts-requires
+check-counts-requires c κs = search needs
+
+returns : tie.Need-returns
+unfolding drawingOf
+returns c = rw (eq-eqb _ _ (c .before .before .before .before .before .before .before .before .if1 .taken), le-leb _ _ (c .before .before .before .before .before .before .before .if2 .taken), c .check-counts .ensures, c .before .before .before .before .before .wide .ensures, c .before .before .before .wide2 .ensures, c .before .wide3 .ensures)
+
+returns-2 : tie.Need-returns-2
+unfolding drawingOf
+returns-2 c = rw (eq-eqb _ _ (c .before .if1 .taken), lt-leb _ _ (c .if2 .left))
+
+returns-3 : tie.Need-returns-3
+unfolding drawingOf
+returns-3 c = rw (ne-eqb _ _ (c .if1 .left))
+
+pub check-drawing-spec : {M : Type 1} → statement M
+check-drawing-spec =
+    tie.close
+    (tie.spec
+    shared-slice-read-wide
+    wide-requires
+    shared-slice-read-wide-2
+    wide-requires-2
+    shared-slice-read-wide-3
+    wide-requires-3
+    check-counts-requires
+    returns
+    returns-2
+    returns-3)

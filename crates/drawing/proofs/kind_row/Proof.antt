@@ -1,0 +1,38 @@
+-- `drawing::kind_row` meets its contract. Assumes nothing.
+use Rattle.drawing.specs.Tables.{kindRow}
+use borrow.Author.Tests.{lt-ltb, le-ltb, eq-eqb, ne-eqb}
+use borrow.Author.Needs.{needs}
+use Rattle.drawing.proofs.kind_row.Statement.{statement}
+use Rattle.drawing.proofs.kind_row.Tie as tie
+
+area-row-requires : tie.Need-area-row-requires
+area-row-requires c κs = search needs
+
+returns : tie.Need-returns
+unfolding kindRow
+returns c = rw (eq-eqb _ _ (c .before .if1 .taken), c .area-row .ensures)
+
+corner-row-requires : tie.Need-corner-row-requires
+corner-row-requires c κs = search needs
+
+returns-2 : tie.Need-returns-2
+unfolding kindRow
+returns-2 c = rw (ne-eqb _ _ (c .before .before .if1 .left), lt-ltb _ _ (c .before .if2 .taken), c .corner-row .ensures)
+
+delimiter-of-requires : tie.Need-delimiter-of-requires
+delimiter-of-requires c κs = search needs
+
+returns-3 : tie.Need-returns-3
+unfolding kindRow
+returns-3 c = rw (ne-eqb _ _ (c .before .before .if1 .left), le-ltb _ _ (c .before .if2 .left), c .delimiter-of .ensures)
+
+pub kind-row-spec : {M : Type 1} → statement M
+kind-row-spec =
+    tie.close
+    (tie.spec
+    area-row-requires
+    returns
+    corner-row-requires
+    returns-2
+    delimiter-of-requires
+    returns-3)

@@ -1,0 +1,35 @@
+-- `drawing::row` meets its contract. Assumes nothing.
+use Rattle.drawing.specs.Tables.{rowOf}
+use borrow.Author.Tests.{le-leb, lt-leb}
+use borrow.Author.Needs.{needs}
+use Rattle.drawing.proofs.row.Statement.{statement}
+use Rattle.drawing.proofs.row.Tie as tie
+
+add-k : tie.Need-add-k
+add-k c = search needs
+
+mul-k : tie.Need-mul-k
+mul-k c = search needs
+
+shared-slice-read-k : tie.Need-shared-slice-read-k
+shared-slice-read-k c = search needs
+
+kind-row-requires : tie.Need-kind-row-requires
+kind-row-requires c κs = search needs
+
+returns : tie.Need-returns
+unfolding rowOf
+returns c = rw (le-leb _ _ (c .before .before .if1 .taken), le-leb _ _ (c .before .if2 .taken), c .kind-row .ensures)
+
+returns-2 : tie.Need-returns-2
+unfolding rowOf
+returns-2 c = rw (le-leb _ _ (c .before .if1 .taken), lt-leb _ _ (c .if2 .left))
+
+returns-3 : tie.Need-returns-3
+unfolding rowOf
+returns-3 c = rw (lt-leb _ _ (c .if1 .left))
+
+pub row-spec : {M : Type 1} → statement M
+row-spec =
+    tie.close
+    (tie.spec add-k mul-k shared-slice-read-k kind-row-requires returns returns-2 returns-3)

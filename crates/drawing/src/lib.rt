@@ -1,0 +1,312 @@
+// A drawing in its tables: the check of lent tables, and writing them out as a file of records.
+use grammar::Counts;
+use grammar::Scan;
+use grammar::Verdict;
+use records::Decoded;
+use records::Fields;
+use records::Record;
+use refusals::Refusal;
+ghost use mathlib.Core.Path.{_≡_};
+ghost use Prim.Native.Nat.{_+_, _*_, _≤_, _<_};
+ghost use lib.ListN.{length};
+ghost use lib.Seq.{sets};
+ghost use Rattle.grammar.specs.declared.Verdict.the-variants.{Accepted};
+ghost use Rattle.grammar.specs.Machine.{scanN, startN};
+ghost use Rattle.grammar.specs.Lists.{goods, areaOne, cornerOne};
+ghost use Rattle.records.specs.Bytes.{bytesOf};
+ghost use Rattle.reader.specs.Words.{fileOf, onGood};
+ghost use Rattle.drawing.specs.Tables.{tables, Ready, cursor, fieldsAt, areaRow, cornerRow, kindRow, rowOf, pastRecord, pastOf, rebuilt, drawnIn, agreed, countsJudged, drawingOf, writtenOf, writeAnswer, outAfter, Written·number};
+
+// The areas and the corners before a record.
+pub struct Cursor {
+    pub area: usize,
+    pub corner: usize,
+}
+
+pub enum Written {
+    Bytes(usize),
+    Not(Refusal),
+}
+
+// ---- a drawing in its tables
+fn fields_at(areas: &[u32], i: usize) -> Fields
+    requires { ⌜ i * 8 + 8 ≤ length (now areas) ⌝ }
+    ensures { λ f. ⌜ f ≡ fieldsAt (now (areas .entry)) i ⌝ }
+{
+    let at = i * 8;
+    Fields {
+        role: areas[at],
+        rule: areas[at + 1],
+        alpha: areas[at + 2],
+        red: areas[at + 3],
+        green: areas[at + 4],
+        blue: areas[at + 5],
+        material: areas[at + 6],
+    }
+}
+
+fn area_row(areas: &[u32], used: usize, i: usize) -> Decoded
+    requires { ⌜ used * 8 ≤ length (now areas) ⌝ }
+    ensures { λ d. ⌜ d ≡ areaRow (now (areas .entry)) used i ⌝ }
+{
+    if i < used {
+        if areas[i * 8 + 7] == 0 {
+            let f = fields_at(areas, i);
+            return records::ranged_of(Record::Area(f));
+        }
+        return Decoded::Bad(Refusal::Field);
+    }
+    Decoded::Bad(Refusal::Field)
+}
+
+fn corner_row(xs: &[u32], ys: &[u32], used: usize, k: u32, i: usize) -> Decoded
+    requires { ⌜ (used ≤ length (now xs)) × (used ≤ length (now ys)) ⌝ }
+    ensures { λ d. ⌜ d ≡ cornerRow (now (xs .entry)) (now (ys .entry)) used k i ⌝ }
+{
+    if i < used {
+        let r = records::corner_of(k, xs[i], ys[i]);
+        return records::ranged_of(r);
+    }
+    Decoded::Bad(Refusal::Field)
+}
+
+fn kind_row(areas: &[u32], xs: &[u32], ys: &[u32], used: Counts, k: u32, c: Cursor) -> Decoded
+    requires { ⌜ (used .areas * 8 ≤ length (now areas)) × (used .corners ≤ length (now xs)) × (used .corners ≤ length (now ys)) ⌝ }
+    ensures { λ d. ⌜ d ≡ kindRow (now (areas .entry)) (now (xs .entry)) (now (ys .entry)) used k c ⌝ }
+{
+    if k == 1 {
+        return area_row(areas, used.areas, c.area);
+    }
+    if k < 4 {
+        return corner_row(xs, ys, used.corners, k, c.corner);
+    }
+    let r = records::delimiter_of(k);
+    Decoded::Good(r)
+}
+
+// Record i, with the areas and the corners before it.
+fn row(
+    plan: &[u32],
+    areas: &[u32],
+    xs: &[u32],
+    ys: &[u32],
+    used: Counts,
+    i: usize,
+    c: Cursor,
+) -> Decoded
+    requires { ⌜ Ready (now plan) (now areas) (now xs) (now ys) used ⌝ }
+    requires { ⌜ i < used .records ⌝ }
+    ensures { λ d. ⌜ d ≡ rowOf (tables (now (plan .entry)) (now (areas .entry)) (now (xs .entry)) (now (ys .entry))) used i c ⌝ }
+{
+    let k = plan[i + 3];
+    if 1 <= k {
+        if k <= 6 {
+            return kind_row(areas, xs, ys, used, k, c);
+        }
+        return Decoded::Bad(Refusal::Kind);
+    }
+    Decoded::Bad(Refusal::Kind)
+}
+
+fn area_one(r: Record) -> usize
+    ensures { λ n. ⌜ n ≡ areaOne r ⌝ }
+    ensures { λ n. ⌜ n ≤ 1 ⌝ }
+{
+    match r {
+        Record::Area(_) => 1,
+        Record::First(_, _) => 0,
+        Record::Next(_, _) => 0,
+        Record::Open => 0,
+        Record::Bar => 0,
+        Record::Close => 0,
+    }
+}
+
+fn corner_one(r: Record) -> usize
+    ensures { λ n. ⌜ n ≡ cornerOne r ⌝ }
+    ensures { λ n. ⌜ n ≤ 1 ⌝ }
+{
+    match r {
+        Record::Area(_) => 0,
+        Record::First(_, _) => 1,
+        Record::Next(_, _) => 1,
+        Record::Open => 0,
+        Record::Bar => 0,
+        Record::Close => 0,
+    }
+}
+
+fn past_record(c: Cursor, r: Record) -> Cursor
+    requires { ⌜ (c .area < 65536) × (c .corner < 65536) ⌝ }
+    ensures { λ d. ⌜ d ≡ pastRecord c r ⌝ }
+{
+    let a = area_one(r);
+    let b = corner_one(r);
+    Cursor {
+        area: c.area + a,
+        corner: c.corner + b,
+    }
+}
+
+fn past(c: Cursor, d: Decoded) -> Cursor
+    requires { ⌜ (c .area < 65536) × (c .corner < 65536) ⌝ }
+    ensures { λ e. ⌜ e ≡ pastOf c d ⌝ }
+{
+    match d {
+        Decoded::Good(r) => past_record(c, r),
+        Decoded::Bad(_) => c,
+    }
+}
+
+fn scan_tables(plan: &[u32], areas: &[u32], xs: &[u32], ys: &[u32], used: Counts) -> Scan
+    requires { ⌜ Ready (now plan) (now areas) (now xs) (now ys) used ⌝ }
+    ensures { λ s. ⌜ s ≡ scanN startN 0 (rebuilt (tables (now (plan .entry)) (now (areas .entry)) (now (xs .entry)) (now (ys .entry))) used 0 (cursor 0 0) (used .records)) ⌝ }
+{
+    let n = used.records;
+    let mut s = grammar::start();
+    let mut c = Cursor { area: 0, corner: 0 };
+    let mut i = 0;
+    while i < n {
+        let d = row(plan, areas, xs, ys, used, i, c);
+        s = grammar::advance(s, d, i);
+        if grammar::is_stopped(s) {
+            return s;
+        }
+        c = past(c, d);
+        i += 1;
+    }
+    s
+}
+
+fn agreed_with(v: Verdict, used: Counts) -> Verdict
+    ensures { λ r. ⌜ r ≡ agreed v used ⌝ }
+{
+    match v {
+        Verdict::Accepted(k) => {
+            if k.areas == used.areas {
+                if k.corners == used.corners {
+                    return Verdict::Accepted(k);
+                }
+                return Verdict::Refused(Refusal::Broken, 0);
+            }
+            Verdict::Refused(Refusal::Broken, 0)
+        }
+        Verdict::Refused(_, _) => Verdict::Refused(Refusal::Broken, 0),
+    }
+}
+
+fn check_counts(plan: &[u32], areas: &[u32], xs: &[u32], ys: &[u32], used: Counts) -> Verdict
+    requires { ⌜ length (now xs) ≡ length (now ys) ⌝ }
+    ensures { λ v. ⌜ v ≡ countsJudged (tables (now (plan .entry)) (now (areas .entry)) (now (xs .entry)) (now (ys .entry))) used ⌝ }
+{
+    if used.records <= 4096 {
+        let h = reader::tables_hold(plan.len(), areas.len(), xs.len(), used);
+        if h {
+            let s = scan_tables(plan, areas, xs, ys, used);
+            let v = grammar::ended(s, used.records);
+            return agreed_with(v, used);
+        }
+        return Verdict::Refused(Refusal::Broken, 0);
+    }
+    Verdict::Refused(Refusal::Broken, 0)
+}
+
+// Whether lent tables hold a drawing: 7, then 12.
+pub fn check_drawing(plan: &[u32], areas: &[u32], xs: &[u32], ys: &[u32]) -> Verdict
+    ensures { λ v. ⌜ v ≡ drawingOf (tables (now (plan .entry)) (now (areas .entry)) (now (xs .entry)) (now (ys .entry))) ⌝ }
+{
+    if xs.len() == ys.len() {
+        if 3 <= plan.len() {
+            let n = laws::wide(plan[0]);
+            let a = laws::wide(plan[1]);
+            let b = laws::wide(plan[2]);
+            return check_counts(
+                plan,
+                areas,
+                xs,
+                ys,
+                Counts {
+                    records: n,
+                    areas: a,
+                    corners: b,
+                },
+            );
+        }
+        return Verdict::Refused(Refusal::Broken, 0);
+    }
+    Verdict::Refused(Refusal::Argument, 0)
+}
+
+// ---- writing
+fn put_bytes(out: &mut [u8], at: usize, d: Decoded) -> usize
+    requires { ⌜ at + length (onGood bytesOf d) ≤ length (now out) ⌝ }
+    ensures { λ n. ⌜ n ≡ at + length (onGood bytesOf d) ⌝ }
+    ensures { λ n. ⌜ now (out .exit) ≡ sets (now (out .entry)) at (onGood bytesOf d) ⌝ }
+{
+    match d {
+        Decoded::Good(r) => {
+            let b = records::raw_of(r);
+            records::put_raw(out, at, b);
+            at + 16
+        }
+        Decoded::Bad(_) => at,
+    }
+}
+
+fn write_all(plan: &[u32], areas: &[u32], xs: &[u32], ys: &[u32], used: Counts, out: &mut [u8])
+    requires { ⌜ Ready (now plan) (now areas) (now xs) (now ys) used ⌝ }
+    requires { ⌜ used .records * 16 ≤ length (now out) ⌝ }
+    ensures { λ _. ⌜ now (out .exit) ≡ sets (now (out .entry)) 0 (fileOf (goods (rebuilt (tables (now (plan .entry)) (now (areas .entry)) (now (xs .entry)) (now (ys .entry))) used 0 (cursor 0 0) (used .records)))) ⌝ }
+{
+    let n = used.records;
+    let mut c = Cursor { area: 0, corner: 0 };
+    let mut at = 0;
+    let mut i = 0;
+    while i < n {
+        let d = row(plan, areas, xs, ys, used, i, c);
+        at = put_bytes(out, at, d);
+        c = past(c, d);
+        i += 1;
+    }
+}
+
+fn write_if_room(
+    plan: &[u32],
+    areas: &[u32],
+    xs: &[u32],
+    ys: &[u32],
+    k: Counts,
+    out: &mut [u8],
+) -> Written
+    requires { ⌜ drawingOf (tables (now plan) (now areas) (now xs) (now ys)) ≡ Accepted k ⌝ }
+    ensures { λ w. ⌜ w ≡ writtenOf (Accepted k) (length (now (out .entry))) ⌝ }
+    ensures { λ w. ⌜ now (out .exit) ≡ outAfter w (now (out .entry)) (fileOf (drawnIn (tables (now (plan .entry)) (now (areas .entry)) (now (xs .entry)) (now (ys .entry))))) ⌝ }
+{
+    if k.records <= out.len() / 16 {
+        write_all(plan, areas, xs, ys, k, out);
+        return Written::Bytes(k.records * 16);
+    }
+    Written::Not(Refusal::Room)
+}
+
+// Writes a drawing out as a file. Any tables may be handed in.
+pub fn write(plan: &[u32], areas: &[u32], xs: &[u32], ys: &[u32], out: &mut [u8]) -> Written
+    ensures { λ w. ⌜ w ≡ writeAnswer (tables (now (plan .entry)) (now (areas .entry)) (now (xs .entry)) (now (ys .entry))) (now (out .entry)) ⌝ }
+    ensures { λ w. ⌜ now (out .exit) ≡ outAfter w (now (out .entry)) (fileOf (drawnIn (tables (now (plan .entry)) (now (areas .entry)) (now (xs .entry)) (now (ys .entry))))) ⌝ }
+{
+    let v = check_drawing(plan, areas, xs, ys);
+    match v {
+        Verdict::Accepted(k) => write_if_room(plan, areas, xs, ys, k, out),
+        Verdict::Refused(r, _) => Written::Not(r),
+    }
+}
+
+// Document 01's number: 0 where all was written. The place is 0.
+pub fn number_written(w: Written) -> u32
+    ensures { λ n. ⌜ n ≡ Written·number w ⌝ }
+{
+    match w {
+        Written::Bytes(_) => 0,
+        Written::Not(r) => refusals::number(r),
+    }
+}

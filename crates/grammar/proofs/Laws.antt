@@ -1,0 +1,127 @@
+-- What an accepted list of records has; and a scan that stopped stays so. Assumes nothing.
+use Prim.Native.Nat.{ℕ, _+_, _≤_}
+use mathlib.Core.Path.{_≡_, refl, sym, ap, _∙_}
+use mathlib.Core.Bool.{Bool, true, false, cond}
+use mathlib.Core.List.{List, [], _∷_, map}
+use native.Mathlib.Omega.{arith}
+use lib.ListN.{length}
+use borrow.Author.Tests.{ltb-true}
+use Rattle.refusals.specs.declared.Refusal.{Refusal}
+use Rattle.refusals.specs.declared.Refusal.the-variants.{Unfit, Short, Limit}
+use Rattle.laws.proofs.Booleans.{clash}
+use Rattle.groups.specs.Sides.{isEmpty}
+use Rattle.records.specs.declared.Record.{Record}
+use Rattle.records.specs.declared.Record.the-variants.{Area, First, Next, Open, Bar, Close}
+use Rattle.records.specs.declared.Decoded.{Decoded}
+use Rattle.records.specs.declared.Decoded.the-variants.{Good, Bad}
+use Rattle.grammar.specs.declared.Counts.{Counts}
+use Rattle.grammar.specs.declared.Verdict.the-variants.{Accepted, Refused}
+use Rattle.grammar.specs.Grammar.{Progress, progress, fits, isShort, ends, limit, after, Course, at, stopped, next, course, begin, counts, final, checked}
+use Rattle.grammar.specs.declared.Scan.{Scan}
+use Rattle.grammar.specs.declared.Scan.the-variants.{At, Stopped}
+use Rattle.grammar.specs.Machine.{scanN, isStopped}
+use Rattle.grammar.specs.Lists.{goods, areaOne, cornerOne, areasIn, cornersIn}
+
+pub record Ran (p q : Progress) (ds : List Decoded) : Type 0 where
+  pub good : ds ≡ map Good (goods ds)
+  pub areas : q .areas ≡ p .areas + areasIn (goods ds)
+  pub corners : q .corners ≡ p .corners + cornersIn (goods ds)
+  pub few : p .areas ≤ 64 → q .areas ≤ 64
+  pub many : p .corners ≤ 2048 → q .corners ≤ 2048
+
+halted : {A : Type 0} (x : Refusal) (i : ℕ) (q : Progress) → stopped x i ≡ at q → A
+halted x i q e = absurd (let z : _≡_ {A = ℕ} 0 1 = cc in omega arith)
+
+stays : (x : Refusal) (j i : ℕ) (ds : List Decoded) → course (stopped x j) i ds ≡ stopped x j
+unfolding course
+stays x j i [] = refl
+stays x j i (d ∷ ds) = stays x j (i + 1) ds
+
+same-progress : (p q : Progress) → at p ≡ at q → p ≡ q
+same-progress p q e = cc
+
+record Moved (p q : Progress) (r : Record) : Type 0 where
+  areas : q .areas ≡ p .areas + areaOne r
+  corners : q .corners ≡ p .corners + cornerOne r
+  few : p .areas ≤ 64 → q .areas ≤ 64
+  many : p .corners ≤ 2048 → q .corners ≤ 2048
+
+moved : (p : Progress) (r : Record) → limit p r ≡ true → Moved p (after p r) r
+moved p (Area f) h = record { areas = refl; corners = omega arith; few = λ l. omega (arith, ltb-true (p .areas) 64 h); many = λ l. l }
+moved p (First x y) h = record { areas = omega arith; corners = refl; few = λ l. l; many = λ l. omega (arith, ltb-true (p .corners) 2048 h) }
+moved p (Next x y) h = record { areas = omega arith; corners = refl; few = λ l. l; many = λ l. omega (arith, ltb-true (p .corners) 2048 h) }
+moved p Open h = record { areas = omega arith; corners = omega arith; few = λ l. l; many = λ l. l }
+moved p Bar h = record { areas = omega arith; corners = omega arith; few = λ l. l; many = λ l. l }
+moved p Close h = record { areas = omega arith; corners = omega arith; few = λ l. l; many = λ l. l }
+
+-- a step that goes on
+went : (p p′ : Progress) (r : Record) (i : ℕ) → next p r i ≡ at p′ → Moved p p′ r
+went p p′ r i = go (fits p r) (ends p r) (limit p r) refl
+  where
+    go : (a b d : Bool) → limit p r ≡ d → cond a (cond b (stopped Short i) (cond d (at (after p r)) (stopped Limit i))) (stopped Unfit i) ≡ at p′ → Moved p p′ r
+    go false b d h e = halted Unfit i p′ e
+    go true true d h e = halted Short i p′ e
+    go true false false h e = halted Limit i p′ e
+    go true false true h e = rw (← same-progress (after p r) p′ e) (moved p r h)
+
+more : (p p′ q : Progress) (r : Record) (ds : List Decoded) → Moved p p′ r → Ran p′ q ds → Ran p q (Good r ∷ ds)
+more p p′ q r ds m n =
+    record {
+      good = ap (λ (l : List Decoded). Good r ∷ l) (n .good);
+      areas = omega (arith, m .areas, n .areas);
+      corners = omega (arith, m .corners, n .corners);
+      few = λ l. n .few (m .few l);
+      many = λ l. n .many (m .many l);
+    }
+
+by-course : (p q : Progress) (r : Record) (i : ℕ) (ds : List Decoded) (c : Course) → next p r i ≡ c → ((p′ : Progress) → course (at p′) (i + 1) ds ≡ at q → Ran p′ q ds) → course c (i + 1) ds ≡ at q
+    → Ran p q (Good r ∷ ds)
+by-course p q r i ds (at p′) h rest e = more p p′ q r ds (went p p′ r i h) (rest p′ e)
+by-course p q r i ds (stopped x j) h rest e = halted x j q (sym (stays x j (i + 1) ds) ∙ e)
+
+pub ran : (p q : Progress) (i : ℕ) (ds : List Decoded) → course (at p) i ds ≡ at q → Ran p q ds
+unfolding course
+ran p q i [] e = rw (same-progress p q e) (record { good = refl; areas = omega arith; corners = omega arith; few = λ l. l; many = λ l. l })
+ran p q i (Good r ∷ ds) e = by-course p q r i ds (next p r i) refl (λ p′. ran p′ q (i + 1) ds) e
+ran p q i (Bad x ∷ ds) e = halted x i q (sym (stays x i (i + 1) ds) ∙ e)
+
+pub record Sound (ds : List Decoded) (k : Counts) : Type 0 where
+  pub good : ds ≡ map Good (goods ds)
+  pub records : k .records ≡ length ds
+  pub areas : k .areas ≡ areasIn (goods ds)
+  pub corners : k .corners ≡ cornersIn (goods ds)
+  pub few : k .areas ≤ 64
+  pub many : k .corners ≤ 2048
+
+refused-not : {A : Type 0} (x : Refusal) (i : ℕ) (k : Counts) → Refused x i ≡ Accepted k → A
+refused-not x i k e = absurd (let z : _≡_ {A = ℕ} 0 1 = cc in omega arith)
+
+same-counts : (j k : Counts) → Accepted j ≡ Accepted k → j ≡ k
+same-counts j k e = cc
+
+ended : (c : Course) (ds : List Decoded) (k : Counts) → course begin 0 ds ≡ c → final c (length ds) ≡ Accepted k → Sound ds k
+ended (stopped x i) ds k h e = refused-not x i k e
+ended (at q) ds k h f = go (isEmpty (q .groups)) (isShort (q .run)) f
+  where
+    n : ℕ
+    n = length ds
+
+    go : (a b : Bool) → cond a (cond b (Refused Short n) (Accepted (counts n (q .areas) (q .corners)))) (Refused Unfit n) ≡ Accepted k → Sound ds k
+    go false b e = refused-not Unfit n k e
+    go true true e = refused-not Short n k e
+    go true false e =
+        let m = ran (progress [] false 0 0 0) q 0 ds h in
+        rw (← same-counts (counts n (q .areas) (q .corners)) k e)
+        (record { good = m .good; records = refl; areas = omega (arith, m .areas); corners = omega (arith, m .corners); few = m .few (omega arith); many = m .many (omega arith) })
+
+pub sound : (ds : List Decoded) (k : Counts) → checked ds ≡ Accepted k → Sound ds k
+unfolding checked
+sound ds k e = ended (course begin 0 ds) ds k refl e
+
+-- ---- a scan that stopped
+
+pub stopped-stays : (c : Scan) (i : ℕ) (ds : List Decoded) → isStopped c ≡ true → scanN c i ds ≡ c
+unfolding scanN
+stopped-stays c i [] h = refl
+stopped-stays (At s) i (d ∷ ds) h = clash h
+stopped-stays (Stopped r p) i (d ∷ ds) h = stopped-stays (Stopped r p) (i + 1) ds refl

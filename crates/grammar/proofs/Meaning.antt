@@ -1,0 +1,89 @@
+-- The number that the code holds says what the grammar says.
+use Prim.Native.Nat.{ℕ, _+_}
+use mathlib.Core.Path.{_≡_, refl, ap}
+use mathlib.Core.Bool.{Bool, true, false, cond}
+use mathlib.Core.List.{List, [], _∷_}
+use lib.ListN.{length}
+use Rattle.refusals.specs.declared.Refusal.the-variants.{Unfit, Short, Limit}
+use Rattle.groups.specs.Stack.{num}
+use Rattle.groups.proofs.Stack.{paint-is, left-is, right-is, room-is, bar-is, close-is, open-is, empty-is}
+use Rattle.records.specs.declared.Record.{Record}
+use Rattle.records.specs.declared.Record.the-variants.{Area, First, Next, Open, Bar, Close}
+use Rattle.records.specs.declared.Decoded.{Decoded}
+use Rattle.records.specs.declared.Decoded.the-variants.{Good, Bad}
+use Rattle.grammar.specs.declared.State.{State}
+use Rattle.grammar.specs.declared.Step.the-variants.{On, Off}
+use Rattle.grammar.specs.declared.Scan.{Scan}
+use Rattle.grammar.specs.declared.Scan.the-variants.{At, Stopped}
+use Rattle.grammar.specs.Grammar.{Progress, fits, ends, limit, after, Course, at, stopped, next, met, course, begin, final, checked}
+use Rattle.grammar.specs.Machine.{mk, fitsN, endsN, limitN, afterN, stepN, settledN, advanceN, startN, endedN, scanN}
+
+abbrev enc : Progress → State
+enc p = mk (num (p .groups)) (p .held) (p .run) (p .areas) (p .corners)
+
+abbrev encC : Course → Scan
+encC (at p) = At (enc p)
+encC (stopped x i) = Stopped x i
+
+-- ---- one record
+fits-is : (p : Progress) (r : Record) → fitsN (enc p) r ≡ fits p r
+fits-is p (Area f) = rw (paint-is (p .groups))
+fits-is p (First x y) = refl
+fits-is p (Next x y) = refl
+fits-is p Open = refl
+fits-is p Bar = left-is (p .groups)
+fits-is p Close = right-is (p .groups)
+
+ends-is : (p : Progress) (r : Record) → endsN (enc p) r ≡ ends p r
+ends-is p (Area f) = refl
+ends-is p (First x y) = refl
+ends-is p (Next x y) = refl
+ends-is p Open = refl
+ends-is p Bar = refl
+ends-is p Close = refl
+
+limit-is : (p : Progress) (r : Record) → limitN (enc p) r ≡ limit p r
+limit-is p (Area f) = refl
+limit-is p (First x y) = refl
+limit-is p (Next x y) = refl
+limit-is p Open = room-is (p .groups)
+limit-is p Bar = refl
+limit-is p Close = refl
+
+after-is : (p : Progress) (r : Record) → fits p r ≡ true → afterN (enc p) r ≡ enc (after p r)
+after-is p (Area f) h = refl
+after-is p (First x y) h = refl
+after-is p (Next x y) h = refl
+after-is p Open h = rw (open-is (p .groups))
+after-is p Bar h = rw (bar-is (p .groups))
+after-is p Close h = rw (close-is (p .groups) h)
+
+next-is : (p : Progress) (r : Record) (i : ℕ) → settledN (stepN (enc p) r) i ≡ encC (next p r i)
+next-is p r i = rw (fits-is p r, ends-is p r, limit-is p r) (go (fits p r) (ends p r) (limit p r) refl)
+  where
+    go : (a b d : Bool) → fits p r ≡ a
+        → settledN (cond a (cond b (Off Short) (cond d (On (afterN (enc p) r)) (Off Limit))) (Off Unfit)) i
+        ≡ encC (cond a (cond b (stopped Short i) (cond d (at (after p r)) (stopped Limit i))) (stopped Unfit i))
+    go false b d h = refl
+    go true true d h = refl
+    go true false false h = refl
+    go true false true h = ap At (after-is p r h)
+
+met-is : (c : Course) (d : Decoded) (i : ℕ) → advanceN (encC c) d i ≡ encC (met c d i)
+met-is (at p) (Good r) i = next-is p r i
+met-is (at p) (Bad x) i = refl
+met-is (stopped x j) d i = refl
+
+course-is : (c : Course) (i : ℕ) (ds : List Decoded) → scanN (encC c) i ds ≡ encC (course c i ds)
+unfolding scanN course
+course-is c i [] = refl
+course-is c i (d ∷ ds) = rw (met-is c d i) (course-is (met c d i) (i + 1) ds)
+
+final-is : (c : Course) (n : ℕ) → endedN (encC c) n ≡ final c n
+final-is (at p) n = rw (empty-is (p .groups))
+final-is (stopped x i) n = refl
+
+-- the code's fold ends as the grammar's
+pub checked-is : (ds : List Decoded) (n : ℕ) → n ≡ length ds → endedN (scanN startN 0 ds) n ≡ checked ds
+unfolding checked
+checked-is ds n e = rw (e, course-is begin 0 ds) (final-is (course begin 0 ds) (length ds))

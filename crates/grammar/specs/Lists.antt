@@ -1,0 +1,37 @@
+-- The abstract drawing is its list of records: how many areas and corners it has. Assumes nothing.
+use Prim.Native.Nat.{ℕ, _+_}
+use mathlib.Core.List.{List, [], _∷_}
+use Rattle.records.specs.declared.Record.{Record}
+use Rattle.records.specs.declared.Record.the-variants.{Area, First, Next, Open, Bar, Close}
+use Rattle.records.specs.declared.Decoded.{Decoded}
+use Rattle.records.specs.declared.Decoded.the-variants.{Good, Bad}
+
+-- the records among what was decoded: all of it where nothing is refused
+abbrev pub goods : List Decoded → List Record
+goods [] = []
+goods (Good r ∷ ds) = r ∷ goods ds
+goods (Bad x ∷ ds) = goods ds
+
+abbrev pub areaOne : Record → ℕ
+areaOne (Area f) = 1
+areaOne (First x y) = 0
+areaOne (Next x y) = 0
+areaOne Open = 0
+areaOne Bar = 0
+areaOne Close = 0
+
+abbrev pub cornerOne : Record → ℕ
+cornerOne (Area f) = 0
+cornerOne (First x y) = 1
+cornerOne (Next x y) = 1
+cornerOne Open = 0
+cornerOne Bar = 0
+cornerOne Close = 0
+
+abbrev pub areasIn : List Record → ℕ
+areasIn [] = 0
+areasIn (r ∷ rs) = areaOne r + areasIn rs
+
+abbrev pub cornersIn : List Record → ℕ
+cornersIn [] = 0
+cornersIn (r ∷ rs) = cornerOne r + cornersIn rs

@@ -1,0 +1,316 @@
+// The order of records: a fold of a small state over them. It knows neither bytes nor tables.
+use records::Decoded;
+use records::Record;
+use refusals::Refusal;
+ghost use mathlib.Core.Path.{_≡_};
+ghost use mathlib.Core.Bool.{true};
+ghost use Prim.Native.Nat.{_+_, _<_};
+ghost use Rattle.groups.specs.Stack.{roomN};
+ghost use Rattle.grammar.specs.Grammar.{isShort, oneMore, Verdict·number, Verdict·place};
+ghost use Rattle.grammar.specs.Machine.{roleN, fitsN, endsN, limitN, areaN, firstN, nextN, afterOpenN, afterBarN, afterCloseN, afterN, stepN, settledN, advanceAtN, advanceN, startN, endStateN, endedN, isStopped};
+
+// Where a reader stands. `stack`: the open groups (crate `groups`). `held`: an area or a corner stands straight before. `run`: the corners of
+// the contour in progress, 3 for more than 3.
+pub struct State {
+    pub stack: u32,
+    pub held: bool,
+    pub run: u32,
+    pub areas: usize,
+    pub corners: usize,
+}
+
+pub enum Step {
+    On(State),
+    Off(Refusal),
+}
+
+pub enum Scan {
+    At(State),
+    Stopped(Refusal, usize),
+}
+
+pub struct Counts {
+    pub records: usize,
+    pub areas: usize,
+    pub corners: usize,
+}
+
+pub enum Verdict {
+    Accepted(Counts),
+    Refused(Refusal, usize),
+}
+
+// Document 01's number: 0 where nothing is refused.
+pub fn number_of(v: Verdict) -> u32
+    ensures { λ r. ⌜ r ≡ Verdict·number v ⌝ }
+{
+    match v {
+        Verdict::Accepted(_) => 0,
+        Verdict::Refused(r, _) => refusals::number(r),
+    }
+}
+
+pub fn place_of(v: Verdict) -> usize
+    ensures { λ r. ⌜ r ≡ Verdict·place v ⌝ }
+{
+    match v {
+        Verdict::Accepted(_) => 0,
+        Verdict::Refused(_, p) => p,
+    }
+}
+
+fn is_short(run: u32) -> bool
+    ensures { λ r. ⌜ r ≡ isShort run ⌝ }
+{
+    (0 < run) & (run < 3)
+}
+
+// The role that fits the side.
+fn role_here(stack: u32) -> u32
+    ensures { λ r. ⌜ r ≡ roleN stack ⌝ }
+{
+    if groups::on_paint(stack) { 0 } else { 1 }
+}
+
+fn fits(s: State, r: Record) -> bool
+    ensures { λ t. ⌜ t ≡ fitsN s r ⌝ }
+{
+    match r {
+        Record::Area(f) => {
+            let here = role_here(s.stack);
+            f.role == here
+        }
+        Record::First(_, _) => s.held,
+        Record::Next(_, _) => 0 < s.run,
+        Record::Open => true,
+        Record::Bar => groups::on_left(s.stack),
+        Record::Close => groups::on_right(s.stack),
+    }
+}
+
+fn ends_short(s: State, r: Record) -> bool
+    ensures { λ t. ⌜ t ≡ endsN s r ⌝ }
+{
+    match r {
+        Record::Area(_) => is_short(s.run),
+        Record::First(_, _) => is_short(s.run),
+        Record::Next(_, _) => false,
+        Record::Open => is_short(s.run),
+        Record::Bar => is_short(s.run),
+        Record::Close => is_short(s.run),
+    }
+}
+
+fn in_limit(s: State, r: Record) -> bool
+    ensures { λ t. ⌜ t ≡ limitN s r ⌝ }
+{
+    match r {
+        Record::Area(_) => s.areas < 64,
+        Record::First(_, _) => s.corners < 2048,
+        Record::Next(_, _) => s.corners < 2048,
+        Record::Open => groups::has_room(s.stack),
+        Record::Bar => true,
+        Record::Close => true,
+    }
+}
+
+fn after_area(s: State) -> State
+    requires { ⌜ s .areas < 64 ⌝ }
+    ensures { λ t. ⌜ t ≡ areaN s ⌝ }
+{
+    State {
+        stack: s.stack,
+        held: true,
+        run: 0,
+        areas: s.areas + 1,
+        corners: s.corners,
+    }
+}
+
+fn after_first(s: State) -> State
+    requires { ⌜ s .corners < 2048 ⌝ }
+    ensures { λ t. ⌜ t ≡ firstN s ⌝ }
+{
+    State {
+        stack: s.stack,
+        held: true,
+        run: 1,
+        areas: s.areas,
+        corners: s.corners + 1,
+    }
+}
+
+fn more(run: u32) -> u32
+    ensures { λ r. ⌜ r ≡ oneMore run ⌝ }
+{
+    if run < 3 { run + 1 } else { run }
+}
+
+fn after_next(s: State) -> State
+    requires { ⌜ s .corners < 2048 ⌝ }
+    ensures { λ t. ⌜ t ≡ nextN s ⌝ }
+{
+    let m = more(s.run);
+    State {
+        stack: s.stack,
+        held: true,
+        run: m,
+        areas: s.areas,
+        corners: s.corners + 1,
+    }
+}
+
+fn after_open(s: State) -> State
+    requires { ⌜ roomN (s .stack) ≡ true ⌝ }
+    ensures { λ t. ⌜ t ≡ afterOpenN s ⌝ }
+{
+    let n = groups::opened(s.stack);
+    State {
+        stack: n,
+        held: false,
+        run: 0,
+        areas: s.areas,
+        corners: s.corners,
+    }
+}
+
+fn after_bar(s: State) -> State
+    ensures { λ t. ⌜ t ≡ afterBarN s ⌝ }
+{
+    let n = groups::barred(s.stack);
+    State {
+        stack: n,
+        held: false,
+        run: 0,
+        areas: s.areas,
+        corners: s.corners,
+    }
+}
+
+fn after_close(s: State) -> State
+    ensures { λ t. ⌜ t ≡ afterCloseN s ⌝ }
+{
+    let n = groups::closed(s.stack);
+    State {
+        stack: n,
+        held: false,
+        run: 0,
+        areas: s.areas,
+        corners: s.corners,
+    }
+}
+
+fn after(s: State, r: Record) -> State
+    requires { ⌜ limitN s r ≡ true ⌝ }
+    ensures { λ t. ⌜ t ≡ afterN s r ⌝ }
+{
+    match r {
+        Record::Area(_) => after_area(s),
+        Record::First(_, _) => after_first(s),
+        Record::Next(_, _) => after_next(s),
+        Record::Open => after_open(s),
+        Record::Bar => after_bar(s),
+        Record::Close => after_close(s),
+    }
+}
+
+// One record more: 4, 5, 6, or on.
+fn stepped(s: State, r: Record) -> Step
+    ensures { λ t. ⌜ t ≡ stepN s r ⌝ }
+{
+    let f = fits(s, r);
+    if f {
+        let e = ends_short(s, r);
+        if e {
+            return Step::Off(Refusal::Short);
+        }
+        let l = in_limit(s, r);
+        if l {
+            let t = after(s, r);
+            return Step::On(t);
+        }
+        return Step::Off(Refusal::Limit);
+    }
+    Step::Off(Refusal::Unfit)
+}
+
+fn settled(t: Step, i: usize) -> Scan
+    ensures { λ c. ⌜ c ≡ settledN t i ⌝ }
+{
+    match t {
+        Step::On(s) => Scan::At(s),
+        Step::Off(r) => Scan::Stopped(r, i),
+    }
+}
+
+fn advance_at(s: State, d: Decoded, i: usize) -> Scan
+    ensures { λ c. ⌜ c ≡ advanceAtN s d i ⌝ }
+{
+    match d {
+        Decoded::Good(r) => {
+            let t = stepped(s, r);
+            settled(t, i)
+        }
+        Decoded::Bad(x) => Scan::Stopped(x, i),
+    }
+}
+
+// What was decoded as record i, 2 and 3 among it.
+pub fn advance(c: Scan, d: Decoded, i: usize) -> Scan
+    ensures { λ r. ⌜ r ≡ advanceN c d i ⌝ }
+{
+    match c {
+        Scan::At(s) => advance_at(s, d, i),
+        Scan::Stopped(r, p) => Scan::Stopped(r, p),
+    }
+}
+
+// Whether a record was refused.
+pub fn is_stopped(c: Scan) -> bool
+    ensures { λ r. ⌜ r ≡ isStopped c ⌝ }
+{
+    match c {
+        Scan::At(_) => false,
+        Scan::Stopped(_, _) => true,
+    }
+}
+
+// Before the first record.
+pub fn start() -> Scan
+    ensures { λ c. ⌜ c ≡ startN ⌝ }
+{
+    Scan::At(State {
+        stack: 1,
+        held: false,
+        run: 0,
+        areas: 0,
+        corners: 0,
+    })
+}
+
+fn end_state(s: State, n: usize) -> Verdict
+    ensures { λ v. ⌜ v ≡ endStateN s n ⌝ }
+{
+    if s.stack == 1 {
+        let e = is_short(s.run);
+        if e {
+            return Verdict::Refused(Refusal::Short, n);
+        }
+        return Verdict::Accepted(Counts {
+            records: n,
+            areas: s.areas,
+            corners: s.corners,
+        });
+    }
+    Verdict::Refused(Refusal::Unfit, n)
+}
+
+// The end, after n records: 4, then 5.
+pub fn ended(c: Scan, n: usize) -> Verdict
+    ensures { λ v. ⌜ v ≡ endedN c n ⌝ }
+{
+    match c {
+        Scan::At(s) => end_state(s, n),
+        Scan::Stopped(r, p) => Verdict::Refused(r, p),
+    }
+}

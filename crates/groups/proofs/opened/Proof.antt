@@ -1,0 +1,24 @@
+-- `groups::opened` meets its contract. Assumes nothing.
+use native.Mathlib.Omega.{arith}
+use borrow.Author.Tests.{ltb-true}
+use Rattle.laws.proofs.Tests.{tests}
+use Rattle.groups.proofs.opened.Statement.{statement}
+use Rattle.groups.proofs.opened.Tie as tie
+
+mul-result : tie.Need-mul-result
+mul-result c = omega (arith, ltb-true (c .before .args .stack) 65536 (c .before .pre))
+
+mul-result-2 : tie.Need-mul-result-2
+mul-result-2 c = omega (arith, ltb-true (c .before .args .stack) 65536 (c .before .pre))
+
+add-result : tie.Need-add-result
+add-result c = omega (arith, ltb-true (c .before .args .stack) 65536 (c .before .pre))
+
+returns : tie.Need-returns
+returns c = search tests
+
+returns-2 : tie.Need-returns-2
+returns-2 c = search tests
+
+pub opened-spec : {M : Type 1} → statement M
+opened-spec = tie.close (tie.spec mul-result mul-result-2 add-result returns returns-2)

@@ -1,0 +1,3 @@
+-- The words of records, and what reading a file answers and leaves.
+pub mod Words
+pub mod Reading

@@ -1,0 +1,62 @@
+-- What reading a file answers and leaves.
+use Prim.Native.Nat.{ℕ, zero, suc, _+_, _*_, _-_, _/_, _%_, _≤_}
+use mathlib.Core.Path.{_≡_}
+use mathlib.Core.Bool.{Bool, false, cond, _&&_}
+use mathlib.Core.List.{List, [], _∷_}
+use lib.ListN.{length}
+use lib.Seq.{sets}
+use lib.Dec.{eqb, leb}
+use Rattle.refusals.specs.declared.Refusal.the-variants.{Length, Argument, Room}
+use Rattle.records.specs.declared.Record.{Record}
+use Rattle.records.specs.declared.Decoded.{Decoded}
+use Rattle.records.specs.Bytes.{rawAt, decodedRaw}
+use Rattle.grammar.specs.declared.Counts.{Counts}
+use Rattle.grammar.specs.declared.Verdict.{Verdict}
+use Rattle.grammar.specs.declared.Verdict.the-variants.{Accepted, Refused}
+use Rattle.grammar.specs.Grammar.{checked}
+use Rattle.grammar.specs.Lists.{goods, areasIn, cornersIn}
+
+-- the n records from record i on
+unfoldable pub decodedFrom : List ℕ → ℕ → ℕ → List Decoded
+decodedFrom b i zero = []
+decodedFrom b i (suc n) = decodedRaw (rawAt b i) ∷ decodedFrom b (i + 1) n
+
+abbrev pub decodedIn : List ℕ → List Decoded
+decodedIn b = decodedFrom b 0 (length b / 16)
+
+-- the abstract drawing of a file
+abbrev pub recordsIn : List ℕ → List Record
+recordsIn b = goods (decodedIn b)
+
+-- 1, then the records in order, then the end
+unfoldable pub verdictOf : List ℕ → Verdict
+verdictOf b = cond (eqb (length b % 16) 0) (cond (leb (length b / 16) 4096) (checked (decodedIn b)) (Refused Length 0)) (Refused Length 0)
+
+-- tables of these lengths (plan, areas, corners) hold a drawing of this size
+unfoldable pub holds : ℕ → ℕ → ℕ → Counts → Bool
+holds p a c k = cond (leb 3 p) (leb (k .records) (p - 3) && (leb (k .areas) (a / 8) && leb (k .corners) c)) false
+
+-- after all others: 11
+abbrev pub ifRoom : Verdict → ℕ → ℕ → ℕ → Verdict
+ifRoom (Accepted k) p a c = cond (holds p a c k) (Accepted k) (Refused Room 0)
+ifRoom (Refused r i) p a c = Refused r i
+
+-- before all others: 7
+unfoldable pub readAnswer : List ℕ → List ℕ → List ℕ → List ℕ → List ℕ → Verdict
+readAnswer b plan areas xs ys = cond (eqb (length xs) (length ys)) (ifRoom (verdictOf b) (length plan) (length areas) (length xs)) (Refused Argument 0)
+
+-- a table after the call: the words in use from its beginning, the rest as it was; as it was on a refusal
+abbrev pub leftBy : Verdict → List ℕ → List ℕ → List ℕ
+leftBy (Accepted k) t ws = sets t 0 ws
+leftBy (Refused r i) t ws = t
+
+-- what is known of a file that was accepted
+pub record Filed (b : List ℕ) (k : Counts) : Type 0 where
+  pub whole : k .records * 16 ≡ length b
+  pub parts : k .records ≡ length b / 16
+  pub records : k .records ≡ length (recordsIn b)
+  pub areas : k .areas ≡ areasIn (recordsIn b)
+  pub corners : k .corners ≡ cornersIn (recordsIn b)
+  pub below : k .records ≤ 4096
+  pub few : k .areas ≤ 64
+  pub many : k .corners ≤ 2048

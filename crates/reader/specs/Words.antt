@@ -1,0 +1,88 @@
+-- The words and the bytes of a list of records.
+use Prim.Native.Nat.{ℕ, zero, suc, _+_, _≤_}
+use mathlib.Core.Path.{_≡_}
+use mathlib.Core.Bool.{Bool, true, cond, _&&_}
+use mathlib.Core.List.{List, [], _∷_, _++_}
+use lib.ListN.{length, getD}
+use lib.Dec.{eqb}
+use Rattle.records.specs.declared.Fields.{Fields}
+use Rattle.records.specs.declared.Record.{Record}
+use Rattle.records.specs.declared.Record.the-variants.{Area, First, Next, Open, Bar, Close}
+use Rattle.records.specs.declared.Decoded.{Decoded}
+use Rattle.records.specs.declared.Decoded.the-variants.{Good, Bad}
+use Rattle.records.specs.Record.{kindOf, inRange}
+use Rattle.records.specs.Bytes.{bytesOf}
+use Rattle.grammar.specs.Lists.{areasIn, cornersIn}
+
+abbrev pub kindW : Record → List ℕ
+kindW r = kindOf r ∷ []
+
+abbrev pub rowW : Fields → List ℕ
+rowW f = f .role ∷ f .rule ∷ f .alpha ∷ f .red ∷ f .green ∷ f .blue ∷ f .material ∷ 0 ∷ []
+
+abbrev pub areaW : Record → List ℕ
+areaW (Area f) = rowW f
+areaW (First x y) = []
+areaW (Next x y) = []
+areaW Open = []
+areaW Bar = []
+areaW Close = []
+
+abbrev pub xW : Record → List ℕ
+xW (Area f) = []
+xW (First x y) = x ∷ []
+xW (Next x y) = x ∷ []
+xW Open = []
+xW Bar = []
+xW Close = []
+
+abbrev pub yW : Record → List ℕ
+yW (Area f) = []
+yW (First x y) = y ∷ []
+yW (Next x y) = y ∷ []
+yW Open = []
+yW Bar = []
+yW Close = []
+
+-- a record's words in a table: 0 the plan's kinds, 1 the areas, 2 the xs, 3 the ys
+unfoldable pub wordsOf : ℕ → Record → List ℕ
+wordsOf which r = cond (eqb which 0) (kindW r) (cond (eqb which 1) (areaW r) (cond (eqb which 2) (xW r) (yW r)))
+
+unfoldable pub spread : (Record → List ℕ) → List Record → List ℕ
+spread f [] = []
+spread f (r ∷ rs) = f r ++ spread f rs
+
+-- the four tables' words in use
+abbrev pub planWords : List Record → List ℕ
+planWords rs = length rs ∷ areasIn rs ∷ cornersIn rs ∷ spread kindW rs
+
+abbrev pub areaWords : List Record → List ℕ
+areaWords rs = spread areaW rs
+
+abbrev pub xWords : List Record → List ℕ
+xWords rs = spread xW rs
+
+abbrev pub yWords : List Record → List ℕ
+yWords rs = spread yW rs
+
+-- the file
+abbrev pub fileOf : List Record → List ℕ
+fileOf rs = spread bytesOf rs
+
+abbrev pub onGood : (Record → List ℕ) → Decoded → List ℕ
+onGood f (Good r) = f r
+onGood f (Bad x) = []
+
+-- the n words of a table from word i on
+abbrev pub wordsFrom : List ℕ → ℕ → ℕ → List ℕ
+wordsFrom t i zero = []
+wordsFrom t i (suc n) = getD t i 0 ∷ wordsFrom t (suc i) n
+
+-- a table holds these words from word i on
+pub record Has (t : List ℕ) (i : ℕ) (ws : List ℕ) : Type 0 where
+  pub room : i + length ws ≤ length t
+  pub same : wordsFrom t i (length ws) ≡ ws
+
+abbrev pub allRange : List Record → Bool
+allRange [] = true
+allRange (r ∷ rs) = inRange r && allRange rs

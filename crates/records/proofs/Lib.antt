@@ -1,0 +1,2 @@
+-- A record written as bytes is read back, and the other way.
+pub mod Laws

@@ -1,0 +1,45 @@
+-- `records::decoded_raw` meets its contract. Assumes nothing.
+use borrow.Author.Tests.{le-leb}
+use mathlib.Core.Path.{sym, _∙_}
+use Rattle.records.specs.Bytes.{decodedRaw}
+use Rattle.laws.proofs.Tests.{tests}
+use borrow.Author.Needs.{needs}
+use Rattle.records.proofs.decoded_raw.Statement.{statement}
+use Rattle.records.proofs.decoded_raw.Tie as tie
+
+unnamed-zero-requires : tie.Need-unnamed-zero-requires
+unnamed-zero-requires c κs = search needs
+
+named-of-requires : tie.Need-named-of-requires
+named-of-requires c κs = search needs
+
+ranged-of-requires : tie.Need-ranged-of-requires
+ranged-of-requires c κs = search needs
+
+returns : tie.Need-returns
+unfolding decodedRaw
+returns c = rw (le-leb _ _ (c .before .before .before .before .before .before .if1 .taken), le-leb _ _ (c .before .before .before .before .if2 .taken), sym (c .before .before .before .unnamed-zero .ensures) ∙ c .before .before .if3 .taken, c .ranged-of .ensures, c .before .named-of .ensures)
+
+returns-2 : tie.Need-returns-2
+unfolding decodedRaw
+returns-2 c = search (tests, sym (c .before .unnamed-zero .ensures) ∙ c .if3 .left)
+
+returns-3 : tie.Need-returns-3
+unfolding decodedRaw
+returns-3 c = search tests
+
+returns-4 : tie.Need-returns-4
+unfolding decodedRaw
+returns-4 c = search tests
+
+pub decoded-raw-spec : {M : Type 1} → statement M
+decoded-raw-spec =
+    tie.close
+    (tie.spec
+    unnamed-zero-requires
+    named-of-requires
+    ranged-of-requires
+    returns
+    returns-2
+    returns-3
+    returns-4)

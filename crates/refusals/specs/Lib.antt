@@ -1,0 +1,2 @@
+-- Document 01's numbers of refusals.
+pub mod Refusals

@@ -1,0 +1,2 @@
+-- The numbers that the exported calls answer.
+pub mod Answers

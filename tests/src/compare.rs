@@ -1,0 +1,96 @@
+//! One call by the library and by the second implementation, compared in all that can be seen.
+
+use std::hint::black_box;
+
+use crate::drawing;
+use crate::lent::{Lent, LentTables};
+use crate::samples::{self, Tables};
+use crate::zones::{self, Answer};
+
+/// Reads by both into copies of the same tables.
+pub fn read(records: &Lent<u8>, before: &LentTables) -> (Answer, LentTables) {
+    let mut given = records.clone();
+    let mut by_library = before.clone();
+    let mut by_second = before.clone();
+    // The compiler must not take for granted that the library keeps to what it was lent.
+    black_box((&mut given, &mut by_library));
+    let answer = zones::read(
+        given.table(),
+        by_library.plan.table_mut(),
+        by_library.areas.table_mut(),
+        by_library.xs.table_mut(),
+        by_library.ys.table_mut(),
+    );
+    black_box((&mut given, &mut by_library));
+    let second = drawing::read(
+        records.table(),
+        by_second.plan.table_mut(),
+        by_second.areas.table_mut(),
+        by_second.xs.table_mut(),
+        by_second.ys.table_mut(),
+    );
+    let bytes = records.table();
+    assert_eq!(answer, second, "library, second; records {bytes:?}");
+    assert!(given == *records, "records changed: {bytes:?}");
+    assert!(by_library.guards_as_in(before), "guards changed: {bytes:?}");
+    assert!(by_library == by_second, "tables differ: {bytes:?}");
+    match answer {
+        Answer::Refused { .. } => {
+            assert!(by_library == *before, "written on a refusal: {bytes:?}");
+        }
+        Answer::Accepted(number) => {
+            let (records, rest) = bytes.as_chunks();
+            assert!(rest.is_empty() && number as usize == records.len());
+            let Tables {
+                plan,
+                areas,
+                xs,
+                ys,
+            } = samples::tables(records);
+            let lent = by_library.each().into_iter().zip(before.each());
+            for ((now, then), in_use) in lent.zip([plan, areas, xs, ys]) {
+                let (used, rest) = now.table().split_at(in_use.len());
+                assert!(used == in_use, "words in use: {bytes:?}");
+                assert!(rest == &then.table()[in_use.len()..], "other words: {bytes:?}");
+            }
+        }
+    }
+    (answer, by_library)
+}
+
+/// Writes by both into copies of the same buffer.
+pub fn write(drawing: &LentTables, before: &Lent<u8>) -> (Answer, Lent<u8>) {
+    let mut given = drawing.clone();
+    let mut by_library = before.clone();
+    let mut by_second = before.clone();
+    black_box((&mut given, &mut by_library));
+    let answer = zones::write(
+        given.plan.table(),
+        given.areas.table(),
+        given.xs.table(),
+        given.ys.table(),
+        by_library.table_mut(),
+    );
+    black_box((&mut given, &mut by_library));
+    let second = drawing::write(
+        drawing.plan.table(),
+        drawing.areas.table(),
+        drawing.xs.table(),
+        drawing.ys.table(),
+        by_second.table_mut(),
+    );
+    assert_eq!(answer, second, "library, second; {drawing:?}");
+    assert!(given == *drawing, "drawing changed: {drawing:?}");
+    assert!(by_library.guards_as_in(before), "guards changed: {drawing:?}");
+    assert!(by_library == by_second, "bytes differ: {drawing:?}");
+    match answer {
+        Answer::Refused { .. } => {
+            assert!(by_library == *before, "written on a refusal: {drawing:?}");
+        }
+        Answer::Accepted(bytes) => {
+            let rest = &by_library.table()[bytes as usize..];
+            assert!(rest == &before.table()[bytes as usize..], "other bytes: {drawing:?}");
+        }
+    }
+    (answer, by_library)
+}

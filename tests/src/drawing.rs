@@ -1,0 +1,409 @@
+//! The second implementation: records to the drawing's tables and back, from document 01.
+
+use crate::zones::Answer;
+
+pub const RECORD_BYTES: usize = 16;
+pub const AREA_WORDS: usize = 8;
+pub const PLAN_COUNTS: usize = 3;
+
+pub const MOST_RECORDS: usize = 4_096;
+pub const MOST_AREAS: usize = 64;
+pub const MOST_CORNERS: usize = 2_048;
+pub const MOST_GROUPS: usize = 8;
+pub const MOST_COORDINATE: u32 = 65_536;
+
+pub const AREA: u8 = 1;
+pub const FIRST: u8 = 2;
+pub const NEXT: u8 = 3;
+pub const OPEN: u8 = 4;
+pub const BAR: u8 = 5;
+pub const CLOSE: u8 = 6;
+
+pub const PAINT: u32 = 0;
+pub const CLIP: u32 = 1;
+
+/// Why a call is refused, and where.
+#[derive(Clone, Copy, PartialEq, Eq, Debug)]
+pub struct Refusal {
+    pub number: u32,
+    pub place: u32,
+}
+
+fn refusal(number: u32, place: usize) -> Refusal {
+    Refusal {
+        number,
+        place: place as u32,
+    }
+}
+
+/// How much of each table a drawing uses.
+#[derive(Clone, Copy, PartialEq, Eq, Debug)]
+pub struct Size {
+    pub records: usize,
+    pub areas: usize,
+    pub corners: usize,
+}
+
+struct Area {
+    role: u32,
+    rule: u32,
+    alpha: u32,
+    colour: [u32; 3],
+    material: u32,
+}
+
+impl Area {
+    fn of_record(record: &[u8; RECORD_BYTES]) -> Area {
+        Area {
+            role: record[1].into(),
+            rule: record[2].into(),
+            alpha: record[3].into(),
+            colour: [record[4].into(), record[5].into(), record[6].into()],
+            material: u16::from_le_bytes([record[8], record[9]]).into(),
+        }
+    }
+
+    fn of_words(row: &[u32]) -> Area {
+        Area {
+            role: row[0],
+            rule: row[1],
+            alpha: row[2],
+            colour: [row[3], row[4], row[5]],
+            material: row[6],
+        }
+    }
+
+    fn in_range(&self) -> bool {
+        let colour_in_range = self.colour.iter().all(|channel| *channel <= 255);
+        if self.rule > 1 || self.alpha > 255 || !colour_in_range || self.material > 65_535 {
+            return false;
+        }
+        match self.role {
+            PAINT => self.material != 0,
+            CLIP => self.alpha == 0 && self.colour == [0, 0, 0] && self.material == 0,
+            _ => false,
+        }
+    }
+}
+
+fn corner_of_record(record: &[u8; RECORD_BYTES]) -> (u32, u32) {
+    let x = u32::from_le_bytes([record[4], record[5], record[6], record[7]]);
+    let y = u32::from_le_bytes([record[8], record[9], record[10], record[11]]);
+    (x, y)
+}
+
+fn corner_in_range(x: u32, y: u32) -> bool {
+    x <= MOST_COORDINATE && y <= MOST_COORDINATE
+}
+
+/// Whether every field of a record of known kind is in range and its unnamed bytes are zero.
+fn record_in_range(record: &[u8; RECORD_BYTES]) -> bool {
+    let zero = |bytes: &[u8]| bytes.iter().all(|byte| *byte == 0);
+    match record[0] {
+        AREA => record[7] == 0 && zero(&record[10..]) && Area::of_record(record).in_range(),
+        FIRST | NEXT => {
+            let (x, y) = corner_of_record(record);
+            zero(&record[1..4]) && zero(&record[12..]) && corner_in_range(x, y)
+        }
+        _ => zero(&record[1..]),
+    }
+}
+
+/// An open group: the role of the side it was opened on, and whether its bar was met.
+struct Group {
+    opened_on: u32,
+    right: bool,
+}
+
+/// What the records so far say about the next one.
+struct Grammar {
+    groups: Vec<Group>,
+    /// Kind of the record before, 0 at the start.
+    last: u8,
+    /// Corners of the last contour.
+    contour: usize,
+    size: Size,
+}
+
+impl Grammar {
+    fn new() -> Grammar {
+        Grammar {
+            groups: Vec::with_capacity(MOST_GROUPS),
+            last: 0,
+            contour: 0,
+            size: Size {
+                records: 0,
+                areas: 0,
+                corners: 0,
+            },
+        }
+    }
+
+    /// The role of the side that the next record stands on.
+    fn side(&self) -> u32 {
+        match self.groups.last() {
+            None => PAINT,
+            Some(group) if group.right => group.opened_on,
+            Some(_) => CLIP,
+        }
+    }
+
+    fn after_corner(&self) -> bool {
+        self.last == FIRST || self.last == NEXT
+    }
+
+    /// Whether a record fits here; `role` is that of an area.
+    fn fits(&self, kind: u8, role: u32) -> bool {
+        match kind {
+            AREA => role == self.side(),
+            FIRST => self.last == AREA || self.after_corner(),
+            NEXT => self.after_corner(),
+            OPEN => true,
+            BAR => self.groups.last().is_some_and(|group| !group.right),
+            _ => self.groups.last().is_some_and(|group| group.right),
+        }
+    }
+
+    /// Takes one record of known kind with fields in range, or gives 4, 5 or 6.
+    fn take(&mut self, kind: u8, role: u32) -> Result<(), u32> {
+        if !self.fits(kind, role) {
+            return Err(4);
+        }
+        if self.after_corner() && kind != NEXT && self.contour < 3 {
+            return Err(5);
+        }
+        match kind {
+            AREA => {
+                if self.size.areas == MOST_AREAS {
+                    return Err(6);
+                }
+                self.size.areas += 1;
+            }
+            FIRST | NEXT => {
+                if self.size.corners == MOST_CORNERS {
+                    return Err(6);
+                }
+                self.size.corners += 1;
+                self.contour = if kind == FIRST { 1 } else { self.contour + 1 };
+            }
+            OPEN => {
+                if self.groups.len() == MOST_GROUPS {
+                    return Err(6);
+                }
+                let opened_on = self.side();
+                self.groups.push(Group {
+                    opened_on,
+                    right: false,
+                });
+            }
+            BAR => {
+                if let Some(group) = self.groups.last_mut() {
+                    group.right = true;
+                }
+            }
+            _ => {
+                self.groups.pop();
+            }
+        }
+        self.last = kind;
+        self.size.records += 1;
+        Ok(())
+    }
+
+    /// The end: 4 if a group is open, 5 if the last contour is short.
+    fn end(self) -> Result<Size, u32> {
+        if !self.groups.is_empty() {
+            return Err(4);
+        }
+        if self.after_corner() && self.contour < 3 {
+            return Err(5);
+        }
+        Ok(self.size)
+    }
+}
+
+/// Tries the records in order, then the end.
+pub fn check(records: &[u8]) -> Result<Size, Refusal> {
+    let (records, rest) = records.as_chunks::<RECORD_BYTES>();
+    if !rest.is_empty() || records.len() > MOST_RECORDS {
+        return Err(refusal(1, 0));
+    }
+    let mut grammar = Grammar::new();
+    for (place, record) in records.iter().enumerate() {
+        if !(AREA..=CLOSE).contains(&record[0]) {
+            return Err(refusal(2, place));
+        }
+        if !record_in_range(record) {
+            return Err(refusal(3, place));
+        }
+        let role = record[1].into();
+        grammar
+            .take(record[0], role)
+            .map_err(|number| refusal(number, place))?;
+    }
+    grammar
+        .end()
+        .map_err(|number| refusal(number, records.len()))
+}
+
+/// Whether a lent drawing is what reading some accepted records leaves, and its size.
+pub fn check_tables(plan: &[u32], areas: &[u32], xs: &[u32], ys: &[u32]) -> Option<Size> {
+    let [records_in_use, areas_in_use, corners_in_use, kinds @ ..] = plan else {
+        return None;
+    };
+    let said = Size {
+        records: *records_in_use as usize,
+        areas: *areas_in_use as usize,
+        corners: *corners_in_use as usize,
+    };
+    if said.records > MOST_RECORDS
+        || said.records > kinds.len()
+        || said.areas > areas.len() / AREA_WORDS
+        || said.corners > xs.len()
+    {
+        return None;
+    }
+    let mut rows = areas.chunks_exact(AREA_WORDS).take(said.areas);
+    let mut corners = xs.iter().zip(ys).take(said.corners);
+    let mut grammar = Grammar::new();
+    for kind in &kinds[..said.records] {
+        let kind = u8::try_from(*kind).ok()?;
+        let mut role = PAINT;
+        match kind {
+            AREA => {
+                let row = rows.next()?;
+                let area = Area::of_words(row);
+                if !area.in_range() || row[7] != 0 {
+                    return None;
+                }
+                role = area.role;
+            }
+            FIRST | NEXT => {
+                let (x, y) = corners.next()?;
+                if !corner_in_range(*x, *y) {
+                    return None;
+                }
+            }
+            OPEN | BAR | CLOSE => {}
+            _ => return None,
+        }
+        grammar.take(kind, role).ok()?;
+    }
+    grammar.end().ok().filter(|counted| *counted == said)
+}
+
+fn answer(result: Result<usize, Refusal>) -> Answer {
+    match result {
+        Ok(number) => Answer::Accepted(number as u32),
+        Err(Refusal { number, place }) => Answer::Refused { number, place },
+    }
+}
+
+/// Reads records into the four tables; accepted: how many records.
+pub fn read(
+    records: &[u8],
+    plan: &mut [u32],
+    areas: &mut [u32],
+    xs: &mut [u32],
+    ys: &mut [u32],
+) -> Answer {
+    answer(read_or_refuse(records, plan, areas, xs, ys))
+}
+
+fn read_or_refuse(
+    records: &[u8],
+    plan: &mut [u32],
+    areas: &mut [u32],
+    xs: &mut [u32],
+    ys: &mut [u32],
+) -> Result<usize, Refusal> {
+    if xs.len() != ys.len() {
+        return Err(refusal(7, 0));
+    }
+    let size = check(records)?;
+    if plan.len() < PLAN_COUNTS + size.records
+        || areas.len() < AREA_WORDS * size.areas
+        || xs.len() < size.corners
+    {
+        return Err(refusal(11, 0));
+    }
+    let (counts, kinds) = plan.split_at_mut(PLAN_COUNTS);
+    counts.copy_from_slice(&[size.records as u32, size.areas as u32, size.corners as u32]);
+    let mut rows = areas.chunks_exact_mut(AREA_WORDS);
+    let mut corners = xs.iter_mut().zip(ys);
+    for (record, kind) in records.as_chunks::<RECORD_BYTES>().0.iter().zip(kinds) {
+        *kind = record[0].into();
+        match record[0] {
+            AREA => {
+                if let Some(row) = rows.next() {
+                    let Area {
+                        role,
+                        rule,
+                        alpha,
+                        colour,
+                        material,
+                    } = Area::of_record(record);
+                    let [red, green, blue] = colour;
+                    row.copy_from_slice(&[role, rule, alpha, red, green, blue, material, 0]);
+                }
+            }
+            FIRST | NEXT => {
+                if let Some((x, y)) = corners.next() {
+                    (*x, *y) = corner_of_record(record);
+                }
+            }
+            _ => {}
+        }
+    }
+    Ok(size.records)
+}
+
+/// Writes a lent drawing out as records; accepted: how many bytes.
+pub fn write(plan: &[u32], areas: &[u32], xs: &[u32], ys: &[u32], out: &mut [u8]) -> Answer {
+    answer(write_or_refuse(plan, areas, xs, ys, out))
+}
+
+fn write_or_refuse(
+    plan: &[u32],
+    areas: &[u32],
+    xs: &[u32],
+    ys: &[u32],
+    out: &mut [u8],
+) -> Result<usize, Refusal> {
+    if xs.len() != ys.len() {
+        return Err(refusal(7, 0));
+    }
+    let size = check_tables(plan, areas, xs, ys).ok_or(refusal(12, 0))?;
+    let bytes = RECORD_BYTES * size.records;
+    if out.len() < bytes {
+        return Err(refusal(11, 0));
+    }
+    let mut rows = areas.chunks_exact(AREA_WORDS);
+    let mut corners = xs.iter().zip(ys);
+    let records = out[..bytes].as_chunks_mut::<RECORD_BYTES>().0;
+    for (record, kind) in records.iter_mut().zip(&plan[PLAN_COUNTS..]) {
+        *record = [0; RECORD_BYTES];
+        record[0] = *kind as u8;
+        match record[0] {
+            AREA => {
+                if let Some(row) = rows.next() {
+                    let area = Area::of_words(row);
+                    let [red, green, blue] = area.colour;
+                    let fields = [area.role, area.rule, area.alpha, red, green, blue];
+                    for (byte, field) in record[1..7].iter_mut().zip(fields) {
+                        *byte = field as u8;
+                    }
+                    record[8..10].copy_from_slice(&(area.material as u16).to_le_bytes());
+                }
+            }
+            FIRST | NEXT => {
+                if let Some((x, y)) = corners.next() {
+                    record[4..8].copy_from_slice(&x.to_le_bytes());
+                    record[8..12].copy_from_slice(&y.to_le_bytes());
+                }
+            }
+            _ => {}
+        }
+    }
+    Ok(bytes)
+}

@@ -1,0 +1,121 @@
+//! What is lent: tables with guard items on both sides.
+
+use crate::drawing::{AREA_WORDS, MOST_AREAS, MOST_CORNERS, MOST_RECORDS, PLAN_COUNTS};
+use crate::random::Random;
+use crate::samples::Tables;
+
+/// The middle of a longer table. Two are equal when the guards are equal too.
+#[derive(Clone, PartialEq, Eq, Debug)]
+pub struct Lent<T> {
+    all: Vec<T>,
+    first: usize,
+    end: usize,
+}
+
+impl<T: Copy + PartialEq> Lent<T> {
+    /// Lends `table`, with guards of the given lengths made by `guard`.
+    pub fn new(before: usize, table: &[T], after: usize, mut guard: impl FnMut() -> T) -> Lent<T> {
+        let mut all = Vec::with_capacity(before + table.len() + after);
+        all.extend((0..before).map(|_| guard()));
+        all.extend_from_slice(table);
+        all.extend((0..after).map(|_| guard()));
+        Lent {
+            all,
+            first: before,
+            end: before + table.len(),
+        }
+    }
+
+    pub fn table(&self) -> &[T] {
+        &self.all[self.first..self.end]
+    }
+
+    pub fn table_mut(&mut self) -> &mut [T] {
+        &mut self.all[self.first..self.end]
+    }
+
+    /// Lends no more than the first `len` items: the others become guard.
+    pub fn shorten(&mut self, len: usize) {
+        self.end = self.end.min(self.first + len);
+    }
+
+    /// Lends the items from `from` on: those before become guard.
+    pub fn start_at(&mut self, from: usize) {
+        self.first = self.end.min(self.first + from);
+    }
+
+    /// Whether the guards are those of `before`.
+    pub fn guards_as_in(&self, before: &Lent<T>) -> bool {
+        self.all[..self.first] == before.all[..before.first]
+            && self.all[self.end..] == before.all[before.end..]
+    }
+}
+
+/// Small as often as not.
+fn any_word(random: &mut Random) -> u32 {
+    match random.below(2) {
+        0 => random.below(8) as u32,
+        _ => random.word(),
+    }
+}
+
+pub fn any_words(random: &mut Random, len: usize) -> Vec<u32> {
+    (0..len).map(|_| any_word(random)).collect()
+}
+
+pub fn any_bytes(random: &mut Random, len: usize) -> Vec<u8> {
+    (0..len).map(|_| random.byte()).collect()
+}
+
+fn lent_words(random: &mut Random, words: &[u32]) -> Lent<u32> {
+    let (before, after) = (random.within(1..=9), random.within(1..=9));
+    Lent::new(before, words, after, || any_word(random))
+}
+
+/// Guards of any length, so that the bytes start at any address.
+pub fn lent_bytes(random: &mut Random, bytes: &[u8]) -> Lent<u8> {
+    let (before, after) = (random.within(1..=20), random.within(1..=20));
+    Lent::new(before, bytes, after, || any_word(random) as u8)
+}
+
+/// A drawing's four tables, lent.
+#[derive(Clone, PartialEq, Eq, Debug)]
+pub struct LentTables {
+    pub plan: Lent<u32>,
+    pub areas: Lent<u32>,
+    pub xs: Lent<u32>,
+    pub ys: Lent<u32>,
+}
+
+impl LentTables {
+    pub fn new(random: &mut Random, tables: &Tables) -> LentTables {
+        LentTables {
+            plan: lent_words(random, &tables.plan),
+            areas: lent_words(random, &tables.areas),
+            xs: lent_words(random, &tables.xs),
+            ys: lent_words(random, &tables.ys),
+        }
+    }
+
+    /// Tables of the lengths of plan, areas, xs and ys, full of any words.
+    pub fn blank(random: &mut Random, lengths: [usize; 4]) -> LentTables {
+        let [plan, areas, xs, ys] = lengths.map(|len| any_words(random, len));
+        LentTables::new(random, &Tables { plan, areas, xs, ys })
+    }
+
+    /// Tables long enough for every drawing.
+    pub fn ample(random: &mut Random) -> LentTables {
+        let plan = PLAN_COUNTS + MOST_RECORDS;
+        let areas = AREA_WORDS * MOST_AREAS;
+        LentTables::blank(random, [plan, areas, MOST_CORNERS, MOST_CORNERS])
+    }
+
+    pub fn each(&self) -> [&Lent<u32>; 4] {
+        [&self.plan, &self.areas, &self.xs, &self.ys]
+    }
+
+    pub fn guards_as_in(&self, before: &LentTables) -> bool {
+        let mut pairs = self.each().into_iter().zip(before.each());
+        pairs.all(|(now, then)| now.guards_as_in(then))
+    }
+}

@@ -1,0 +1,91 @@
+//! The library under test: its C functions, and safe functions on slices over them.
+
+/// What a call answers: its result, or the refusal's number and place.
+#[derive(Clone, Copy, PartialEq, Eq, Debug)]
+pub enum Answer {
+    Accepted(u32),
+    Refused { number: u32, place: u32 },
+}
+
+impl Answer {
+    /// The high half is the refusal's number, 0 if the call was accepted.
+    fn from_number(answer: u64) -> Answer {
+        let (high, low) = ((answer >> 32) as u32, answer as u32);
+        match high {
+            0 => Answer::Accepted(low),
+            number => Answer::Refused { number, place: low },
+        }
+    }
+}
+
+extern "C" {
+    fn zones_read(
+        records: *const u8,
+        records_len: usize,
+        plan: *mut u32,
+        plan_len: usize,
+        areas: *mut u32,
+        areas_len: usize,
+        xs: *mut u32,
+        xs_len: usize,
+        ys: *mut u32,
+        ys_len: usize,
+    ) -> u64;
+
+    fn zones_write(
+        plan: *const u32,
+        plan_len: usize,
+        areas: *const u32,
+        areas_len: usize,
+        xs: *const u32,
+        xs_len: usize,
+        ys: *const u32,
+        ys_len: usize,
+        out: *mut u8,
+        out_len: usize,
+    ) -> u64;
+}
+
+/// Reads records into the drawing's tables; accepted: how many records.
+pub fn read(
+    records: &[u8],
+    plan: &mut [u32],
+    areas: &mut [u32],
+    xs: &mut [u32],
+    ys: &mut [u32],
+) -> Answer {
+    // Each pointer comes with the length of its own slice.
+    Answer::from_number(unsafe {
+        zones_read(
+            records.as_ptr(),
+            records.len(),
+            plan.as_mut_ptr(),
+            plan.len(),
+            areas.as_mut_ptr(),
+            areas.len(),
+            xs.as_mut_ptr(),
+            xs.len(),
+            ys.as_mut_ptr(),
+            ys.len(),
+        )
+    })
+}
+
+/// Writes a lent drawing out as records; accepted: how many bytes.
+pub fn write(plan: &[u32], areas: &[u32], xs: &[u32], ys: &[u32], out: &mut [u8]) -> Answer {
+    // Each pointer comes with the length of its own slice.
+    Answer::from_number(unsafe {
+        zones_write(
+            plan.as_ptr(),
+            plan.len(),
+            areas.as_ptr(),
+            areas.len(),
+            xs.as_ptr(),
+            xs.len(),
+            ys.as_ptr(),
+            ys.len(),
+            out.as_mut_ptr(),
+            out.len(),
+        )
+    })
+}

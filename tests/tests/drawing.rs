@@ -1,0 +1,708 @@
+//! The library's `read` and `write` compared with the second implementation.
+
+use zones_tests::damage::{self, Damage, DAMAGES};
+use zones_tests::drawing::{
+    self, AREA, AREA_WORDS, BAR, CLOSE, FIRST, MOST_AREAS, MOST_COORDINATE, MOST_CORNERS,
+    MOST_GROUPS, MOST_RECORDS, NEXT, OPEN, PLAN_COUNTS, RECORD_BYTES,
+};
+use zones_tests::lent::{any_bytes, any_words, lent_bytes, Lent, LentTables};
+use zones_tests::random::Random;
+use zones_tests::record::{clip, corner, delimiter, letters, paint, Record};
+use zones_tests::samples::{self, Tables};
+use zones_tests::tally::Tally;
+use zones_tests::zones::Answer;
+use zones_tests::compare;
+
+// ---- expectations ----
+
+fn refused(number: u32, place: usize) -> Answer {
+    Answer::Refused {
+        number,
+        place: place as u32,
+    }
+}
+
+/// Both answer a reading into ample tables as the document says.
+#[track_caller]
+fn expect_read(records: &[Record], expected: Answer) {
+    expect_read_bytes(&records.concat(), expected);
+}
+
+#[track_caller]
+fn expect_read_bytes(bytes: &[u8], expected: Answer) {
+    let random = &mut Random::new(bytes.len() as u64);
+    let (records, tables) = (lent_bytes(random, bytes), LentTables::ample(random));
+    assert_eq!(compare::read(&records, &tables).0, expected);
+}
+
+/// Both answer the writing of the records' tables into an ample buffer as the document says.
+#[track_caller]
+fn expect_write(records: &[Record], expected: Answer) {
+    let random = &mut Random::new(records.len() as u64);
+    let tables = lengthened(random, samples::tables(records));
+    let out = vec![0xA5; RECORD_BYTES * records.len() + 7];
+    let (drawing, out) = (LentTables::new(random, &tables), lent_bytes(random, &out));
+    assert_eq!(compare::write(&drawing, &out).0, expected);
+}
+
+/// Accepted records are read, and their drawing is written.
+#[track_caller]
+fn expect_accepted(records: &[Record]) {
+    expect_read(records, Answer::Accepted(records.len() as u32));
+    expect_write(
+        records,
+        Answer::Accepted((RECORD_BYTES * records.len()) as u32),
+    );
+}
+
+/// Records refused by the grammar; as tables they are no drawing.
+#[track_caller]
+fn expect_refused(records: &[Record], number: u32, place: usize) {
+    expect_read(records, refused(number, place));
+    if number >= 4 {
+        expect_write(records, refused(12, 0));
+    }
+}
+
+// ---- reading ----
+
+fn name_of_kind(kind: u8) -> &'static str {
+    match kind {
+        AREA => "area",
+        FIRST => "first corner",
+        NEXT => "next corner",
+        OPEN => "(",
+        BAR => "|",
+        _ => ")",
+    }
+}
+
+/// A file of a random drawing, mostly damaged once or twice.
+fn random_file(random: &mut Random) -> Vec<u8> {
+    let over = random.one_in(8);
+    let records = samples::drawing(random, over);
+    if random.one_in(4) {
+        return records.concat();
+    }
+    let mut bytes = damage::damaged(random, records);
+    if random.one_in(4) && bytes.len() % RECORD_BYTES == 0 {
+        bytes = damage::damaged(random, bytes.as_chunks().0.to_vec());
+    }
+    bytes
+}
+
+#[test]
+fn random_records_are_read_alike() {
+    let random = &mut Random::for_test(1);
+    let mut numbers = Tally::default();
+    let mut places = Tally::default();
+    for _ in 0..40_000 {
+        let mut bytes = random_file(random);
+        // Often the refused record becomes the last.
+        if let Err(refusal) = drawing::check(&bytes) {
+            if refusal.number > 1 && random.one_in(3) {
+                bytes.truncate(RECORD_BYTES * (refusal.place as usize + 1));
+            }
+        }
+        let records = bytes.as_chunks::<RECORD_BYTES>().0;
+        let count = |kinds: &[u8]| records.iter().filter(|r| kinds.contains(&r[0])).count();
+        let (areas, corners) = (AREA_WORDS * count(&[AREA]), count(&[FIRST, NEXT]));
+        let plan = length(random, PLAN_COUNTS + records.len());
+        let areas = length(random, areas);
+        let xs = length(random, corners);
+        let ys = if random.one_in(20) {
+            length(random, corners)
+        } else {
+            xs
+        };
+        let lend = blank(random, plan, areas, xs, ys);
+        let file = lent_bytes(random, &bytes);
+
+        let (answer, _) = compare::read(&file, &lend);
+        numbers.note_answer(answer);
+        if let Answer::Refused { number, place } = answer {
+            let (place, end) = (place as usize, records.len());
+            if let 2..=6 = number {
+                if place == 0 {
+                    places.note(format!("{number} first"));
+                }
+                if 0 < place && place + 1 < end {
+                    places.note(format!("{number} middle"));
+                }
+                if place + 1 == end {
+                    places.note(format!("{number} last"));
+                }
+                if place == end {
+                    places.note(format!("{number} end"));
+                }
+            }
+            if let 5 | 6 = number {
+                let kind = records
+                    .get(place)
+                    .map_or("the end", |record| name_of_kind(record[0]));
+                places.note(format!("{number} by {kind}"));
+            }
+        }
+    }
+    numbers.print("read");
+    places.print("places");
+    for what in ["accepted", "1", "2", "3", "4", "5", "6", "7", "11"] {
+        numbers.reached(what, 100);
+    }
+    for what in ["2 first", "3 first", "4 first"] {
+        places.reached(what, 50);
+    }
+    for number in 2..=6 {
+        places.reached(&format!("{number} middle"), 50);
+        places.reached(&format!("{number} last"), 50);
+    }
+    for what in ["4 end", "5 end"] {
+        places.reached(what, 50);
+    }
+    for kind in ["area", "first corner", "(", "|", ")", "the end"] {
+        places.reached(&format!("5 by {kind}"), 20);
+    }
+    for kind in ["area", "first corner", "next corner", "("] {
+        places.reached(&format!("6 by {kind}"), 20);
+    }
+}
+
+#[test]
+fn every_byte_of_every_kind_is_read_alike() {
+    let random = &mut Random::for_test(2);
+    let mut tally = Tally::default();
+    let lend = blank(random, PLAN_COUNTS + 9, AREA_WORDS * 2, 3, 3);
+    // Each kind stands in it, areas of both roles.
+    let whole = letters("p233(c|)");
+    expect_accepted(&whole);
+    for place in 0..whole.len() {
+        for at in 0..RECORD_BYTES {
+            for byte in 0..=255 {
+                let mut records = whole.clone();
+                records[place][at] = byte;
+                let file = Lent::new(3, &records.concat(), 3, || 1);
+                tally.note_answer(compare::read(&file, &lend).0);
+            }
+        }
+    }
+    tally.print("every byte");
+    for what in ["accepted", "2", "3", "4"] {
+        tally.reached(what, 100);
+    }
+}
+
+#[test]
+fn coordinates_near_every_power_of_two_are_read_alike() {
+    for bit in 0..32 {
+        for coordinate in [(1u32 << bit) - 1, 1 << bit, (1 << bit) + 1, !(1 << bit)] {
+            for (x, y) in [(coordinate, 7), (7, coordinate)] {
+                let mut records = letters("p2333");
+                records[2] = corner(NEXT, x, y);
+                if coordinate <= MOST_COORDINATE {
+                    expect_accepted(&records);
+                } else {
+                    expect_refused(&records, 3, 2);
+                    expect_write(&records, refused(12, 0));
+                }
+            }
+        }
+    }
+}
+
+/// All sequences of up to seven of the records p, c, 2, 3, (, |, ).
+#[test]
+fn every_short_sequence_is_read_and_checked_alike() {
+    let random = &mut Random::for_test(3);
+    let lend = blank(random, PLAN_COUNTS + 7, AREA_WORDS * 7, 6, 6);
+    let out = lent_bytes(random, &[0xA5; RECORD_BYTES * 7]);
+    let alphabet = letters("pc23(|)");
+    let mut tally = Tally::default();
+    let (mut accepted, mut all) = (0, 0);
+    for len in 0..=7 {
+        for number in 0..alphabet.len().pow(len) {
+            let digit = |i| number / alphabet.len().pow(i) % alphabet.len();
+            let records: Vec<Record> = (0..len).map(|i| alphabet[digit(i)]).collect();
+            let file = Lent::new(1, &records.concat(), 1, || 4);
+            let (read, _) = compare::read(&file, &lend);
+            all += 1;
+            match read {
+                Answer::Accepted(_) => accepted += 1,
+                Answer::Refused { number: 4 | 5, .. } => {}
+                _ => panic!("{read:?} of a short sequence"),
+            }
+            // The lent drawing passes exactly when the records are accepted.
+            if len < 7 || random.one_in(4) {
+                let tables = samples::tables(&records);
+                let drawing = Lend {
+                    plan: Lent::new(1, &tables.plan, 1, || 6),
+                    areas: Lent::new(1, &tables.areas, 1, || 0),
+                    xs: Lent::new(1, &tables.xs, 1, || 0),
+                    ys: Lent::new(1, &tables.ys, 1, || 0),
+                };
+                let (written, _) = compare::write(&drawing, &out);
+                tally.note_answer(written);
+                match read {
+                    Answer::Accepted(n) => assert_eq!(written, Answer::Accepted(16 * n)),
+                    Answer::Refused { .. } => assert_eq!(written, refused(12, 0)),
+                }
+            }
+        }
+    }
+    println!("short sequences: {all}, accepted {accepted}");
+    tally.print("short sequences written");
+}
+
+// ---- limits and order ----
+
+fn repeated(text: &str, times: usize) -> Vec<Record> {
+    letters(&text.repeat(times))
+}
+
+#[test]
+fn limits() {
+    // Records.
+    expect_accepted(&letters(&format!("p{}", "(|)".repeat(1_365))));
+    let too_many = letters(&format!("pp{}", "(|)".repeat(1_365)));
+    assert_eq!(too_many.len(), MOST_RECORDS + 1);
+    expect_read(&too_many, refused(1, 0));
+    expect_write(&too_many, refused(12, 0));
+    expect_read(&repeated(")", MOST_RECORDS), refused(4, 0));
+    expect_read(&repeated(")", MOST_RECORDS + 1), refused(1, 0));
+
+    // Areas, in a row, with contours, and in groups.
+    expect_accepted(&repeated("p", MOST_AREAS));
+    expect_refused(&repeated("p", MOST_AREAS + 1), 6, MOST_AREAS);
+    expect_accepted(&repeated("p233", MOST_AREAS));
+    expect_refused(&repeated("p233", MOST_AREAS + 1), 6, 4 * MOST_AREAS);
+    expect_accepted(&repeated("(c|p)", MOST_AREAS / 2));
+    expect_refused(
+        &repeated("(c|p)", MOST_AREAS / 2 + 1),
+        6,
+        5 * MOST_AREAS / 2 + 1,
+    );
+
+    // Corners, the one too many of either kind.
+    let contour = |corners: usize| letters(&format!("p2{}", "3".repeat(corners - 1)));
+    expect_accepted(&contour(MOST_CORNERS));
+    expect_refused(&contour(MOST_CORNERS + 1), 6, 1 + MOST_CORNERS);
+    let contours = |rest: &str| letters(&format!("p{}{rest}", "2333".repeat(MOST_CORNERS / 4)));
+    expect_accepted(&contours(""));
+    expect_accepted(&contours("p(|)"));
+    expect_refused(&contours("2"), 6, 1 + MOST_CORNERS);
+    expect_refused(&contours("3"), 6, 1 + MOST_CORNERS);
+    expect_refused(&contours("p2"), 6, 2 + MOST_CORNERS);
+
+    // Groups, on left sides and on right sides.
+    let nest = |deep: usize, open: &str, close: &str| {
+        letters(&format!("{}{}", open.repeat(deep), close.repeat(deep)))
+    };
+    for (open, close) in [("(", "|)"), ("(|", ")"), ("(c|p", ")"), ("(c|p", "p)")] {
+        expect_accepted(&nest(MOST_GROUPS, open, close));
+        expect_refused(
+            &nest(MOST_GROUPS + 1, open, close),
+            6,
+            open.len() * MOST_GROUPS,
+        );
+    }
+    // Those open at once count, not all.
+    expect_accepted(&repeated("((((((((|)|)|)|)|)|)|)|)", 20));
+    expect_accepted(&letters("((((((((|)(|)|)|)|)|)|)|)|)"));
+    expect_refused(&letters("((((((((|)(("), 6, 11);
+    expect_refused(&letters("((((((((|("), 6, 9);
+
+    // All at once.
+    let random = &mut Random::for_test(4);
+    let full = samples::full(random, MOST_AREAS, MOST_CORNERS, 661);
+    assert_eq!(full.len(), MOST_RECORDS - 1);
+    expect_accepted(&full);
+    let fullest = samples::fullest(random);
+    assert_eq!(fullest.len(), MOST_RECORDS);
+    expect_accepted(&fullest);
+}
+
+#[test]
+fn lengths_of_files() {
+    expect_accepted(&[]);
+    for len in 0..=64 {
+        let bytes = &letters("pppp").concat()[..len];
+        let whole = len % RECORD_BYTES == 0;
+        let records = Answer::Accepted((len / RECORD_BYTES) as u32);
+        expect_read_bytes(bytes, if whole { records } else { refused(1, 0) });
+    }
+    let most = RECORD_BYTES * MOST_RECORDS;
+    let bytes = letters(&format!("p{}", "(|)".repeat(1_400))).concat();
+    expect_read_bytes(&bytes[..most], Answer::Accepted(MOST_RECORDS as u32));
+    for len in [
+        most - 1,
+        most + 1,
+        most + 15,
+        most + 16,
+        most + 17,
+        most + 32,
+        bytes.len(),
+    ] {
+        expect_read_bytes(&bytes[..len], refused(1, 0));
+    }
+}
+
+#[test]
+fn sides() {
+    for (text, place) in [
+        ("c", 0),
+        ("(p", 1),
+        ("(c|c", 3),
+        ("(c|p)c", 5),
+        ("((p", 2),
+        ("((c|p", 4),
+        ("((c|c)p", 6),
+        ("((c|c)|c", 7),
+        ("(|(p", 3),
+        ("(|(c|c", 5),
+        ("|", 0),
+        (")", 0),
+        ("()", 1),
+        ("(||", 2),
+        ("(|))", 3),
+        ("(|)|", 3),
+        ("((|)|)p|", 7),
+        ("2", 0),
+        ("3", 0),
+        ("p3", 1),
+        ("(2", 1),
+        ("(|2", 2),
+        ("(|)2", 3),
+        ("(c233(3", 6),
+        ("p233(|)3", 7),
+        ("p233p3", 5),
+        ("(", 1),
+        ("(|", 2),
+        ("((|)", 4),
+        ("(|(|)", 5),
+    ] {
+        expect_refused(&letters(text), 4, place);
+    }
+    for text in [
+        "p",
+        "(|)",
+        "(c|p)p",
+        "((c|c)c|p)",
+        "(c(c|c)|p(c|p)p)p",
+        "(((|)|(|))|((|)|(|)))",
+        "(|(c|p(c|p)))",
+        "p233233p(c233|p233)",
+    ] {
+        expect_accepted(&letters(text));
+    }
+}
+
+#[test]
+fn short_contours() {
+    for corners in ["2", "23"] {
+        // The kind that ends it, and what stands before it.
+        for (before, ends) in [
+            ("p", "p"),
+            ("p", "2"),
+            ("p", "("),
+            ("(c", "|"),
+            ("(|p", ")"),
+            ("p", ""),
+        ] {
+            for contours in ["", "233", "233233"] {
+                let records = letters(&format!("{before}{contours}{corners}{ends}"));
+                let place = before.len() + contours.len() + corners.len();
+                expect_refused(&records, 5, place);
+                // With one more record the place stays, unless the end was the place.
+                if !ends.is_empty() {
+                    let more = letters(&format!("{before}{contours}{corners}{ends}3"));
+                    expect_refused(&more, 5, place);
+                }
+            }
+        }
+    }
+    expect_accepted(&letters("p233"));
+}
+
+#[test]
+fn order_of_checks() {
+    let marked = |mut records: Vec<Record>, place: usize, at: usize, byte: u8| {
+        records[place][at] = byte;
+        records
+    };
+    // 2 before 3, 4, 5, 6.
+    expect_read(&[[7; RECORD_BYTES]], refused(2, 0));
+    expect_read(&[[0xFF; RECORD_BYTES]], refused(2, 0));
+    expect_read(&marked(letters("p23("), 3, 0, 9), refused(2, 3));
+    expect_read(
+        &marked(repeated("p", MOST_AREAS + 1), MOST_AREAS, 0, 0),
+        refused(2, MOST_AREAS),
+    );
+    // 3 before 4, 5, 6.
+    expect_read(&[corner(NEXT, MOST_COORDINATE + 1, 0)], refused(3, 0));
+    expect_read(&[corner(FIRST, 0, MOST_COORDINATE + 1)], refused(3, 0));
+    expect_read(&marked(letters(")"), 0, 15, 1), refused(3, 0));
+    expect_read(&marked(letters("c"), 0, 3, 1), refused(3, 0));
+    expect_read(&marked(letters("p23("), 3, 1, 1), refused(3, 3));
+    expect_read(&marked(letters("p23p"), 3, 8, 0), refused(3, 3));
+    expect_read(
+        &marked(repeated("p", MOST_AREAS + 1), MOST_AREAS, 7, 1),
+        refused(3, MOST_AREAS),
+    );
+    expect_read(
+        &marked(repeated("(", MOST_GROUPS + 1), MOST_GROUPS, 1, 1),
+        refused(3, MOST_GROUPS),
+    );
+    // 4 before 5.
+    for text in ["p23)", "p23|", "p23c", "p2)", "p2|", "p2c"] {
+        expect_refused(&letters(text), 4, text.len() - 1);
+    }
+    // 4 before 6.
+    let mut areas = repeated("p", MOST_AREAS);
+    areas.push(clip());
+    expect_refused(&areas, 4, MOST_AREAS);
+    let corners = "3".repeat(MOST_CORNERS - 1);
+    expect_refused(&letters(&format!("p2{corners}p3")), 4, MOST_CORNERS + 2);
+    expect_refused(&letters(&format!("p2{corners}(2")), 4, MOST_CORNERS + 2);
+    // 4 before 5 and 6.
+    let mut areas = letters(&format!("{}23", "p".repeat(MOST_AREAS)));
+    areas.push(clip());
+    expect_refused(&areas, 4, MOST_AREAS + 2);
+    // 5 before 6.
+    let mut areas = letters(&format!("{}23", "p".repeat(MOST_AREAS)));
+    areas.push(paint());
+    expect_refused(&areas, 5, MOST_AREAS + 2);
+    let corners = "3".repeat(MOST_CORNERS - 3);
+    expect_refused(&letters(&format!("p2{corners}232")), 5, MOST_CORNERS + 1);
+    expect_refused(&letters("((((((((c23("), 5, 11);
+    // At the end 4 before 5.
+    for text in ["(c2", "(c23", "(|p2", "(|p23"] {
+        expect_refused(&letters(text), 4, text.len());
+    }
+    // An earlier record before a later one, whatever the numbers.
+    let mut records = letters("p3()p");
+    records[4][0] = 7;
+    expect_read(&records, refused(4, 1));
+    // 1 before the records.
+    expect_read_bytes(&[7; 17], refused(1, 0));
+    expect_read_bytes(&[7; RECORD_BYTES * (MOST_RECORDS + 1)], refused(1, 0));
+}
+
+#[test]
+fn order_of_checks_with_tables() {
+    let random = &mut Random::for_test(5);
+    let mut read = |bytes: &[u8], [plan, areas, xs, ys]: [usize; 4]| {
+        let (records, tables) = (
+            lent_bytes(random, bytes),
+            blank(random, plan, areas, xs, ys),
+        );
+        compare::read(&records, &tables).0
+    };
+    let whole = letters("p233(c|)").concat();
+    let unknown = [7; RECORD_BYTES];
+    // 7 before 1, the records, the end, 11.
+    assert_eq!(read(&[7; 17], [99, 99, 9, 8]), refused(7, 0));
+    assert_eq!(
+        read(&[0; RECORD_BYTES * (MOST_RECORDS + 1)], [0, 0, 0, 1]),
+        refused(7, 0)
+    );
+    assert_eq!(read(&unknown, [99, 99, 8, 9]), refused(7, 0));
+    assert_eq!(read(&delimiter(OPEN), [99, 99, 8, 9]), refused(7, 0));
+    assert_eq!(read(&whole, [0, 0, 3, 4]), refused(7, 0));
+    assert_eq!(read(&whole, [99, 99, 3, 4]), refused(7, 0));
+    assert_eq!(read(&[], [3, 0, 1, 0]), refused(7, 0));
+    // 1, the records and the end before 11.
+    assert_eq!(read(&[1; 17], [0; 4]), refused(1, 0));
+    assert_eq!(read(&unknown, [0; 4]), refused(2, 0));
+    assert_eq!(read(&delimiter(CLOSE), [0; 4]), refused(4, 0));
+    assert_eq!(read(&letters("pc").concat(), [3, 0, 0, 0]), refused(4, 1));
+    assert_eq!(read(&letters("p23").concat(), [3, 0, 0, 0]), refused(5, 3));
+    assert_eq!(read(&delimiter(OPEN), [0; 4]), refused(4, 1));
+    assert_eq!(read(&letters("((((((((((").concat(), [0; 4]), refused(6, 8));
+    // 11 for each table that is one word too short.
+    assert_eq!(read(&whole, [11, 16, 3, 3]), Answer::Accepted(8));
+    assert_eq!(read(&whole, [12, 17, 4, 4]), Answer::Accepted(8));
+    assert_eq!(read(&whole, [10, 16, 3, 3]), refused(11, 0));
+    assert_eq!(read(&whole, [11, 15, 3, 3]), refused(11, 0));
+    assert_eq!(read(&whole, [11, 16, 2, 2]), refused(11, 0));
+    assert_eq!(read(&[], [3, 0, 0, 0]), Answer::Accepted(0));
+    for plan in 0..3 {
+        assert_eq!(read(&[], [plan, 0, 0, 0]), refused(11, 0));
+    }
+}
+
+#[test]
+fn order_of_checks_of_writing() {
+    let random = &mut Random::for_test(6);
+    let mut write = |tables: &Tables, len: usize| {
+        let (drawing, out) = (
+            LentTables::new(random, tables),
+            lent_bytes(random, &vec![0xA5; len]),
+        );
+        compare::write(&drawing, &out).0
+    };
+    let whole = samples::tables(&letters("p233(c|)"));
+    assert_eq!(write(&whole, 128), Answer::Accepted(128));
+    assert_eq!(write(&whole, 300), Answer::Accepted(128));
+    assert_eq!(write(&whole, 127), refused(11, 0));
+    assert_eq!(write(&whole, 0), refused(11, 0));
+    // 12 before 11.
+    let mut broken = whole.clone();
+    broken.plan[3] = 7;
+    assert_eq!(write(&broken, 128), refused(12, 0));
+    assert_eq!(write(&broken, 0), refused(12, 0));
+    // 7 before 12 and 11.
+    broken.xs.push(1);
+    assert_eq!(write(&broken, 0), refused(7, 0));
+    let mut unequal = whole.clone();
+    unequal.ys.push(1);
+    assert_eq!(write(&unequal, 128), refused(7, 0));
+    assert_eq!(write(&unequal, 0), refused(7, 0));
+    // The empty drawing, and a plan too short for its counts.
+    let mut empty = samples::tables(&[]);
+    assert_eq!(write(&empty, 0), Answer::Accepted(0));
+    assert_eq!(write(&empty, 9), Answer::Accepted(0));
+    for plan in (0..3).rev() {
+        empty.plan.truncate(plan);
+        assert_eq!(write(&empty, 9), refused(12, 0));
+        assert_eq!(write(&empty, 0), refused(12, 0));
+    }
+    // What the counts do not name is not looked at.
+    let mut longer = whole.clone();
+    longer.plan.extend([9, 9]);
+    longer.areas.extend([9; 11]);
+    longer.xs.push(u32::MAX);
+    longer.ys.push(u32::MAX);
+    assert_eq!(write(&longer, 128), Answer::Accepted(128));
+    for count in 0..3 {
+        let mut more = longer.clone();
+        more.plan[count] += 1;
+        assert_eq!(write(&more, 300), refused(12, 0));
+        let mut fewer = longer.clone();
+        fewer.plan[count] -= 1;
+        assert_eq!(write(&fewer, 300), refused(12, 0));
+    }
+}
+
+// ---- writing ----
+
+#[test]
+fn what_was_read_is_written_back() {
+    let random = &mut Random::for_test(7);
+    let mut tally = Tally::default();
+    for _ in 0..5_000 {
+        let records = samples::drawing(random, false);
+        let bytes = records.concat();
+        let exact = samples::tables(&records);
+        let Tables {
+            plan,
+            areas,
+            xs,
+            ys,
+        } = lengthened(random, exact);
+        let lend = blank(random, plan.len(), areas.len(), xs.len(), ys.len());
+        let (answer, drawing) = compare::read(&lent_bytes(random, &bytes), &lend);
+        assert_eq!(answer, Answer::Accepted(records.len() as u32));
+
+        let longer = bytes.len() + random.within(1..=40);
+        for len in [bytes.len(), longer] {
+            let before: Vec<u8> = (0..len).map(|_| random.byte()).collect();
+            let (answer, out) = compare::write(&drawing, &lent_bytes(random, &before));
+            tally.note_answer(answer);
+            assert_eq!(answer, Answer::Accepted(bytes.len() as u32));
+            assert!(out.table()[..bytes.len()] == bytes);
+            assert!(out.table()[bytes.len()..] == before[bytes.len()..]);
+        }
+        if !bytes.is_empty() {
+            let shorter = random.below(bytes.len());
+            let len = random.pick(&[bytes.len() - 1, shorter]);
+            let before: Vec<u8> = (0..len).map(|_| random.byte()).collect();
+            let (answer, _) = compare::write(&drawing, &lent_bytes(random, &before));
+            tally.note_answer(answer);
+            assert_eq!(answer, refused(11, 0));
+        }
+    }
+    tally.print("written back");
+    tally.reached("accepted", 5_000);
+    tally.reached("11", 1_000);
+}
+
+/// A drawing to lend and the name of its damage: in one word or length, or in its grammar.
+fn random_lent_drawing(random: &mut Random) -> (Tables, &'static str) {
+    let over = random.one_in(8);
+    let records = samples::drawing(random, over);
+    if over {
+        return (lengthened(random, samples::tables(&records)), "limits");
+    }
+    if random.one_in(6) {
+        // Records that are mostly refused, as tables whose counts are right.
+        let bytes = damage::damaged(random, records);
+        let tables = samples::tables(bytes.as_chunks().0);
+        return (lengthened(random, tables), "grammar");
+    }
+    let exact = samples::tables(&records);
+    let mut tables = lengthened(random, exact);
+    if random.one_in(6) {
+        return (tables, "none");
+    }
+    let damage = random.below(samples::DAMAGES.len());
+    samples::damage_tables(random, &mut tables, damage);
+    (tables, samples::DAMAGES[damage])
+}
+
+#[test]
+fn random_lent_drawings_are_written_alike() {
+    let random = &mut Random::for_test(8);
+    let mut numbers = Tally::default();
+    let mut damages = Tally::default();
+    for _ in 0..20_000 {
+        let (tables, damage) = random_lent_drawing(random);
+        let needed = RECORD_BYTES * (tables.plan.len().max(PLAN_COUNTS) - PLAN_COUNTS);
+        let len = match random.below(8) {
+            0 => random.below(needed + 1),
+            _ => needed + random.below(20),
+        };
+        let drawing = LentTables::new(random, &tables);
+        let before: Vec<u8> = (0..len).map(|_| random.byte()).collect();
+        let (answer, _) = compare::write(&drawing, &lent_bytes(random, &before));
+        numbers.note_answer(answer);
+        match answer {
+            Answer::Accepted(_) | Answer::Refused { number: 11, .. } => {
+                damages.note(format!("{damage} passes"));
+            }
+            Answer::Refused { number, .. } => damages.note(format!("{damage} {number}")),
+        }
+    }
+    numbers.print("write");
+    damages.print("damages");
+    for what in ["accepted", "7", "11", "12"] {
+        numbers.reached(what, 100);
+    }
+    damages.reached("none passes", 100);
+    damages.reached("grammar 12", 100);
+    damages.reached("limits 12", 100);
+    for damage in samples::DAMAGES {
+        let number = if damage == "pair unequal" { 7 } else { 12 };
+        damages.reached(&format!("{damage} {number}"), 100);
+    }
+}
+
+#[test]
+fn a_drawing_written_and_read_again_is_the_same() {
+    let random = &mut Random::for_test(9);
+    let mut tally = Tally::default();
+    for _ in 0..12_000 {
+        let (tables, _) = random_lent_drawing(random);
+        let drawing = LentTables::new(random, &tables);
+        let room = RECORD_BYTES * tables.plan.len();
+        let out = lent_bytes(random, &vec![0; room]);
+        let (answer, out) = compare::write(&drawing, &out);
+        tally.note_answer(answer);
+        if let Answer::Accepted(bytes) = answer {
+            let records = lent_bytes(random, &out.table()[..bytes as usize]);
+            let (answer, again) = compare::read(&records, &drawing);
+            assert_eq!(answer, Answer::Accepted(bytes / RECORD_BYTES as u32));
+            assert!(again == drawing, "not the same drawing: {drawing:?}");
+        }
+    }
+    tally.print("written and read again");
+    tally.reached("accepted", 1_000);
+}
