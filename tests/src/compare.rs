@@ -51,7 +51,10 @@ pub fn read(records: &Lent<u8>, before: &LentTables) -> (Answer, LentTables) {
             for ((now, then), in_use) in lent.zip([plan, areas, xs, ys]) {
                 let (used, rest) = now.table().split_at(in_use.len());
                 assert!(used == in_use, "words in use: {bytes:?}");
-                assert!(rest == &then.table()[in_use.len()..], "other words: {bytes:?}");
+                assert!(
+                    rest == &then.table()[in_use.len()..],
+                    "other words: {bytes:?}"
+                );
             }
         }
     }
@@ -81,7 +84,10 @@ pub fn write(drawing: &LentTables, before: &Lent<u8>) -> (Answer, Lent<u8>) {
     );
     assert_eq!(answer, second, "library, second; {drawing:?}");
     assert!(given == *drawing, "drawing changed: {drawing:?}");
-    assert!(by_library.guards_as_in(before), "guards changed: {drawing:?}");
+    assert!(
+        by_library.guards_as_in(before),
+        "guards changed: {drawing:?}"
+    );
     assert!(by_library == by_second, "bytes differ: {drawing:?}");
     match answer {
         Answer::Refused { .. } => {
@@ -89,7 +95,10 @@ pub fn write(drawing: &LentTables, before: &Lent<u8>) -> (Answer, Lent<u8>) {
         }
         Answer::Accepted(bytes) => {
             let rest = &by_library.table()[bytes as usize..];
-            assert!(rest == &before.table()[bytes as usize..], "other bytes: {drawing:?}");
+            assert!(
+                rest == &before.table()[bytes as usize..],
+                "other bytes: {drawing:?}"
+            );
         }
     }
     (answer, by_library)

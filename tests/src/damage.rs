@@ -185,7 +185,6 @@ fn change(random: &mut Random, words: &mut [u32]) {
     }
 }
 
-
 /// Ways to damage a lent drawing in one word or one length.
 #[derive(Clone, Copy, PartialEq, Eq, Debug)]
 pub enum Damage {
@@ -227,7 +226,12 @@ fn odd_count(random: &mut Random, count: u32, holds: usize) -> u32 {
 
 /// Damages a lent drawing whose counts are right. What a shorter table loses becomes guard.
 pub fn damage_tables(random: &mut Random, lent: &mut LentTables, damage: Damage) {
-    let LentTables { plan, areas, xs, ys } = lent;
+    let LentTables {
+        plan,
+        areas,
+        xs,
+        ys,
+    } = lent;
     let [records_in_use, areas_in_use, corners_in_use] = [0, 1, 2].map(|i| plan.table()[i]);
     let kinds = PLAN_COUNTS..PLAN_COUNTS + records_in_use as usize;
     let area_words = AREA_WORDS * areas_in_use as usize;

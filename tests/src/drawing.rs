@@ -98,14 +98,13 @@ fn corner_in_range(x: u32, y: u32) -> bool {
 
 /// Whether every field of a record of known kind is in range and its unnamed bytes are zero.
 fn record_in_range(record: &[u8; RECORD_BYTES]) -> bool {
-    let zero = |bytes: &[u8]| bytes.iter().all(|byte| *byte == 0);
     match record[0] {
-        AREA => record[7] == 0 && zero(&record[10..]) && Area::of_record(record).in_range(),
+        AREA => record[7] == 0 && record[10..] == [0; 6] && Area::of_record(record).in_range(),
         FIRST | NEXT => {
             let (x, y) = corner_of_record(record);
-            zero(&record[1..4]) && zero(&record[12..]) && corner_in_range(x, y)
+            record[1..4] == [0; 3] && record[12..] == [0; 4] && corner_in_range(x, y)
         }
-        _ => zero(&record[1..]),
+        _ => record[1..] == [0; 15],
     }
 }
 

@@ -59,7 +59,7 @@ fn any_word(random: &mut Random) -> u32 {
     }
 }
 
-pub fn any_words(random: &mut Random, len: usize) -> Vec<u32> {
+fn any_words(random: &mut Random, len: usize) -> Vec<u32> {
     (0..len).map(|_| any_word(random)).collect()
 }
 
@@ -100,7 +100,27 @@ impl LentTables {
     /// Tables of the lengths of plan, areas, xs and ys, full of any words.
     pub fn blank(random: &mut Random, lengths: [usize; 4]) -> LentTables {
         let [plan, areas, xs, ys] = lengths.map(|len| any_words(random, len));
-        LentTables::new(random, &Tables { plan, areas, xs, ys })
+        LentTables::new(
+            random,
+            &Tables {
+                plan,
+                areas,
+                xs,
+                ys,
+            },
+        )
+    }
+
+    /// The tables, often with more words after those in use.
+    pub fn longer(random: &mut Random, mut tables: Tables) -> LentTables {
+        for table in [&mut tables.plan, &mut tables.areas] {
+            let more = random.pick(&[0, 0, 1, 5, 8, 30]);
+            table.extend(any_words(random, more));
+        }
+        let more = random.pick(&[0, 0, 1, 7]);
+        tables.xs.extend(any_words(random, more));
+        tables.ys.extend(any_words(random, more));
+        LentTables::new(random, &tables)
     }
 
     /// Tables long enough for every drawing.

@@ -1,17 +1,17 @@
 //! The library's `read` and `write` compared with the second implementation.
 
+use zones_tests::compare;
 use zones_tests::damage::{self, Damage, DAMAGES};
 use zones_tests::drawing::{
     self, AREA, AREA_WORDS, BAR, CLOSE, FIRST, MOST_AREAS, MOST_COORDINATE, MOST_CORNERS,
     MOST_GROUPS, MOST_RECORDS, NEXT, OPEN, PLAN_COUNTS, RECORD_BYTES,
 };
-use zones_tests::lent::{any_bytes, any_words, lent_bytes, Lent, LentTables};
+use zones_tests::lent::{any_bytes, lent_bytes, Lent, LentTables};
 use zones_tests::random::Random;
 use zones_tests::record::{clip, corner, delimiter, letters, paint, Record};
 use zones_tests::samples::{self, Tables};
 use zones_tests::tally::Tally;
 use zones_tests::zones::Answer;
-use zones_tests::compare;
 
 // ---- expectations ----
 
@@ -39,9 +39,9 @@ fn expect_read_bytes(bytes: &[u8], expected: Answer) {
 #[track_caller]
 fn expect_write(records: &[Record], expected: Answer) {
     let random = &mut Random::new(records.len() as u64);
-    let tables = lengthened(random, samples::tables(records));
+    let drawing = LentTables::longer(random, samples::tables(records));
     let out = vec![0xA5; RECORD_BYTES * records.len() + 7];
-    let (drawing, out) = (LentTables::new(random, &tables), lent_bytes(random, &out));
+    let out = lent_bytes(random, &out);
     assert_eq!(compare::write(&drawing, &out).0, expected);
 }
 
@@ -84,11 +84,41 @@ fn random_file(random: &mut Random) -> Vec<u8> {
     if random.one_in(4) {
         return records.concat();
     }
-    let mut bytes = damage::damaged(random, records);
-    if random.one_in(4) && bytes.len() % RECORD_BYTES == 0 {
-        bytes = damage::damaged(random, bytes.as_chunks().0.to_vec());
+    let bytes = damage::damaged(random, records);
+    match bytes.as_chunks::<RECORD_BYTES>() {
+        (records, []) if random.one_in(4) => damage::damaged(random, records.to_vec()),
+        _ => bytes,
     }
-    bytes
+}
+
+/// A random file lent: whole, up to the refused record, or a part. What is cut off becomes guard.
+fn random_lent_file(random: &mut Random) -> Lent<u8> {
+    let bytes = random_file(random);
+    let mut file = lent_bytes(random, &bytes);
+    let records = bytes.len() / RECORD_BYTES;
+    match drawing::check(&bytes) {
+        Err(refusal) if refusal.number > 1 && random.one_in(3) => {
+            file.shorten(RECORD_BYTES * (refusal.place as usize + 1));
+        }
+        _ if random.one_in(8) => {
+            let end = random.within(0..=records);
+            file.shorten(RECORD_BYTES * end);
+            if random.one_in(3) {
+                file.start_at(RECORD_BYTES * random.within(0..=end));
+            }
+        }
+        _ => {}
+    }
+    file
+}
+
+/// The length of a table: now and then too short, else exact or longer.
+fn length(random: &mut Random, needed: usize) -> usize {
+    match random.below(24) {
+        0 if needed > 0 => random.pick(&[needed - 1, 0, needed / 2]),
+        0..12 => needed,
+        _ => needed + random.within(1..=20),
+    }
 }
 
 #[test]
@@ -96,74 +126,68 @@ fn random_records_are_read_alike() {
     let random = &mut Random::for_test(1);
     let mut numbers = Tally::default();
     let mut places = Tally::default();
-    for _ in 0..40_000 {
-        let mut bytes = random_file(random);
-        // Often the refused record becomes the last.
-        if let Err(refusal) = drawing::check(&bytes) {
-            if refusal.number > 1 && random.one_in(3) {
-                bytes.truncate(RECORD_BYTES * (refusal.place as usize + 1));
-            }
-        }
-        let records = bytes.as_chunks::<RECORD_BYTES>().0;
+    for _ in 0..100_000 {
+        let file = random_lent_file(random);
+        let records = file.table().as_chunks::<RECORD_BYTES>().0;
         let count = |kinds: &[u8]| records.iter().filter(|r| kinds.contains(&r[0])).count();
-        let (areas, corners) = (AREA_WORDS * count(&[AREA]), count(&[FIRST, NEXT]));
+        let (areas, corners) = (count(&[AREA]), count(&[FIRST, NEXT]));
         let plan = length(random, PLAN_COUNTS + records.len());
-        let areas = length(random, areas);
+        let areas = length(random, AREA_WORDS * areas);
         let xs = length(random, corners);
-        let ys = if random.one_in(20) {
-            length(random, corners)
-        } else {
-            xs
+        let ys = match random.one_in(20) {
+            true => length(random, corners),
+            false => xs,
         };
-        let lend = blank(random, plan, areas, xs, ys);
-        let file = lent_bytes(random, &bytes);
-
-        let (answer, _) = compare::read(&file, &lend);
+        let tables = LentTables::blank(random, [plan, areas, xs, ys]);
+        let (answer, _) = compare::read(&file, &tables);
         numbers.note_answer(answer);
         if let Answer::Refused { number, place } = answer {
-            let (place, end) = (place as usize, records.len());
-            if let 2..=6 = number {
-                if place == 0 {
-                    places.note(format!("{number} first"));
-                }
-                if 0 < place && place + 1 < end {
-                    places.note(format!("{number} middle"));
-                }
-                if place + 1 == end {
-                    places.note(format!("{number} last"));
-                }
-                if place == end {
-                    places.note(format!("{number} end"));
-                }
-            }
-            if let 5 | 6 = number {
-                let kind = records
-                    .get(place)
-                    .map_or("the end", |record| name_of_kind(record[0]));
-                places.note(format!("{number} by {kind}"));
-            }
+            note_place(&mut places, number, place as usize, records);
         }
     }
     numbers.print("read");
     places.print("places");
     for what in ["accepted", "1", "2", "3", "4", "5", "6", "7", "11"] {
-        numbers.reached(what, 100);
+        numbers.reached(what, 1_000);
     }
-    for what in ["2 first", "3 first", "4 first"] {
-        places.reached(what, 50);
+    for what in ["2 first", "3 first", "4 first", "4 end", "5 end"] {
+        places.reached(what, 100);
     }
     for number in 2..=6 {
-        places.reached(&format!("{number} middle"), 50);
-        places.reached(&format!("{number} last"), 50);
-    }
-    for what in ["4 end", "5 end"] {
-        places.reached(what, 50);
+        places.reached(&format!("{number} middle"), 100);
+        places.reached(&format!("{number} last"), 100);
     }
     for kind in ["area", "first corner", "(", "|", ")", "the end"] {
-        places.reached(&format!("5 by {kind}"), 20);
+        places.reached(&format!("5 by {kind}"), 100);
     }
     for kind in ["area", "first corner", "next corner", "("] {
         places.reached(&format!("6 by {kind}"), 20);
+    }
+}
+
+/// Where a refusal of 2 to 6 stands among the records, and what kind of record met 5 or 6.
+fn note_place(places: &mut Tally, number: u32, place: usize, records: &[Record]) {
+    let end = records.len();
+    if !(2..=6).contains(&number) {
+        return;
+    }
+    if place == 0 {
+        places.note(format!("{number} first"));
+    }
+    if 0 < place && place + 1 < end {
+        places.note(format!("{number} middle"));
+    }
+    if place + 1 == end {
+        places.note(format!("{number} last"));
+    }
+    if place == end {
+        places.note(format!("{number} end"));
+    }
+    if number >= 5 {
+        let kind = records
+            .get(place)
+            .map_or("the end", |record| name_of_kind(record[0]));
+        places.note(format!("{number} by {kind}"));
     }
 }
 
@@ -171,7 +195,7 @@ fn random_records_are_read_alike() {
 fn every_byte_of_every_kind_is_read_alike() {
     let random = &mut Random::for_test(2);
     let mut tally = Tally::default();
-    let lend = blank(random, PLAN_COUNTS + 9, AREA_WORDS * 2, 3, 3);
+    let tables = LentTables::blank(random, [PLAN_COUNTS + 9, AREA_WORDS * 2, 3, 3]);
     // Each kind stands in it, areas of both roles.
     let whole = letters("p233(c|)");
     expect_accepted(&whole);
@@ -181,13 +205,14 @@ fn every_byte_of_every_kind_is_read_alike() {
                 let mut records = whole.clone();
                 records[place][at] = byte;
                 let file = Lent::new(3, &records.concat(), 3, || 1);
-                tally.note_answer(compare::read(&file, &lend).0);
+                tally.note_answer(compare::read(&file, &tables).0);
             }
         }
     }
     tally.print("every byte");
-    for what in ["accepted", "2", "3", "4"] {
-        tally.reached(what, 100);
+    tally.reached("2", whole.len() * 250);
+    for (what, least) in [("accepted", 1_000), ("3", 1_000), ("4", 10), ("5", 1)] {
+        tally.reached(what, least);
     }
 }
 
@@ -213,43 +238,33 @@ fn coordinates_near_every_power_of_two_are_read_alike() {
 #[test]
 fn every_short_sequence_is_read_and_checked_alike() {
     let random = &mut Random::for_test(3);
-    let lend = blank(random, PLAN_COUNTS + 7, AREA_WORDS * 7, 6, 6);
+    let blank = LentTables::blank(random, [PLAN_COUNTS + 7, AREA_WORDS * 7, 6, 6]);
     let out = lent_bytes(random, &[0xA5; RECORD_BYTES * 7]);
     let alphabet = letters("pc23(|)");
     let mut tally = Tally::default();
-    let (mut accepted, mut all) = (0, 0);
     for len in 0..=7 {
         for number in 0..alphabet.len().pow(len) {
-            let digit = |i| number / alphabet.len().pow(i) % alphabet.len();
-            let records: Vec<Record> = (0..len).map(|i| alphabet[digit(i)]).collect();
+            let letter = |i| alphabet[number / alphabet.len().pow(i) % alphabet.len()];
+            let records: Vec<Record> = (0..len).map(letter).collect();
             let file = Lent::new(1, &records.concat(), 1, || 4);
-            let (read, _) = compare::read(&file, &lend);
-            all += 1;
-            match read {
-                Answer::Accepted(_) => accepted += 1,
-                Answer::Refused { number: 4 | 5, .. } => {}
-                _ => panic!("{read:?} of a short sequence"),
-            }
+            let (read, _) = compare::read(&file, &blank);
+            tally.note_answer(read);
             // The lent drawing passes exactly when the records are accepted.
-            if len < 7 || random.one_in(4) {
-                let tables = samples::tables(&records);
-                let drawing = Lend {
-                    plan: Lent::new(1, &tables.plan, 1, || 6),
-                    areas: Lent::new(1, &tables.areas, 1, || 0),
-                    xs: Lent::new(1, &tables.xs, 1, || 0),
-                    ys: Lent::new(1, &tables.ys, 1, || 0),
-                };
-                let (written, _) = compare::write(&drawing, &out);
-                tally.note_answer(written);
-                match read {
-                    Answer::Accepted(n) => assert_eq!(written, Answer::Accepted(16 * n)),
-                    Answer::Refused { .. } => assert_eq!(written, refused(12, 0)),
-                }
+            let tables = samples::tables(&records);
+            let drawing = LentTables {
+                plan: Lent::new(1, &tables.plan, 1, || 6),
+                areas: Lent::new(1, &tables.areas, 1, || 0),
+                xs: Lent::new(1, &tables.xs, 1, || 0),
+                ys: Lent::new(1, &tables.ys, 1, || 0),
+            };
+            let (written, _) = compare::write(&drawing, &out);
+            match read {
+                Answer::Accepted(records) => assert_eq!(written, Answer::Accepted(16 * records)),
+                Answer::Refused { .. } => assert_eq!(written, refused(12, 0)),
             }
         }
     }
-    println!("short sequences: {all}, accepted {accepted}");
-    tally.print("short sequences written");
+    tally.print("short sequences");
 }
 
 // ---- limits and order ----
@@ -346,52 +361,20 @@ fn lengths_of_files() {
 }
 
 #[test]
-fn sides() {
-    for (text, place) in [
-        ("c", 0),
-        ("(p", 1),
-        ("(c|c", 3),
-        ("(c|p)c", 5),
-        ("((p", 2),
-        ("((c|p", 4),
-        ("((c|c)p", 6),
-        ("((c|c)|c", 7),
-        ("(|(p", 3),
-        ("(|(c|c", 5),
-        ("|", 0),
-        (")", 0),
-        ("()", 1),
-        ("(||", 2),
-        ("(|))", 3),
-        ("(|)|", 3),
-        ("((|)|)p|", 7),
-        ("2", 0),
-        ("3", 0),
-        ("p3", 1),
-        ("(2", 1),
-        ("(|2", 2),
-        ("(|)2", 3),
-        ("(c233(3", 6),
-        ("p233(|)3", 7),
-        ("p233p3", 5),
-        ("(", 1),
-        ("(|", 2),
-        ("((|)", 4),
-        ("(|(|)", 5),
-    ] {
-        expect_refused(&letters(text), 4, place);
-    }
-    for text in [
-        "p",
-        "(|)",
-        "(c|p)p",
-        "((c|c)c|p)",
-        "(c(c|c)|p(c|p)p)p",
-        "(((|)|(|))|((|)|(|)))",
-        "(|(c|p(c|p)))",
-        "p233233p(c233|p233)",
-    ] {
+fn what_fits() {
+    let accepted = "p (|) (c|p)p ((c|c)c|p) (c(c|c)|p(c|p)p)p (((|)|(|))|((|)|(|))) (|(c|p(c|p))) \
+                    p233233p(c233|p233)";
+    for text in accepted.split_whitespace() {
         expect_accepted(&letters(text));
+    }
+    let last_does_not_fit = "c (p (c|c (c|p)c ((p ((c|p ((c|c)p ((c|c)|c (|(p (|(c|c \
+                             | ) () (|| (|)) (|)| ((|)|)p| \
+                             2 3 p3 (2 (|2 (|)2 (c233(3 p233(|)3 p233p3 (c|2 (c|3 (|p)2";
+    for text in last_does_not_fit.split_whitespace() {
+        expect_refused(&letters(text), 4, text.len() - 1);
+    }
+    for text in "( (| ((|) (|(|) ((|)| p( p233( (c|p233".split_whitespace() {
+        expect_refused(&letters(text), 4, text.len());
     }
 }
 
@@ -489,11 +472,9 @@ fn order_of_checks() {
 #[test]
 fn order_of_checks_with_tables() {
     let random = &mut Random::for_test(5);
-    let mut read = |bytes: &[u8], [plan, areas, xs, ys]: [usize; 4]| {
-        let (records, tables) = (
-            lent_bytes(random, bytes),
-            blank(random, plan, areas, xs, ys),
-        );
+    let mut read = |bytes: &[u8], lengths: [usize; 4]| {
+        let records = lent_bytes(random, bytes);
+        let tables = LentTables::blank(random, lengths);
         compare::read(&records, &tables).0
     };
     let whole = letters("p233(c|)").concat();
@@ -588,23 +569,16 @@ fn order_of_checks_of_writing() {
 fn what_was_read_is_written_back() {
     let random = &mut Random::for_test(7);
     let mut tally = Tally::default();
-    for _ in 0..5_000 {
+    for _ in 0..10_000 {
         let records = samples::drawing(random, false);
         let bytes = records.concat();
-        let exact = samples::tables(&records);
-        let Tables {
-            plan,
-            areas,
-            xs,
-            ys,
-        } = lengthened(random, exact);
-        let lend = blank(random, plan.len(), areas.len(), xs.len(), ys.len());
-        let (answer, drawing) = compare::read(&lent_bytes(random, &bytes), &lend);
+        let longer = LentTables::longer(random, samples::tables(&records));
+        let blank = LentTables::blank(random, longer.each().map(|table| table.table().len()));
+        let (answer, drawing) = compare::read(&lent_bytes(random, &bytes), &blank);
         assert_eq!(answer, Answer::Accepted(records.len() as u32));
 
-        let longer = bytes.len() + random.within(1..=40);
-        for len in [bytes.len(), longer] {
-            let before: Vec<u8> = (0..len).map(|_| random.byte()).collect();
+        for len in [bytes.len(), bytes.len() + random.within(1..=40)] {
+            let before = any_bytes(random, len);
             let (answer, out) = compare::write(&drawing, &lent_bytes(random, &before));
             tally.note_answer(answer);
             assert_eq!(answer, Answer::Accepted(bytes.len() as u32));
@@ -612,76 +586,80 @@ fn what_was_read_is_written_back() {
             assert!(out.table()[bytes.len()..] == before[bytes.len()..]);
         }
         if !bytes.is_empty() {
-            let shorter = random.below(bytes.len());
-            let len = random.pick(&[bytes.len() - 1, shorter]);
-            let before: Vec<u8> = (0..len).map(|_| random.byte()).collect();
-            let (answer, _) = compare::write(&drawing, &lent_bytes(random, &before));
-            tally.note_answer(answer);
-            assert_eq!(answer, refused(11, 0));
+            for len in [bytes.len() - 1, random.below(bytes.len())] {
+                let before = any_bytes(random, len);
+                let (answer, _) = compare::write(&drawing, &lent_bytes(random, &before));
+                tally.note_answer(answer);
+                assert_eq!(answer, refused(11, 0));
+            }
         }
     }
     tally.print("written back");
-    tally.reached("accepted", 5_000);
-    tally.reached("11", 1_000);
+    tally.reached("accepted", 10_000);
+    tally.reached("11", 10_000);
 }
 
-/// A drawing to lend and the name of its damage: in one word or length, or in its grammar.
-fn random_lent_drawing(random: &mut Random) -> (Tables, &'static str) {
+/// A drawing to lend, and how it was made.
+fn random_lent_drawing(random: &mut Random) -> (LentTables, String) {
     let over = random.one_in(8);
     let records = samples::drawing(random, over);
     if over {
-        return (lengthened(random, samples::tables(&records)), "limits");
+        let tables = samples::tables(&records);
+        return (
+            LentTables::longer(random, tables),
+            "over limits".to_string(),
+        );
     }
     if random.one_in(6) {
-        // Records that are mostly refused, as tables whose counts are right.
         let bytes = damage::damaged(random, records);
         let tables = samples::tables(bytes.as_chunks().0);
-        return (lengthened(random, tables), "grammar");
+        return (
+            LentTables::longer(random, tables),
+            "damaged records".to_string(),
+        );
     }
-    let exact = samples::tables(&records);
-    let mut tables = lengthened(random, exact);
+    let mut drawing = LentTables::longer(random, samples::tables(&records));
     if random.one_in(6) {
-        return (tables, "none");
+        return (drawing, "whole".to_string());
     }
-    let damage = random.below(samples::DAMAGES.len());
-    samples::damage_tables(random, &mut tables, damage);
-    (tables, samples::DAMAGES[damage])
+    let damage = random.pick(&DAMAGES);
+    damage::damage_tables(random, &mut drawing, damage);
+    (drawing, format!("{damage:?}"))
 }
 
 #[test]
 fn random_lent_drawings_are_written_alike() {
     let random = &mut Random::for_test(8);
     let mut numbers = Tally::default();
-    let mut damages = Tally::default();
-    for _ in 0..20_000 {
-        let (tables, damage) = random_lent_drawing(random);
-        let needed = RECORD_BYTES * (tables.plan.len().max(PLAN_COUNTS) - PLAN_COUNTS);
+    let mut makes = Tally::default();
+    for _ in 0..50_000 {
+        let (drawing, made) = random_lent_drawing(random);
+        let holds = drawing.plan.table().len().saturating_sub(PLAN_COUNTS);
         let len = match random.below(8) {
-            0 => random.below(needed + 1),
-            _ => needed + random.below(20),
+            0 => random.below(RECORD_BYTES * holds + 1),
+            _ => RECORD_BYTES * holds + random.below(20),
         };
-        let drawing = LentTables::new(random, &tables);
-        let before: Vec<u8> = (0..len).map(|_| random.byte()).collect();
+        let before = any_bytes(random, len);
         let (answer, _) = compare::write(&drawing, &lent_bytes(random, &before));
         numbers.note_answer(answer);
         match answer {
             Answer::Accepted(_) | Answer::Refused { number: 11, .. } => {
-                damages.note(format!("{damage} passes"));
+                makes.note(format!("{made} passes"));
             }
-            Answer::Refused { number, .. } => damages.note(format!("{damage} {number}")),
+            Answer::Refused { number, .. } => makes.note(format!("{made} {number}")),
         }
     }
     numbers.print("write");
-    damages.print("damages");
+    makes.print("made");
     for what in ["accepted", "7", "11", "12"] {
-        numbers.reached(what, 100);
+        numbers.reached(what, 1_000);
     }
-    damages.reached("none passes", 100);
-    damages.reached("grammar 12", 100);
-    damages.reached("limits 12", 100);
-    for damage in samples::DAMAGES {
-        let number = if damage == "pair unequal" { 7 } else { 12 };
-        damages.reached(&format!("{damage} {number}"), 100);
+    for what in ["whole passes", "over limits 12", "damaged records 12"] {
+        makes.reached(what, 100);
+    }
+    for damage in DAMAGES {
+        let number = if damage == Damage::PairUnequal { 7 } else { 12 };
+        makes.reached(&format!("{damage:?} {number}"), 100);
     }
 }
 
@@ -689,12 +667,11 @@ fn random_lent_drawings_are_written_alike() {
 fn a_drawing_written_and_read_again_is_the_same() {
     let random = &mut Random::for_test(9);
     let mut tally = Tally::default();
-    for _ in 0..12_000 {
-        let (tables, _) = random_lent_drawing(random);
-        let drawing = LentTables::new(random, &tables);
-        let room = RECORD_BYTES * tables.plan.len();
-        let out = lent_bytes(random, &vec![0; room]);
-        let (answer, out) = compare::write(&drawing, &out);
+    for _ in 0..20_000 {
+        let (drawing, _) = random_lent_drawing(random);
+        let room = RECORD_BYTES * drawing.plan.table().len();
+        let before = any_bytes(random, room);
+        let (answer, out) = compare::write(&drawing, &lent_bytes(random, &before));
         tally.note_answer(answer);
         if let Answer::Accepted(bytes) = answer {
             let records = lent_bytes(random, &out.table()[..bytes as usize]);

@@ -1,5 +1,5 @@
 -- What an accepted list of records has; and a scan that stopped stays so. Assumes nothing.
-use Prim.Native.Nat.{ℕ, _+_, _≤_}
+use Prim.Native.Nat.{ℕ, _+_, _≤_, max}
 use mathlib.Core.Path.{_≡_, refl, sym, ap, _∙_}
 use mathlib.Core.Bool.{Bool, true, false, cond}
 use mathlib.Core.List.{List, [], _∷_, map}
@@ -16,7 +16,7 @@ use Rattle.records.specs.declared.Decoded.{Decoded}
 use Rattle.records.specs.declared.Decoded.the-variants.{Good, Bad}
 use Rattle.grammar.specs.declared.Counts.{Counts}
 use Rattle.grammar.specs.declared.Verdict.the-variants.{Accepted, Refused}
-use Rattle.grammar.specs.Grammar.{Progress, progress, fits, isShort, ends, limit, after, Course, at, stopped, next, course, begin, counts, final, checked}
+use Rattle.grammar.specs.Grammar.{Progress, progress, fits, isShort, ends, limit, after, Course, at, stopped, next, course, begin, counts, final, checked, met, Verdict·place}
 use Rattle.grammar.specs.declared.Scan.{Scan}
 use Rattle.grammar.specs.declared.Scan.the-variants.{At, Stopped}
 use Rattle.grammar.specs.Machine.{scanN, isStopped}
@@ -125,3 +125,41 @@ unfolding scanN
 stopped-stays c i [] h = refl
 stopped-stays (At s) i (d ∷ ds) h = clash h
 stopped-stays (Stopped r p) i (d ∷ ds) h = stopped-stays (Stopped r p) (i + 1) ds refl
+
+-- ---- the place of a refusal is a record's number, or that of the end
+
+abbrev placeOf : Course → ℕ
+placeOf (at p) = 0
+placeOf (stopped x i) = i
+
+next-place : (p : Progress) (r : Record) (i : ℕ) → placeOf (next p r i) ≤ i
+next-place p r i = go (fits p r) (ends p r) (limit p r)
+  where
+    go : (a b d : Bool) → placeOf (cond a (cond b (stopped Short i) (cond d (at (after p r)) (stopped Limit i))) (stopped Unfit i)) ≤ i
+    go false b d = omega arith
+    go true true d = omega arith
+    go true false false = omega arith
+    go true false true = omega arith
+
+met-place : (c : Course) (d : Decoded) (i : ℕ) → placeOf (met c d i) ≤ max (placeOf c) i
+met-place (at p) (Good r) i = omega (arith, next-place p r i)
+met-place (at p) (Bad x) i = omega arith
+met-place (stopped x j) d i = omega arith
+
+course-place : (c : Course) (i : ℕ) (ds : List Decoded) → placeOf (course c i ds) ≤ max (placeOf c) (i + length ds)
+unfolding course
+course-place c i [] = omega arith
+course-place c i (d ∷ ds) = omega (arith, course-place (met c d i) (i + 1) ds, met-place c d i)
+
+final-place : (c : Course) (n : ℕ) → Verdict·place (final c n) ≤ max (placeOf c) n
+final-place (at p) n = go (isEmpty (p .groups)) (isShort (p .run))
+  where
+    go : (a b : Bool) → Verdict·place (cond a (cond b (Refused Short n) (Accepted (counts n (p .areas) (p .corners)))) (Refused Unfit n)) ≤ max 0 n
+    go false b = omega arith
+    go true true = omega arith
+    go true false = omega arith
+final-place (stopped x i) n = omega arith
+
+pub place-below : (ds : List Decoded) → Verdict·place (checked ds) ≤ length ds
+unfolding checked
+place-below ds = omega (arith, final-place (course begin 0 ds) (length ds), course-place begin 0 ds)

@@ -18,3 +18,12 @@ readNumber (Refused r p) = packed (numberOf r) p
 abbrev pub writeNumber : Written → ℕ
 writeNumber (Bytes n) = packed 0 n
 writeNumber (Not r) = packed (numberOf r) 0
+
+-- the low halves
+abbrev pub readLow : Verdict → ℕ
+readLow (Accepted k) = k .records
+readLow (Refused r p) = p
+
+abbrev pub writeLow : Written → ℕ
+writeLow (Bytes n) = n
+writeLow (Not r) = 0

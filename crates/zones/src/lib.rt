@@ -9,7 +9,7 @@ ghost use Prim.Native.Nat.{_≤_};
 ghost use Rattle.reader.specs.Words.{planWords, areaWords, xWords, yWords, fileOf};
 ghost use Rattle.reader.specs.Reading.{recordsIn, readAnswer, leftBy};
 ghost use Rattle.drawing.specs.Tables.{tables, drawnIn, writeAnswer, outAfter};
-ghost use Rattle.zones.specs.Answers.{packed, readNumber, writeNumber};
+ghost use Rattle.zones.specs.Answers.{packed, readNumber, writeNumber, readLow, writeLow};
 
 // The refusal's number, or 0, and what goes with it.
 fn pack(number: u32, low: usize) -> u64
@@ -17,4 +17,67 @@ fn pack(number: u32, low: usize) -> u64
     ensures { λ r. ⌜ r ≡ packed number low ⌝ }
 {
     (number as u64) * 4294967296 + (low as u64)
+}
+
+fn pack_read(v: Verdict) -> u64
+    requires { ⌜ readLow v ≤ 4096 ⌝ }
+    ensures { λ r. ⌜ r ≡ readNumber v ⌝ }
+{
+    match v {
+        Verdict::Accepted(k) => pack(0, k.records),
+        Verdict::Refused(r, p) => {
+            let n = refusals::number(r);
+            pack(n, p)
+        }
+    }
+}
+
+fn pack_written(w: Written) -> u64
+    requires { ⌜ writeLow w ≤ 65536 ⌝ }
+    ensures { λ r. ⌜ r ≡ writeNumber w ⌝ }
+{
+    match w {
+        Written::Bytes(n) => pack(0, n),
+        Written::Not(r) => {
+            let n = refusals::number(r);
+            pack(n, 0)
+        }
+    }
+}
+
+// Reads a file of records into the four tables of a drawing. The result is the number of records.
+// Refusals, in this order: 7 (tables of x and y of unequal length), 1, each record by 2 to 6, the end by 4 and 5, 11.
+#[no_mangle]
+pub extern "C" fn zones_read(
+    records: &[u8],
+    plan: &mut [u32],
+    areas: &mut [u32],
+    xs: &mut [u32],
+    ys: &mut [u32],
+) -> u64
+    ensures { λ r. ⌜ r ≡ readNumber (readAnswer (now (records .entry)) (now (plan .entry)) (now (areas .entry)) (now (xs .entry)) (now (ys .entry))) ⌝ }
+    ensures { λ r. ⌜ now (plan .exit) ≡ leftBy (readAnswer (now (records .entry)) (now (plan .entry)) (now (areas .entry)) (now (xs .entry)) (now (ys .entry))) (now (plan .entry)) (planWords (recordsIn (now (records .entry)))) ⌝ }
+    ensures { λ r. ⌜ now (areas .exit) ≡ leftBy (readAnswer (now (records .entry)) (now (plan .entry)) (now (areas .entry)) (now (xs .entry)) (now (ys .entry))) (now (areas .entry)) (areaWords (recordsIn (now (records .entry)))) ⌝ }
+    ensures { λ r. ⌜ now (xs .exit) ≡ leftBy (readAnswer (now (records .entry)) (now (plan .entry)) (now (areas .entry)) (now (xs .entry)) (now (ys .entry))) (now (xs .entry)) (xWords (recordsIn (now (records .entry)))) ⌝ }
+    ensures { λ r. ⌜ now (ys .exit) ≡ leftBy (readAnswer (now (records .entry)) (now (plan .entry)) (now (areas .entry)) (now (xs .entry)) (now (ys .entry))) (now (ys .entry)) (yWords (recordsIn (now (records .entry)))) ⌝ }
+{
+    let v = reader::read(records, plan, areas, xs, ys);
+    pack_read(v)
+}
+
+// Writes a drawing in its tables out as a file of records. The result is the number of bytes.
+// Refusals, in this order: 7 (tables of x and y of unequal length), 12 (no drawing in the tables), 11.
+#[no_mangle]
+pub extern "C" fn zones_write(
+    plan: &[u32],
+    areas: &[u32],
+    xs: &[u32],
+    ys: &[u32],
+    out: &mut [u8],
+) -> u64
+    ensures { λ r. ⌜ r ≡ writeNumber (writeAnswer (tables (now (plan .entry)) (now (areas .entry)) (now (xs .entry)) (now (ys .entry))) (now (out .entry))) ⌝ }
+    ensures { λ r. ⌜ now (out .exit) ≡ outAfter (writeAnswer (tables (now (plan .entry)) (now (areas .entry)) (now (xs .entry)) (now (ys .entry))) (now (out .entry))) (now (out .entry)) (fileOf (drawnIn (tables (now (plan .entry)) (now (areas .entry)) (now (xs .entry)) (now (ys .entry))))) ⌝ }
+{
+    let w = drawing::write(plan, areas, xs, ys, out);
+    pack_written(w)
 }

@@ -1,0 +1,2 @@
+-- Places and results fit the low half of an answer.
+mod Low

@@ -1,0 +1,64 @@
+-- Places and results fit the low half of an answer. Assumes nothing.
+use mathlib.Core.Path.{_≡_, refl, sym, ap}
+use mathlib.Core.Bool.{Bool, true, false, cond}
+use mathlib.Core.List.{List}
+use Prim.Native.Nat.{ℕ, _+_, _*_, _/_, _%_, _≤_}
+use native.Mathlib.Omega.{arith}
+use lib.ListN.{length}
+use lib.Dec.{eqb, leb}
+use borrow.Author.Tests.{leb-true}
+use Rattle.refusals.specs.declared.Refusal.the-variants.{Length, Argument, Room}
+use Rattle.grammar.specs.declared.Verdict.{Verdict}
+use Rattle.grammar.specs.declared.Verdict.the-variants.{Accepted, Refused}
+use Rattle.grammar.specs.Grammar.{checked, Verdict·place}
+use Rattle.grammar.proofs.Laws.{place-below}
+use Rattle.reader.specs.Reading.{decodedIn, verdictOf, holds, ifRoom, readAnswer}
+use Rattle.reader.proofs.Files.{filed, length-from}
+use Rattle.drawing.specs.declared.Written.the-variants.{Bytes, Not}
+use Rattle.drawing.specs.Tables.{Tables, drawingOf, writtenOf, writeAnswer}
+use Rattle.drawing.proofs.Rows.{drawn}
+use Rattle.zones.specs.Answers.{readLow, writeLow}
+
+verdict-place : (b : List ℕ) → Verdict·place (verdictOf b) ≤ 4096
+unfolding verdictOf
+verdict-place b = go (eqb (length b % 16) 0) (leb (length b / 16) 4096) refl
+  where
+    go : (a d : Bool) → leb (length b / 16) 4096 ≡ d → Verdict·place (cond a (cond d (checked (decodedIn b)) (Refused Length 0)) (Refused Length 0)) ≤ 4096
+    go false d e = omega arith
+    go true false e = omega arith
+    go true true e = omega (arith, place-below (decodedIn b), length-from b 0 (length b / 16), leb-true (length b / 16) 4096 e)
+
+verdict-low : (b : List ℕ) → readLow (verdictOf b) ≤ 4096
+verdict-low b = go (verdictOf b) refl
+  where
+    go : (v : Verdict) → verdictOf b ≡ v → readLow v ≤ 4096
+    go (Accepted k) e = filed b k e .below
+    go (Refused r p) e = rw e at (verdict-place b)
+
+room-low : (v : Verdict) (p a c : ℕ) → readLow v ≤ 4096 → readLow (ifRoom v p a c) ≤ 4096
+room-low (Accepted k) p a c h = go (holds p a c k)
+  where
+    go : (t : Bool) → readLow (cond t (Accepted k) (Refused Room 0)) ≤ 4096
+    go true = h
+    go false = omega arith
+room-low (Refused r i) p a c h = h
+
+pub read-low : (b p a x y : List ℕ) → readLow (readAnswer b p a x y) ≤ 4096
+unfolding readAnswer
+read-low b p a x y = go (eqb (length x) (length y))
+  where
+    go : (t : Bool) → readLow (cond t (ifRoom (verdictOf b) (length p) (length a) (length x)) (Refused Argument 0)) ≤ 4096
+    go true = room-low (verdictOf b) (length p) (length a) (length x) (verdict-low b)
+    go false = omega arith
+
+pub write-low : (t : Tables) (out : List ℕ) → writeLow (writeAnswer t out) ≤ 65536
+unfolding writeAnswer
+write-low t out = go (drawingOf t) refl
+  where
+    room : (b : Bool) (n : ℕ) → n ≤ 4096 → writeLow (cond b (Bytes (n * 16)) (Not Room)) ≤ 65536
+    room true n h = omega arith
+    room false n h = omega arith
+
+    go : (v : Verdict) → drawingOf t ≡ v → writeLow (writtenOf v (length out)) ≤ 65536
+    go (Accepted k) e = room (leb (k .records) (length out / 16)) (k .records) (drawn t k e .below)
+    go (Refused r i) e = omega arith
