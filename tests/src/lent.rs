@@ -134,6 +134,10 @@ impl LentTables {
         [&self.plan, &self.areas, &self.xs, &self.ys]
     }
 
+    pub fn each_mut(&mut self) -> [&mut Lent<u32>; 4] {
+        [&mut self.plan, &mut self.areas, &mut self.xs, &mut self.ys]
+    }
+
     pub fn guards_as_in(&self, before: &LentTables) -> bool {
         let mut pairs = self.each().into_iter().zip(before.each());
         pairs.all(|(now, then)| now.guards_as_in(then))

@@ -599,6 +599,28 @@ fn what_was_read_is_written_back() {
     tally.reached("11", 10_000);
 }
 
+#[test]
+fn words_near_every_power_of_two_are_written_alike() {
+    let random = &mut Random::for_test(10);
+    let mut tally = Tally::default();
+    let whole = LentTables::longer(random, samples::tables(&letters("p233(c|)")));
+    let out = lent_bytes(random, &[0xA5; 200]);
+    for table in 0..4 {
+        for at in 0..whole.each()[table].table().len() {
+            for bit in 0..32 {
+                for word in [(1u32 << bit) - 1, 1 << bit, (1 << bit) + 1, !(1 << bit)] {
+                    let mut drawing = whole.clone();
+                    drawing.each_mut()[table].table_mut()[at] = word;
+                    tally.note_answer(compare::write(&drawing, &out).0);
+                }
+            }
+        }
+    }
+    tally.print("every word");
+    tally.reached("accepted", 100);
+    tally.reached("12", 100);
+}
+
 /// A drawing to lend, and how it was made.
 fn random_lent_drawing(random: &mut Random) -> (LentTables, String) {
     let over = random.one_in(8);

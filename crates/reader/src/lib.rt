@@ -180,17 +180,36 @@ fn put_decoded(table: &mut [u32], at: usize, which: u32, d: Decoded) -> usize
     }
 }
 
-// Writes the words of all records in one table, from word `first` on.
-fn fill(records: &[u8], n: usize, table: &mut [u32], first: usize, which: u32)
+// Writes the words of all records in the four tables, behind the plan's three counts.
+fn fill(
+    records: &[u8],
+    n: usize,
+    plan: &mut [u32],
+    areas: &mut [u32],
+    xs: &mut [u32],
+    ys: &mut [u32],
+)
     requires { ⌜ n * 16 ≤ length (now records) ⌝ }
-    requires { ⌜ first + length (spread (wordsOf which) (goods (decodedFrom (now records) 0 n))) ≤ length (now table) ⌝ }
-    ensures { λ _. ⌜ now (table .exit) ≡ sets (now (table .entry)) first (spread (wordsOf which) (goods (decodedFrom (now (records .entry)) 0 n))) ⌝ }
+    requires { ⌜ 3 + length (spread (wordsOf 0) (goods (decodedFrom (now records) 0 n))) ≤ length (now plan) ⌝ }
+    requires { ⌜ 0 + length (spread (wordsOf 1) (goods (decodedFrom (now records) 0 n))) ≤ length (now areas) ⌝ }
+    requires { ⌜ 0 + length (spread (wordsOf 2) (goods (decodedFrom (now records) 0 n))) ≤ length (now xs) ⌝ }
+    requires { ⌜ 0 + length (spread (wordsOf 3) (goods (decodedFrom (now records) 0 n))) ≤ length (now ys) ⌝ }
+    ensures { λ _. ⌜ now (plan .exit) ≡ sets (now (plan .entry)) 3 (spread (wordsOf 0) (goods (decodedFrom (now (records .entry)) 0 n))) ⌝ }
+    ensures { λ _. ⌜ now (areas .exit) ≡ sets (now (areas .entry)) 0 (spread (wordsOf 1) (goods (decodedFrom (now (records .entry)) 0 n))) ⌝ }
+    ensures { λ _. ⌜ now (xs .exit) ≡ sets (now (xs .entry)) 0 (spread (wordsOf 2) (goods (decodedFrom (now (records .entry)) 0 n))) ⌝ }
+    ensures { λ _. ⌜ now (ys .exit) ≡ sets (now (ys .entry)) 0 (spread (wordsOf 3) (goods (decodedFrom (now (records .entry)) 0 n))) ⌝ }
 {
-    let mut at = first;
+    let mut kind = 3;
+    let mut area = 0;
+    let mut x = 0;
+    let mut y = 0;
     let mut i = 0;
     while i < n {
         let d = read_record(records, i);
-        at = put_decoded(table, at, which, d);
+        kind = put_decoded(plan, kind, 0, d);
+        area = put_decoded(areas, area, 1, d);
+        x = put_decoded(xs, x, 2, d);
+        y = put_decoded(ys, y, 3, d);
         i += 1;
     }
 }
@@ -215,16 +234,6 @@ fn put_header(plan: &mut [u32], k: Counts)
     plan[2] = k.corners as u32;
 }
 
-fn fill_plan(records: &[u8], plan: &mut [u32], k: Counts)
-    requires { ⌜ Filed (now records) k ⌝ }
-    requires { ⌜ k .records + 3 ≤ length (now plan) ⌝ }
-    ensures { λ _. ⌜ now (plan .exit) ≡ sets (now (plan .entry)) 0 (planWords (recordsIn (now (records .entry)))) ⌝ }
-{
-    put_header(plan, k);
-    let n = k.records;
-    fill(records, n, plan, 3, 0);
-}
-
 fn fill_all(
     records: &[u8],
     plan: &mut [u32],
@@ -241,10 +250,8 @@ fn fill_all(
     ensures { λ _. ⌜ now (ys .exit) ≡ sets (now (ys .entry)) 0 (yWords (recordsIn (now (records .entry)))) ⌝ }
 {
     let n = k.records;
-    fill_plan(records, plan, k);
-    fill(records, n, areas, 0, 1);
-    fill(records, n, xs, 0, 2);
-    fill(records, n, ys, 0, 3);
+    put_header(plan, k);
+    fill(records, n, plan, areas, xs, ys);
 }
 
 fn fill_if_room(

@@ -1,6 +1,5 @@
 -- `zones::pack_read` meets its contract. Assumes nothing.
 use native.Mathlib.Omega.{arith}
-use mathlib.Core.Path.{_∙_}
 use borrow.Author.Needs.{needs}
 use Rattle.zones.proofs.pack_read.Statement.{statement}
 use Rattle.zones.proofs.pack_read.Tie as tie

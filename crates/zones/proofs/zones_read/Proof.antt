@@ -25,13 +25,20 @@ same-length-4 : tie.Need-same-length-4
 same-length-4 c = search needs
 
 returns : tie.Need-returns
-returns c = 
+returns c =
     let r = c .before .before .before .before .before .before .before .before .before .read .ensures in (
-      c .pack-read .ensures ∙ ap readNumber (r .0), (
-      rw (← r .0) (r .1 .0), (
-      rw (← r .0) (r .1 .1 .0), (
-      rw (← r .0) (r .1 .1 .1 .0),
-      rw (← r .0) (r .1 .1 .1 .1)))))
+      c .pack-read .ensures ∙ ap readNumber (r .0),
+      (
+        rw (← r .0) (r .1 .0),
+        (
+          rw (← r .0) (r .1 .1 .0),
+          (
+            rw (← r .0) (r .1 .1 .1 .0),
+            rw (← r .0) (r .1 .1 .1 .1),
+          ),
+        ),
+      ),
+    )
 
 pub zones-read-spec : {M : Type 1} → statement M
 zones-read-spec =
