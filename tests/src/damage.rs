@@ -78,13 +78,9 @@ pub fn damaged(random: &mut Random, mut records: Vec<Record>) -> Vec<u8> {
             // Too many records, by a few; not often, as they are long.
             if random.one_in(6) {
                 let too_many = MOST_RECORDS + random.within(1..=20);
+                let more = too_many.saturating_sub(records.len());
                 let again = records.clone();
-                records.extend(
-                    again
-                        .iter()
-                        .cycle()
-                        .take(too_many.saturating_sub(again.len())),
-                );
+                records.extend(again.iter().cycle().take(more));
             } else {
                 records.swap_remove(at);
             }
@@ -125,10 +121,9 @@ fn wrong_role(random: &mut Random, records: &mut [Record]) {
     let areas = places_of(records, &[AREA]);
     if !areas.is_empty() {
         let at = areas[place(random, areas.len())];
-        let other = if u32::from(records[at][1]) == PAINT {
-            CLIP
-        } else {
-            PAINT
+        let other = match u32::from(records[at][1]) {
+            PAINT => CLIP,
+            _ => PAINT,
         };
         records[at] = random_area(random, other);
     }
@@ -141,10 +136,8 @@ fn short_contour(random: &mut Random, records: &mut Vec<Record>) {
     let left = random.within(1..=2);
     if !firsts.is_empty() && random.one_in(2) {
         let at = firsts[place(random, firsts.len())];
-        let contour = 1 + records[at + 1..]
-            .iter()
-            .take_while(|record| record[0] == NEXT)
-            .count();
+        let rest = records[at + 1..].iter();
+        let contour = 1 + rest.take_while(|record| record[0] == NEXT).count();
         records.drain(at + left.min(contour)..at + contour);
     } else if !areas.is_empty() {
         let at = areas[place(random, areas.len())] + 1;
@@ -155,25 +148,13 @@ fn short_contour(random: &mut Random, records: &mut Vec<Record>) {
 
 /// A word near a limit, or one that a narrower number would take for a smaller.
 fn odd_word(random: &mut Random, word: u32) -> u32 {
-    match random.below(6) {
+    match random.below(7) {
         0 => word.wrapping_add(1),
         1 => word.wrapping_sub(1),
         2 => word.wrapping_add(1 << random.within(8..=31)),
-        3 => random.pick(&[
-            0,
-            1,
-            2,
-            6,
-            7,
-            255,
-            256,
-            65_535,
-            65_536,
-            65_537,
-            1 << 28,
-            u32::MAX,
-        ]),
+        3 => random.pick(&[255, 256, 65_535, 65_536, 65_537]),
         4 => random.below(10) as u32,
+        5 => u32::MAX,
         _ => random.word(),
     }
 }

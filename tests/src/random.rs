@@ -13,17 +13,17 @@ impl Random {
         Random(seed)
     }
 
-    /// The generator of one test: `number` keeps the tests apart.
-    pub fn for_test(number: u64) -> Random {
+    /// The generator of one test: `test` keeps the tests apart.
+    pub fn for_test(test: u64) -> Random {
         let seed = match env::var("ZONES_SEED") {
             Ok(text) => text.parse().expect("ZONES_SEED is a whole number"),
             Err(_) => SEED,
         };
         let mut first = Random(seed);
-        Random(first.next() ^ number)
+        Random(first.number() ^ test)
     }
 
-    pub fn next(&mut self) -> u64 {
+    pub fn number(&mut self) -> u64 {
         self.0 = self.0.wrapping_add(0x9E37_79B9_7F4A_7C15);
         let mut z = self.0;
         z = (z ^ (z >> 30)).wrapping_mul(0xBF58_476D_1CE4_E5B9);
@@ -32,16 +32,16 @@ impl Random {
     }
 
     pub fn word(&mut self) -> u32 {
-        self.next() as u32
+        self.number() as u32
     }
 
     pub fn byte(&mut self) -> u8 {
-        self.next() as u8
+        self.number() as u8
     }
 
     /// A number below `end`, which is not 0.
     pub fn below(&mut self, end: usize) -> usize {
-        (self.next() % end as u64) as usize
+        (self.number() % end as u64) as usize
     }
 
     pub fn within(&mut self, range: RangeInclusive<usize>) -> usize {

@@ -49,10 +49,8 @@ fn expect_write(records: &[Record], expected: Answer) {
 #[track_caller]
 fn expect_accepted(records: &[Record]) {
     expect_read(records, Answer::Accepted(records.len() as u32));
-    expect_write(
-        records,
-        Answer::Accepted((RECORD_BYTES * records.len()) as u32),
-    );
+    let bytes = (RECORD_BYTES * records.len()) as u32;
+    expect_write(records, Answer::Accepted(bytes));
 }
 
 /// Records refused by the grammar; as tables they are no drawing.
@@ -184,9 +182,10 @@ fn note_place(places: &mut Tally, number: u32, place: usize, records: &[Record])
         places.note(format!("{number} end"));
     }
     if number >= 5 {
-        let kind = records
-            .get(place)
-            .map_or("the end", |record| name_of_kind(record[0]));
+        let kind = match records.get(place) {
+            Some(record) => name_of_kind(record[0]),
+            None => "the end",
+        };
         places.note(format!("{number} by {kind}"));
     }
 }
@@ -289,12 +288,9 @@ fn limits() {
     expect_refused(&repeated("p", MOST_AREAS + 1), 6, MOST_AREAS);
     expect_accepted(&repeated("p233", MOST_AREAS));
     expect_refused(&repeated("p233", MOST_AREAS + 1), 6, 4 * MOST_AREAS);
-    expect_accepted(&repeated("(c|p)", MOST_AREAS / 2));
-    expect_refused(
-        &repeated("(c|p)", MOST_AREAS / 2 + 1),
-        6,
-        5 * MOST_AREAS / 2 + 1,
-    );
+    let pairs = MOST_AREAS / 2;
+    expect_accepted(&repeated("(c|p)", pairs));
+    expect_refused(&repeated("(c|p)", pairs + 1), 6, 5 * pairs + 1);
 
     // Corners, the one too many of either kind.
     let contour = |corners: usize| letters(&format!("p2{}", "3".repeat(corners - 1)));
@@ -313,11 +309,8 @@ fn limits() {
     };
     for (open, close) in [("(", "|)"), ("(|", ")"), ("(c|p", ")"), ("(c|p", "p)")] {
         expect_accepted(&nest(MOST_GROUPS, open, close));
-        expect_refused(
-            &nest(MOST_GROUPS + 1, open, close),
-            6,
-            open.len() * MOST_GROUPS,
-        );
+        let ninth = open.len() * MOST_GROUPS;
+        expect_refused(&nest(MOST_GROUPS + 1, open, close), 6, ninth);
     }
     // Those open at once count, not all.
     expect_accepted(&repeated("((((((((|)|)|)|)|)|)|)|)", 20));
@@ -347,17 +340,11 @@ fn lengths_of_files() {
     let most = RECORD_BYTES * MOST_RECORDS;
     let bytes = letters(&format!("p{}", "(|)".repeat(1_400))).concat();
     expect_read_bytes(&bytes[..most], Answer::Accepted(MOST_RECORDS as u32));
-    for len in [
-        most - 1,
-        most + 1,
-        most + 15,
-        most + 16,
-        most + 17,
-        most + 32,
-        bytes.len(),
-    ] {
-        expect_read_bytes(&bytes[..len], refused(1, 0));
+    expect_read_bytes(&bytes[..most - 1], refused(1, 0));
+    for more in [1, 15, 16, 17, 32] {
+        expect_read_bytes(&bytes[..most + more], refused(1, 0));
     }
+    expect_read_bytes(&bytes, refused(1, 0));
 }
 
 #[test]
@@ -407,33 +394,28 @@ fn short_contours() {
 
 #[test]
 fn order_of_checks() {
-    let marked = |mut records: Vec<Record>, place: usize, at: usize, byte: u8| {
+    let marked = |records: &[Record], place: usize, at: usize, byte: u8| {
+        let mut records = records.to_vec();
         records[place][at] = byte;
         records
     };
+    let areas = repeated("p", MOST_AREAS + 1);
+    let groups = repeated("(", MOST_GROUPS + 1);
     // 2 before 3, 4, 5, 6.
     expect_read(&[[7; RECORD_BYTES]], refused(2, 0));
     expect_read(&[[0xFF; RECORD_BYTES]], refused(2, 0));
-    expect_read(&marked(letters("p23("), 3, 0, 9), refused(2, 3));
-    expect_read(
-        &marked(repeated("p", MOST_AREAS + 1), MOST_AREAS, 0, 0),
-        refused(2, MOST_AREAS),
-    );
+    expect_read(&marked(&letters("p23("), 3, 0, 9), refused(2, 3));
+    expect_read(&marked(&areas, MOST_AREAS, 0, 0), refused(2, MOST_AREAS));
+    expect_read(&marked(&groups, MOST_GROUPS, 0, 8), refused(2, MOST_GROUPS));
     // 3 before 4, 5, 6.
     expect_read(&[corner(NEXT, MOST_COORDINATE + 1, 0)], refused(3, 0));
     expect_read(&[corner(FIRST, 0, MOST_COORDINATE + 1)], refused(3, 0));
-    expect_read(&marked(letters(")"), 0, 15, 1), refused(3, 0));
-    expect_read(&marked(letters("c"), 0, 3, 1), refused(3, 0));
-    expect_read(&marked(letters("p23("), 3, 1, 1), refused(3, 3));
-    expect_read(&marked(letters("p23p"), 3, 8, 0), refused(3, 3));
-    expect_read(
-        &marked(repeated("p", MOST_AREAS + 1), MOST_AREAS, 7, 1),
-        refused(3, MOST_AREAS),
-    );
-    expect_read(
-        &marked(repeated("(", MOST_GROUPS + 1), MOST_GROUPS, 1, 1),
-        refused(3, MOST_GROUPS),
-    );
+    expect_read(&marked(&letters(")"), 0, 15, 1), refused(3, 0));
+    expect_read(&marked(&letters("c"), 0, 3, 1), refused(3, 0));
+    expect_read(&marked(&letters("p23("), 3, 1, 1), refused(3, 3));
+    expect_read(&marked(&letters("p23p"), 3, 8, 0), refused(3, 3));
+    expect_read(&marked(&areas, MOST_AREAS, 7, 1), refused(3, MOST_AREAS));
+    expect_read(&marked(&groups, MOST_GROUPS, 1, 1), refused(3, MOST_GROUPS));
     // 4 before 5.
     for text in ["p23)", "p23|", "p23c", "p2)", "p2|", "p2c"] {
         expect_refused(&letters(text), 4, text.len() - 1);
@@ -479,12 +461,10 @@ fn order_of_checks_with_tables() {
     };
     let whole = letters("p233(c|)").concat();
     let unknown = [7; RECORD_BYTES];
+    let too_many = [0; RECORD_BYTES * (MOST_RECORDS + 1)];
     // 7 before 1, the records, the end, 11.
     assert_eq!(read(&[7; 17], [99, 99, 9, 8]), refused(7, 0));
-    assert_eq!(
-        read(&[0; RECORD_BYTES * (MOST_RECORDS + 1)], [0, 0, 0, 1]),
-        refused(7, 0)
-    );
+    assert_eq!(read(&too_many, [0, 0, 0, 1]), refused(7, 0));
     assert_eq!(read(&unknown, [99, 99, 8, 9]), refused(7, 0));
     assert_eq!(read(&delimiter(OPEN), [99, 99, 8, 9]), refused(7, 0));
     assert_eq!(read(&whole, [0, 0, 3, 4]), refused(7, 0));
@@ -514,10 +494,8 @@ fn order_of_checks_with_tables() {
 fn order_of_checks_of_writing() {
     let random = &mut Random::for_test(6);
     let mut write = |tables: &Tables, len: usize| {
-        let (drawing, out) = (
-            LentTables::new(random, tables),
-            lent_bytes(random, &vec![0xA5; len]),
-        );
+        let drawing = LentTables::new(random, tables);
+        let out = lent_bytes(random, &vec![0xA5; len]);
         compare::write(&drawing, &out).0
     };
     let whole = samples::tables(&letters("p233(c|)"));
@@ -626,19 +604,14 @@ fn random_lent_drawing(random: &mut Random) -> (LentTables, String) {
     let over = random.one_in(8);
     let records = samples::drawing(random, over);
     if over {
-        let tables = samples::tables(&records);
-        return (
-            LentTables::longer(random, tables),
-            "over limits".to_string(),
-        );
+        let drawing = LentTables::longer(random, samples::tables(&records));
+        return (drawing, "over limits".to_string());
     }
     if random.one_in(6) {
         let bytes = damage::damaged(random, records);
         let tables = samples::tables(bytes.as_chunks().0);
-        return (
-            LentTables::longer(random, tables),
-            "damaged records".to_string(),
-        );
+        let drawing = LentTables::longer(random, tables);
+        return (drawing, "damaged records".to_string());
     }
     let mut drawing = LentTables::longer(random, samples::tables(&records));
     if random.one_in(6) {

@@ -13,8 +13,8 @@ const LEAST: Duration = Duration::from_secs(1);
 /// Calls timed at once.
 const CALLS: u32 = 8;
 
-/// Microseconds of one call, by each of `CALLS` calls in a row.
-fn time(call: &mut dyn FnMut() -> Answer, expected: Answer) -> f64 {
+/// Microseconds of a call, from `CALLS` calls in a row.
+fn time(call: &mut impl FnMut() -> Answer, expected: Answer) -> f64 {
     let start = Instant::now();
     for _ in 0..CALLS {
         assert_eq!(black_box(call()), expected);
@@ -22,39 +22,41 @@ fn time(call: &mut dyn FnMut() -> Answer, expected: Answer) -> f64 {
     start.elapsed().as_secs_f64() * 1e6 / f64::from(CALLS)
 }
 
-fn median(times: &mut [f64]) -> f64 {
+fn median(mut times: Vec<f64>) -> f64 {
     times.sort_by(f64::total_cmp);
     times[times.len() / 2]
 }
 
-/// Runs both by turns, each first as often as the other, and prints the medians.
+/// Runs both by turns, each as often first as the other, and prints the medians.
 fn compare(
     name: &str,
     expected: Answer,
     mut library: impl FnMut() -> Answer,
     mut second: impl FnMut() -> Answer,
 ) {
-    let (mut ours, mut theirs) = (Vec::new(), Vec::new());
     let least = LEAST.as_secs_f64() * 1e6 / f64::from(CALLS);
-    let (mut our_sum, mut their_sum) = (0.0, 0.0);
-    while our_sum < least || their_sum < least || ours.len() % 2 == 1 {
-        let (our_time, their_time);
-        if ours.len() % 2 == 0 {
-            our_time = time(&mut library, expected);
-            their_time = time(&mut second, expected);
-        } else {
-            their_time = time(&mut second, expected);
-            our_time = time(&mut library, expected);
+    let (mut library_times, mut second_times) = (Vec::new(), Vec::new());
+    let (mut library_sum, mut second_sum) = (0.0, 0.0);
+    while library_sum < least || second_sum < least {
+        for library_first in [true, false] {
+            let (by_library, by_second);
+            if library_first {
+                by_library = time(&mut library, expected);
+                by_second = time(&mut second, expected);
+            } else {
+                by_second = time(&mut second, expected);
+                by_library = time(&mut library, expected);
+            }
+            library_times.push(by_library);
+            second_times.push(by_second);
+            library_sum += by_library;
+            second_sum += by_second;
         }
-        ours.push(our_time);
-        theirs.push(their_time);
-        our_sum += our_time;
-        their_sum += their_time;
     }
-    let (ours, theirs) = (median(&mut ours), median(&mut theirs));
+    let (library, second) = (median(library_times), median(second_times));
+    let ratio = library / second;
     println!(
-        "{name}: library {ours:.2} us, second {theirs:.2} us, ratio library / second {:.2}",
-        ours / theirs
+        "{name}: library {library:.2} us, second {second:.2} us, ratio library / second {ratio:.2}"
     );
 }
 
@@ -65,68 +67,45 @@ fn main() {
     let [n, areas, corners] = [0, 1, 2].map(|i| tables.plan[i]);
     println!("drawing: {n} records, {areas} areas, {corners} corners");
 
-    let (mut ours, mut theirs) = (blank(&tables), blank(&tables));
+    let (mut by_library, mut by_second) = (blank(&tables), blank(&tables));
     compare(
         "read",
         Answer::Accepted(n),
         || {
-            let Tables {
-                plan,
-                areas,
-                xs,
-                ys,
-            } = black_box(&mut ours);
-            zones::read(black_box(&bytes), plan, areas, xs, ys)
+            let t = black_box(&mut by_library);
+            let (xs, ys) = (&mut t.xs, &mut t.ys);
+            zones::read(black_box(&bytes), &mut t.plan, &mut t.areas, xs, ys)
         },
         || {
-            let Tables {
-                plan,
-                areas,
-                xs,
-                ys,
-            } = black_box(&mut theirs);
-            drawing::read(black_box(&bytes), plan, areas, xs, ys)
+            let t = black_box(&mut by_second);
+            let (xs, ys) = (&mut t.xs, &mut t.ys);
+            drawing::read(black_box(&bytes), &mut t.plan, &mut t.areas, xs, ys)
         },
     );
-    assert!(ours == tables && theirs == tables);
+    assert!(by_library == tables && by_second == tables);
 
-    let (mut ours, mut theirs) = (vec![0; bytes.len()], vec![0; bytes.len()]);
+    let (mut by_library, mut by_second) = (vec![0; bytes.len()], vec![0; bytes.len()]);
     compare(
         "write",
         Answer::Accepted(n * RECORD_BYTES as u32),
         || {
-            let Tables {
-                plan,
-                areas,
-                xs,
-                ys,
-            } = black_box(&tables);
-            zones::write(plan, areas, xs, ys, black_box(&mut ours))
+            let (t, out) = (black_box(&tables), black_box(&mut by_library));
+            zones::write(&t.plan, &t.areas, &t.xs, &t.ys, out)
         },
         || {
-            let Tables {
-                plan,
-                areas,
-                xs,
-                ys,
-            } = black_box(&tables);
-            drawing::write(plan, areas, xs, ys, black_box(&mut theirs))
+            let (t, out) = (black_box(&tables), black_box(&mut by_second));
+            drawing::write(&t.plan, &t.areas, &t.xs, &t.ys, out)
         },
     );
-    assert!(ours == bytes && theirs == bytes);
+    assert!(by_library == bytes && by_second == bytes);
 }
 
 /// Tables of the same lengths, all zero.
 fn blank(tables: &Tables) -> Tables {
-    let mut blank = tables.clone();
-    let Tables {
-        plan,
-        areas,
-        xs,
-        ys,
-    } = &mut blank;
-    for table in [plan, areas, xs, ys] {
-        table.fill(0);
+    Tables {
+        plan: vec![0; tables.plan.len()],
+        areas: vec![0; tables.areas.len()],
+        xs: vec![0; tables.xs.len()],
+        ys: vec![0; tables.ys.len()],
     }
-    blank
 }
