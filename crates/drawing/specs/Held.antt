@@ -1,4 +1,4 @@
--- A drawing that tables hold: what reading an accepted file leaves.
+-- Records that a file may hold, and tables that begin with their words: what reading an accepted file leaves. Assumes nothing.
 use Prim.Native.Nat.{_≤_}
 use mathlib.Core.Path.{_≡_}
 use mathlib.Core.Bool.{true}

@@ -1,4 +1,4 @@
--- A drawing in its tables.
+-- A drawing in its tables (docs/TABLES.md), when lent tables hold one, and what writing them out answers and leaves. Assumes nothing.
 use Prim.Native.Nat.{ℕ, zero, suc, _+_, _*_, _/_, _≤_}
 use mathlib.Core.Bool.{cond}
 use mathlib.Core.List.{List, [], _∷_}
@@ -92,7 +92,7 @@ rebuiltIn t = rebuilt t (usedOf (t .plan)) 0 (cursor 0 0) (usedOf (t .plan) .rec
 abbrev pub drawnIn : Tables → List Record
 drawnIn t = goods (rebuiltIn t)
 
--- all that is wrong with the records of lent tables is 12; so is a number of areas or of corners that is not that of the kinds
+-- 12, "a number met in the tables used ... is outside its range, or that drawing ... breaks the grammar": all that is wrong with the records of lent tables is 12; so is a number of areas or of corners that is not that of the kinds
 abbrev pub agreed : Verdict → Counts → Verdict
 agreed (Accepted k) u = cond (eqb (k .areas) (u .areas)) (cond (eqb (k .corners) (u .corners)) (Accepted k) (Refused Broken 0)) (Refused Broken 0)
 agreed (Refused r i) u = Refused Broken 0
@@ -101,11 +101,11 @@ unfoldable pub countsJudged : Tables → Counts → Verdict
 countsJudged t u =
     cond (leb (u .records) 4096) (cond (holds (length (t .plan)) (length (t .areas)) (length (t .xs)) u) (agreed (checked (rebuilt t u 0 (cursor 0 0) (u .records))) u) (Refused Broken 0)) (Refused Broken 0)
 
--- 7, then 12
+-- 7, then 12: "the drawing when opening or writing out"
 unfoldable pub drawingOf : Tables → Verdict
 drawingOf t = cond (eqb (length (t .xs)) (length (t .ys))) (cond (leb 3 (length (t .plan))) (countsJudged t (usedOf (t .plan))) (Refused Broken 0)) (Refused Argument 0)
 
--- then 11
+-- then 11, the output too short for 16 bytes a record
 abbrev pub writtenOf : Verdict → ℕ → Written
 writtenOf (Accepted k) n = cond (leb (k .records) (n / 16)) (Bytes (k .records * 16)) (Not Room)
 writtenOf (Refused r i) n = Not r

@@ -1,4 +1,4 @@
--- What reading a file answers and leaves.
+-- Document 01, "From the input": what reading a file answers and leaves. Assumes nothing.
 use Prim.Native.Nat.{ℕ, zero, suc, _+_, _*_, _-_, _/_, _%_, _≤_}
 use mathlib.Core.Path.{_≡_}
 use mathlib.Core.Bool.{Bool, false, cond, _&&_}
@@ -28,7 +28,7 @@ decodedIn b = decodedFrom b 0 (length b / 16)
 abbrev pub recordsIn : List ℕ → List Record
 recordsIn b = goods (decodedIn b)
 
--- 1, then the records in order, then the end
+-- 1, "length no multiple of 16, or over 4,096 records", place 0; then the records in order, then the end
 unfoldable pub verdictOf : List ℕ → Verdict
 verdictOf b = cond (eqb (length b % 16) 0) (cond (leb (length b / 16) 4096) (checked (decodedIn b)) (Refused Length 0)) (Refused Length 0)
 
@@ -36,16 +36,17 @@ verdictOf b = cond (eqb (length b % 16) 0) (cond (leb (length b / 16) 4096) (che
 unfoldable pub holds : ℕ → ℕ → ℕ → Counts → Bool
 holds p a c k = cond (leb 3 p) (leb (k .records) (p - 3) && (leb (k .areas) (a / 8) && leb (k .corners) c)) false
 
--- after all others: 11
+-- after all others 11, "another output table too short for the whole result"
 abbrev pub ifRoom : Verdict → ℕ → ℕ → ℕ → Verdict
 ifRoom (Accepted k) p a c = cond (holds p a c k) (Accepted k) (Refused Room 0)
 ifRoom (Refused r i) p a c = Refused r i
 
--- before all others: 7
+-- 7, "a lent pair of x and y tables of unequal length (tried before all other checks, 1 included)"
 unfoldable pub readAnswer : List ℕ → List ℕ → List ℕ → List ℕ → List ℕ → Verdict
 readAnswer b plan areas xs ys = cond (eqb (length xs) (length ys)) (ifRoom (verdictOf b) (length plan) (length areas) (length xs)) (Refused Argument 0)
 
--- a table after the call: the words in use from its beginning, the rest as it was; as it was on a refusal
+-- a table after the call: the words in use from its beginning; "An accepted call leaves the rest of a longer output untouched."
+-- On a refusal: "Nothing lent changes."
 abbrev pub leftBy : Verdict → List ℕ → List ℕ → List ℕ
 leftBy (Accepted k) t ws = sets t 0 ws
 leftBy (Refused r i) t ws = t

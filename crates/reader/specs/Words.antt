@@ -1,4 +1,4 @@
--- The words and the bytes of a list of records.
+-- The words of a list of records in the four tables (docs/TABLES.md), and its bytes in a file. Assumes nothing.
 use Prim.Native.Nat.{ℕ, zero, suc, _+_, _≤_}
 use mathlib.Core.Path.{_≡_}
 use mathlib.Core.Bool.{Bool, true, cond, _&&_}
@@ -14,9 +14,11 @@ use Rattle.records.specs.Record.{kindOf, inRange}
 use Rattle.records.specs.Bytes.{bytesOf}
 use Rattle.grammar.specs.Lists.{areasIn, cornersIn}
 
+-- the plan has the kind of each record
 abbrev pub kindW : Record → List ℕ
 kindW r = kindOf r ∷ []
 
+-- eight words an area: role, fill rule, alpha, red, green, blue, material, 0
 abbrev pub rowW : Fields → List ℕ
 rowW f = f .role ∷ f .rule ∷ f .alpha ∷ f .red ∷ f .green ∷ f .blue ∷ f .material ∷ 0 ∷ []
 
@@ -28,6 +30,7 @@ areaW Open = []
 areaW Bar = []
 areaW Close = []
 
+-- "corner coordinates lie in lent 32-bit tables": a word a corner
 abbrev pub xW : Record → List ℕ
 xW (Area f) = []
 xW (First x y) = x ∷ []
@@ -48,6 +51,7 @@ yW Close = []
 unfoldable pub wordsOf : ℕ → Record → List ℕ
 wordsOf which r = cond (eqb which 0) (kindW r) (cond (eqb which 1) (areaW r) (cond (eqb which 2) (xW r) (yW r)))
 
+-- the words of all records, one after another
 unfoldable pub spread : (Record → List ℕ) → List Record → List ℕ
 spread f [] = []
 spread f (r ∷ rs) = f r ++ spread f rs

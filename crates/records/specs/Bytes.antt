@@ -1,4 +1,4 @@
--- A record as sixteen bytes.
+-- Document 01, "Drawing": a record as sixteen bytes. Assumes nothing.
 use Prim.Native.Nat.{ℕ, _+_, _*_, _/_, _%_}
 use mathlib.Core.Bool.{Bool, cond}
 use mathlib.Core.List.{List, [], _∷_}
@@ -13,6 +13,7 @@ use Rattle.records.specs.declared.Decoded.{Decoded}
 use Rattle.records.specs.declared.Decoded.the-variants.{Bad}
 use Rattle.records.specs.Record.{allZero, ranged, cornerOf, delimiterOf}
 
+-- "A file of 16-byte records, no header": the bytes of record i
 abbrev pub rawAt : List ℕ → ℕ → Raw
 rawAt b i =
     record {
@@ -43,14 +44,14 @@ abbrev pub rawBytes : Raw → List ℕ
 rawBytes r =
     r .b0 ∷ r .b1 ∷ r .b2 ∷ r .b3 ∷ r .b4 ∷ r .b5 ∷ r .b6 ∷ r .b7 ∷ r .b8 ∷ r .b9 ∷ r .b10 ∷ r .b11 ∷ r .b12 ∷ r .b13 ∷ r .b14 ∷ r .b15 ∷ []
 
--- little-endian
+-- "numbers little-endian"
 abbrev pub number2 : ℕ → ℕ → ℕ
 number2 a b = a + 256 * b
 
 abbrev pub number4 : ℕ → ℕ → ℕ → ℕ → ℕ
 number4 a b d e = a + 256 * b + 65536 * d + 16777216 * e
 
--- ---- unnamed bytes are zero
+-- ---- "Unnamed bytes are zero."
 abbrev pub areaUnnamed : Raw → Bool
 areaUnnamed r = allZero (r .b7) (r .b10 ∷ r .b11 ∷ r .b12 ∷ r .b13 ∷ r .b14 ∷ r .b15 ∷ [])
 
@@ -74,11 +75,11 @@ named r =
     (cond (ltb (r .b0) 4) (cornerOf (r .b0) (number4 (r .b4) (r .b5) (r .b6) (r .b7)) (number4 (r .b8) (r .b9) (r .b10) (r .b11)))
     (delimiterOf (r .b0)))
 
--- a record, or 2, or 3
+-- a record; or 2, "unknown kind"; or 3, "field out of range or unnamed byte not zero"
 unfoldable pub decodedRaw : Raw → Decoded
 decodedRaw r = cond (leb 1 (r .b0)) (cond (leb (r .b0) 6) (cond (unnamed r) (ranged (named r)) (Bad Field)) (Bad Kind)) (Bad Kind)
 
--- ---- the other way
+-- ---- the bytes of a record, for writing out
 abbrev pub rawArea : Fields → Raw
 rawArea f =
     record {

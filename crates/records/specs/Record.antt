@@ -1,4 +1,4 @@
--- A record, and the ranges of its fields.
+-- Document 01, "Drawing": a record, and the ranges of its fields. Assumes nothing.
 use Prim.Native.Nat.{ℕ}
 use mathlib.Core.Bool.{Bool, true, false, cond, _&&_}
 use mathlib.Core.List.{List, [], _∷_}
@@ -15,17 +15,19 @@ abbrev pub allZero : ℕ → List ℕ → Bool
 allZero b [] = eqb b 0
 allZero b (c ∷ cs) = eqb b 0 && allZero c cs
 
--- paint: material 1 to 65,535
+-- "byte 1 role (0 paint, 1 clip), 2 fill rule (0 non-zero, 1 even-odd), 3 alpha, 4 to 6 red, green, blue, 8 and 9 material."
+-- "Paint: material 1 to 65,535."
 abbrev pub paintRange : Fields → Bool
 paintRange f = leb (f .alpha) 255 && (leb (f .red) 255 && (leb (f .green) 255 && (leb (f .blue) 255 && (leb 1 (f .material) && leb (f .material) 65535))))
 
--- clip: alpha, colour and material zero
+-- "Clip: alpha, colour and material zero."
 abbrev pub clipRange : Fields → Bool
 clipRange f = allZero (f .alpha) (f .red ∷ f .green ∷ f .blue ∷ f .material ∷ [])
 
 unfoldable pub areaRange : Fields → Bool
 areaRange f = cond (leb (f .rule) 1) (cond (eqb (f .role) 0) (paintRange f) (cond (eqb (f .role) 1) (clipRange f) false)) false
 
+-- "Bytes 4 to 7 x, 8 to 11 y, each 0 to 65,536."
 abbrev pub cornerRange : ℕ → ℕ → Bool
 cornerRange x y = leb x 65536 && leb y 65536
 
@@ -37,10 +39,12 @@ inRange Open = true
 inRange Bar = true
 inRange Close = true
 
+-- 3, "field out of range"
 abbrev pub ranged : Record → Decoded
 ranged r = cond (inRange r) (Good r) (Bad Field)
 
--- ---- kinds
+-- ---- kinds: 1 area; 2 first corner of a contour; 3 next corner; 4 `(`, 5 `|`, 6 `)`
+
 abbrev pub isKind : ℕ → Bool
 isKind k = leb 1 k && leb k 6
 
