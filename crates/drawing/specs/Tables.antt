@@ -11,7 +11,6 @@ use Rattle.records.specs.declared.Record.{Record}
 use Rattle.records.specs.declared.Record.the-variants.{Area}
 use Rattle.records.specs.declared.Decoded.{Decoded}
 use Rattle.records.specs.declared.Decoded.the-variants.{Good, Bad}
-use Rattle.refusals.specs.Refusals.{numberOf}
 use Rattle.records.specs.Record.{ranged, cornerOf, delimiterOf}
 use Rattle.grammar.specs.declared.Counts.{Counts}
 use Rattle.grammar.specs.declared.Verdict.{Verdict}
@@ -116,11 +115,3 @@ writeAnswer t out = writtenOf (drawingOf t) (length out)
 abbrev pub outAfter : Written → List ℕ → List ℕ → List ℕ
 outAfter (Bytes n) out bs = sets out 0 bs
 outAfter (Not r) out bs = out
-
--- document 01's number and place
-abbrev pub Written·number : Written → ℕ
-Written·number (Bytes n) = 0
-Written·number (Not r) = numberOf r
-
-abbrev pub Written·place : Written → ℕ
-Written·place w = 0

@@ -15,7 +15,7 @@ ghost use Rattle.grammar.specs.Machine.{scanN, startN};
 ghost use Rattle.grammar.specs.Lists.{goods, areaOne, cornerOne};
 ghost use Rattle.records.specs.Bytes.{bytesOf};
 ghost use Rattle.reader.specs.Words.{fileOf, onGood};
-ghost use Rattle.drawing.specs.Tables.{tables, Ready, cursor, fieldsAt, areaRow, cornerRow, kindRow, rowOf, pastRecord, pastOf, rebuilt, drawnIn, agreed, countsJudged, drawingOf, writtenOf, writeAnswer, outAfter, Written·number};
+ghost use Rattle.drawing.specs.Tables.{tables, Ready, cursor, fieldsAt, areaRow, cornerRow, kindRow, rowOf, pastRecord, pastOf, rebuilt, drawnIn, agreed, countsJudged, drawingOf, writtenOf, writeAnswer, outAfter};
 
 // The areas and the corners before a record.
 pub struct Cursor {
@@ -298,15 +298,5 @@ pub fn write(plan: &[u32], areas: &[u32], xs: &[u32], ys: &[u32], out: &mut [u8]
     match v {
         Verdict::Accepted(k) => write_if_room(plan, areas, xs, ys, k, out),
         Verdict::Refused(r, _) => Written::Not(r),
-    }
-}
-
-// Document 01's number: 0 where all was written. The place is 0.
-pub fn number_written(w: Written) -> u32
-    ensures { λ n. ⌜ n ≡ Written·number w ⌝ }
-{
-    match w {
-        Written::Bytes(_) => 0,
-        Written::Not(r) => refusals::number(r),
     }
 }

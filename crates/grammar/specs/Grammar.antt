@@ -11,7 +11,6 @@ use Rattle.records.specs.declared.Record.{Record}
 use Rattle.records.specs.declared.Record.the-variants.{Area, First, Next, Open, Bar, Close}
 use Rattle.records.specs.declared.Decoded.{Decoded}
 use Rattle.records.specs.declared.Decoded.the-variants.{Good, Bad}
-use Rattle.refusals.specs.Refusals.{numberOf}
 use Rattle.grammar.specs.declared.Counts.{Counts}
 use Rattle.grammar.specs.declared.Verdict.{Verdict}
 use Rattle.grammar.specs.declared.Verdict.the-variants.{Accepted, Refused}
@@ -104,11 +103,7 @@ final (stopped x i) n = Refused x i
 unfoldable pub checked : List Decoded → Verdict
 checked ds = final (course begin 0 ds) (length ds)
 
--- document 01's number, 0 where nothing is refused, and place
-abbrev pub Verdict·number : Verdict → ℕ
-Verdict·number (Accepted k) = 0
-Verdict·number (Refused r p) = numberOf r
-
+-- document 01's place
 abbrev pub Verdict·place : Verdict → ℕ
 Verdict·place (Accepted k) = 0
 Verdict·place (Refused r p) = p

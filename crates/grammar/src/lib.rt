@@ -6,7 +6,7 @@ ghost use mathlib.Core.Path.{_≡_};
 ghost use mathlib.Core.Bool.{true};
 ghost use Prim.Native.Nat.{_+_, _<_};
 ghost use Rattle.groups.specs.Stack.{roomN};
-ghost use Rattle.grammar.specs.Grammar.{isShort, oneMore, Verdict·number, Verdict·place};
+ghost use Rattle.grammar.specs.Grammar.{isShort, oneMore};
 ghost use Rattle.grammar.specs.Machine.{roleN, fitsN, endsN, limitN, areaN, firstN, nextN, afterOpenN, afterBarN, afterCloseN, afterN, stepN, settledN, advanceAtN, advanceN, startN, endStateN, endedN, isStopped};
 
 // Where a reader stands. `stack`: the open groups (crate `groups`). `held`: an area or a corner stands straight before. `run`: the corners of
@@ -40,25 +40,7 @@ pub enum Verdict {
     Refused(Refusal, usize),
 }
 
-// Document 01's number: 0 where nothing is refused.
-pub fn number_of(v: Verdict) -> u32
-    ensures { λ r. ⌜ r ≡ Verdict·number v ⌝ }
-{
-    match v {
-        Verdict::Accepted(_) => 0,
-        Verdict::Refused(r, _) => refusals::number(r),
-    }
-}
-
-pub fn place_of(v: Verdict) -> usize
-    ensures { λ r. ⌜ r ≡ Verdict·place v ⌝ }
-{
-    match v {
-        Verdict::Accepted(_) => 0,
-        Verdict::Refused(_, p) => p,
-    }
-}
-
+// A contour of under 3 corners.
 fn is_short(run: u32) -> bool
     ensures { λ r. ⌜ r ≡ isShort run ⌝ }
 {

@@ -45,9 +45,6 @@ ranged r = cond (inRange r) (Good r) (Bad Field)
 
 -- ---- kinds: 1 area; 2 first corner of a contour; 3 next corner; 4 `(`, 5 `|`, 6 `)`
 
-abbrev pub isKind : ℕ → Bool
-isKind k = leb 1 k && leb k 6
-
 unfoldable pub cornerOf : ℕ → ℕ → ℕ → Record
 cornerOf k x y = cond (eqb k 2) (First x y) (Next x y)
 
