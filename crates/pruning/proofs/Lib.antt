@@ -1,0 +1,10 @@
+-- The theorems about pruning and the machine.
+pub mod Sides
+pub mod Normal
+pub mod Rules
+pub mod Order
+pub mod Meaning
+pub mod Survivors
+pub mod Refining
+pub mod Machine
+mod Examples
