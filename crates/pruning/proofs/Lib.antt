@@ -7,4 +7,7 @@ pub mod Meaning
 pub mod Survivors
 pub mod Refining
 pub mod Machine
+pub mod Pruner
+pub mod Counters
+pub mod Effects
 mod Examples

@@ -7,3 +7,6 @@ pub mod Rules
 pub mod Order
 pub mod Survivors
 pub mod Machine
+pub mod Pruner
+pub mod Counters
+pub mod Effects
