@@ -10,4 +10,6 @@ pub mod Machine
 pub mod Pruner
 pub mod Counters
 pub mod Effects
+pub mod Grammar
+pub mod Bounded
 mod Examples

@@ -10,3 +10,4 @@ pub mod Machine
 pub mod Pruner
 pub mod Counters
 pub mod Effects
+pub mod Grammar
