@@ -9,9 +9,9 @@ use mathlib.Core.Logic.{_⊎_, inl, inr}
 use Prim.Native.Nat.{ℕ, _+_, _≤_, _<_, min, max}
 use native.Mathlib.Omega.{arith}
 use native.Mathlib.Decide.{decLe, decLt}
-use lib.Dec.{T, T-not, leb, eqb}
+use lib.Dec.{T, T-not, leb, ltb, eqb, leb→le, ltb→lt}
 use borrow.Author.Tests.{lt-leb, le-leb, lt-ltb, le-ltb, eq-eqb, leb-true, leb-false, eqb-true}
-use Rattle.laws.proofs.Booleans.{T-true, T-false, true-T, false-T}
+use Rattle.laws.proofs.Booleans.{T-true, T-false, true-T, false-T, &&-left, &&-right}
 use Rattle.geometry.specs.Edges.{isRow}
 use Rattle.geometry.specs.Classes.{nowhere, everywhere, verdict, classOf, cut, childOf, says, Inside, Contains}
 use Rattle.geometry.specs.declared.class.Class.{Class}
@@ -173,6 +173,42 @@ module _ (f : ℕ → ℕ → Bool) (b d X′ Y′ S′ X Y S : ℕ) (w : Contai
 
   pub child-class : classOf f b d X Y S ≡ childOf (classOf f b d X′ Y′ S′) (classOf f b d X Y S) Y S
   child-class = inner (view f b d X′ Y′ S′)
+
+-- ---- a shortcut is a segment too: it counts at every position of its rows
+
+row-low : (lo hi y : ℕ) → T (isRow lo hi y) → (lo ≤ y) × (y < hi)
+row-low lo hi y t = (leb→le lo y (&&-left (leb lo y) (ltb y hi) t), ltb→lt y hi (&&-right (leb lo y) (ltb y hi) t))
+
+row-in : (lo hi y : ℕ) → lo ≤ y → y < hi → T (isRow lo hi y)
+row-in lo hi y p q = true-T {a = isRow lo hi y} (rw (le-leb lo y p, lt-ltb y hi q))
+
+pub rows-segment : (lo hi : ℕ) → Segment (λ x y. isRow lo hi y) lo hi
+rows-segment lo hi =
+    record {
+      rows = λ x y t. row-low lo hi y t;
+      leftward = λ x x' y h t. t;
+      between = λ x y0 y y1 h k t u. let a = row-low lo hi y0 t in let b = row-low lo hi y1 u in row-in lo hi y (omega arith) (omega arith);
+      outside = λ x y0 y y1 a b c d t u. absurd (T-not (isRow lo hi y0) t (row-in lo hi y0 a (omega arith)));
+    }
+
+-- its class is that of its rows, cut to the square's
+pub shortcut-class : (lo hi X Y S : ℕ) → 0 < S → classOf (λ x y. isRow lo hi y) lo hi X Y S ≡ cut lo hi Y S
+unfolding Everywhere
+shortcut-class lo hi X Y S w = go (decLt (max lo Y) (min hi (Y + S)))
+  where
+    go : Dec (max lo Y < min hi (Y + S)) → classOf (λ x y. isRow lo hi y) lo hi X Y S ≡ cut lo hi Y S
+    go (yes t) = is-cut (λ x y. isRow lo hi y) lo hi X Y S w t (λ x y a b c d. row-in lo hi y (omega arith) (omega arith))
+    go (no t) = no-rows (λ x y. isRow lo hi y) lo hi X Y S (omega arith) ∙ sym (cut-none lo hi Y S (omega arith))
+
+-- and never a line
+pub cut-cases : (P : Class → Type 0) (lo hi Y S : ℕ) → P Dropped → P Start → ((l h : ℕ) → P (Shortcut l h)) → P (cut lo hi Y S)
+unfolding cut verdict
+cut-cases P lo hi Y S a b c = go (leb (min hi (Y + S)) (max lo Y)) (eqb (max lo Y) Y && eqb (min hi (Y + S)) (Y + S))
+  where
+    go : (r w : Bool) → P (cond (r || false) Dropped (cond w Start (Shortcut (max lo Y) (min hi (Y + S)))))
+    go true w = a
+    go false true = b
+    go false false = c (max lo Y) (min hi (Y + S))
 
 -- ---- a square of one position keeps no line
 

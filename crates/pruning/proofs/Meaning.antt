@@ -1,11 +1,12 @@
 -- Pruning keeps what a side shows, wherever the classes of its items are true. Assumes nothing.
 use mathlib.Core.Path.{_≡_, refl, ap, sym, _∙_}
 use mathlib.Core.Bool.{Bool, true, false, _||_, _&&_, cond, false≢true}
-use mathlib.Core.List.{List, [], _∷_, _++_, append-nil, append-assoc}
-use Rattle.pruning.specs.Sides.{Kind, paint, clip, Side, end, leaf, group}
+use mathlib.Core.List.{List, [], _∷_, _++_, append-nil, append-assoc, map}
+use Rattle.pruning.specs.Sides.{Kind, paint, clip, Side, end, leaf, group, mapSide}
 use Rattle.pruning.specs.Meaning.{clipPasses, shownAll, upTo, shown}
 use Rattle.pruning.specs.Items.{Items, Class, fails, passes, other, isPasses}
 use Rattle.pruning.specs.Normal.{mixed, normal, put, groupOf, oneGroup, oneLeaf, status, always-side, join, cutLeaf, seal, hasOne}
+use Rattle.pruning.proofs.Sides.{map-append}
 use Rattle.pruning.proofs.Normal.{or-or, or-true, status-cases}
 
 -- what a side shows in front of z: nothing behind an opaque item counts
@@ -34,6 +35,33 @@ module _ {A : Type 0} (pass opaque : A → Bool) where
 
   pub shown-over : (s : Side A) → shown pass opaque s ≡ shownOver s []
   shown-over s = ap (upTo opaque) (sym (append-nil (shownAll pass s))) ∙ upTo-all s []
+
+-- what a side shows, each of its items changed
+module _ {A B : Type 0} (f : A → B) (pass opaque : B → Bool) where
+  clip-map : (s : Side A) → clipPasses pass (mapSide f s) ≡ clipPasses (λ a. pass (f a)) s
+  clip-map end = refl
+  clip-map (leaf a t) = rw (clip-map t)
+  clip-map (group l r t) = rw (clip-map l, clip-map r, clip-map t)
+
+  map-cond : (b : Bool) (x y : List A) → cond b (map f x) [] ++ map f y ≡ map f (cond b x [] ++ y)
+  map-cond true x y = sym (map-append f x y)
+  map-cond false x y = refl
+
+  all-map : (s : Side A) → shownAll pass (mapSide f s) ≡ map f (shownAll (λ a. pass (f a)) s)
+  all-map end = refl
+  all-map (leaf a t) = rw (all-map t) (map-cond (pass (f a)) (a ∷ []) (shownAll (λ b. pass (f b)) t))
+  all-map (group l r t) = rw (clip-map l, all-map r, all-map t) (map-cond (clipPasses (λ a. pass (f a)) l) (shownAll (λ a. pass (f a)) r) (shownAll (λ a. pass (f a)) t))
+
+  map-stop : (b : Bool) (x : List A) (y : List B) → y ≡ map f x → cond b [] y ≡ map f (cond b [] x)
+  map-stop true x y e = refl
+  map-stop false x y e = e
+
+  upTo-map : (l : List A) → upTo opaque (map f l) ≡ map f (upTo (λ a. opaque (f a)) l)
+  upTo-map [] = refl
+  upTo-map (a ∷ l) = ap (λ z. f a ∷ z) (map-stop (opaque (f a)) (upTo (λ b. opaque (f b)) l) (upTo opaque (map f l)) (upTo-map l))
+
+  pub shown-map : (s : Side A) → shown pass opaque (mapSide f s) ≡ map f (shown (λ a. pass (f a)) (λ a. opaque (f a)) s)
+  shown-map s = ap (upTo opaque) (all-map s) ∙ upTo-map (shownAll (λ a. pass (f a)) s)
 
 -- pruning keeps the meaning
 module _ (I : Items) (pass opaque : I .Item → Bool)

@@ -57,7 +57,12 @@ map-same end = refl
 map-same (leaf a t) = ap (leaf a) (map-same t)
 map-same (group l r t) = rw (map-same l, map-same r, map-same t)
 
-map-append : {A B : Type 0} (f : A → B) (x y : List A) → map f (x ++ y) ≡ map f x ++ map f y
+pub map-map : {A B C : Type 0} (f : A → B) (g : B → C) (s : Side A) → mapSide g (mapSide f s) ≡ mapSide (λ a. g (f a)) s
+map-map f g end = refl
+map-map f g (leaf a t) = ap (leaf (g (f a))) (map-map f g t)
+map-map f g (group l r t) = rw (map-map f g l, map-map f g r, map-map f g t)
+
+pub map-append : {A B : Type 0} (f : A → B) (x y : List A) → map f (x ++ y) ≡ map f x ++ map f y
 map-append f [] y = refl
 map-append f (a ∷ x) y = ap (λ z. f a ∷ z) (map-append f x y)
 
