@@ -1,0 +1,6 @@
+-- The theorems about cells and their streams.
+pub mod Cells
+pub mod Segments
+pub mod Each
+pub mod Streams
+mod Examples
