@@ -3,4 +3,5 @@ pub mod Cells
 pub mod Segments
 pub mod Each
 pub mod Streams
+pub mod Rows
 mod Examples

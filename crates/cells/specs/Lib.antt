@@ -3,3 +3,4 @@ pub mod Cells
 pub mod Segments
 pub mod Drawings
 pub mod Streams
+pub mod Rows

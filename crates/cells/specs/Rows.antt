@@ -1,0 +1,92 @@
+-- A stream as rows, one for each entry of a table, what any rows say, and the reading of rows in one pass. Assumes nothing.
+use mathlib.Core.Bool.{Bool, true}
+use mathlib.Core.List.{List, [], _∷_, _++_, map}
+use Prim.Native.Nat.{ℕ}
+use lib.IntN.{ℤ, _+ℤ_}
+use Rattle.paint.specs.Sets.{withArea}
+use Rattle.pruning.specs.Sides.{Kind, clip, Side, Entry, item, push, activate, pop}
+use Rattle.pruning.specs.Grammar.{tree}
+use Rattle.pruning.specs.Registers.{P, Registers, reg, outOf, onItem, onPush, onActivate, onPop}
+use Rattle.cells.specs.Segments.{Segment}
+use Rattle.cells.specs.Streams.{Item, always, area}
+
+-- "A stream holds one entry for each delimiter, each area (with its start number), line and shortcut": `(`, `|`, `)`, an area, one of its lines and
+-- shortcuts, and the bare "passes"
+pub data Row : Type 0 where
+  opens bar closes bare : Row
+  named : (number : ℕ) (start : ℤ) → Row
+  segment : Segment → Row
+
+abbrev pub itemRows : Item → List Row
+itemRows always = bare ∷ []
+itemRows (area n z gs) = named n z ∷ map segment gs
+
+abbrev pub entryRows : Entry Item → List Row
+entryRows (item k a) = itemRows a
+entryRows push = opens ∷ []
+entryRows activate = bar ∷ []
+entryRows pop = closes ∷ []
+
+abbrev pub rowsOf : List (Entry Item) → List Row
+rowsOf [] = []
+rowsOf (e ∷ es) = entryRows e ++ rowsOf es
+
+-- rows, read from the back: lines and shortcuts that still want their area, and the entries behind them
+pub data Decoded : Type 0 where
+  dec : List Segment → List (Entry Item) → Decoded
+
+abbrev pub entriesOf : Decoded → List (Entry Item)
+entriesOf (dec gs es) = es
+
+-- the side on which an area stands is told by its role
+module _ (role : ℕ → Kind) where
+  abbrev pub decodeRow : Row → Decoded → Decoded
+  decodeRow opens (dec gs es) = dec [] (push ∷ es)
+  decodeRow bar (dec gs es) = dec [] (activate ∷ es)
+  decodeRow closes (dec gs es) = dec [] (pop ∷ es)
+  decodeRow bare (dec gs es) = dec [] (item clip always ∷ es)
+  decodeRow (named n z) (dec gs es) = dec [] (item (role n) (area n z gs) ∷ es)
+  decodeRow (segment g) (dec gs es) = dec (g ∷ gs) es
+
+  abbrev pub decode : List Row → Decoded
+  decode [] = dec [] []
+  decode (w ∷ ws) = decodeRow w (decode ws)
+
+  -- "Tables that pass 12 but were written by others are read for what they say."
+  abbrev pub streamOf : List Row → Side Item
+  streamOf ws = tree (entriesOf (decode ws))
+
+-- an area waits, with its sum so far, until its lines and shortcuts are read
+pub data Pending : Type 0 where
+  settled : Pending
+  waits : ℕ → ℤ → Pending
+
+pub data State : Type 0 where
+  state : Registers ℕ → Pending → State
+
+-- an area's role, whether it passes with a winding, whether it has alpha 255; what a line or shortcut adds
+module _ (role : ℕ → Kind) (pass : ℕ → ℤ → Bool) (opaque : ℕ → Bool) (adds : Segment → ℤ) where
+  abbrev pub settle : State → Registers ℕ
+  settle (state r settled) = r
+  settle (state r (waits n z)) = onItem (role n) (pass n z) (opaque n) (λ set. withArea set n) r
+
+  abbrev pub addTo : Segment → State → State
+  addTo g (state r settled) = state r settled
+  addTo g (state r (waits n z)) = state r (waits n (z +ℤ adds g))
+
+  -- "the machine's move is decided by state, kind of entry and depth"
+  abbrev pub onRow : Row → State → State
+  onRow opens st = state (onPush (settle st)) settled
+  onRow bar st = state (onActivate (settle st)) settled
+  onRow closes st = state (onPop (settle st)) settled
+  onRow bare st = state (onItem clip true true (λ set. set) (settle st)) settled
+  onRow (named n z) st = state (settle st) (waits n z)
+  onRow (segment g) st = addTo g st
+
+  abbrev pub onRows : List Row → State → State
+  onRows [] st = st
+  onRows (w ∷ ws) st = onRows ws (onRow w st)
+
+  -- the shown set, begun in P with no group open
+  abbrev pub readRows : List Row → ℕ
+  readRows ws = outOf (settle (onRows ws (state (reg P 0 0 0) settled)))
