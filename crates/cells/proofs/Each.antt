@@ -3,7 +3,7 @@ use mathlib.Core.List.{List, [], _∷_, _++_}
 use Rattle.pruning.specs.Sides.{Kind, clip, Side, end, leaf, group, Entry, item, push, activate, pop, flat, mapSide}
 use Rattle.pruning.specs.Items.{Items}
 use Rattle.pruning.specs.Survivors.{Sub, nothing, drops, keeps, bares}
-use Rattle.cells.specs.Streams.{Each}
+use Rattle.cells.specs.Streams.{Each, On}
 
 module _ {A : Type 0} (P : Kind → A → Type 0) where
   each-append : (x y : List (Entry A)) → Each P x → Each P y → Each P (x ++ y)
@@ -24,12 +24,6 @@ module _ {A : Type 0} (P : Kind → A → Type 0) where
   each-keep push xs ys h g = g
   each-keep activate xs ys h g = g
   each-keep pop xs ys h g = g
-
--- what holds of each item of a side, by the kind of the side that it stands on
-abbrev pub On : {A : Type 0} → (Kind → A → Type 0) → Kind → Side A → Type 0
-On Q k end = Unit {0}
-On Q k (leaf a t) = Q k a × On Q k t
-On Q k (group l r t) = On Q clip l × On Q k r × On Q k t
 
 pub each-mapped : {A B : Type 0} (Q : Kind → A → Type 0) (P : Kind → B → Type 0) (f : A → B) → ((k : Kind) (a : A) → Q k a → P k (f a)) → (k : Kind) (s : Side A) → On Q k s → Each P (flat k (mapSide f s))
 each-mapped Q P f h k end o = tt

@@ -1,18 +1,25 @@
 -- Any rows are read, in one pass, for the shown set of what they say; the rows of a stream say that stream. Assumes nothing.
-use mathlib.Core.Path.{_≡_, refl, sym, ap, _∙_}
+use mathlib.Core.Path.{_≡_, refl, sym, ap, _∙_, fun-ext}
 use mathlib.Core.Bool.{Bool, true, false}
 use mathlib.Core.List.{List, [], _∷_, _++_, map}
-use Prim.Native.Nat.{ℕ, _+_}
+use Prim.Native.Nat.{ℕ}
 use lib.IntN.{ℤ, pos, _+ℤ_, +ℤ-assoc, +ℤ-idr}
-use Rattle.paint.specs.Sets.{withArea, setOf}
-use Rattle.pruning.specs.Sides.{Kind, paint, clip, Side, Entry, item, push, activate, pop, flat}
+use Rattle.paint.specs.Sets.{withArea, withAreas, setOf}
+use Rattle.pruning.specs.Sides.{Kind, paint, clip, Side, Entry, item, push, activate, pop, flat, mapSide}
 use Rattle.pruning.specs.Meaning.{shown}
+use Rattle.pruning.specs.Grammar.{tree}
 use Rattle.pruning.specs.Registers.{P, S, SA, Registers, reg, halted, outOf, onItem, onPush, onActivate, onPop, moves, gathered}
 use Rattle.pruning.proofs.Grammar.{tree-flat}
 use Rattle.pruning.proofs.Registers.{registers}
-use Rattle.cells.specs.Segments.{Segment}
-use Rattle.cells.specs.Streams.{Item, always, area, numberOf, Each}
-use Rattle.cells.specs.Rows.{Row, opens, bar, closes, bare, named, segment, itemRows, rowsOf, Decoded, dec, entriesOf, decodeRow, decode, streamOf, Pending, settled, waits, State, state, settle, addTo, onRow, onRows, readRows}
+use Rattle.pruning.proofs.Sides.{map-map}
+use Rattle.pruning.proofs.Survivors.{normal-sub}
+use Rattle.cells.specs.Cells.{Position, Cell, Holds}
+use Rattle.cells.specs.Segments.{Segment, addsAt, sumAt}
+use Rattle.cells.specs.Drawings.{Drawing, passesBy, isOpaque, shownAt}
+use Rattle.cells.specs.Streams.{Item, always, area, numberOf, Each, items, passesIn, opaqueIn, within, whole, source, made, shownIn}
+use Rattle.cells.proofs.Each.{each-sub, each-mapped}
+use Rattle.cells.proofs.Streams.{made-normal, made-shown, source-shown}
+use Rattle.cells.specs.Rows.{Row, opens, bar, closes, bare, named, segment, itemRows, rowsOf, Decoded, dec, entriesOf, decodeRow, decode, streamOf, settled, waits, State, state, settle, addTo, onRows, readRows, OnSide, roleIn, readAt, Fitted}
 
 -- "passes" shows nothing
 clip-shows : {O : Type 0} (p q : Bool) (f g : O → O) (r : Registers O) → onItem clip p q f r ≡ onItem clip p q g r
@@ -24,6 +31,10 @@ clip-shows p q f g (halted o) = refl
 
 abbrev pub addNumber : Item → ℕ → ℕ
 addNumber a set = withArea set (numberOf a)
+
+gathered-set : (l : List Item) (set : ℕ) → gathered addNumber l set ≡ withAreas set (map numberOf l)
+gathered-set [] set = refl
+gathered-set (a ∷ l) set = gathered-set l (withArea set (numberOf a))
 
 module _ (role : ℕ → Kind) (pass : ℕ → ℤ → Bool) (opaque : ℕ → Bool) (adds : Segment → ℤ) where
   -- the sum of what lines and shortcuts add
@@ -86,33 +97,63 @@ module _ (role : ℕ → Kind) (pass : ℕ → ℤ → Bool) (opaque : ℕ → B
   read-says ws = read-by ws (decode role ws) (rows-say ws)
 
   -- so rows whose entries are a side's give the set of what the side shows
-  pub read-side : (ws : List Row) (x : Side Item) → entriesOf (decode role ws) ≡ flat paint x → readRows role pass opaque adds ws ≡ gathered addNumber (shown passItem opaqueItem x) 0
-  read-side ws x e = read-says ws ∙ (ap (λ es. outOf (mv es (reg P 0 0 0))) e ∙ registers passItem opaqueItem addNumber x 0)
+  pub read-side : (ws : List Row) (x : Side Item) → entriesOf (decode role ws) ≡ flat paint x → readRows role pass opaque adds ws ≡ setOf (map numberOf (shown passItem opaqueItem x))
+  read-side ws x e = read-says ws ∙ (ap (λ es. outOf (mv es (reg P 0 0 0))) e ∙ (registers passItem opaqueItem addNumber x 0 ∙ gathered-set (shown passItem opaqueItem x) 0))
 
 -- ---- the rows of a stream say that stream, where the roles fit the sides
 
 module _ (role : ℕ → Kind) where
-  -- an area stands on a side of its role; "passes" stands where a clip area may
-  abbrev pub OnSide : Kind → Item → Type 0
-  OnSide paint always = ⊥
-  OnSide clip always = Unit {0}
-  OnSide k (area n z gs) = role n ≡ k
-
   decode-segments : (gs : List Segment) (ws : List Row) (es : List (Entry Item)) → decode role ws ≡ dec [] es → decode role (map segment gs ++ ws) ≡ dec gs es
   decode-segments [] ws es e = e
   decode-segments (g ∷ gs) ws es e = rw (decode-segments gs ws es e)
 
-  decode-item : (k : Kind) (a : Item) (ws : List Row) (es : List (Entry Item)) → OnSide k a → decode role ws ≡ dec [] es → decode role (itemRows a ++ ws) ≡ dec [] (item k a ∷ es)
+  decode-item : (k : Kind) (a : Item) (ws : List Row) (es : List (Entry Item)) → OnSide role k a → decode role ws ≡ dec [] es → decode role (itemRows a ++ ws) ≡ dec [] (item k a ∷ es)
   decode-item paint always ws es h e = absurd h
   decode-item clip always ws es h e = rw e
   decode-item k (area n z gs) ws es h e = rw (decode-segments gs ws es e, h)
 
-  pub decode-rows : (es : List (Entry Item)) → Each OnSide es → decode role (rowsOf es) ≡ dec [] es
+  pub decode-rows : (es : List (Entry Item)) → Each (OnSide role) es → decode role (rowsOf es) ≡ dec [] es
   decode-rows [] h = refl
   decode-rows (item k a ∷ es) h = decode-item k a (rowsOf es) es (h .0) (decode-rows es (h .1))
   decode-rows (push ∷ es) h = rw (decode-rows es h)
   decode-rows (activate ∷ es) h = rw (decode-rows es h)
   decode-rows (pop ∷ es) h = rw (decode-rows es h)
 
-  pub rows-back : (x : Side Item) → Each OnSide (flat paint x) → streamOf role (rowsOf (flat paint x)) ≡ x
-  rows-back x h = ap (λ d. Rattle.pruning.specs.Grammar.tree (entriesOf d)) (decode-rows (flat paint x) h) ∙ tree-flat x
+  pub rows-back : (x : Side Item) → Each (OnSide role) (flat paint x) → streamOf role (rowsOf (flat paint x)) ≡ x
+  rows-back x h = ap (λ d. tree (entriesOf d)) (decode-rows (flat paint x) h) ∙ tree-flat x
+
+-- ---- of a drawing
+
+module _ (D : Drawing) where
+  total-sum : (p : Position) (gs : List Segment) → total (roleIn D) (passesBy D) (isOpaque D) (addsAt (D .xs) (D .ys) p) gs ≡ sumAt (D .xs) (D .ys) p gs
+  total-sum p [] = refl
+  total-sum p (g ∷ gs) = ap (λ z. addsAt (D .xs) (D .ys) p g +ℤ z) (total-sum p gs)
+
+  pass-same : (p : Position) (a : Item) → passItem (roleIn D) (passesBy D) (isOpaque D) (addsAt (D .xs) (D .ys) p) a ≡ passesIn D p a
+  pass-same p always = refl
+  pass-same p (area n z gs) = ap (λ v. passesBy D n (z +ℤ v)) (total-sum p gs)
+
+  opaque-same : (p : Position) (a : Item) → opaqueItem (roleIn D) (passesBy D) (isOpaque D) (addsAt (D .xs) (D .ys) p) a ≡ opaqueIn D a
+  opaque-same p always = refl
+  opaque-same p (area n z gs) = refl
+
+  -- the rows of a stream whose areas stand on sides of their roles, read at a position: the set that the stream shows
+  pub rows-read : (p : Position) (x : Side Item) → Each (OnSide (roleIn D)) (flat paint x) → readAt D p (rowsOf (flat paint x)) ≡ setOf (shownIn D p x)
+  rows-read p x h =
+      read-side (roleIn D) (passesBy D) (isOpaque D) (addsAt (D .xs) (D .ys) p) (rowsOf (flat paint x)) x (ap entriesOf (decode-rows (roleIn D) (flat paint x) h))
+      ∙ (ap (λ f. setOf (map numberOf (shown f (opaqueItem (roleIn D) (passesBy D) (isOpaque D) (addsAt (D .xs) (D .ys) p)) x))) (fun-ext (pass-same p))
+      ∙ ap (λ f. setOf (map numberOf (shown (passesIn D p) f x))) (fun-ext (opaque-same p)))
+
+  pub made-on-side : Fitted D → (c : Cell) → Each (OnSide (roleIn D)) (flat paint (made D c (source D)))
+  made-on-side f c =
+      rw (made-normal D c (source D))
+      (each-sub (items D) (OnSide (roleIn D)) tt (normal-sub (items D) paint (mapSide (within D c) (source D)))
+      (rw (map-map (whole D) (within D c) (D .plan)) (each-mapped (λ k n. roleIn D n ≡ k) (OnSide (roleIn D)) (λ n. within D c (whole D n)) (λ k n e. stands k n e) paint (D .plan) f)))
+    where
+      stands : (k : Kind) (n : ℕ) → roleIn D n ≡ k → OnSide (roleIn D) k (within D c (whole D n))
+      stands paint n e = e
+      stands clip n e = e
+
+  -- the rows of a cell's stream, read in one pass at any position of the cell, give the set that the drawing shows there
+  pub cell-read : Fitted D → (c : Cell) (p : Position) → Holds c p → readAt D p (rowsOf (flat paint (made D c (source D)))) ≡ setOf (shownAt D p)
+  cell-read f c p i = rows-read p (made D c (source D)) (made-on-side f c) ∙ ap setOf (made-shown D c p i (source D) ∙ source-shown D p)

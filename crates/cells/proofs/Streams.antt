@@ -91,7 +91,7 @@ module _ (D : Drawing) where
 
   -- ---- the central fact
 
-  made-normal : (c : Cell) (x : Side Item) → made D c x ≡ normal (items D) paint (mapSide (within D c) x)
+  pub made-normal : (c : Cell) (x : Side Item) → made D c x ≡ normal (items D) paint (mapSide (within D c) x)
   made-normal c x = pruned-normal (items D) (mapSide (within D c) x)
 
   both-within : (c : Cell) (q : Quarter) (x : Side Item) → mapSide (within D (child c q)) (mapSide (within D c) x) ≡ mapSide (within D (child c q)) x

@@ -11,7 +11,7 @@ use Rattle.geometry.specs.Windings.{Contour}
 use Rattle.geometry.specs.declared.fill.FillRule.{FillRule}
 use Rattle.geometry.specs.declared.fill.FillRule.the-variants.{NonZero, EvenOdd}
 use Rattle.records.specs.declared.Fields.{Fields}
-use Rattle.pruning.specs.Sides.{Side}
+use Rattle.pruning.specs.Sides.{Kind, paint, clip, Side}
 use Rattle.pruning.specs.Meaning.{shown}
 use Rattle.cells.specs.Cells.{Position, col, row}
 
@@ -30,6 +30,10 @@ noFields = record { role = 0; rule = 0; alpha = 0; red = 0; green = 0; blue = 0;
 -- "fill rule (0 non-zero, 1 even-odd)"
 abbrev pub ruleOf : ℕ → FillRule
 ruleOf n = cond (eqb n 0) NonZero EvenOdd
+
+-- "role (0 paint, 1 clip)"
+abbrev pub kindOf : ℕ → Kind
+kindOf n = cond (eqb n 0) paint clip
 
 module _ (D : Drawing) where
   abbrev pub fieldsOf : ℕ → Fields

@@ -1,14 +1,17 @@
 -- A stream as rows, one for each entry of a table, what any rows say, and the reading of rows in one pass. Assumes nothing.
+use mathlib.Core.Path.{_≡_}
 use mathlib.Core.Bool.{Bool, true}
 use mathlib.Core.List.{List, [], _∷_, _++_, map}
 use Prim.Native.Nat.{ℕ}
 use lib.IntN.{ℤ, _+ℤ_}
 use Rattle.paint.specs.Sets.{withArea}
-use Rattle.pruning.specs.Sides.{Kind, clip, Side, Entry, item, push, activate, pop}
+use Rattle.pruning.specs.Sides.{Kind, paint, clip, Side, Entry, item, push, activate, pop}
 use Rattle.pruning.specs.Grammar.{tree}
 use Rattle.pruning.specs.Registers.{P, Registers, reg, outOf, onItem, onPush, onActivate, onPop}
-use Rattle.cells.specs.Segments.{Segment}
-use Rattle.cells.specs.Streams.{Item, always, area}
+use Rattle.cells.specs.Cells.{Position}
+use Rattle.cells.specs.Segments.{Segment, addsAt}
+use Rattle.cells.specs.Drawings.{Drawing, fieldsOf, kindOf, passesBy, isOpaque}
+use Rattle.cells.specs.Streams.{Item, always, area, On}
 
 -- "A stream holds one entry for each delimiter, each area (with its start number), line and shortcut": `(`, `|`, `)`, an area, one of its lines and
 -- shortcuts, and the bare "passes"
@@ -56,6 +59,12 @@ module _ (role : ℕ → Kind) where
   abbrev pub streamOf : List Row → Side Item
   streamOf ws = tree (entriesOf (decode ws))
 
+  -- an area stands on a side of its role; "passes" stands where a clip area may
+  abbrev pub OnSide : Kind → Item → Type 0
+  OnSide paint always = ⊥
+  OnSide clip always = Unit {0}
+  OnSide k (area n z gs) = role n ≡ k
+
 -- an area waits, with its sum so far, until its lines and shortcuts are read
 pub data Pending : Type 0 where
   settled : Pending
@@ -90,3 +99,15 @@ module _ (role : ℕ → Kind) (pass : ℕ → ℤ → Bool) (opaque : ℕ → B
   -- the shown set, begun in P with no group open
   abbrev pub readRows : List Row → ℕ
   readRows ws = outOf (settle (onRows ws (state (reg P 0 0 0) settled)))
+
+module _ (D : Drawing) where
+  abbrev pub roleIn : ℕ → Kind
+  roleIn n = kindOf (fieldsOf D n .role)
+
+  -- the set that rows show at a position, with the areas and corners of a drawing
+  abbrev pub readAt : Position → List Row → ℕ
+  readAt p = readRows roleIn (passesBy D) (isOpaque D) (addsAt (D .xs) (D .ys) p)
+
+  -- "An area's role fits its side."
+  abbrev pub Fitted : Type 0
+  Fitted = On (λ k n. roleIn n ≡ k) paint (D .plan)

@@ -6,7 +6,7 @@ use Prim.Native.Nat.{ℕ}
 use lib.ListN.{getD}
 use lib.IntN.{ℤ, pos, _+ℤ_}
 use Rattle.geometry.specs.Windings.{linesOf}
-use Rattle.pruning.specs.Sides.{Kind, paint, clip, Side, Entry, item, push, activate, pop, flat, mapSide}
+use Rattle.pruning.specs.Sides.{Kind, paint, clip, Side, end, leaf, group, Entry, item, push, activate, pop, flat, mapSide}
 use Rattle.pruning.specs.Items.{Class, fails, passes, other, Items}
 use Rattle.pruning.specs.Meaning.{shown}
 use Rattle.pruning.specs.Machine.{scan, processing}
@@ -34,6 +34,12 @@ module _ {A : Type 0} (P : Kind → A → Type 0) where
   Each (push ∷ es) = Each es
   Each (activate ∷ es) = Each es
   Each (pop ∷ es) = Each es
+
+-- the same of each item of a side
+abbrev pub On : {A : Type 0} → (Kind → A → Type 0) → Kind → Side A → Type 0
+On Q k end = Unit {0}
+On Q k (leaf a t) = Q k a × On Q k t
+On Q k (group l r t) = On Q clip l × On Q k r × On Q k t
 
 module _ (D : Drawing) where
   -- "F0, C0, F1, C1 are areas with no line or shortcut, whose start number fails or passes; F1 also has alpha 255."

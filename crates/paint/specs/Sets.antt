@@ -17,12 +17,15 @@ withArea set n = bitOr set (2 ^ n)
 -- a list of areas names area n
 abbrev pub among : List ℕ → ℕ → Bool
 among [] n = false
-among (m ∷ ms) n = among ms n || eqb m n
+among (m ∷ ms) n = eqb m n || among ms n
 
--- the set of the areas that a list names
+-- a set with the areas that a list names; the set of those areas
+abbrev pub withAreas : (set : ℕ) → List ℕ → ℕ
+withAreas set [] = set
+withAreas set (n ∷ ns) = withAreas (withArea set n) ns
+
 abbrev pub setOf : List ℕ → ℕ
-setOf [] = 0
-setOf (n ∷ ns) = withArea (setOf ns) n
+setOf ns = withAreas 0 ns
 
 -- "For each shown area, front first": areas count front first, so this is the order of their numbers. Of the n areas from i on, each that is in
 -- the set takes one step.
