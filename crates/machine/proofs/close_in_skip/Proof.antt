@@ -1,0 +1,17 @@
+-- `machine::close_in_skip` meets its contract. Assumes nothing.
+use Rattle.laws.proofs.Tests.{tests}
+use borrow.Author.Needs.{needs}
+use Rattle.machine.proofs.close_in_skip.Statement.{statement}
+use Rattle.machine.proofs.close_in_skip.Tie as tie
+
+one-less-requires : tie.Need-one-less-requires
+one-less-requires c κs = search needs
+
+returns : tie.Need-returns
+returns c = (search (tests, c .before .before .before .pre, c .before .before .one-less .ensures), c .before .before .one-less .ensures)
+
+returns-2 : tie.Need-returns-2
+returns-2 c = (search (tests, c .before .before .before .pre, c .before .before .one-less .ensures), c .before .before .one-less .ensures)
+
+pub close-in-skip-spec : {M : Type 1} → statement M
+close-in-skip-spec = tie.close (tie.spec one-less-requires returns returns-2)

@@ -1,0 +1,200 @@
+// The flat clipping machine of document 000, as registers that are moved by one entry at a time.
+use paint::set;
+ghost use mathlib.Core.Path.{_≡_};
+ghost use mathlib.Core.Bool.{true};
+ghost use Prim.Native.Nat.{_+_, _<_, pred};
+ghost use Rattle.pruning.specs.Sides.{paint, clip};
+ghost use Rattle.pruning.specs.Registers.{onItem, onPush, onActivate, onPop};
+ghost use Rattle.paint.specs.Sets.{withArea};
+ghost use Rattle.machine.specs.Registers.{meant, machine};
+
+// The state (0 P, 1 S, 2 SA, 3 stopped on an alpha of 255), the depth, the stopping depth, and the shown set.
+pub struct Machine {
+    pub state: u32,
+    pub depth: u32,
+    pub stop: u32,
+    pub set: u64,
+}
+
+// Processing, with no group open and nothing shown.
+pub fn begun() -> Machine
+    ensures { λ r. ⌜ r ≡ machine 0 0 0 0 ⌝ }
+{
+    Machine {
+        state: 0,
+        depth: 0,
+        stop: 0,
+        set: 0,
+    }
+}
+
+// After an area on a paint side.
+pub fn after_paint(m: Machine, passes: bool, opaque: bool, n: u32) -> Machine
+    requires { ⌜ n < 64 ⌝ }
+    ensures { λ r. ⌜ (meant r ≡ onItem paint passes opaque (λ s. withArea s n) (meant m)) × (r .depth ≡ m .depth) ⌝ }
+{
+    if m.state == 0 {
+        if passes {
+            let shown = set::with_area(m.set, n);
+            if opaque {
+                return Machine {
+                    state: 3,
+                    depth: m.depth,
+                    stop: m.stop,
+                    set: shown,
+                };
+            }
+            return Machine {
+                state: 0,
+                depth: m.depth,
+                stop: m.stop,
+                set: shown,
+            };
+        }
+        return m;
+    }
+    m
+}
+
+// After an area, or the bare entry "passes", on a clip side.
+pub fn after_clip(m: Machine, passes: bool) -> Machine
+    ensures { λ r. ⌜ (meant r ≡ onItem clip passes true (λ s. s) (meant m)) × (r .depth ≡ m .depth) ⌝ }
+{
+    if m.state == 0 {
+        if passes {
+            return Machine {
+                state: 1,
+                depth: m.depth,
+                stop: m.depth,
+                set: m.set,
+            };
+        }
+        return m;
+    }
+    m
+}
+
+// After `(`.
+pub fn after_open(m: Machine) -> Machine
+    requires { ⌜ m .depth < 4096 ⌝ }
+    ensures { λ r. ⌜ (meant r ≡ onPush (meant m)) × (r .depth ≡ m .depth + 1) ⌝ }
+{
+    Machine {
+        state: m.state,
+        depth: m.depth + 1,
+        stop: m.stop,
+        set: m.set,
+    }
+}
+
+// Skipping, at `|`: processing goes on if the left side that passed ends here.
+fn bar_in_skip(m: Machine) -> Machine
+    requires { ⌜ m .state ≡ 1 ⌝ }
+    ensures { λ r. ⌜ (meant r ≡ onActivate (meant m)) × (r .depth ≡ m .depth) ⌝ }
+{
+    if m.depth <= m.stop {
+        return Machine {
+            state: 0,
+            depth: m.depth,
+            stop: m.stop,
+            set: m.set,
+        };
+    }
+    m
+}
+
+// After `|`.
+pub fn after_bar(m: Machine) -> Machine
+    ensures { λ r. ⌜ (meant r ≡ onActivate (meant m)) × (r .depth ≡ m .depth) ⌝ }
+{
+    let state = m.state;
+    match state {
+        0 => {
+            Machine {
+                state: 2,
+                depth: m.depth,
+                stop: m.depth,
+                set: m.set,
+            }
+        }
+        1 => bar_in_skip(m),
+        _ => m,
+    }
+}
+
+fn one_less(n: u32) -> u32
+    ensures { λ r. ⌜ r ≡ pred n ⌝ }
+{
+    if n == 0 { 0 } else { n - 1 }
+}
+
+// Skipping, at `)`.
+fn close_in_skip(m: Machine) -> Machine
+    requires { ⌜ m .state ≡ 1 ⌝ }
+    ensures { λ r. ⌜ (meant r ≡ onPop (meant m)) × (r .depth ≡ pred (m .depth)) ⌝ }
+{
+    let outer = one_less(m.depth);
+    if m.depth <= m.stop {
+        return Machine {
+            state: 1,
+            depth: outer,
+            stop: outer,
+            set: m.set,
+        };
+    }
+    Machine {
+        state: 1,
+        depth: outer,
+        stop: m.stop,
+        set: m.set,
+    }
+}
+
+// Skipping a right side, at `)`: processing goes on behind the group whose left side failed.
+fn close_in_skip_all(m: Machine) -> Machine
+    requires { ⌜ m .state ≡ 2 ⌝ }
+    ensures { λ r. ⌜ (meant r ≡ onPop (meant m)) × (r .depth ≡ pred (m .depth)) ⌝ }
+{
+    let outer = one_less(m.depth);
+    if m.depth <= m.stop {
+        return Machine {
+            state: 0,
+            depth: outer,
+            stop: m.stop,
+            set: m.set,
+        };
+    }
+    Machine {
+        state: 2,
+        depth: outer,
+        stop: m.stop,
+        set: m.set,
+    }
+}
+
+// After `)`.
+pub fn after_close(m: Machine) -> Machine
+    ensures { λ r. ⌜ (meant r ≡ onPop (meant m)) × (r .depth ≡ pred (m .depth)) ⌝ }
+{
+    let state = m.state;
+    match state {
+        0 => {
+            Machine {
+                state: 0,
+                depth: one_less(m.depth),
+                stop: m.stop,
+                set: m.set,
+            }
+        }
+        1 => close_in_skip(m),
+        2 => close_in_skip_all(m),
+        _ => {
+            Machine {
+                state: state,
+                depth: one_less(m.depth),
+                stop: m.stop,
+                set: m.set,
+            }
+        }
+    }
+}
