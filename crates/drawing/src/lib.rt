@@ -45,7 +45,8 @@ fn fields_at(areas: &[u32], i: usize) -> Fields
     }
 }
 
-fn area_row(areas: &[u32], used: usize, i: usize) -> Decoded
+// Area i, where it is in use and its fields are in range.
+pub fn area_row(areas: &[u32], used: usize, i: usize) -> Decoded
     requires { ⌜ used * 8 ≤ length (now areas) ⌝ }
     ensures { λ d. ⌜ d ≡ areaRow (now (areas .entry)) used i ⌝ }
 {

@@ -1,0 +1,41 @@
+-- Document 01, "Cells": an entry of a stream, and what four words of a table say (docs/TABLES.md). Assumes nothing.
+use Prim.Native.Nat.{ℕ}
+use mathlib.Core.Bool.{Bool, cond, _||_}
+use lib.Dec.{eqb, leb}
+use Rattle.stream.specs.declared.Words.{Words}
+
+-- "A stream holds one entry for each delimiter, each area (with its start number), line and shortcut." "C1 becomes a bare entry "passes", with no area number".
+pub data Entry : Type 0 where
+  -- `(`, `|` and `)`
+  opens : Entry
+  bar : Entry
+  closes : Entry
+  -- the area's number and the word of its start number
+  area : ℕ → ℕ → Entry
+  -- the numbers of the corners from which and to which it is drawn
+  line : ℕ → ℕ → Entry
+  -- the word of its sign, its first row, and the row after its last
+  shortcut : ℕ → ℕ → ℕ → Entry
+  passes : Entry
+  -- a kind that is none of these
+  bad : Entry
+
+-- kinds: 1 `(`, 2 `|`, 3 `)`, 4 area, 5 line, 6 shortcut, 7 passes; the words of an entry without a name are not looked at
+abbrev pub decode : Words → Entry
+decode w =
+    cond (eqb (w .kind) 1) opens
+    (cond (eqb (w .kind) 2) bar
+    (cond (eqb (w .kind) 3) closes
+    (cond (eqb (w .kind) 4) (area (w .p) (w .q))
+    (cond (eqb (w .kind) 5) (line (w .p) (w .q))
+    (cond (eqb (w .kind) 6) (shortcut (w .p) (w .q) (w .r))
+    (cond (eqb (w .kind) 7) passes bad))))))
+
+-- signed numbers are words in two's complement
+-- "start −2,048 to 2,048": 4,294,965,248 is the word of −2,048
+abbrev pub startRange : ℕ → Bool
+startRange q = leb q 2048 || leb 4294965248 q
+
+-- "sign 1 or −1": 4,294,967,295 is the word of −1
+abbrev pub signRange : ℕ → Bool
+signRange p = eqb p 1 || eqb p 4294967295
