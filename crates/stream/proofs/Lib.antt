@@ -1,2 +1,5 @@
--- Laws of the table of entries.
+-- Laws of the table of entries and of the loop over a stream; that the state in the code says what the grammar says; examples.
 pub mod Table
+pub mod Laws
+pub mod Meaning
+mod Examples

@@ -1,4 +1,4 @@
--- Document 01, "Cells": an entry of a stream, and what four words of a table say (docs/TABLES.md). Assumes nothing.
+-- Document 01, "Cells": an entry of a stream, and what the four words say that hold it. Assumes nothing.
 use Prim.Native.Nat.{ℕ}
 use mathlib.Core.Bool.{Bool, cond, _||_}
 use lib.Dec.{eqb, leb}
@@ -20,7 +20,8 @@ pub data Entry : Type 0 where
   -- a kind that is none of these
   bad : Entry
 
--- kinds: 1 `(`, 2 `|`, 3 `)`, 4 area, 5 line, 6 shortcut, 7 passes; the words of an entry without a name are not looked at
+-- four words an entry: kind, p, q, r. Kinds: 1 `(`, 2 `|`, 3 `)`, 4 area (p, q), 5 line (p, q), 6 shortcut (p, q, r), 7 passes; the other words
+-- of an entry are not looked at
 abbrev pub decode : Words → Entry
 decode w =
     cond (eqb (w .kind) 1) opens

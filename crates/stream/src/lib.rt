@@ -1,8 +1,12 @@
 // Streams of entries, four words each, in a lent table.
+use records::Decoded;
+use records::Record;
 ghost use mathlib.Core.Path.{_≡_};
 ghost use Prim.Native.Nat.{_+_, _*_, _≤_, _<_};
 ghost use lib.ListN.{length};
-ghost use Rattle.stream.specs.Table.{wordsAt, putAt};
+ghost use Rattle.stream.specs.Table.{wordsAt, wordsFrom, putAt};
+ghost use Rattle.stream.specs.Grammar.{env, cornerMet, lineRange, shortcutRange, recordFits, roleFits, usedRange, Ready, checkStream};
+ghost use Rattle.stream.specs.Machine.{offN, startN, inGroups, afterOpenN, afterBarN, afterCloseN, afterPassesN, withAreaN, areaFitsN, withLineN, stepN, scanN};
 
 // The four words of an entry.
 pub struct Words {
@@ -10,6 +14,23 @@ pub struct Words {
     pub p: u32,
     pub q: u32,
     pub r: u32,
+}
+
+// What a stream is read against, beside the drawing's tables: the areas and the corners in use, and the cell's low row and its side.
+pub struct Bounds {
+    pub areas: usize,
+    pub corners: usize,
+    pub low: u32,
+    pub side: u32,
+}
+
+// Where a reader of a stream stands. `stack`: the open groups (crate `groups`), or 0 where an entry was out of range or did not fit. `held`: an
+// area, a line or a shortcut stands straight before. `areas`, `lines`: how many areas, and how many lines and shortcuts, so far.
+pub struct Scan {
+    pub stack: u32,
+    pub held: bool,
+    pub areas: u32,
+    pub lines: u32,
 }
 
 // ---- the table of entries
@@ -36,4 +57,263 @@ pub fn put_entry(table: &mut [u32], i: usize, w: Words)
     table[at + 1] = w.p;
     table[at + 2] = w.q;
     table[at + 3] = w.r;
+}
+
+// ---- the numbers of an entry
+// Whether corner i is in use and its coordinates are in range.
+fn corner_met(xs: &[u32], ys: &[u32], used: usize, i: usize) -> bool
+    requires { ⌜ (used ≤ length (now xs)) × (used ≤ length (now ys)) ⌝ }
+    ensures { λ r. ⌜ r ≡ cornerMet (now (xs .entry)) (now (ys .entry)) used i ⌝ }
+{
+    if i < used {
+        return (xs[i] <= 65536) & (ys[i] <= 65536);
+    }
+    false
+}
+
+fn record_fits(r: Record, paint: bool) -> bool
+    ensures { λ t. ⌜ t ≡ recordFits r paint ⌝ }
+{
+    match r {
+        Record::Area(f) => { if paint { f.role == 0 } else { f.role == 1 } }
+        Record::First(_, _) => false,
+        Record::Next(_, _) => false,
+        Record::Open => false,
+        Record::Bar => false,
+        Record::Close => false,
+    }
+}
+
+fn role_fits(d: Decoded, paint: bool) -> bool
+    ensures { λ t. ⌜ t ≡ roleFits d paint ⌝ }
+{
+    match d {
+        Decoded::Good(r) => record_fits(r, paint),
+        Decoded::Bad(_) => false,
+    }
+}
+
+// Whether the area that is named is in range and fits here, and its start number is in range.
+fn area_fits(areas: &[u32], used: usize, stack: u32, w: Words) -> bool
+    requires { ⌜ used * 8 ≤ length (now areas) ⌝ }
+    ensures { λ r. ⌜ r ≡ areaFitsN (now (areas .entry)) used stack w ⌝ }
+{
+    let d = drawing::area_row(areas, used, w.p as usize);
+    let paint = groups::on_paint(stack);
+    let fits = role_fits(d, paint);
+    fits & ((w.q <= 2048) | (4294965248 <= w.q))
+}
+
+fn line_range(xs: &[u32], ys: &[u32], used: usize, w: Words) -> bool
+    requires { ⌜ (used ≤ length (now xs)) × (used ≤ length (now ys)) ⌝ }
+    ensures { λ r. ⌜ r ≡ lineRange (now (xs .entry)) (now (ys .entry)) used (w .p) (w .q) ⌝ }
+{
+    let a = corner_met(xs, ys, used, w.p as usize);
+    let b = corner_met(xs, ys, used, w.q as usize);
+    a & b
+}
+
+fn shortcut_range(low: u32, side: u32, w: Words) -> bool
+    ensures { λ r. ⌜ r ≡ shortcutRange low side (w .p) (w .q) (w .r) ⌝ }
+{
+    let beyond = (low as u64) + (side as u64);
+    ((w.p == 1) | (w.p == 4294967295)) & ((low <= w.q) & ((w.q < w.r) & ((w.r as u64) <= beyond)))
+}
+
+// ---- one entry more
+fn off() -> Scan
+    ensures { λ r. ⌜ r ≡ offN ⌝ }
+{
+    Scan {
+        stack: 0,
+        held: false,
+        areas: 0,
+        lines: 0,
+    }
+}
+
+fn in_groups(s: Scan, n: u32) -> Scan
+    ensures { λ r. ⌜ r ≡ inGroups s n ⌝ }
+{
+    Scan {
+        stack: n,
+        held: false,
+        areas: s.areas,
+        lines: s.lines,
+    }
+}
+
+fn after_open(s: Scan) -> Scan
+    ensures { λ r. ⌜ r ≡ afterOpenN s ⌝ }
+{
+    if groups::has_room(s.stack) {
+        let n = groups::opened(s.stack);
+        return in_groups(s, n);
+    }
+    off()
+}
+
+fn after_bar(s: Scan) -> Scan
+    ensures { λ r. ⌜ r ≡ afterBarN s ⌝ }
+{
+    if groups::on_left(s.stack) {
+        let n = groups::barred(s.stack);
+        return in_groups(s, n);
+    }
+    off()
+}
+
+fn after_close(s: Scan) -> Scan
+    ensures { λ r. ⌜ r ≡ afterCloseN s ⌝ }
+{
+    if groups::on_right(s.stack) {
+        let n = groups::closed(s.stack);
+        return in_groups(s, n);
+    }
+    off()
+}
+
+fn after_passes(s: Scan) -> Scan
+    ensures { λ r. ⌜ r ≡ afterPassesN s ⌝ }
+{
+    if groups::on_paint(s.stack) {
+        return off();
+    }
+    in_groups(s, s.stack)
+}
+
+fn with_area(s: Scan, ok: bool) -> Scan
+    ensures { λ r. ⌜ r ≡ withAreaN s ok ⌝ }
+{
+    if ok {
+        if s.areas < 64 {
+            return Scan {
+                stack: s.stack,
+                held: true,
+                areas: s.areas + 1,
+                lines: s.lines,
+            };
+        }
+        return off();
+    }
+    off()
+}
+
+fn with_line(s: Scan, ok: bool) -> Scan
+    ensures { λ r. ⌜ r ≡ withLineN s ok ⌝ }
+{
+    if ok {
+        if s.held {
+            if s.lines < 2048 {
+                return Scan {
+                    stack: s.stack,
+                    held: true,
+                    areas: s.areas,
+                    lines: s.lines + 1,
+                };
+            }
+            return off();
+        }
+        return off();
+    }
+    off()
+}
+
+// One entry more.
+fn step(areas: &[u32], xs: &[u32], ys: &[u32], b: Bounds, s: Scan, w: Words) -> Scan
+    requires { ⌜ Ready (now areas) (now xs) (now ys) b ⌝ }
+    ensures { λ r. ⌜ r ≡ stepN (env (now (areas .entry)) (now (xs .entry)) (now (ys .entry)) b) s w ⌝ }
+{
+    if s.stack == 0 {
+        return s;
+    }
+    let k = w.kind;
+    match k {
+        1 => after_open(s),
+        2 => after_bar(s),
+        3 => after_close(s),
+        4 => {
+            let ok = area_fits(areas, b.areas, s.stack, w);
+            with_area(s, ok)
+        }
+        5 => {
+            let ok = line_range(xs, ys, b.corners, w);
+            with_line(s, ok)
+        }
+        6 => {
+            let ok = shortcut_range(b.low, b.side, w);
+            with_line(s, ok)
+        }
+        7 => after_passes(s),
+        _ => off(),
+    }
+}
+
+fn scan_all(
+    entries: &[u32],
+    first: usize,
+    count: usize,
+    areas: &[u32],
+    xs: &[u32],
+    ys: &[u32],
+    b: Bounds,
+) -> Scan
+    requires { ⌜ (first + count) * 4 ≤ length (now entries) ⌝ }
+    requires { ⌜ Ready (now areas) (now xs) (now ys) b ⌝ }
+    ensures { λ r. ⌜ r ≡ scanN (env (now (areas .entry)) (now (xs .entry)) (now (ys .entry)) b) startN (wordsFrom (now (entries .entry)) first count) ⌝ }
+{
+    let end = first + count;
+    let mut s = Scan {
+        stack: 1,
+        held: false,
+        areas: 0,
+        lines: 0,
+    };
+    let mut i = first;
+    while i < end {
+        let w = read_entry(entries, i);
+        s = step(areas, xs, ys, b, s, w);
+        i += 1;
+    }
+    s
+}
+
+// ---- the check
+// Whether the numbers in use are at most what tables of these lengths hold.
+fn used_range(entries: usize, used: usize, areas: usize, xs: usize, ys: usize, b: Bounds) -> bool
+    ensures { λ r. ⌜ r ≡ usedRange entries used areas xs ys b ⌝ }
+{
+    ((used <= entries / 4) & (used <= 65536))
+        & (((b.areas <= areas / 8) & (b.areas <= 64))
+            & ((b.corners <= xs) & ((b.corners <= ys) & (b.corners <= 2048))))
+}
+
+// Whether the count entries from first on are a stream of the cell with this low row and this side. Any tables and numbers may be handed in.
+pub fn check_stream(
+    entries: &[u32],
+    first: usize,
+    count: usize,
+    used: usize,
+    areas: &[u32],
+    xs: &[u32],
+    ys: &[u32],
+    b: Bounds,
+) -> bool
+    ensures { λ r. ⌜ r ≡ checkStream (now (entries .entry)) first count used (env (now (areas .entry)) (now (xs .entry)) (now (ys .entry)) b) ⌝ }
+{
+    let u = used_range(entries.len(), used, areas.len(), xs.len(), ys.len(), b);
+    if u {
+        if count <= used {
+            if first <= used - count {
+                if count <= 4096 {
+                    let s = scan_all(entries, first, count, areas, xs, ys, b);
+                    return s.stack == 1;
+                }
+                return false;
+            }
+            return false;
+        }
+        return false;
+    }
+    false
 }

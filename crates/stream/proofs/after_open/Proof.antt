@@ -1,0 +1,28 @@
+-- `stream::after_open` meets its contract. Assumes nothing.
+use mathlib.Core.Path.{sym, _∙_}
+use borrow.Author.Needs.{needs}
+use Rattle.stream.proofs.after_open.Statement.{statement}
+use Rattle.stream.proofs.after_open.Tie as tie
+
+has-room-requires : tie.Need-has-room-requires
+has-room-requires c κs = search needs
+
+opened-requires : tie.Need-opened-requires
+opened-requires c κs = sym (c .before .has-room .ensures) ∙ c .if1 .taken
+
+in-groups-requires : tie.Need-in-groups-requires
+in-groups-requires c κs = search needs
+
+returns : tie.Need-returns
+returns c = rw (sym (c .before .before .before .has-room .ensures) ∙ c .before .before .if1 .taken, c .in-groups .ensures, c .before .opened .ensures)
+
+off-requires : tie.Need-off-requires
+off-requires c κs = search needs
+
+returns-2 : tie.Need-returns-2
+returns-2 c = rw (sym (c .before .before .has-room .ensures) ∙ c .before .if1 .left, c .off .ensures)
+
+pub after-open-spec : {M : Type 1} → statement M
+after-open-spec =
+    tie.close
+    (tie.spec has-room-requires opened-requires in-groups-requires returns off-requires returns-2)

@@ -1,0 +1,27 @@
+-- `stream::with_area` meets its contract. Assumes nothing.
+use borrow.Author.Tests.{lt-ltb, le-ltb}
+use borrow.Author.Needs.{needs}
+use Rattle.stream.proofs.with_area.Statement.{statement}
+use Rattle.stream.proofs.with_area.Tie as tie
+
+add-t5 : tie.Need-add-t5
+add-t5 c = search needs
+
+returns : tie.Need-returns
+returns c = rw (c .before .before .before .if1 .taken, lt-ltb _ _ (c .before .if2 .taken))
+
+off-requires : tie.Need-off-requires
+off-requires c κs = search needs
+
+returns-2 : tie.Need-returns-2
+returns-2 c = rw (c .before .before .before .if1 .taken, le-ltb _ _ (c .before .if2 .left), c .off .ensures)
+
+off-requires-2 : tie.Need-off-requires-2
+off-requires-2 c κs = search needs
+
+returns-3 : tie.Need-returns-3
+returns-3 c = rw (c .before .if1 .left, c .off2 .ensures)
+
+pub with-area-spec : {M : Type 1} → statement M
+with-area-spec =
+    tie.close (tie.spec add-t5 returns off-requires returns-2 off-requires-2 returns-3)
