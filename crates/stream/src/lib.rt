@@ -71,6 +71,7 @@ fn corner_met(xs: &[u32], ys: &[u32], used: usize, i: usize) -> bool
     false
 }
 
+// Whether an area's role fits a paint side, or a clip side.
 fn record_fits(r: Record, paint: bool) -> bool
     ensures { λ t. ⌜ t ≡ recordFits r paint ⌝ }
 {
@@ -104,6 +105,7 @@ fn area_fits(areas: &[u32], used: usize, stack: u32, w: Words) -> bool
     fits & ((w.q <= 2048) | (4294965248 <= w.q))
 }
 
+// Whether both corners of a line are in use and in range.
 fn line_range(xs: &[u32], ys: &[u32], used: usize, w: Words) -> bool
     requires { ⌜ (used ≤ length (now xs)) × (used ≤ length (now ys)) ⌝ }
     ensures { λ r. ⌜ r ≡ lineRange (now (xs .entry)) (now (ys .entry)) used (w .p) (w .q) ⌝ }
@@ -113,6 +115,7 @@ fn line_range(xs: &[u32], ys: &[u32], used: usize, w: Words) -> bool
     a & b
 }
 
+// Whether a shortcut has the sign 1 or -1, and rows, all of them inside the cell.
 fn shortcut_range(low: u32, side: u32, w: Words) -> bool
     ensures { λ r. ⌜ r ≡ shortcutRange low side (w .p) (w .q) (w .r) ⌝ }
 {
@@ -121,6 +124,7 @@ fn shortcut_range(low: u32, side: u32, w: Words) -> bool
 }
 
 // ---- one entry more
+// An entry out of range, or one that does not fit.
 fn off() -> Scan
     ensures { λ r. ⌜ r ≡ offN ⌝ }
 {
@@ -132,6 +136,7 @@ fn off() -> Scan
     }
 }
 
+// The same areas and lines, in other groups.
 fn in_groups(s: Scan, n: u32) -> Scan
     ensures { λ r. ⌜ r ≡ inGroups s n ⌝ }
 {
@@ -182,6 +187,7 @@ fn after_passes(s: Scan) -> Scan
     in_groups(s, s.stack)
 }
 
+// An area, if it may stand here: at most 64.
 fn with_area(s: Scan, ok: bool) -> Scan
     ensures { λ r. ⌜ r ≡ withAreaN s ok ⌝ }
 {
@@ -199,6 +205,7 @@ fn with_area(s: Scan, ok: bool) -> Scan
     off()
 }
 
+// A line or a shortcut whose numbers are in range: straight after an area, a line or a shortcut, and at most 2,048.
 fn with_line(s: Scan, ok: bool) -> Scan
     ensures { λ r. ⌜ r ≡ withLineN s ok ⌝ }
 {
@@ -249,6 +256,7 @@ fn step(areas: &[u32], xs: &[u32], ys: &[u32], b: Bounds, s: Scan, w: Words) -> 
     }
 }
 
+// All the entries of a stream.
 fn scan_all(
     entries: &[u32],
     first: usize,
