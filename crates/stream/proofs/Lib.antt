@@ -1,5 +1,6 @@
--- Laws of the table of entries and of the loop over a stream; that the state in the code says what the grammar says; examples.
+-- Laws of the table of entries and of the loop over a stream; that the state in the code says what the grammar says; the signed numbers that words stand for; examples.
 pub mod Table
 pub mod Laws
 pub mod Meaning
+pub mod Signed
 mod Examples

@@ -32,7 +32,8 @@ decode w =
     (cond (eqb (w .kind) 6) (shortcut (w .p) (w .q) (w .r))
     (cond (eqb (w .kind) 7) passes bad))))))
 
--- signed numbers are words in two's complement
+-- signed numbers are words in two's complement; `Rattle.stream.proofs.Signed` says the two ranges of the signed numbers
+
 -- "start −2,048 to 2,048": 4,294,965,248 is the word of −2,048
 abbrev pub startRange : ℕ → Bool
 startRange q = leb q 2048 || leb 4294965248 q
