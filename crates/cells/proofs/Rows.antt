@@ -1,6 +1,6 @@
 -- Any rows are read, in one pass, for the shown set of what they say; the rows of a stream say that stream. Assumes nothing.
 use mathlib.Core.Path.{_≡_, refl, sym, ap, _∙_, fun-ext}
-use mathlib.Core.Bool.{Bool, true, false}
+use mathlib.Core.Bool.{Bool, true}
 use mathlib.Core.List.{List, [], _∷_, _++_, map}
 use Prim.Native.Nat.{ℕ}
 use lib.IntN.{ℤ, pos, _+ℤ_, +ℤ-assoc, +ℤ-idr}
@@ -8,9 +8,9 @@ use Rattle.paint.specs.Sets.{withArea, withAreas, setOf}
 use Rattle.pruning.specs.Sides.{Kind, paint, clip, Side, Entry, item, push, activate, pop, flat, mapSide}
 use Rattle.pruning.specs.Meaning.{shown}
 use Rattle.pruning.specs.Grammar.{tree}
-use Rattle.pruning.specs.Registers.{P, S, SA, Registers, reg, halted, outOf, onItem, onPush, onActivate, onPop, moves, gathered}
+use Rattle.pruning.specs.Registers.{P, Registers, reg, outOf, onItem, onPush, onActivate, onPop, moves, gathered}
 use Rattle.pruning.proofs.Grammar.{tree-flat}
-use Rattle.pruning.proofs.Registers.{registers}
+use Rattle.pruning.proofs.Registers.{clip-shows, registers}
 use Rattle.pruning.proofs.Sides.{map-map}
 use Rattle.pruning.proofs.Survivors.{normal-sub}
 use Rattle.cells.specs.Cells.{Position, Cell, Holds}
@@ -20,14 +20,6 @@ use Rattle.cells.specs.Streams.{Item, always, area, numberOf, Each, item
 use Rattle.cells.proofs.Each.{each-sub, each-mapped}
 use Rattle.cells.proofs.Streams.{made-normal, made-shown, source-shown}
 use Rattle.cells.specs.Rows.{Row, opens, bar, closes, bare, named, segment, itemRows, rowsOf, Decoded, dec, entriesOf, decodeRow, decode, streamOf, settled, waits, State, state, settle, addTo, onRows, readRows, OnSide, roleIn, readAt, Fitted}
-
--- "passes" shows nothing
-clip-shows : {O : Type 0} (p q : Bool) (f g : O → O) (r : Registers O) → onItem clip p q f r ≡ onItem clip p q g r
-clip-shows true q f g (reg P d s o) = refl
-clip-shows false q f g (reg P d s o) = refl
-clip-shows p q f g (reg S d s o) = refl
-clip-shows p q f g (reg SA d s o) = refl
-clip-shows p q f g (halted o) = refl
 
 abbrev pub addNumber : Item → ℕ → ℕ
 addNumber a set = withArea set (numberOf a)
@@ -80,7 +72,7 @@ module _ (role : ℕ → Kind) (pass : ℕ → ℤ → Bool) (opaque : ℕ → B
   row-says bar ws (dec gs es) h = λ st. h (state (onActivate (end st)) settled) ∙ ap (λ r. mv es (onActivate r)) (sym (later-none st))
   row-says closes ws (dec gs es) h = λ st. h (state (onPop (end st)) settled) ∙ ap (λ r. mv es (onPop r)) (sym (later-none st))
   row-says bare ws (dec gs es) h = λ st. h (state (onItem clip true true (λ set. set) (end st)) settled)
-      ∙ (ap (mv es) (clip-shows true true (λ set. set) (addNumber always) (end st)) ∙ ap (λ r. mv es (onItem clip true true (addNumber always) r)) (sym (later-none st)))
+      ∙ (ap (mv es) (clip-shows true true true (λ set. set) (addNumber always) (end st)) ∙ ap (λ r. mv es (onItem clip true true (addNumber always) r)) (sym (later-none st)))
   row-says (named n z) ws (dec gs es) h = λ st. h (state (end st) (waits n z))
       ∙ ap (λ r. mv es (onItem (role n) (pass n (z +ℤ total gs)) (opaque n) (λ set. withArea set n) r)) (sym (later-none st))
   row-says (segment g) ws (dec gs es) h = λ st. h (addTo role pass opaque adds g st) ∙ ap (λ x. mv es (end x)) (later-more g st gs)

@@ -15,6 +15,14 @@ modeOf P s = processing
 modeOf S s = skipping s
 modeOf SA s = skippingBy s
 
+-- an item on a clip side shows nothing, and its alpha is not looked at
+pub clip-shows : {O : Type 0} (p q q′ : Bool) (f g : O → O) (r : Registers O) → onItem clip p q f r ≡ onItem clip p q′ g r
+clip-shows true q q′ f g (reg P d s o) = refl
+clip-shows false q q′ f g (reg P d s o) = refl
+clip-shows p q q′ f g (reg S d s o) = refl
+clip-shows p q q′ f g (reg SA d s o) = refl
+clip-shows p q q′ f g (halted o) = refl
+
 module _ {A O : Type 0} (pass opaque : A → Bool) (add : A → O → O) where
   -- what is shown in the end, from the registers and the entries that are left: the invariant of a loop
   abbrev pub ahead : Registers O → List (Entry A) → O

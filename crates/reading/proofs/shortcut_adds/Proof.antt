@@ -1,0 +1,20 @@
+-- `reading::shortcut_adds` meets its contract. Assumes nothing.
+use Rattle.reading.proofs.Laws.{other-sign}
+use Rattle.laws.proofs.Tests.{tests}
+use Rattle.reading.proofs.shortcut_adds.Statement.{statement}
+use Rattle.reading.proofs.shortcut_adds.Tie as tie
+
+returns : tie.Need-returns
+returns c = search (tests, c .if3 .taken)
+
+returns-2 : tie.Need-returns-2
+returns-2 c = search (tests, other-sign _ (c .before .before .before .before .before .before .pre) (c .if3 .left))
+
+returns-3 : tie.Need-returns-3
+returns-3 c = search tests
+
+returns-4 : tie.Need-returns-4
+returns-4 c = search tests
+
+pub shortcut-adds-spec : {M : Type 1} → statement M
+shortcut-adds-spec = tie.close (tie.spec returns returns-2 returns-3 returns-4)

@@ -1,0 +1,2 @@
+-- What the entries of a table say, and what is read from them.
+pub mod Reading
