@@ -150,7 +150,8 @@ accepts v ws = isWhole (course v begin ws)
 
 -- ---- numbers in use and the place of the stream
 
--- "areas, corners and entries in use at most what their tables and limits hold"; "entries (up to 65,536)"
+-- "areas, corners and entries in use at most what their tables and limits hold"; "The caller's tables hold so many ... entries (up to 65,536)."
+-- The lengths of the tables of entries, areas, xs and ys, and `used` entries in use
 unfoldable pub usedRange : ℕ → ℕ → ℕ → ℕ → ℕ → Bounds → Bool
 usedRange entries used areas xs ys b =
     (leb used (entries / 4) && leb used 65536) && ((leb (b .areas) (areas / 8) && leb (b .areas) 64) && (leb (b .corners) xs && (leb (b .corners) ys && leb (b .corners) 2048)))
@@ -165,7 +166,7 @@ pub record Ready (a x y : List ℕ) (b : Bounds) : Type 0 where
 abbrev pub runRange : ℕ → ℕ → ℕ → Bool
 runRange first count used = cond (leb count used) (cond (leb first (used - count)) (leb count 4096) false) false
 
--- whether the count entries from first on are a stream that passes 12
+-- whether the `count` entries from `first` on, with `used` entries in use, are a stream that passes 12
 abbrev pub checkStream : List ℕ → ℕ → ℕ → ℕ → Env → Bool
 checkStream t first count used v =
     cond (usedRange (length t) used (length (v .areas)) (length (v .xs)) (length (v .ys)) (v .used)) (cond (runRange first count used) (accepts v (wordsFrom t first count)) false) false
