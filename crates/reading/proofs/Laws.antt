@@ -1,13 +1,20 @@
--- The two signs as words; an area on a clip side is not shown. Assumes nothing.
-use mathlib.Core.Path.{_≡_, sym, ap, _∙_}
-use mathlib.Core.Bool.{Bool, true, _||_}
-use Prim.Native.Nat.{ℕ}
-use lib.Dec.{eqb}
-use borrow.Author.Tests.{ne-eqb, eqb-true}
+-- Signs and start numbers as words; an area on a clip side is not shown. Assumes nothing.
+use mathlib.Core.Path.{_≡_, refl, sym, ap, ap₂, _∙_}
+use mathlib.Core.Bool.{Bool, true, false, _||_}
+use Prim.Native.Nat.{ℕ, suc, _+_, _-_, _≤_, _<_}
+use native.Mathlib.Omega.{arith}
+use lib.Dec.{eqb, ltb, leb}
+use lib.IntN.{ℤ, pos, negsuc, _+ℤ_, _-ℤ_, natAbs}
+use mir.Syntax.{w32, w64}
+use mir.Val.{SFits, toZ, ofZ}
+use mir.ValLaws.{toZ-pos}
+use borrow.Author.Tests.{ne-eqb, eqb-true, le-ltb, lt-leb, leb-true, ltb-true, ltb-false}
+use Rattle.laws.proofs.Differences.{pos-pos, sub-pos, sub-neg, add-sub, abs-add, mag-abs}
+use Rattle.laws.proofs.Signed.{fits-as, read-back}
 use Rattle.pruning.specs.Sides.{clip}
 use Rattle.pruning.specs.Registers.{Registers, onItem}
 use Rattle.pruning.proofs.Registers.{clip-shows}
-use Rattle.stream.specs.Entry.{signRange}
+use Rattle.stream.specs.Entry.{startRange, signRange}
 
 -- a sign that is not 1 is −1
 pub other-sign : (p : ℕ) → signRange p ≡ true → (p ≡ 1 → ⊥) → p ≡ 4294967295
@@ -15,3 +22,40 @@ other-sign p h g = eqb-true p 4294967295 (sym (ap (λ b. b || eqb p 4294967295) 
 
 pub clip-plain : (p q : Bool) (f : ℕ → ℕ) (r : Registers ℕ) → onItem clip p q f r ≡ onItem clip p true (λ s. s) r
 clip-plain p q f r = clip-shows p q true f (λ s. s) r
+
+-- ---- start numbers as words
+
+pub start-up : (q : ℕ) → q ≤ 2048 → pos q -ℤ pos 0 ≡ toZ w32 q
+start-up q h = pos-pos q 0 ∙ (sub-pos q 0 q (omega arith) ∙ sym (toZ-pos w32 q (omega arith)))
+
+upper : (q : ℕ) → 2147483648 ≤ q → toZ w32 q ≡ negsuc (4294967296 - suc q)
+upper q h = rw (le-ltb q 2147483648 h)
+
+-- a start number above 2,048 is one below 0
+start-other : (q : ℕ) → startRange q ≡ true → 2048 < q → 4294965248 ≤ q
+start-other q h g = leb-true 4294965248 q (sym (ap (λ b. b || leb 4294965248 q) (lt-leb q 2048 g)) ∙ h)
+
+pub start-down : (q : ℕ) → startRange q ≡ true → 2048 < q → q < 4294967296 → (pos q -ℤ pos 4294967295) +ℤ (pos 0 -ℤ pos 1) ≡ toZ w32 q
+start-down q h g k =
+    let l = start-other q h g in
+    ap₂ _+ℤ_ (pos-pos q 4294967295) (pos-pos 0 1)
+    ∙ (add-sub q 4294967295 0 1 ∙ (sub-neg (q + 0) (4294967295 + 1) (4294967296 - suc q) (omega arith) ∙ sym (upper q (omega arith))))
+
+-- and it fits
+pub start-fits : (q : ℕ) → q < 4294967296 → SFits w64 (toZ w32 q)
+start-fits q h = go (ltb q 2147483648) refl
+  where
+    go : (b : Bool) → ltb q 2147483648 ≡ b → SFits w64 (toZ w32 q)
+    go true e = let l = ltb-true q 2147483648 e in fits-as (toZ-pos w32 q l) (record { sfits = omega arith })
+    go false e = let l = ltb-false q 2147483648 e in fits-as (upper q l) (record { sfits = omega arith })
+
+-- ---- sums that are small
+
+pub small-back : (s : ℤ) → natAbs s ≤ 8192 → toZ w64 (ofZ w64 s) ≡ s
+small-back s h = read-back s (mag-abs s (omega arith))
+
+pub sum-is : (s a : ℤ) → natAbs s ≤ 8192 → natAbs a ≤ 1 → toZ w64 (ofZ w64 s) +ℤ toZ w64 (ofZ w64 a) ≡ s +ℤ a
+sum-is s a h g = ap₂ _+ℤ_ (small-back s h) (small-back a (omega arith))
+
+pub sum-fits : (s a : ℤ) → natAbs s ≤ 8192 → natAbs a ≤ 1 → SFits w64 (s +ℤ a)
+sum-fits s a h g = record { sfits = mag-abs (s +ℤ a) (omega (arith, abs-add s a)) }

@@ -9,7 +9,7 @@ ghost use mathlib.Core.Path.{_≡_};
 ghost use mathlib.Core.Bool.{true, cond};
 ghost use Prim.Native.Nat.{_+_, _*_, _≤_, _<_};
 ghost use lib.ListN.{length, getD};
-ghost use lib.IntN.{pos};
+ghost use lib.IntN.{pos, natAbs};
 ghost use mir.Syntax.{w32};
 ghost use mir.Val.{toZ};
 ghost use Rattle.geometry.specs.Edges.{isRow};
@@ -18,8 +18,8 @@ ghost use Rattle.geometry.specs.Windings.{edgeBetween, adds};
 ghost use Rattle.paint.specs.Sets.{withArea};
 ghost use Rattle.pruning.specs.Registers.{onItem};
 ghost use Rattle.machine.specs.Registers.{meant};
-ghost use Rattle.stream.specs.Entry.{signRange};
-ghost use Rattle.reading.specs.Reading.{roleAt, passAt, opaqueAt};
+ghost use Rattle.stream.specs.Entry.{startRange, signRange};
+ghost use Rattle.reading.specs.Reading.{roleAt, passAt, opaqueAt, machineOf, restingAt, waitingAt, addedTo, settledBy, Named};
 
 // What a shortcut adds in row y.
 fn shortcut_adds(w: Words, y: u32) -> i64
@@ -73,4 +73,98 @@ fn after_area(areas: &[u32], m: Machine, n: u32, sum: i64) -> Machine
         return machine::after_paint(m, passes, opaque, n);
     }
     machine::after_clip(m, passes)
+}
+
+// The start number of an area.
+fn start_of(w: Words) -> i64
+    requires { ⌜ startRange (w .q) ≡ true ⌝ }
+    ensures { λ r. ⌜ r ≡ toZ w32 (w .q) ⌝ }
+{
+    if w.q <= 2048 {
+        return laws::difference(w.q, 0);
+    }
+    laws::difference(w.q, 4294967295) + laws::difference(0, 1)
+}
+
+// Where a reading stands: the machine's numbers; whether an area waits for its lines and shortcuts, its number, and its sum so far.
+pub struct Reading {
+    pub state: u32,
+    pub depth: u32,
+    pub stop: u32,
+    pub set: u64,
+    pub waits: bool,
+    pub number: u32,
+    pub sum: i64,
+}
+
+fn machine_of(r: Reading) -> Machine
+    ensures { λ m. ⌜ m ≡ machineOf r ⌝ }
+{
+    Machine {
+        state: r.state,
+        depth: r.depth,
+        stop: r.stop,
+        set: r.set,
+    }
+}
+
+// No area waits.
+fn resting(m: Machine) -> Reading
+    ensures { λ r. ⌜ r ≡ restingAt m ⌝ }
+{
+    Reading {
+        state: m.state,
+        depth: m.depth,
+        stop: m.stop,
+        set: m.set,
+        waits: false,
+        number: 0,
+        sum: 0,
+    }
+}
+
+// An area waits, with its start number.
+fn waiting(m: Machine, n: u32, sum: i64) -> Reading
+    ensures { λ r. ⌜ r ≡ waitingAt m n sum ⌝ }
+{
+    Reading {
+        state: m.state,
+        depth: m.depth,
+        stop: m.stop,
+        set: m.set,
+        waits: true,
+        number: n,
+        sum: sum,
+    }
+}
+
+// The machine after the area that waits, if one does.
+fn settled(areas: &[u32], r: Reading) -> Machine
+    requires { ⌜ Named (length (now areas)) r ⌝ }
+    ensures { λ m. ⌜ (meant m ≡ settledBy (now (areas .entry)) r) × (m .depth ≡ r .depth) ⌝ }
+{
+    let m = machine_of(r);
+    if r.waits {
+        return after_area(areas, m, r.number, r.sum);
+    }
+    m
+}
+
+// What a line or a shortcut adds is added to the sum of the area that waits.
+fn added(r: Reading, a: i64) -> Reading
+    requires { ⌜ (natAbs (r .sum) ≤ 8192) × (natAbs a ≤ 1) ⌝ }
+    ensures { λ s. ⌜ s ≡ addedTo r a ⌝ }
+{
+    if r.waits {
+        return Reading {
+            state: r.state,
+            depth: r.depth,
+            stop: r.stop,
+            set: r.set,
+            waits: true,
+            number: r.number,
+            sum: r.sum + a,
+        };
+    }
+    r
 }
