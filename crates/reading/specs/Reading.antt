@@ -11,8 +11,8 @@ use mir.Val.{toZ}
 use Rattle.geometry.specs.FillRules as FillRules
 use Rattle.geometry.specs.Windings as Windings
 use Rattle.paint.specs.Sets.{withArea}
-use Rattle.pruning.specs.Sides.{Kind}
-use Rattle.pruning.specs.Registers.{Registers, onItem}
+use Rattle.pruning.specs.Sides.{Kind, clip}
+use Rattle.pruning.specs.Registers.{Registers, onItem, onPush, onActivate, onPop}
 use Rattle.stream.specs.declared.Words.{Words}
 use Rattle.stream.specs.Entry.{Entry, opens, bar, closes, area, line, shortcut, passes, bad, decode}
 use Rattle.cells.specs.Cells.{at}
@@ -84,3 +84,7 @@ settledBy areas r =
 
 abbrev pub addedTo : Reading → ℤ → Reading
 addedTo r a = cond (r .waits) (waitingAt (machineOf r) (r .number) (r .sum +ℤ a)) r
+
+-- the machine after an entry of kind 1, 2, 3 or 7
+abbrev pub movedBy : ℕ → Registers ℕ → Registers ℕ
+movedBy kind m = cond (eqb kind 1) (onPush m) (cond (eqb kind 2) (onActivate m) (cond (eqb kind 3) (onPop m) (onItem clip true true (λ s. s) m)))

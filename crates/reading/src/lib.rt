@@ -6,7 +6,7 @@ use geometry::winding;
 use machine::Machine;
 use stream::Words;
 ghost use mathlib.Core.Path.{_≡_};
-ghost use mathlib.Core.Bool.{true, cond};
+ghost use mathlib.Core.Bool.{true, false, cond};
 ghost use Prim.Native.Nat.{_+_, _*_, _≤_, _<_};
 ghost use lib.ListN.{length, getD};
 ghost use lib.IntN.{pos, natAbs};
@@ -18,8 +18,9 @@ ghost use Rattle.geometry.specs.Windings.{edgeBetween, adds};
 ghost use Rattle.paint.specs.Sets.{withArea};
 ghost use Rattle.pruning.specs.Registers.{onItem};
 ghost use Rattle.machine.specs.Registers.{meant};
+ghost use Rattle.cells.specs.Rows.{state, settled, waits};
 ghost use Rattle.stream.specs.Entry.{startRange, signRange};
-ghost use Rattle.reading.specs.Reading.{roleAt, passAt, opaqueAt, machineOf, restingAt, waitingAt, addedTo, settledBy, Named};
+ghost use Rattle.reading.specs.Reading.{roleAt, passAt, opaqueAt, machineOf, restingAt, waitingAt, addedTo, settledBy, movedBy, stateOf, Named};
 
 // What a shortcut adds in row y.
 fn shortcut_adds(w: Words, y: u32) -> i64
@@ -167,4 +168,39 @@ fn added(r: Reading, a: i64) -> Reading
         };
     }
     r
+}
+
+// The machine after a delimiter or "passes".
+fn moved(m: Machine, kind: u32) -> Machine
+    requires { ⌜ m .depth < 4096 ⌝ }
+    ensures { λ r. ⌜ (meant r ≡ movedBy kind (meant m)) × (r .depth ≤ m .depth + 1) ⌝ }
+{
+    match kind {
+        1 => machine::after_open(m),
+        2 => machine::after_bar(m),
+        3 => machine::after_close(m),
+        _ => machine::after_clip(m, true),
+    }
+}
+
+// After a delimiter or "passes": the area before it has all its lines and shortcuts.
+fn after_delimiter(areas: &[u32], r: Reading, kind: u32) -> Reading
+    requires { ⌜ Named (length (now areas)) r ⌝ }
+    requires { ⌜ r .depth < 4096 ⌝ }
+    ensures { λ s. ⌜ (stateOf s ≡ state (movedBy kind (settledBy (now (areas .entry)) r)) settled) × (s .depth ≤ r .depth + 1) × (s .waits ≡ false) × (s .sum ≡ pos 0) ⌝ }
+{
+    let m = settled(areas, r);
+    let n = moved(m, kind);
+    resting(n)
+}
+
+// After an area: it waits with its start number.
+fn after_name(areas: &[u32], r: Reading, w: Words) -> Reading
+    requires { ⌜ Named (length (now areas)) r ⌝ }
+    requires { ⌜ startRange (w .q) ≡ true ⌝ }
+    ensures { λ s. ⌜ (stateOf s ≡ state (settledBy (now (areas .entry)) r) (waits (w .p) (toZ w32 (w .q)))) × (s .depth ≡ r .depth) × (s .number ≡ w .p) × (s .sum ≡ toZ w32 (w .q)) ⌝ }
+{
+    let m = settled(areas, r);
+    let z = start_of(w);
+    waiting(m, w.p, z)
 }
