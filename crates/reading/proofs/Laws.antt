@@ -1,19 +1,25 @@
 -- Signs and start numbers as words; an area on a clip side is not shown. Assumes nothing.
 use mathlib.Core.Path.{_≡_, refl, sym, ap, ap₂, _∙_}
-use mathlib.Core.Bool.{Bool, true, false, _||_}
+use mathlib.Core.Bool.{Bool, true, false, cond, _&&_, _||_, true≢false}
+use mathlib.Core.List.{List}
 use Prim.Native.Nat.{ℕ, suc, _+_, _-_, _≤_, _<_}
 use native.Mathlib.Omega.{arith}
 use lib.Dec.{eqb, ltb, leb}
+use lib.ListN.{length, getD}
 use lib.IntN.{ℤ, pos, negsuc, _+ℤ_, _-ℤ_, natAbs}
 use mir.Syntax.{w32, w64}
 use mir.Val.{SFits, toZ, ofZ}
 use mir.ValLaws.{toZ-pos}
-use borrow.Author.Tests.{ne-eqb, eqb-true, le-ltb, lt-leb, leb-true, ltb-true, ltb-false}
+use borrow.Author.Tests.{ne-eqb, eq-eqb, eqb-true, le-ltb, lt-leb, leb-true, ltb-true, ltb-false}
 use Rattle.laws.proofs.Differences.{pos-pos, sub-pos, sub-neg, add-sub, abs-add, mag-abs}
 use Rattle.laws.proofs.Signed.{fits-as, read-back}
 use Rattle.pruning.specs.Sides.{clip}
 use Rattle.pruning.specs.Registers.{Registers, onItem}
 use Rattle.pruning.proofs.Registers.{clip-shows}
+use Rattle.laws.proofs.Booleans.{clash}
+use Rattle.geometry.specs.Reach.{EndsIn}
+use Rattle.records.specs.Record.{cornerRange}
+use Rattle.stream.specs.Grammar.{cornerMet, lineRange}
 use Rattle.stream.specs.Entry.{startRange, signRange}
 
 -- a sign that is not 1 is −1
@@ -59,3 +65,43 @@ sum-is s a h g = ap₂ _+ℤ_ (small-back s h) (small-back a (omega arith))
 
 pub sum-fits : (s a : ℤ) → natAbs s ≤ 8192 → natAbs a ≤ 1 → SFits w64 (s +ℤ a)
 sum-fits s a h g = record { sfits = mag-abs (s +ℤ a) (omega (arith, abs-add s a)) }
+
+-- ---- corners in range
+
+both : (a b : Bool) → (a && b) ≡ true → (a ≡ true) × (b ≡ true)
+both true b h = (refl, h)
+both false b h = clash h
+
+met-in : (xs ys : List ℕ) (used n : ℕ) → cornerMet xs ys used n ≡ true → (n < used) × (getD xs n 0 ≤ 65536) × (getD ys n 0 ≤ 65536)
+met-in xs ys used n h = go (ltb n used) refl h
+  where
+    go : (b : Bool) → ltb n used ≡ b → cond b (cornerRange (getD xs n 0) (getD ys n 0)) false ≡ true → (n < used) × (getD xs n 0 ≤ 65536) × (getD ys n 0 ≤ 65536)
+    go true e t = let p = both (leb (getD xs n 0) 65536) (leb (getD ys n 0) 65536) t in (ltb-true n used e, leb-true (getD xs n 0) 65536 (p .0), leb-true (getD ys n 0) 65536 (p .1))
+    go false e t = clash t
+
+pub line-below : (xs ys : List ℕ) (used a b : ℕ) → lineRange xs ys used a b ≡ true → (used ≤ length xs) × (used ≤ length ys) → (a < length xs) × (a < length ys) × (b < length xs) × (b < length ys)
+line-below xs ys used a b h l =
+    let p = both (cornerMet xs ys used a) (cornerMet xs ys used b) h in
+    let u = met-in xs ys used a (p .0) in
+    let v = met-in xs ys used b (p .1) in
+    (omega arith, omega arith, omega arith, omega arith)
+
+pub line-ends : (xs ys : List ℕ) (used a b : ℕ) → lineRange xs ys used a b ≡ true → EndsIn (getD xs a 0) (getD ys a 0) (getD xs b 0) (getD ys b 0)
+line-ends xs ys used a b h =
+    let p = both (cornerMet xs ys used a) (cornerMet xs ys used b) h in
+    let u = met-in xs ys used a (p .0) in
+    let v = met-in xs ys used b (p .1) in
+    record { first-x = omega arith; first-y = omega arith; second-x = omega arith; second-y = omega arith }
+
+-- ---- a shortcut adds at most 1 either way
+
+sign-small : (p : ℕ) → signRange p ≡ true → natAbs (toZ w32 p) ≤ 1
+sign-small p h = go (eqb p 1) refl
+  where
+    go : (b : Bool) → eqb p 1 ≡ b → natAbs (toZ w32 p) ≤ 1
+    go true e = let q : p ≡ 1 = eqb-true p 1 e in rw q (omega arith)
+    go false e = let q : p ≡ 4294967295 = other-sign p h (λ t. true≢false (sym (eq-eqb p 1 t) ∙ e)) in rw q (omega arith)
+
+pub shortcut-small : (p : ℕ) (b : Bool) → signRange p ≡ true → natAbs (cond b (toZ w32 p) (pos 0)) ≤ 1
+shortcut-small p true h = sign-small p h
+shortcut-small p false h = omega arith

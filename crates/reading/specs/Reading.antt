@@ -9,12 +9,14 @@ use lib.IntN.{ℤ, pos, _+ℤ_, natAbs}
 use mir.Syntax.{w32}
 use mir.Val.{toZ}
 use Rattle.geometry.specs.FillRules as FillRules
+use Rattle.geometry.specs.Edges.{isRow}
 use Rattle.geometry.specs.Windings as Windings
 use Rattle.paint.specs.Sets.{withArea}
 use Rattle.pruning.specs.Sides.{Kind, clip}
 use Rattle.pruning.specs.Registers.{Registers, onItem, onPush, onActivate, onPop}
 use Rattle.stream.specs.declared.Words.{Words}
-use Rattle.stream.specs.Entry.{Entry, opens, bar, closes, area, line, shortcut, passes, bad, decode}
+use Rattle.stream.specs.Entry.{Entry, opens, bar, closes, area, line, shortcut, passes, bad, decode, signRange}
+use Rattle.stream.specs.Grammar.{lineRange}
 use Rattle.cells.specs.Cells.{at}
 use Rattle.cells.specs.Segments.{drawn, addsAt}
 use Rattle.cells.specs.Segments as Segments
@@ -88,3 +90,11 @@ addedTo r a = cond (r .waits) (waitingAt (machineOf r) (r .number) (r .sum +ℤ 
 -- the machine after an entry of kind 1, 2, 3 or 7
 abbrev pub movedBy : ℕ → Registers ℕ → Registers ℕ
 movedBy kind m = cond (eqb kind 1) (onPush m) (cond (eqb kind 2) (onActivate m) (cond (eqb kind 3) (onPop m) (onItem clip true true (λ s. s) m)))
+
+-- a line or a shortcut: its numbers are in range; what it adds
+abbrev pub segmentRange : List ℕ → List ℕ → ℕ → Words → Bool
+segmentRange xs ys corners w = cond (eqb (w .kind) 5) (lineRange xs ys corners (w .p) (w .q)) (signRange (w .p))
+
+abbrev pub segmentAdds : List ℕ → List ℕ → ℕ → ℕ → Words → ℤ
+segmentAdds xs ys x y w =
+    cond (eqb (w .kind) 5) (Windings.adds (Windings.edgeBetween xs ys (w .p) (w .q)) x y) (cond (isRow (w .q) (w .r) y) (toZ w32 (w .p)) (pos 0))

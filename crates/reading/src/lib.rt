@@ -20,7 +20,7 @@ ghost use Rattle.pruning.specs.Registers.{onItem};
 ghost use Rattle.machine.specs.Registers.{meant};
 ghost use Rattle.cells.specs.Rows.{state, settled, waits};
 ghost use Rattle.stream.specs.Entry.{startRange, signRange};
-ghost use Rattle.reading.specs.Reading.{roleAt, passAt, opaqueAt, machineOf, restingAt, waitingAt, addedTo, settledBy, movedBy, stateOf, Named};
+ghost use Rattle.reading.specs.Reading.{roleAt, passAt, opaqueAt, machineOf, restingAt, waitingAt, addedTo, settledBy, movedBy, segmentRange, segmentAdds, stateOf, Named};
 
 // What a shortcut adds in row y.
 fn shortcut_adds(w: Words, y: u32) -> i64
@@ -203,4 +203,29 @@ fn after_name(areas: &[u32], r: Reading, w: Words) -> Reading
     let m = settled(areas, r);
     let z = start_of(w);
     waiting(m, w.p, z)
+}
+
+// What a line or a shortcut adds at (x, y).
+fn segment_adds(xs: &[u32], ys: &[u32], corners: usize, w: Words, x: u32, y: u32) -> i64
+    requires { ⌜ (corners ≤ length (now xs)) × (corners ≤ length (now ys)) ⌝ }
+    requires { ⌜ segmentRange (now xs) (now ys) corners w ≡ true ⌝ }
+    requires { ⌜ PositionIn x y ⌝ }
+    ensures { λ r. ⌜ (r ≡ segmentAdds (now (xs .entry)) (now (ys .entry)) x y w) × (natAbs r ≤ 1) ⌝ }
+{
+    if w.kind == 5 {
+        return line_adds(xs, ys, w, x, y);
+    }
+    shortcut_adds(w, y)
+}
+
+// After a line or a shortcut.
+fn after_segment(xs: &[u32], ys: &[u32], corners: usize, r: Reading, w: Words, x: u32, y: u32) -> Reading
+    requires { ⌜ (corners ≤ length (now xs)) × (corners ≤ length (now ys)) ⌝ }
+    requires { ⌜ segmentRange (now xs) (now ys) corners w ≡ true ⌝ }
+    requires { ⌜ PositionIn x y ⌝ }
+    requires { ⌜ natAbs (r .sum) ≤ 8192 ⌝ }
+    ensures { λ s. ⌜ s ≡ addedTo r (segmentAdds (now (xs .entry)) (now (ys .entry)) x y w) ⌝ }
+{
+    let a = segment_adds(xs, ys, corners, w, x, y);
+    added(r, a)
 }
