@@ -2,7 +2,7 @@
 use mathlib.Core.Path.{_≡_, refl, sym, ap, ap₂, _∙_}
 use mathlib.Core.Bool.{Bool, true, false, cond, _&&_, _||_, true≢false}
 use mathlib.Core.List.{List}
-use Prim.Native.Nat.{ℕ, suc, _+_, _-_, _≤_, _<_}
+use Prim.Native.Nat.{ℕ, suc, _+_, _*_, _-_, _≤_, _<_}
 use native.Mathlib.Omega.{arith}
 use lib.Dec.{eqb, ltb, leb}
 use lib.ListN.{length, getD}
@@ -10,7 +10,7 @@ use lib.IntN.{ℤ, pos, negsuc, _+ℤ_, _-ℤ_, natAbs}
 use mir.Syntax.{w32, w64}
 use mir.Val.{SFits, toZ, ofZ}
 use mir.ValLaws.{toZ-pos}
-use borrow.Author.Tests.{ne-eqb, eq-eqb, eqb-true, le-ltb, lt-leb, leb-true, ltb-true, ltb-false}
+use borrow.Author.Tests.{ne-eqb, eq-eqb, eqb-true, le-ltb, lt-leb, leb-true, leb-false, ltb-true, ltb-false}
 use Rattle.laws.proofs.Differences.{pos-pos, sub-pos, sub-neg, add-sub, abs-add, mag-abs}
 use Rattle.laws.proofs.Signed.{fits-as, read-back}
 use Rattle.pruning.specs.Sides.{clip}
@@ -18,8 +18,17 @@ use Rattle.pruning.specs.Registers.{Registers, onItem}
 use Rattle.pruning.proofs.Registers.{clip-shows}
 use Rattle.laws.proofs.Booleans.{clash}
 use Rattle.geometry.specs.Reach.{EndsIn}
-use Rattle.records.specs.Record.{cornerRange}
-use Rattle.stream.specs.Grammar.{cornerMet, lineRange}
+use Rattle.geometry.specs.Edges.{isRow}
+use Rattle.geometry.specs.Windings.{adds, edgeBetween}
+use Rattle.geometry.proofs.Windings.{adds-abs}
+use Rattle.stream.specs.declared.Words.{Words}
+use Rattle.reading.specs.Reading.{segmentRange, segmentAdds}
+use Rattle.records.specs.Record.{cornerRange, ranged}
+use Rattle.records.specs.declared.Record.the-variants.{Area}
+use Rattle.records.specs.declared.Decoded.the-variants.{Bad}
+use Rattle.refusals.specs.declared.Refusal.the-variants.{Field}
+use Rattle.drawing.specs.Tables.{fieldsAt, areaRow}
+use Rattle.stream.specs.Grammar.{isGood, cornerMet, lineRange}
 use Rattle.stream.specs.Entry.{startRange, signRange}
 
 -- a sign that is not 1 is −1
@@ -68,7 +77,7 @@ sum-fits s a h g = record { sfits = mag-abs (s +ℤ a) (omega (arith, abs-add s 
 
 -- ---- corners in range
 
-both : (a b : Bool) → (a && b) ≡ true → (a ≡ true) × (b ≡ true)
+pub both : (a b : Bool) → (a && b) ≡ true → (a ≡ true) × (b ≡ true)
 both true b h = (refl, h)
 both false b h = clash h
 
@@ -105,3 +114,31 @@ sign-small p h = go (eqb p 1) refl
 pub shortcut-small : (p : ℕ) (b : Bool) → signRange p ≡ true → natAbs (cond b (toZ w32 p) (pos 0)) ≤ 1
 shortcut-small p true h = sign-small p h
 shortcut-small p false h = omega arith
+
+-- ---- what the range of an area says
+
+pub start-small : (q : ℕ) → startRange q ≡ true → q < 4294967296 → natAbs (toZ w32 q) ≤ 2048
+start-small q h k = go (leb q 2048) refl
+  where
+    go : (b : Bool) → leb q 2048 ≡ b → natAbs (toZ w32 q) ≤ 2048
+    go true e = let l : q ≤ 2048 = leb-true q 2048 e in rw (toZ-pos w32 q (omega arith)) (omega arith)
+    go false e =
+        let l : 2048 < q = leb-false q 2048 e in
+        let m : 4294965248 ≤ q = start-other q h l in
+        rw (upper q (omega arith)) (omega arith)
+
+pub area-below : (areas : List ℕ) (used n : ℕ) → isGood (areaRow areas used n) ≡ true → n < used
+unfolding areaRow
+area-below areas used n h = go (ltb n used) refl h
+  where
+    go : (b : Bool) → ltb n used ≡ b → isGood (cond b (cond (eqb (getD areas (n * 8 + 7) 0) 0) (ranged (Area (fieldsAt areas n))) (Bad Field)) (Bad Field)) ≡ true → n < used
+    go true e t = ltb-true n used e
+    go false e t = clash t
+
+pub segment-small : (xs ys : List ℕ) (corners x y : ℕ) (w : Words) → segmentRange xs ys corners w ≡ true → natAbs (segmentAdds xs ys x y w) ≤ 1
+segment-small xs ys corners x y w h = go (eqb (w .kind) 5) h
+  where
+    go : (b : Bool) → cond b (lineRange xs ys corners (w .p) (w .q)) (signRange (w .p)) ≡ true
+        → natAbs (cond b (adds (edgeBetween xs ys (w .p) (w .q)) x y) (cond (isRow (w .q) (w .r) y) (toZ w32 (w .p)) (pos 0))) ≤ 1
+    go true t = adds-abs (edgeBetween xs ys (w .p) (w .q)) x y
+    go false t = shortcut-small (w .p) (isRow (w .q) (w .r) y) t

@@ -1,2 +1,3 @@
 -- The laws of reading.
 mod Laws
+mod Steps

@@ -2,7 +2,7 @@
 use mathlib.Core.Path.{_≡_}
 use mathlib.Core.Bool.{Bool, true, false, cond}
 use mathlib.Core.List.{List, [], _∷_}
-use Prim.Native.Nat.{ℕ, _+_, _*_, _<_, _≤_}
+use Prim.Native.Nat.{ℕ, _+_, _*_, _<_, _≤_, max}
 use lib.Dec.{eqb}
 use lib.ListN.{getD}
 use lib.IntN.{ℤ, pos, _+ℤ_, natAbs}
@@ -23,7 +23,7 @@ use Rattle.cells.specs.Segments as Segments
 use Rattle.cells.specs.Drawings.{ruleOf, kindOf}
 use Rattle.machine.specs.declared.Machine.{Machine}
 use Rattle.machine.specs.Registers.{machine, meant}
-use Rattle.cells.specs.Rows.{Row, named, segment, bare, Pending, settled, State, state, readRows}
+use Rattle.cells.specs.Rows.{Row, named, segment, bare, Pending, settled, State, state, onRows, readRows}
 use Rattle.cells.specs.Rows as Rows
 use Rattle.reading.specs.declared.Reading.{Reading}
 
@@ -98,3 +98,14 @@ segmentRange xs ys corners w = cond (eqb (w .kind) 5) (lineRange xs ys corners (
 abbrev pub segmentAdds : List ℕ → List ℕ → ℕ → ℕ → Words → ℤ
 segmentAdds xs ys x y w =
     cond (eqb (w .kind) 5) (Windings.adds (Windings.edgeBetween xs ys (w .p) (w .q)) x y) (cond (isRow (w .q) (w .r) y) (toZ w32 (w .p)) (pos 0))
+
+-- one entry read
+abbrev pub oneEntry : (areas xs ys : List ℕ) → (x y : ℕ) → Entry → State → State
+oneEntry areas xs ys x y e st = onRows (roleAt areas) (passAt areas) (opaqueAt areas) (addsAt xs ys (at x y)) (rowFor e []) st
+
+-- how far one entry changes the numbers
+pub record Grown (words : ℕ) (r s : Reading) : Type 0 where
+  pub deeper : s .depth ≤ r .depth + 1
+  pub larger : natAbs (s .sum) ≤ max 2048 (natAbs (r .sum) + 1)
+  pub few : s .waits ≡ true → s .number < 64
+  pub inside : s .waits ≡ true → s .number * 8 + 8 ≤ words

@@ -4,6 +4,7 @@ use geometry::fill;
 use geometry::fill::FillRule;
 use geometry::winding;
 use machine::Machine;
+use stream::Bounds;
 use stream::Words;
 ghost use mathlib.Core.Path.{_≡_};
 ghost use mathlib.Core.Bool.{true, false, cond};
@@ -19,8 +20,9 @@ ghost use Rattle.paint.specs.Sets.{withArea};
 ghost use Rattle.pruning.specs.Registers.{onItem};
 ghost use Rattle.machine.specs.Registers.{meant};
 ghost use Rattle.cells.specs.Rows.{state, settled, waits};
-ghost use Rattle.stream.specs.Entry.{startRange, signRange};
-ghost use Rattle.reading.specs.Reading.{roleAt, passAt, opaqueAt, machineOf, restingAt, waitingAt, addedTo, settledBy, movedBy, segmentRange, segmentAdds, stateOf, Named};
+ghost use Rattle.stream.specs.Entry.{decode, startRange, signRange};
+ghost use Rattle.stream.specs.Grammar.{env, inRange, Ready};
+ghost use Rattle.reading.specs.Reading.{roleAt, passAt, opaqueAt, machineOf, restingAt, waitingAt, addedTo, settledBy, movedBy, segmentRange, segmentAdds, stateOf, oneEntry, Named, Grown};
 
 // What a shortcut adds in row y.
 fn shortcut_adds(w: Words, y: u32) -> i64
@@ -228,4 +230,26 @@ fn after_segment(xs: &[u32], ys: &[u32], corners: usize, r: Reading, w: Words, x
 {
     let a = segment_adds(xs, ys, corners, w, x, y);
     added(r, a)
+}
+
+// One entry of a stream that passes the check.
+fn read_one(areas: &[u32], xs: &[u32], ys: &[u32], b: Bounds, r: Reading, w: Words, x: u32, y: u32) -> Reading
+    requires { ⌜ Ready (now areas) (now xs) (now ys) b ⌝ }
+    requires { ⌜ b .areas ≤ 64 ⌝ }
+    requires { ⌜ inRange (env (now areas) (now xs) (now ys) b) (decode w) ≡ true ⌝ }
+    requires { ⌜ Named (length (now areas)) r ⌝ }
+    requires { ⌜ r .depth < 4096 ⌝ }
+    requires { ⌜ PositionIn x y ⌝ }
+    ensures { λ s. ⌜ (stateOf s ≡ oneEntry (now (areas .entry)) (now (xs .entry)) (now (ys .entry)) x y (decode w) (stateOf r)) × Grown (length (now (areas .entry))) r s ⌝ }
+{
+    if w.kind == 4 {
+        return after_name(areas, r, w);
+    }
+    if w.kind == 5 {
+        return after_segment(xs, ys, b.corners, r, w, x, y);
+    }
+    if w.kind == 6 {
+        return after_segment(xs, ys, b.corners, r, w, x, y);
+    }
+    after_delimiter(areas, r, w.kind)
 }
