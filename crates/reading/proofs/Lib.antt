@@ -1,3 +1,4 @@
 -- The laws of reading.
 mod Laws
 mod Steps
+mod Loop

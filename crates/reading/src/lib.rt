@@ -21,8 +21,10 @@ ghost use Rattle.pruning.specs.Registers.{onItem};
 ghost use Rattle.machine.specs.Registers.{meant};
 ghost use Rattle.cells.specs.Rows.{state, settled, waits};
 ghost use Rattle.stream.specs.Entry.{decode, startRange, signRange};
+ghost use Rattle.stream.specs.Table.{wordsFrom};
 ghost use Rattle.stream.specs.Grammar.{env, inRange, Ready};
-ghost use Rattle.reading.specs.Reading.{roleAt, passAt, opaqueAt, machineOf, restingAt, waitingAt, addedTo, settledBy, movedBy, segmentRange, segmentAdds, stateOf, oneEntry, Named, Grown};
+ghost use Rattle.stream.proofs.Passed.{Passed};
+ghost use Rattle.reading.specs.Reading.{roleAt, passAt, opaqueAt, machineOf, restingAt, waitingAt, addedTo, settledBy, movedBy, segmentRange, segmentAdds, stateOf, oneEntry, setAt, Named, Grown};
 
 // What a shortcut adds in row y.
 fn shortcut_adds(w: Words, y: u32) -> i64
@@ -252,4 +254,33 @@ fn read_one(areas: &[u32], xs: &[u32], ys: &[u32], b: Bounds, r: Reading, w: Wor
         return after_segment(xs, ys, b.corners, r, w, x, y);
     }
     after_delimiter(areas, r, w.kind)
+}
+
+// The shown set at (x, y) of the stream of count entries from first on. It passes the check, as `stream::check_stream` tells.
+pub fn read_stream(
+    entries: &[u32],
+    first: usize,
+    count: usize,
+    areas: &[u32],
+    xs: &[u32],
+    ys: &[u32],
+    b: Bounds,
+    x: u32,
+    y: u32,
+) -> u64
+    requires { ⌜ Passed (now entries) first count (env (now areas) (now xs) (now ys) b) ⌝ }
+    requires { ⌜ b .areas ≤ 64 ⌝ }
+    requires { ⌜ PositionIn x y ⌝ }
+    ensures { λ r. ⌜ r ≡ setAt (now (areas .entry)) (now (xs .entry)) (now (ys .entry)) x y (wordsFrom (now (entries .entry)) first count) ⌝ }
+{
+    let end = first + count;
+    let mut r = resting(machine::begun());
+    let mut i = first;
+    while i < end {
+        let w = stream::read_entry(entries, i);
+        r = read_one(areas, xs, ys, b, r, w, x, y);
+        i += 1;
+    }
+    let m = settled(areas, r);
+    m.set
 }
