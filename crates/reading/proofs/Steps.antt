@@ -1,12 +1,11 @@
 -- One entry, read by the code, is one row read by the machine; and how far it changes the numbers. Assumes nothing.
 use mathlib.Core.Path.{_≡_, refl, sym, ap, _∙_}
-use mathlib.Core.Bool.{Bool, true, false, cond, _&&_, true≢false}
+use mathlib.Core.Bool.{Bool, true, false, cond, _&&_}
 use mathlib.Core.List.{List}
-use Prim.Native.Nat.{ℕ, _+_, _*_, _≤_, _<_, max}
+use Prim.Native.Nat.{ℕ, _+_, _*_, _≤_, _<_}
 use native.Mathlib.Omega.{arith}
 use lib.Dec.{eqb, ltb, leb}
-use lib.ListN.{length}
-use lib.IntN.{ℤ, pos, _+ℤ_, natAbs}
+use lib.IntN.{ℤ, pos, natAbs}
 use mir.Syntax.{w32}
 use mir.Val.{toZ}
 use borrow.Author.Tests.{ne-eqb}
@@ -21,7 +20,7 @@ use Rattle.cells.specs.Cells.{at}
 use Rattle.cells.specs.Segments.{Segment, addsAt}
 use Rattle.cells.specs.Rows.{State, state, settled, waits, settle, addTo}
 use Rattle.stream.specs.declared.Words.{Words}
-use Rattle.stream.specs.Entry.{Entry, opens, bar, closes, area, line, shortcut, passes, bad, decode, startRange, signRange}
+use Rattle.stream.specs.Entry.{opens, bar, closes, line, shortcut, passes, bad, decode, startRange, signRange}
 use Rattle.stream.specs.Grammar.{Env, isGood, areaMet, inRange}
 use Rattle.reading.specs.declared.Reading.{Reading}
 use Rattle.reading.specs.Reading.{roleAt, passAt, opaqueAt, stateOf, machineOf, settledBy, addedTo, movedBy, segmentAdds, segmentRange, oneEntry, Grown}

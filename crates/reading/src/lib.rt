@@ -22,8 +22,7 @@ ghost use Rattle.machine.specs.Registers.{meant};
 ghost use Rattle.cells.specs.Rows.{state, settled, waits};
 ghost use Rattle.stream.specs.Entry.{decode, startRange, signRange};
 ghost use Rattle.stream.specs.Table.{wordsFrom};
-ghost use Rattle.stream.specs.Grammar.{env, inRange, Ready};
-ghost use Rattle.stream.proofs.Passed.{Passed};
+ghost use Rattle.stream.specs.Grammar.{env, inRange, Ready, Passed};
 ghost use Rattle.reading.specs.Reading.{roleAt, passAt, opaqueAt, machineOf, restingAt, waitingAt, addedTo, settledBy, movedBy, segmentRange, segmentAdds, stateOf, oneEntry, setAt, Named, Grown};
 
 // What a shortcut adds in row y.
@@ -223,7 +222,15 @@ fn segment_adds(xs: &[u32], ys: &[u32], corners: usize, w: Words, x: u32, y: u32
 }
 
 // After a line or a shortcut.
-fn after_segment(xs: &[u32], ys: &[u32], corners: usize, r: Reading, w: Words, x: u32, y: u32) -> Reading
+fn after_segment(
+    xs: &[u32],
+    ys: &[u32],
+    corners: usize,
+    r: Reading,
+    w: Words,
+    x: u32,
+    y: u32,
+) -> Reading
     requires { ⌜ (corners ≤ length (now xs)) × (corners ≤ length (now ys)) ⌝ }
     requires { ⌜ segmentRange (now xs) (now ys) corners w ≡ true ⌝ }
     requires { ⌜ PositionIn x y ⌝ }
@@ -235,7 +242,16 @@ fn after_segment(xs: &[u32], ys: &[u32], corners: usize, r: Reading, w: Words, x
 }
 
 // One entry of a stream that passes the check.
-fn read_one(areas: &[u32], xs: &[u32], ys: &[u32], b: Bounds, r: Reading, w: Words, x: u32, y: u32) -> Reading
+fn read_one(
+    areas: &[u32],
+    xs: &[u32],
+    ys: &[u32],
+    b: Bounds,
+    r: Reading,
+    w: Words,
+    x: u32,
+    y: u32,
+) -> Reading
     requires { ⌜ Ready (now areas) (now xs) (now ys) b ⌝ }
     requires { ⌜ b .areas ≤ 64 ⌝ }
     requires { ⌜ inRange (env (now areas) (now xs) (now ys) b) (decode w) ≡ true ⌝ }
@@ -256,7 +272,7 @@ fn read_one(areas: &[u32], xs: &[u32], ys: &[u32], b: Bounds, r: Reading, w: Wor
     after_delimiter(areas, r, w.kind)
 }
 
-// The shown set at (x, y) of the stream of count entries from first on. It passes the check, as `stream::check_stream` tells.
+// The shown set at (x, y) of the stream of count entries from first on. It has passed `stream::check_stream`.
 pub fn read_stream(
     entries: &[u32],
     first: usize,
@@ -269,7 +285,6 @@ pub fn read_stream(
     y: u32,
 ) -> u64
     requires { ⌜ Passed (now entries) first count (env (now areas) (now xs) (now ys) b) ⌝ }
-    requires { ⌜ b .areas ≤ 64 ⌝ }
     requires { ⌜ PositionIn x y ⌝ }
     ensures { λ r. ⌜ r ≡ setAt (now (areas .entry)) (now (xs .entry)) (now (ys .entry)) x y (wordsFrom (now (entries .entry)) first count) ⌝ }
 {

@@ -55,6 +55,9 @@ module _ (n used a x y : ℕ) (b : Bounds) (h : usedRange n used a x y b ≡ tru
   used-areas : b .areas * 8 ≤ a
   used-areas = omega (arith, leb-true (b .areas) (a / 8) (and-left (leb (b .areas) (a / 8)) (leb (b .areas) 64) (and-left ofAreas ofCorners (and-right ofEntries (ofAreas && ofCorners) parts))))
 
+  pub used-few : b .areas ≤ 64
+  used-few = leb-true (b .areas) 64 (and-right (leb (b .areas) (a / 8)) (leb (b .areas) 64) (and-left ofAreas ofCorners (and-right ofEntries (ofAreas && ofCorners) parts)))
+
   used-xs : b .corners ≤ x
   used-xs = leb-true (b .corners) x (and-left (leb (b .corners) x) (leb (b .corners) y && leb (b .corners) 2048) corners)
 

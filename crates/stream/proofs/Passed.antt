@@ -1,5 +1,5 @@
 -- What holds of a stream that passes: where it lies, and that each of its entries is in range. Assumes nothing.
-use Prim.Native.Nat.{ℕ, zero, suc, _+_, _*_, _-_, _≤_, _<_}
+use Prim.Native.Nat.{ℕ, zero, suc, _+_, _-_, _<_}
 use mathlib.Core.Path.{_≡_, refl, sym, subst, _∙_}
 use mathlib.Core.Bool.{Bool, true, false, cond}
 use mathlib.Core.List.{List, [], _∷_}
@@ -12,8 +12,8 @@ use Rattle.laws.proofs.Booleans.{clash}
 use Rattle.stream.specs.declared.Words.{Words}
 use Rattle.stream.specs.Entry.{decode}
 use Rattle.stream.specs.Table.{wordsAt, wordsFrom}
-use Rattle.stream.specs.Grammar.{Env, inRange, Course, at, off, met, course, begin, isWhole, accepts, usedRange, runRange, Ready, checkStream}
-use Rattle.stream.proofs.Laws.{used-entries, used-ready, run-fits}
+use Rattle.stream.specs.Grammar.{Env, inRange, Course, at, off, met, course, begin, isWhole, accepts, usedRange, runRange, Passed, checkStream}
+use Rattle.stream.proofs.Laws.{used-entries, used-few, used-ready, run-fits}
 
 test : (a b : Bool) → cond a b false ≡ true → a ≡ true
 test true b h = refl
@@ -24,16 +24,11 @@ then true b h = h
 then false b h = clash h
 
 -- ---- where it lies
-pub record Passed (t : List ℕ) (first count : ℕ) (v : Env) : Type 0 where
-  pub within : (first + count) * 4 ≤ length t
-  pub few : count ≤ 4096
-  pub ready : Ready (v .areas) (v .xs) (v .ys) (v .used)
-  pub grammar : accepts v (wordsFrom t first count) ≡ true
-
 pub passed : (t : List ℕ) (first count used : ℕ) (v : Env) → checkStream t first count used v ≡ true → Passed t first count v
 passed t first count used v h =
     record {
       within = run-fits first count used (length t) (used-entries (length t) used (length (v .areas)) (length (v .xs)) (length (v .ys)) (v .used) inUse) (leb-true count used (test countOk rest run)) (leb-true first (used - count) (test firstOk fewOk firstAndFew));
+      few-areas = used-few (length t) used (length (v .areas)) (length (v .xs)) (length (v .ys)) (v .used) inUse;
       few = leb-true count 4096 (then firstOk fewOk firstAndFew);
       ready = used-ready (length t) used (v .areas) (v .xs) (v .ys) (v .used) inUse;
       grammar = then (runRange first count used) good runAndGood;

@@ -1,5 +1,6 @@
 -- Document 01, "From the state", 12: when the entries of a stream are in range and in the grammar. Assumes nothing.
 use Prim.Native.Nat.{ℕ, _+_, _*_, _-_, _/_, _≤_}
+use mathlib.Core.Path.{_≡_}
 use mathlib.Core.Bool.{Bool, true, false, cond, not, _&&_}
 use mathlib.Core.List.{List, [], _∷_}
 use lib.ListN.{length, getD}
@@ -170,3 +171,11 @@ runRange first count used = cond (leb count used) (cond (leb first (used - count
 abbrev pub checkStream : List ℕ → ℕ → ℕ → ℕ → Env → Bool
 checkStream t first count used v =
     cond (usedRange (length t) used (length (v .areas)) (length (v .xs)) (length (v .ys)) (v .used)) (cond (runRange first count used) (accepts v (wordsFrom t first count)) false) false
+
+-- what a reader of the stream may rely on
+pub record Passed (t : List ℕ) (first count : ℕ) (v : Env) : Type 0 where
+  pub within : (first + count) * 4 ≤ length t
+  pub few : count ≤ 4096
+  pub few-areas : v .used .areas ≤ 64
+  pub ready : Ready (v .areas) (v .xs) (v .ys) (v .used)
+  pub grammar : accepts v (wordsFrom t first count) ≡ true

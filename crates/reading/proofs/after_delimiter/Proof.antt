@@ -1,3 +1,4 @@
+-- `reading::after_delimiter` meets its contract. Assumes nothing.
 use Rattle.reading.specs.Reading.{movedBy}
 use Rattle.cells.specs.Rows.{state, settled}
 use mathlib.Core.Path.{refl, ap, _∙_}
@@ -5,11 +6,6 @@ use native.Mathlib.Omega.{arith}
 use borrow.Author.Needs.{needs}
 use Rattle.reading.proofs.after_delimiter.Statement.{statement}
 use Rattle.reading.proofs.after_delimiter.Tie as tie
-use Rattle.reading.proofs.after_delimiter.Reads as reads
-use Rattle.reading.proofs.after_delimiter.Lts as lts
-use Rattle.reading.proofs.moved.Reads as moved-reads
-use Rattle.reading.proofs.resting.Reads as resting-reads
-use Rattle.reading.proofs.settled.Reads as settled-reads
 
 settled-requires : tie.Need-settled-requires
 settled-requires c κs = search needs

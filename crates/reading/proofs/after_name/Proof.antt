@@ -1,14 +1,10 @@
+-- `reading::after_name` meets its contract. Assumes nothing.
 use Rattle.cells.specs.Rows.{state, waits}
 use Rattle.laws.proofs.Signed.{read-back}
 use mathlib.Core.Path.{refl, ap₂, _∙_}
 use borrow.Author.Needs.{needs}
 use Rattle.reading.proofs.after_name.Statement.{statement}
 use Rattle.reading.proofs.after_name.Tie as tie
-use Rattle.reading.proofs.after_name.Reads as reads
-use Rattle.reading.proofs.after_name.Lts as lts
-use Rattle.reading.proofs.settled.Reads as settled-reads
-use Rattle.reading.proofs.start_of.Reads as start-of-reads
-use Rattle.reading.proofs.waiting.Reads as waiting-reads
 
 settled-requires : tie.Need-settled-requires
 settled-requires c κs = search needs

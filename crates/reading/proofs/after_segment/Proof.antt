@@ -1,13 +1,10 @@
+-- `reading::after_segment` meets its contract. Assumes nothing.
 use Rattle.reading.specs.Reading.{addedTo}
 use Rattle.laws.proofs.Signed.{read-back}
 use mathlib.Core.Path.{ap, _∙_}
 use borrow.Author.Needs.{needs}
 use Rattle.reading.proofs.after_segment.Statement.{statement}
 use Rattle.reading.proofs.after_segment.Tie as tie
-use Rattle.reading.proofs.after_segment.Reads as reads
-use Rattle.reading.proofs.after_segment.Lts as lts
-use Rattle.reading.proofs.added.Reads as added-reads
-use Rattle.reading.proofs.segment_adds.Reads as segment-adds-reads
 
 segment-adds-requires : tie.Need-segment-adds-requires
 segment-adds-requires c κs = search needs

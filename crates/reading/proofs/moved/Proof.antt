@@ -1,14 +1,9 @@
+-- `reading::moved` meets its contract. Assumes nothing.
 use Rattle.laws.proofs.Tests.{tests}
 use native.Mathlib.Omega.{arith}
 use borrow.Author.Needs.{needs}
 use Rattle.reading.proofs.moved.Statement.{statement}
 use Rattle.reading.proofs.moved.Tie as tie
-use Rattle.reading.proofs.moved.Reads as reads
-use Rattle.reading.proofs.moved.Lts as lts
-use Rattle.machine.proofs.after_bar.Reads as after-bar-reads
-use Rattle.machine.proofs.after_clip.Reads as after-clip-reads
-use Rattle.machine.proofs.after_close.Reads as after-close-reads
-use Rattle.machine.proofs.after_open.Reads as after-open-reads
 
 after-open-requires : tie.Need-after-open-requires
 after-open-requires c κs = search needs

@@ -1,3 +1,4 @@
+-- `reading::read_one` meets its contract. Assumes nothing.
 use Rattle.reading.proofs.Steps.{step-name, step-line, step-shortcut, step-delimiter, grown-name, grown-added, grown-rest, in-name, in-line, in-shortcut}
 use Rattle.reading.proofs.Laws.{start-small, area-below, segment-small}
 use Rattle.reading.specs.Reading.{segmentAdds}
@@ -8,11 +9,6 @@ use mathlib.Core.Path.{_∙_}
 use borrow.Author.Needs.{needs}
 use Rattle.reading.proofs.read_one.Statement.{statement}
 use Rattle.reading.proofs.read_one.Tie as tie
-use Rattle.reading.proofs.read_one.Reads as reads
-use Rattle.reading.proofs.read_one.Lts as lts
-use Rattle.reading.proofs.after_delimiter.Reads as after-delimiter-reads
-use Rattle.reading.proofs.after_name.Reads as after-name-reads
-use Rattle.reading.proofs.after_segment.Reads as after-segment-reads
 
 after-name-requires : tie.Need-after-name-requires
 after-name-requires c κs = let a = c .before .before .before .before .before .args in let p = c .before .before .before .before .before .pre in let v = env (now (a .areas)) (now (a .xs)) (now (a .ys)) (a .b) in (p .1 .1 .1 .0, in-name v (a .w) (c .if1 .taken) (p .1 .1 .0) .1)

@@ -35,7 +35,7 @@ read-entry-requires : tie.Need-read-entry-requires Inv-loop μ-loop
 read-entry-requires c κs = let a = c .before .before .before .before .before .before .before .before .args in let p = c .before .before .before .before .before .before .before .before .pre in omega (arith, p .0 .within, c .loop-test .taken)
 
 read-one-requires : tie.Need-read-one-requires Inv-loop μ-loop
-read-one-requires c κs = let a = c .before .before .before .before .before .before .before .before .before .args in let p = c .before .before .before .before .before .before .before .before .before .pre in let l = c .before .before .loop in let i = l .i in let k = c .before .loop-test .taken in rw (c .read-entry .ensures) (p .0 .ready, (p .1 .0, (entry-in (env (now (a .areas)) (now (a .xs)) (now (a .ys)) (a .b)) (now (a .entries)) (a .first) (a .count) i (p .0 .grammar) (l .inv .0) k, (sound-named (length (now (a .areas))) (i - a .first) (l .r) (omega (arith, p .0 .few, k)) (l .inv .2), (omega (arith, p .0 .few, k, l .inv .2 .deep), p .1 .1)))))
+read-one-requires c κs = let a = c .before .before .before .before .before .before .before .before .before .args in let p = c .before .before .before .before .before .before .before .before .before .pre in let l = c .before .before .loop in let i = l .i in let k = c .before .loop-test .taken in rw (c .read-entry .ensures) (p .0 .ready, (p .0 .few-areas, (entry-in (env (now (a .areas)) (now (a .xs)) (now (a .ys)) (a .b)) (now (a .entries)) (a .first) (a .count) i (p .0 .grammar) (l .inv .0) k, (sound-named (length (now (a .areas))) (i - a .first) (l .r) (omega (arith, p .0 .few, k)) (l .inv .2), (omega (arith, p .0 .few, k, l .inv .2 .deep), p .1)))))
 
 add-i : tie.Need-add-i Inv-loop μ-loop
 add-i c = record { fits = omega (arith, add-end (c .before .before .before .before .before .before) .fits, c .before .before .loop-test .taken) }

@@ -1,3 +1,4 @@
+-- `reading::segment_adds` meets its contract. Assumes nothing.
 use Rattle.reading.proofs.Laws.{line-below, line-ends, shortcut-small}
 use Rattle.geometry.proofs.Windings.{adds-abs}
 use Rattle.geometry.specs.Windings.{edgeBetween}
@@ -8,10 +9,6 @@ use denote.Ref.{now}
 use mathlib.Core.Path.{_∙_}
 use Rattle.reading.proofs.segment_adds.Statement.{statement}
 use Rattle.reading.proofs.segment_adds.Tie as tie
-use Rattle.reading.proofs.segment_adds.Reads as reads
-use Rattle.reading.proofs.segment_adds.Lts as lts
-use Rattle.reading.proofs.line_adds.Reads as line-adds-reads
-use Rattle.reading.proofs.shortcut_adds.Reads as shortcut-adds-reads
 
 line-adds-requires : tie.Need-line-adds-requires
 line-adds-requires c κs = let a = c .before .before .before .before .args in let p = c .before .before .before .before .pre in let h = rw (c .if1 .taken) at (p .1 .0) in (line-below (now (a .xs)) (now (a .ys)) (a .corners) (a .w .p) (a .w .q) h (p .0), (line-ends (now (a .xs)) (now (a .ys)) (a .corners) (a .w .p) (a .w .q) h, p .1 .1))

@@ -1,26 +1,19 @@
+-- `reading::settled` meets its contract. Assumes nothing.
 use Rattle.reading.proofs.Laws.{small-back}
 use mathlib.Core.Path.{refl}
 use borrow.Author.Needs.{needs}
 use Rattle.reading.proofs.settled.Statement.{statement}
 use Rattle.reading.proofs.settled.Tie as tie
-use Rattle.reading.proofs.settled.Reads as reads
-use Rattle.reading.proofs.settled.Lts as lts
-use Rattle.reading.proofs.after_area.Reads as after-area-reads
-use Rattle.reading.proofs.machine_of.Reads as machine-of-reads
 
--- src/lib.rt:146:9
 machine-of-requires : tie.Need-machine-of-requires
 machine-of-requires c κs = search needs
 
--- src/lib.rt:148:9
 after-area-requires : tie.Need-after-area-requires
 after-area-requires c κs = (c .before .before .before .before .pre .few (c .before .if1 .taken), c .before .before .before .before .pre .inside (c .before .if1 .taken))
 
--- src/lib.rt:148:9
 returns : tie.Need-returns
 returns c = rw (c .before .before .if1 .taken) (rw (c .before .before .before .machine-of .ensures, small-back (c .before .before .before .before .before .args .r .sum) (c .before .before .before .before .before .pre .small)) at (c .after-area .ensures))
 
--- src/lib.rt:142:1
 returns-2 : tie.Need-returns-2
 returns-2 c = rw (c .if1 .left, c .before .machine-of .ensures) (refl, refl)
 
