@@ -2,3 +2,4 @@
 mod Laws
 mod Steps
 mod Loop
+pub mod Words
