@@ -3,5 +3,6 @@ pub mod Cells
 pub mod Segments
 pub mod Each
 pub mod Streams
+pub mod Bounds
 pub mod Rows
 mod Examples

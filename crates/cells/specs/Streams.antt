@@ -2,9 +2,9 @@
 use mathlib.Core.Path.{_≡_, refl}
 use mathlib.Core.Bool.{Bool, true, cond}
 use mathlib.Core.List.{List, [], _∷_, map}
-use Prim.Native.Nat.{ℕ}
-use lib.ListN.{getD}
-use lib.IntN.{ℤ, pos, _+ℤ_}
+use Prim.Native.Nat.{ℕ, _+_, _≤_}
+use lib.ListN.{length, getD}
+use lib.IntN.{ℤ, pos, _+ℤ_, natAbs}
 use Rattle.geometry.specs.Windings.{linesOf}
 use Rattle.pruning.specs.Sides.{Kind, paint, clip, Side, end, leaf, group, Entry, item, push, activate, pop, flat, mapSide}
 use Rattle.pruning.specs.Items.{Class, fails, passes, other, Items}
@@ -12,7 +12,7 @@ use Rattle.pruning.specs.Meaning.{shown}
 use Rattle.pruning.specs.Machine.{scan, processing}
 use Rattle.pruning.specs.Order.{pruned}
 use Rattle.cells.specs.Cells.{Position, Cell, Holds, Quarter, child}
-use Rattle.cells.specs.Segments.{Segment, drawn, sumAt, keptIn, startIn}
+use Rattle.cells.specs.Segments.{Segment, drawn, signOf, sumAt, keptIn, startIn}
 use Rattle.cells.specs.Drawings.{Drawing, winding, passesBy, isOpaque, shownAt}
 
 -- "A stream holds one entry for each delimiter, each area (with its start number), line and shortcut"; "a bare entry "passes", with no area
@@ -40,6 +40,11 @@ abbrev pub On : {A : Type 0} → (Kind → A → Type 0) → Kind → Side A →
 On Q k end = Unit {0}
 On Q k (leaf a t) = Q k a × On Q k t
 On Q k (group l r t) = On Q clip l × On Q k r × On Q k t
+
+-- the signs of lines and shortcuts are at most 1 either way
+abbrev pub SignsIn : (xs ys : List ℕ) → List Segment → Type 0
+SignsIn xs ys [] = Unit {0}
+SignsIn xs ys (g ∷ gs) = (natAbs (signOf xs ys g) ≤ 1) × SignsIn xs ys gs
 
 module _ (D : Drawing) where
   -- "F0, C0, F1, C1 are areas with no line or shortcut, whose start number fails or passes; F1 also has alpha 255."
@@ -104,3 +109,8 @@ module _ (D : Drawing) where
     pub stream : y ≡ made c source
     pub windings : Each (Winds c) (flat paint y)
     pub reading : (p : Position) → Holds c p → readIn p y ≡ shownAt D p
+
+  -- "start −2,048 to 2,048; sign 1 or −1": with m for 2,048
+  abbrev pub Small : (m : ℕ) → Kind → Item → Type 0
+  Small m k always = Unit {0}
+  Small m k (area n z gs) = (natAbs z + length gs ≤ m) × SignsIn (D .xs) (D .ys) gs
