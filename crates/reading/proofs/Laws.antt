@@ -6,11 +6,11 @@ use Prim.Native.Nat.{ℕ, suc, _+_, _*_, _-_, _≤_, _<_}
 use native.Mathlib.Omega.{arith}
 use lib.Dec.{eqb, ltb, leb}
 use lib.ListN.{length, getD}
-use lib.IntN.{ℤ, pos, negsuc, _+ℤ_, _-ℤ_, natAbs}
+use lib.IntN.{ℤ, pos, _+ℤ_, _-ℤ_, natAbs}
 use mir.Syntax.{w32, w64}
 use mir.Val.{SFits, toZ, ofZ}
 use mir.ValLaws.{toZ-pos}
-use borrow.Author.Tests.{ne-eqb, eq-eqb, eqb-true, le-ltb, lt-leb, leb-true, leb-false, ltb-true, ltb-false}
+use borrow.Author.Tests.{ne-eqb, eq-eqb, eqb-true, lt-leb, leb-true, leb-false, ltb-true, ltb-false}
 use Rattle.laws.proofs.Differences.{pos-pos, sub-pos, sub-neg, add-sub, abs-add, mag-abs}
 use Rattle.laws.proofs.Signed.{fits-as, read-back}
 use Rattle.pruning.specs.Sides.{clip}
@@ -22,13 +22,14 @@ use Rattle.geometry.specs.Edges.{isRow}
 use Rattle.geometry.specs.Windings.{adds, edgeBetween}
 use Rattle.geometry.proofs.Windings.{adds-abs}
 use Rattle.stream.specs.declared.Words.{Words}
-use Rattle.reading.specs.Reading.{segmentRange, segmentAdds}
+use Rattle.reading.specs.Numbers.{segmentRange, segmentAdds}
 use Rattle.records.specs.Record.{cornerRange, ranged}
 use Rattle.records.specs.declared.Record.the-variants.{Area}
 use Rattle.records.specs.declared.Decoded.the-variants.{Bad}
 use Rattle.refusals.specs.declared.Refusal.the-variants.{Field}
 use Rattle.drawing.specs.Tables.{fieldsAt, areaRow}
 use Rattle.stream.specs.Grammar.{isGood, cornerMet, lineRange}
+use Rattle.stream.proofs.Signed.{upper}
 use Rattle.stream.specs.Entry.{startRange, signRange}
 
 -- a sign that is not 1 is −1
@@ -42,9 +43,6 @@ clip-plain p q f r = clip-shows p q true f (λ s. s) r
 
 pub start-up : (q : ℕ) → q ≤ 2048 → pos q -ℤ pos 0 ≡ toZ w32 q
 start-up q h = pos-pos q 0 ∙ (sub-pos q 0 q (omega arith) ∙ sym (toZ-pos w32 q (omega arith)))
-
-upper : (q : ℕ) → 2147483648 ≤ q → toZ w32 q ≡ negsuc (4294967296 - suc q)
-upper q h = rw (le-ltb q 2147483648 h)
 
 -- a start number above 2,048 is one below 0
 start-other : (q : ℕ) → startRange q ≡ true → 2048 < q → 4294965248 ≤ q

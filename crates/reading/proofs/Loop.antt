@@ -20,7 +20,8 @@ use Rattle.stream.specs.Grammar.{Env, inRange, accepts}
 use Rattle.stream.proofs.Table.{words-step, words-none}
 use Rattle.stream.proofs.Passed.{in-range}
 use Rattle.reading.specs.declared.Reading.{Reading}
-use Rattle.reading.specs.Reading.{roleAt, passAt, opaqueAt, rowFor, rowsIn, stateOf, restingAt, settledBy, oneEntry, setAt, Named, Grown}
+use Rattle.reading.specs.Reading.{roleAt, passAt, opaqueAt, rowFor, rowsIn, oneEntry, setAt}
+use Rattle.reading.specs.Numbers.{stateOf, restingAt, settledBy, Named, Grown}
 use Rattle.reading.proofs.Steps.{settle-is}
 
 -- after k entries

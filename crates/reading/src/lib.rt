@@ -23,7 +23,8 @@ ghost use Rattle.cells.specs.Rows.{state, settled, waits};
 ghost use Rattle.stream.specs.Entry.{decode, startRange, signRange};
 ghost use Rattle.stream.specs.Table.{wordsFrom};
 ghost use Rattle.stream.specs.Grammar.{env, inRange, Ready, Passed};
-ghost use Rattle.reading.specs.Reading.{roleAt, passAt, opaqueAt, machineOf, restingAt, waitingAt, addedTo, settledBy, movedBy, segmentRange, segmentAdds, stateOf, oneEntry, setAt, Named, Grown};
+ghost use Rattle.reading.specs.Reading.{roleAt, passAt, opaqueAt, oneEntry, setAt};
+ghost use Rattle.reading.specs.Numbers.{machineOf, restingAt, waitingAt, addedTo, settledBy, movedBy, segmentRange, segmentAdds, stateOf, Named, Grown};
 
 // What a shortcut adds in row y.
 fn shortcut_adds(w: Words, y: u32) -> i64

@@ -14,7 +14,7 @@ use borrow.Author.Tests.{le-ltb, le-leb, lt-leb, eq-eqb, ne-eqb, ltb-true, ltb-f
 use Rattle.stream.specs.Entry.{startRange, signRange}
 
 -- a word in its upper half stands for the number that is 2^32 less
-upper : (w : ℕ) → 2147483648 ≤ w → toZ w32 w ≡ negsuc (4294967296 - suc w)
+pub upper : (w : ℕ) → 2147483648 ≤ w → toZ w32 w ≡ negsuc (4294967296 - suc w)
 upper w h = rw (le-ltb w 2147483648 h)
 
 or-false : (b : Bool) → (b || false) ≡ b

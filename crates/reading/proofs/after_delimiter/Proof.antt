@@ -1,5 +1,5 @@
 -- `reading::after_delimiter` meets its contract. Assumes nothing.
-use Rattle.reading.specs.Reading.{movedBy}
+use Rattle.reading.specs.Numbers.{movedBy}
 use Rattle.cells.specs.Rows.{state, settled}
 use mathlib.Core.Path.{refl, ap, _∙_}
 use native.Mathlib.Omega.{arith}

@@ -1,5 +1,5 @@
 -- `reading::after_segment` meets its contract. Assumes nothing.
-use Rattle.reading.specs.Reading.{addedTo}
+use Rattle.reading.specs.Numbers.{addedTo}
 use Rattle.laws.proofs.Signed.{read-back}
 use mathlib.Core.Path.{ap, _∙_}
 use borrow.Author.Needs.{needs}

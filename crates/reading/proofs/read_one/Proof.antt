@@ -1,7 +1,7 @@
 -- `reading::read_one` meets its contract. Assumes nothing.
 use Rattle.reading.proofs.Steps.{step-name, step-line, step-shortcut, step-delimiter, grown-name, grown-added, grown-rest, in-name, in-line, in-shortcut}
 use Rattle.reading.proofs.Laws.{start-small, area-below, segment-small}
-use Rattle.reading.specs.Reading.{segmentAdds}
+use Rattle.reading.specs.Numbers.{segmentAdds}
 use Rattle.stream.specs.Grammar.{env}
 use lib.ListN.{length}
 use denote.Ref.{now}

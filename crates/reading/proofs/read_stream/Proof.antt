@@ -7,7 +7,8 @@ use denote.Ref.{now}
 use borrow.Author.Needs.{needs}
 use Rattle.stream.specs.Table.{wordsFrom}
 use Rattle.stream.specs.Grammar.{env}
-use Rattle.reading.specs.Reading.{stateOf, setAt}
+use Rattle.reading.specs.Reading.{setAt}
+use Rattle.reading.specs.Numbers.{stateOf}
 use Rattle.reading.proofs.Loop.{Sound, sound-start, sound-step, sound-named, ahead, begin, turn, done, entry-in}
 use Rattle.reading.proofs.read_stream.Statement.{statement}
 use Rattle.reading.proofs.read_stream.Tie as tie
