@@ -151,12 +151,6 @@ module _ (I : Items) where
   all-map P Q g none h = tt
   all-map P Q g (some a) h = g a h
 
-  pub walkTop-sound : (s : Side Item) → All (Top I s) (walkTop I s)
-  walkTop-sound s =
-      all-first (Top I s) (cutFirst I s) (walk I paint s)
-      (all-map (Cuts s) (Top I s) (λ x q. top-of-cut q) (cutFirst I s) (cut-sound s))
-      (all-map (Step I paint s) (Top I s) (λ x q. below q) (walk I paint s) (walk-sound paint s))
-
   -- where the walk I finds nothing, the side is its own normal form, but for the bare items
   abbrev Neat : Kind → Side Item → Type 0
   Neat paint s = cutFirst I s ≡ none
@@ -165,7 +159,7 @@ module _ (I : Items) where
   passes-marked : (k : Kind) (c : Class) (a : Item) → class k a ≡ c → isPasses (class k (markBy I k c a)) ≡ isPasses c
   passes-marked k fails a e = ap isPasses e
   passes-marked paint passes a e = ap isPasses e
-  passes-marked clip passes a e = ap isPasses bare-passes
+  passes-marked clip passes a e = simp (e, bare-passes)
   passes-marked k other a e = ap isPasses e
 
   hasOne-bare : (k : Kind) (s : Side Item) → hasOne I k (bareSide I k s) ≡ hasOne I k s
@@ -262,6 +256,12 @@ module _ (I : Items) where
   -- where no step is found the side is pruned I
   pub stuck-normal : (s : Side Item) → walkTop I s ≡ none → normal I paint s ≡ bareSide I paint s
   stuck-normal s e = let d = first-none (cutFirst I s) (walk I paint s) e in neat-normal paint s (d .1) (d .0)
+
+  pub walkTop-sound : (s : Side Item) → All (Top I s) (walkTop I s)
+  walkTop-sound s =
+      all-first (Top I s) (cutFirst I s) (walk I paint s)
+      (all-map (Cuts s) (Top I s) (λ x q. top-of-cut q) (cutFirst I s) (cut-sound s))
+      (all-map (Step I paint s) (Top I s) (λ x q. below q) (walk I paint s) (walk-sound paint s))
 
   none-left : (s : Side Item) → size s ≤ 0 → bareSide I paint s ≡ normal I paint s
   none-left end h = refl
