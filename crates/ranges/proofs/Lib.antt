@@ -1,0 +1,1 @@
+-- The streams of an accepted drawing are in range.
