@@ -1,1 +1,3 @@
 -- The streams of an accepted drawing are in range.
+pub mod Depth
+pub mod Weights
