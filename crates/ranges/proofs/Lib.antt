@@ -1,3 +1,4 @@
 -- The streams of an accepted drawing are in range.
 pub mod Depth
 pub mod Weights
+pub mod Segments
