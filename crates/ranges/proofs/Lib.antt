@@ -2,3 +2,4 @@
 pub mod Depth
 pub mod Weights
 pub mod Segments
+pub mod Passing
