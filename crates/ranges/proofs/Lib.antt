@@ -3,3 +3,6 @@ pub mod Depth
 pub mod Weights
 pub mod Segments
 pub mod Passing
+pub mod Numbers
+pub mod Items
+pub mod Streams

@@ -44,7 +44,7 @@ class-cases : (P : Class → Type 0) (f : ℕ → ℕ → Bool) (b d X Y S : ℕ
 unfolding classOf
 class-cases P f b d X Y S = verdict-cases P (nowhere f (max b Y) (min d (Y + S)) X S) (everywhere f (max b Y) (min d (Y + S)) X S) (max b Y) (min d (Y + S)) Y S
 
-module _ (xs ys : List ℕ) (corners : ℕ) (c : Cell) where
+module _ (corners : ℕ) (c : Cell) where
   -- a line or shortcut in range
   abbrev pub SegmentIn : Segment → Type 0
   SegmentIn (drawn (line a b)) = (a < corners) × (b < corners)
@@ -54,14 +54,15 @@ module _ (xs ys : List ℕ) (corners : ℕ) (c : Cell) where
   EachIn [] = Unit {0}
   EachIn (g ∷ gs) = SegmentIn g × EachIn gs
 
-  line-kept : (l : Line) (gs : List Segment) → SegmentIn (drawn l) → EachIn gs → EachIn (keptBy xs ys (classIn xs ys c (drawn l)) (drawn l) gs)
-  unfolding edgeClass
-  line-kept l gs h g =
-      let e : Edge = edgeOf xs ys l in
-      class-cases (λ k. EachIn (keptBy xs ys k (drawn l) gs)) (counts e) (firstRow e) (endRow e) (left c) (low c) (side c) g g (h, g)
-      (λ r. ((sign-one e (omega arith), omega arith, r, omega arith), g))
+  module _ (xs ys : List ℕ) where
+    line-kept : (l : Line) (gs : List Segment) → SegmentIn (drawn l) → EachIn gs → EachIn (keptBy xs ys (classIn xs ys c (drawn l)) (drawn l) gs)
+    unfolding edgeClass
+    line-kept l gs h g =
+        let e : Edge = edgeOf xs ys l in
+        class-cases (λ k. EachIn (keptBy xs ys k (drawn l) gs)) (counts e) (firstRow e) (endRow e) (left c) (low c) (side c) g g (h, g)
+        (λ r. ((sign-one e (omega arith), omega arith, r, omega arith), g))
 
-  -- of the lines of an area
-  pub lines-kept : (ls : List Line) → CornersBelow corners ls → EachIn (keptIn xs ys c (map drawn ls))
-  lines-kept [] h = tt
-  lines-kept (line a b ∷ ls) h = line-kept (line a b) (keptIn xs ys c (map drawn ls)) (h .0) (lines-kept ls (h .1))
+    -- of the lines of an area
+    pub lines-kept : (ls : List Line) → CornersBelow corners ls → EachIn (keptIn xs ys c (map drawn ls))
+    lines-kept [] h = tt
+    lines-kept (line a b ∷ ls) h = line-kept (line a b) (keptIn xs ys c (map drawn ls)) (h .0) (lines-kept ls (h .1))
