@@ -2,10 +2,10 @@
 use mathlib.Core.Path.{_≡_, refl, sym, ap, _∙_, subst}
 use mathlib.Core.Bool.{Bool, true, false, cond, _&&_}
 use mathlib.Core.List.{List, [], _∷_, map}
-use Prim.Native.Nat.{ℕ, _+_, _*_, _-_, _/_, _≤_}
+use Prim.Native.Nat.{ℕ, zero, suc, _+_, _*_, _-_, _/_, _≤_}
 use native.Mathlib.Omega.{arith}
 use lib.Dec.{leb}
-use lib.ListN.{length}
+use lib.ListN.{length, length-map}
 use borrow.Author.Tests.{le-leb}
 use Rattle.pruning.specs.Sides.{paint, flat}
 use Rattle.stream.specs.declared.Words.{Words}
@@ -54,11 +54,18 @@ run-in first count used h m = rw (le-leb count used (omega arith), le-leb first 
 both-tests : (a b c : Bool) → a ≡ true → b ≡ true → c ≡ true → cond a (cond b c false) false ≡ true
 both-tests a b c p q r = rw (p, q) r
 
+words-length : (t : List ℕ) (i n : ℕ) → length (wordsFrom t i n) ≡ n
+unfolding wordsFrom
+words-length t i zero = refl
+words-length t i (suc n) = ap suc (words-length t (i + 1) n)
+
 -- a table that has the words of a cell's stream from entry `first` on, all of them in use
 pub made-checks : (D : Drawing) → Valid D → (areas xs ys : List ℕ) (b : Bounds) → Held areas xs ys b D → (c : Cell) → b .low ≡ low c → b .side ≡ side c
-    → (t : List ℕ) (first count used : ℕ) → count ≡ length (rowsOf (flat paint (made D c (source D)))) → wordsFrom t first count ≡ map wordsOf (rowsOf (flat paint (made D c (source D))))
+    → (t : List ℕ) (first count used : ℕ) → wordsFrom t first count ≡ map wordsOf (rowsOf (flat paint (made D c (source D))))
     → first + count ≤ used → used * 4 ≤ length t → used ≤ 65536 → checkStream t first count used (env areas xs ys b) ≡ true
-made-checks D ok areas xs ys b H c same-low same-side t first count used many same end room few =
+made-checks D ok areas xs ys b H c same-low same-side t first count used same end room few =
+    let ws = rowsOf (flat paint (made D c (source D))) in
+    let many : count ≡ length ws = sym (words-length t first count) ∙ (ap length same ∙ length-map {B = Words} ws wordsOf) in
     both-tests (usedRange (length t) used (length areas) (length xs) (length ys) b) (runRange first count used) (accepts (env areas xs ys b) (wordsFrom t first count))
     (used-in t used areas xs ys b room few (H .ready) (omega (arith, H .areas-used, ok .few-fields)) (omega (arith, H .corners-used, ok .few-corners)))
     (run-in first count used end (omega (arith, many, made-short D ok c)))

@@ -3,7 +3,7 @@ use mathlib.Core.Path.{_≡_, refl, sym, ap, _∙_}
 use mathlib.Core.List.{List, [], _∷_, _++_, append-assoc, map}
 use Prim.Native.Nat.{ℕ, suc, _+_, _≤_}
 use native.Mathlib.Omega.{arith}
-use lib.ListN.{length, length-append}
+use lib.ListN.{length, length-append, length-map}
 use Rattle.geometry.specs.declared.class.Class.{Class}
 use Rattle.geometry.specs.declared.class.Class.the-variants.{Dropped, Start, Shortcut, Kept}
 use Rattle.pruning.specs.Sides.{Kind, paint, clip, Side, end, leaf, group, Entry, item, push, activate, pop, flat, mapSide}
@@ -71,10 +71,6 @@ abbrev pub rows : Item → ℕ
 rows always = 1
 rows (area n z gs) = suc (length gs)
 
-length-map : {A B : Type 0} (f : A → B) (l : List A) → length (map f l) ≡ length l
-length-map f [] = refl
-length-map f (a ∷ l) = ap suc (length-map f l)
-
 module _ (D : Drawing) (c : Cell) where
   kept-by : (k : Class) (g : Segment) (gs : List Segment) → length (keptBy (D .xs) (D .ys) k g gs) ≤ suc (length gs)
   kept-by Dropped g gs = omega arith
@@ -103,7 +99,7 @@ module _ (D : Drawing) (c : Cell) where
   some-row (area n z gs) = omega arith
 
   lines-length : (n : ℕ) → length (map {B = Segment} drawn (lines D n)) ≡ length (lines D n)
-  lines-length n = length-map {B = Segment} drawn (lines D n)
+  lines-length n = length-map {B = Segment} (lines D n) drawn
 
   -- what weighs no more in the cell weighs no more in the made stream than in the plan
   made-weighs : (v : Item → ℕ) (u : ℕ → ℕ) (d : ℕ) → ((a : Item) → v always ≤ v a) → ((a : Item) → v (within D c a) ≤ v a) → ((n : ℕ) → v (whole D n) ≤ u n)
@@ -129,7 +125,7 @@ rows-append (e ∷ x) y = ap (λ z. entryRows e ++ z) (rows-append x y) ∙ sym 
 
 item-length : (a : Item) → length (itemRows a) ≡ rows a
 item-length always = refl
-item-length (area n z gs) = ap suc (length-map {B = Row} segment gs)
+item-length (area n z gs) = ap suc (length-map {B = Row} gs segment)
 
 pub rows-length : (k : Kind) (s : Side Item) → length (rowsOf (flat k s)) ≡ weigh rows 1 s
 rows-length k end = refl
