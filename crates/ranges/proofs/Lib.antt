@@ -6,3 +6,4 @@ pub mod Passing
 pub mod Numbers
 pub mod Items
 pub mod Streams
+pub mod Reading
