@@ -1,7 +1,7 @@
--- Pruning opens no more groups at once than there were, and so does classing in a cell: a made stream has at most the open groups of the drawing. Assumes nothing.
+-- Neither classing in a cell nor pruning opens more groups at once: a made stream has at most the open groups of the drawing. Assumes nothing.
 use mathlib.Core.Path.{_≡_, refl}
 use mathlib.Core.Bool.{Bool, true, false, cond}
-use Prim.Native.Nat.{ℕ, suc, _≤_, max}
+use Prim.Native.Nat.{suc, _≤_, max}
 use native.Mathlib.Omega.{arith}
 use Rattle.pruning.specs.Sides.{Kind, paint, clip, Side, end, leaf, group, mapSide}
 use Rattle.pruning.specs.Items.{Items, Class, fails, passes, other}

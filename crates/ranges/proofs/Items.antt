@@ -1,5 +1,5 @@
 -- Every item of a cell's stream is in range: its area's number, role and start number, and its lines and shortcuts. Assumes nothing.
-use mathlib.Core.Path.{_≡_, refl, ap, _∙_}
+use mathlib.Core.Path.{_≡_, ap, _∙_}
 use mathlib.Core.Bool.{true}
 use mathlib.Core.List.{List, [], _∷_, _++_}
 use Prim.Native.Nat.{ℕ, _+_, _≤_, _<_}
@@ -26,7 +26,7 @@ use Rattle.cells.proofs.Rows.{made-on-side}
 use Rattle.ranges.specs.Valid.{Valid, lines}
 use Rattle.ranges.specs.Held.{Held}
 use Rattle.ranges.proofs.Segments.{EachIn, lines-kept}
-use Rattle.ranges.proofs.Passing.{isPaintSide, ItemPasses}
+use Rattle.ranges.proofs.Passing.{isPaintSide, AreaPasses, ItemPasses}
 use Rattle.ranges.proofs.Numbers.{start-word, role-fits, each-passes}
 
 -- ---- of each entry of the stream, so of each item of the side
@@ -60,52 +60,48 @@ on-both P Q R f k end p q = tt
 on-both P Q R f k (leaf a t) p q = (f k a (p .0) (q .0), on-both P Q R f k t (p .1) (q .1))
 on-both P Q R f k (group l r t) p q = (on-both P Q R f clip l (p .0) (q .0), on-both P Q R f k r (p .1) (q .1), on-both P Q R f k t (p .2) (q .2))
 
-module _ (D : Drawing) (ok : Valid D) (c : Cell) where
+module _ (D : Drawing) (c : Cell) where
   -- its area is in use, and its lines and shortcuts are in range
   abbrev pub Numbered : Kind → Item → Type 0
   Numbered k always = Unit {0}
   Numbered k (area n z gs) = (n < length (D .fields)) × EachIn (length (D .xs)) c gs
 
-  pub made-numbered : Each Numbered (flat paint (made D c (source D)))
-  made-numbered =
+  pub made-numbered : Valid D → Each Numbered (flat paint (made D c (source D)))
+  made-numbered ok =
       rw (made-normal D c (source D))
       (each-sub (items D) Numbered tt (normal-sub (items D) paint (mapSide (within D c) (source D)))
       (rw (map-map (whole D) (within D c) (D .plan))
       (each-mapped (λ k n. n < length (D .fields)) Numbered (λ n. within D c (whole D n)) (λ k n l. (l, lines-kept (length (D .xs)) c (D .xs) (D .ys) (lines D n) (ok .corners n))) paint (D .plan) (ok .numbers))))
 
-  -- its role is that of its side
+  -- its role is that of its side, and its start number is small
   abbrev pub Placed : Kind → Item → Type 0
   Placed k i = OnSide (roleIn D) k i × Small D 2048 k i
 
-  pub made-placed : On Placed paint (made D c (source D))
-  made-placed =
+  pub made-placed : Valid D → On Placed paint (made D c (source D))
+  made-placed ok =
       let s = made D c (source D) in
       on-both (OnSide (roleIn D)) (Small D 2048) Placed (λ k i p q. (p, q)) paint s
       (each-on (OnSide (roleIn D)) paint s (made-on-side D (ok .roles) c)) (each-on (Small D 2048) paint s (made-small D 2048 (ok .few-each) c))
 
   -- the words of each pass, in tables that hold the drawing
-  module _ (areas xs ys : List ℕ) (b : Bounds) (H : Held areas xs ys b D) (same-low : b .low ≡ low c) (same-side : b .side ≡ side c) where
+  module _ (ok : Valid D) (areas xs ys : List ℕ) (b : Bounds) (H : Held areas xs ys b D) (same-low : b .low ≡ low c) (same-side : b .side ≡ side c) where
     row : (n : ℕ) → n < length (D .fields) → areaRow areas (b .areas) n ≡ Good (Area (fieldsOf D n))
     row n l = H .rows n (omega (arith, H .areas-used))
-
-    good : (n : ℕ) → n < length (D .fields) → isGood (areaRow areas (b .areas) n) ≡ true
-    good n l = ap isGood (row n l)
 
     role : (k : Kind) (n : ℕ) → n < length (D .fields) → roleIn D n ≡ k → roleFits (areaRow areas (b .areas) n) (isPaintSide k) ≡ true
     role k n l e = ap (λ r. roleFits r (isPaintSide k)) (row n l) ∙ role-fits k (fieldsOf D n) (ok .fields n l) e
 
-    small : (z : ℤ) (gs : List Segment) → natAbs z + length gs ≤ 2048 → natAbs z ≤ 2048
-    small z gs h = omega arith
+    area-in : (k : Kind) (n : ℕ) (z : ℤ) (gs : List Segment) → roleIn D n ≡ k → natAbs z + length gs ≤ 2048 → n < length (D .fields) → EachIn (length (D .xs)) c gs
+        → AreaPasses (env areas xs ys b) k n z gs
+    area-in k n z gs e m l h = (ap isGood (row n l), role k n l e, start-word z (omega arith), each-passes D areas xs ys b H c same-low same-side ok gs h)
 
     item-in : (k : Kind) (i : Item) → Placed k i → Numbered k i → ItemPasses (env areas xs ys b) k i
     item-in paint always p q = p .0
     item-in clip always p q = tt
-    item-in paint (area n z gs) p q =
-        (good n (q .0), role paint n (q .0) (p .0), start-word z (small z gs (p .1 .0)), each-passes D ok areas xs ys b H c same-low same-side gs (q .1))
-    item-in clip (area n z gs) p q =
-        (good n (q .0), role clip n (q .0) (p .0), start-word z (small z gs (p .1 .0)), each-passes D ok areas xs ys b H c same-low same-side gs (q .1))
+    item-in paint (area n z gs) p q = area-in paint n z gs (p .0) (p .1 .0) (q .0) (q .1)
+    item-in clip (area n z gs) p q = area-in clip n z gs (p .0) (p .1 .0) (q .0) (q .1)
 
     pub made-in : On (ItemPasses (env areas xs ys b)) paint (made D c (source D))
     made-in =
         let s = made D c (source D) in
-        on-both Placed Numbered (ItemPasses (env areas xs ys b)) item-in paint s made-placed (each-on Numbered paint s made-numbered)
+        on-both Placed Numbered (ItemPasses (env areas xs ys b)) item-in paint s (made-placed ok) (each-on Numbered paint s (made-numbered ok))

@@ -7,3 +7,4 @@ pub mod Numbers
 pub mod Items
 pub mod Streams
 pub mod Reading
+pub mod Examples

@@ -54,7 +54,7 @@ role-fits clip f h e = go (leb (f .rule) 1) (eqb (f .role) 0) (eqb (f .role) 1) 
     go true false true p c h e = refl
     go true false false p c h e = clash h
 
-module _ (D : Drawing) (ok : Valid D) (areas xs ys : List ℕ) (b : Bounds) (H : Held areas xs ys b D) where
+module _ (D : Drawing) (areas xs ys : List ℕ) (b : Bounds) (H : Held areas xs ys b D) where
   -- corners in use are the drawing's
   pub same-x : (n : ℕ) → n < length (D .xs) → getD xs n 0 ≡ getD (D .xs) n 0
   same-x n l = sym (getD-take (b .corners) xs n 0 (omega (arith, H .corners-used))) ∙ ap (λ t. getD t n 0) (H .xs-same)
@@ -62,8 +62,8 @@ module _ (D : Drawing) (ok : Valid D) (areas xs ys : List ℕ) (b : Bounds) (H :
   pub same-y : (n : ℕ) → n < length (D .xs) → getD ys n 0 ≡ getD (D .ys) n 0
   same-y n l = sym (getD-take (b .corners) ys n 0 (omega (arith, H .corners-used))) ∙ ap (λ t. getD t n 0) (H .ys-same)
 
-  corner-met : (n : ℕ) → n < length (D .xs) → cornerMet xs ys (b .corners) n ≡ true
-  corner-met n l = rw (lt-ltb n (b .corners) (omega (arith, H .corners-used))) (ap₂ cornerRange (same-x n l) (same-y n l) ∙ ok .coordinates n l)
+  corner-met : Valid D → (n : ℕ) → n < length (D .xs) → cornerMet xs ys (b .corners) n ≡ true
+  corner-met ok n l = rw (lt-ltb n (b .corners) (omega (arith, H .corners-used))) (ap₂ cornerRange (same-x n l) (same-y n l) ∙ ok .coordinates n l)
 
   -- in a cell whose low row and side are those that the stream is read against
   module _ (c : Cell) (same-low : b .low ≡ low c) (same-side : b .side ≡ side c) where
@@ -71,8 +71,8 @@ module _ (D : Drawing) (ok : Valid D) (areas xs ys : List ℕ) (b : Bounds) (H :
     shortcut-in z lo hi s l m u =
         rw (sign-word z s, le-leb (b .low) lo (omega (arith, same-low)), lt-ltb lo hi m) (le-leb hi (b .low + b .side) (omega (arith, same-low, same-side)))
 
-    pub each-passes : (gs : List Segment) → EachIn (length (D .xs)) c gs → EachPasses (env areas xs ys b) gs
-    each-passes [] h = tt
-    each-passes (drawn (line i j) ∷ gs) h =
-        (and-both (cornerMet xs ys (b .corners) i) (cornerMet xs ys (b .corners) j) (corner-met i (h .0 .0)) (corner-met j (h .0 .1)), each-passes gs (h .1))
-    each-passes (shortcut z lo hi ∷ gs) h = (shortcut-in z lo hi (h .0 .0) (h .0 .1) (h .0 .2) (h .0 .3), each-passes gs (h .1))
+    pub each-passes : Valid D → (gs : List Segment) → EachIn (length (D .xs)) c gs → EachPasses (env areas xs ys b) gs
+    each-passes ok [] h = tt
+    each-passes ok (drawn (line i j) ∷ gs) h =
+        (and-both (cornerMet xs ys (b .corners) i) (cornerMet xs ys (b .corners) j) (corner-met ok i (h .0 .0)) (corner-met ok j (h .0 .1)), each-passes ok gs (h .1))
+    each-passes ok (shortcut z lo hi ∷ gs) h = (shortcut-in z lo hi (h .0 .0) (h .0 .1) (h .0 .2) (h .0 .3), each-passes ok gs (h .1))

@@ -1,11 +1,11 @@
 -- The words of a side whose items are in range pass the check of streams, where there is room for its groups, its areas, and its lines and shortcuts. Assumes nothing.
-use mathlib.Core.Path.{_≡_, refl, sym, ap, ap₂, _∙_}
+use mathlib.Core.Path.{_≡_, refl, ap, ap₂, _∙_}
 use mathlib.Core.Bool.{Bool, true, false, cond, not}
 use mathlib.Core.List.{List, [], _∷_, _++_, map}
-use Prim.Native.Nat.{ℕ, suc, _+_, _≤_, _<_}
+use Prim.Native.Nat.{ℕ, suc, _+_, _≤_}
 use native.Mathlib.Omega.{arith}
-use lib.Dec.{ltb}
 use lib.ListN.{length}
+use lib.IntN.{ℤ}
 use borrow.Author.Tests.{lt-ltb}
 use mir.Syntax.{w32}
 use mir.Val.{ofZ}
@@ -14,12 +14,11 @@ use Rattle.groups.specs.Sides.{Frame, paintLeft, clipLeft, isPaint, onLeft, onR
 use Rattle.pruning.specs.Sides.{Kind, paint, clip, Side, end, leaf, group, activate, pop, flat}
 use Rattle.pruning.proofs.Sides.{map-append}
 use Rattle.stream.specs.declared.Words.{Words}
-use Rattle.stream.specs.Entry as Entries
-use Rattle.stream.specs.Entry.{Entry, decode, startRange}
-use Rattle.stream.specs.Grammar.{Env, isGood, areaMet, lineRange, shortcutRange, inRange, Place, place, roleFits, fits, limit, after, Course, at, next, met, course}
+use Rattle.stream.specs.Entry.{decode, startRange}
+use Rattle.stream.specs.Grammar.{Env, isGood, areaMet, lineRange, shortcutRange, inRange, Place, place, roleFits, fits, limit, after, Course, at, met, course}
 use Rattle.cells.specs.Segments.{Segment, drawn, shortcut}
 use Rattle.cells.specs.Streams.{Item, always, area, On}
-use Rattle.cells.specs.Rows.{Row, opens, bar, closes, segment, itemRows, rowsOf}
+use Rattle.cells.specs.Rows.{bar, closes, segment, itemRows, rowsOf}
 use Rattle.reading.specs.Words.{words, wordsOf}
 use Rattle.ranges.specs.Valid.{depth, weigh}
 use Rattle.ranges.proofs.Weights.{oneArea, segments, rows-append}
@@ -39,11 +38,15 @@ module _ (v : Env) where
   EachPasses [] = Unit {0}
   EachPasses (g ∷ gs) = SegmentPasses g × EachPasses gs
 
-  -- the row of an area is good, its role fits the side, its start number and what follows it are in range; "passes" stands on a clip side
+  -- the row of the area is good, its role fits the side, its start number and what follows it are in range
+  abbrev pub AreaPasses : Kind → ℕ → ℤ → List Segment → Type 0
+  AreaPasses k n z gs = (isGood (areaMet v n) ≡ true) × (roleFits (areaMet v n) (isPaintSide k) ≡ true) × (startRange (ofZ w32 z) ≡ true) × EachPasses gs
+
+  -- "passes" stands on a clip side
   abbrev pub ItemPasses : Kind → Item → Type 0
   ItemPasses paint always = ⊥
   ItemPasses clip always = Unit {0}
-  ItemPasses k (area n z gs) = (isGood (areaMet v n) ≡ true) × (roleFits (areaMet v n) (isPaintSide k) ≡ true) × (startRange (ofZ w32 z) ≡ true) × EachPasses gs
+  ItemPasses k (area n z gs) = AreaPasses k n z gs
 
 -- ---- open groups
 

@@ -1,5 +1,5 @@
 -- The stream of each cell of an accepted drawing, read in tables that hold the drawing, gives at each position of the cell the set that the drawing shows. Assumes nothing.
-use mathlib.Core.Path.{_≡_, refl, sym, ap, ap₂, _∙_}
+use mathlib.Core.Path.{_≡_, refl, sym, ap, _∙_}
 use mathlib.Core.Bool.{Bool, cond}
 use mathlib.Core.List.{List, [], _∷_, _++_, map}
 use Prim.Native.Nat.{ℕ, zero, suc, _+_, _<_}
@@ -38,7 +38,7 @@ fields-at t i zero k l = absurd (omega arith)
 fields-at t i (suc n) zero l = ap (fieldsAt t) (omega arith)
 fields-at t i (suc n) (suc k) l = fields-at t (i + 1) n k (omega arith) ∙ ap (fieldsAt t) (omega arith)
 
-module _ (areas xs ys : List ℕ) (b : Bounds) (D : Drawing) (H : Held areas xs ys b D) where
+module _ (D : Drawing) (areas xs ys : List ℕ) (b : Bounds) (H : Held areas xs ys b D) where
   pub fields-are : (n : ℕ) → n < length (D .fields) → fieldsAt areas n ≡ fieldsOf D n
   fields-are n l =
       ap (fieldsAt areas) (omega arith) ∙ (sym (fields-at areas 0 (b .areas) n (omega (arith, H .areas-used))) ∙ ap (λ (f : List Fields). getD f n noFields) (H .fields-same))
@@ -52,10 +52,10 @@ module _ (areas xs ys : List ℕ) (b : Bounds) (D : Drawing) (H : Held areas xs 
         opaque = ap (λ (f : Fields). eqb (f .alpha) 255) e;
       }
 
-  -- the table says of the areas on the plan what the drawing says
-  pub held-agrees : Valid D → On (λ k n. Agrees areas D n) paint (D .plan)
-  held-agrees ok =
-      on-both (λ k n. n < length (D .fields)) (λ k n. n < length (D .fields)) (λ k n. Agrees areas D n) (λ k n l m. agrees n l) paint (D .plan) (ok .numbers) (ok .numbers)
+-- the table says of the areas on the plan what the drawing says
+pub held-agrees : (D : Drawing) (areas xs ys : List ℕ) (b : Bounds) → Held areas xs ys b D → Valid D → On (λ k n. Agrees areas D n) paint (D .plan)
+held-agrees D areas xs ys b H ok =
+    on-both (λ k n. n < length (D .fields)) (λ k n. n < length (D .fields)) (λ k n. Agrees areas D n) (λ k n l m. agrees D areas xs ys b H n l) paint (D .plan) (ok .numbers) (ok .numbers)
 
 -- ---- the tables of corners
 
@@ -95,12 +95,12 @@ module _ (role : ℕ → Kind) (pass : ℕ → ℤ → Bool) (opaque : ℕ → B
       let st = state (reg P 0 0 0) settled in
       ap (λ x. outOf (settle role pass opaque f x)) (rows-same ws h st) ∙ ap outOf (settle-same (onRows role pass opaque g ws st))
 
-module _ (D : Drawing) (ok : Valid D) (areas xs ys : List ℕ) (b : Bounds) (H : Held areas xs ys b D) (c : Cell) (x y : ℕ) where
+module _ (D : Drawing) (areas xs ys : List ℕ) (b : Bounds) (H : Held areas xs ys b D) (c : Cell) (x y : ℕ) where
   abbrev Same : List Row → Type 0
   Same = SameOn (roleAt areas) (passAt areas) (opaqueAt areas) (addsAt xs ys (at x y)) (addsAt (D .xs) (D .ys) (at x y))
 
   edge-same : (i j : ℕ) → i < length (D .xs) → j < length (D .xs) → edgeBetween xs ys i j ≡ edgeBetween (D .xs) (D .ys) i j
-  edge-same i j l m = rw (same-x D ok areas xs ys b H i l, same-x D ok areas xs ys b H j m, same-y D ok areas xs ys b H i l, same-y D ok areas xs ys b H j m)
+  edge-same i j l m = rw (same-x D areas xs ys b H i l, same-x D areas xs ys b H j m, same-y D areas xs ys b H i l, same-y D areas xs ys b H j m)
 
   line-same : (i j : ℕ) → i < length (D .xs) → j < length (D .xs) → addsAt xs ys (at x y) (drawn (line i j)) ≡ addsAt (D .xs) (D .ys) (at x y) (drawn (line i j))
   line-same i j l m = ap (λ (e : Edge). cond (counts e x y) (sign e) (pos 0)) (edge-same i j l m)
@@ -111,7 +111,7 @@ module _ (D : Drawing) (ok : Valid D) (areas xs ys : List ℕ) (b : Bounds) (H :
   segments-same (drawn (line i j) ∷ gs) ws h s = (line-same i j (h .0 .0) (h .0 .1), segments-same gs ws (h .1) s)
   segments-same (shortcut z lo hi ∷ gs) ws h s = (refl, segments-same gs ws (h .1) s)
 
-  entries-same : (es : List (Entry Item)) → Each (Numbered D ok c) es → Same (rowsIn (map wordsOf (rowsOf es)))
+  entries-same : (es : List (Entry Item)) → Each (Numbered D c) es → Same (rowsIn (map wordsOf (rowsOf es)))
   unfolding rowsIn
   entries-same [] h = tt
   entries-same (item k always ∷ es) h = entries-same es (h .1)
@@ -120,10 +120,12 @@ module _ (D : Drawing) (ok : Valid D) (areas xs ys : List ℕ) (b : Bounds) (H :
   entries-same (activate ∷ es) h = entries-same es h
   entries-same (pop ∷ es) h = entries-same es h
 
-  -- what the reader of a stream answers
-  pub valid-words-read : Holds c (at x y) → setAt areas xs ys x y (map wordsOf (rowsOf (flat paint (made D c (source D))))) ≡ setOf (shownAt D (at x y))
-  unfolding setAt
-  valid-words-read i =
-      let ws = rowsOf (flat paint (made D c (source D))) in
-      read-same (roleAt areas) (passAt areas) (opaqueAt areas) (addsAt xs ys (at x y)) (addsAt (D .xs) (D .ys) (at x y)) (rowsIn (map wordsOf ws)) (entries-same (flat paint (made D c (source D))) (made-numbered D ok c))
-      ∙ cell-words-read areas D (ok .roles) (held-agrees areas xs ys b D H ok) (ok .few-each) c x y i
+-- "A stream is read in one pass": the reader's answer in the lent tables is the set that the drawing shows
+pub valid-words-read : (D : Drawing) → Valid D → (areas xs ys : List ℕ) (b : Bounds) → Held areas xs ys b D → (c : Cell) (x y : ℕ) → Holds c (at x y)
+    → setAt areas xs ys x y (map wordsOf (rowsOf (flat paint (made D c (source D))))) ≡ setOf (shownAt D (at x y))
+unfolding setAt
+valid-words-read D ok areas xs ys b H c x y i =
+    let es = flat paint (made D c (source D)) in
+    read-same (roleAt areas) (passAt areas) (opaqueAt areas) (addsAt xs ys (at x y)) (addsAt (D .xs) (D .ys) (at x y)) (rowsIn (map wordsOf (rowsOf es)))
+    (entries-same D areas xs ys b H c x y es (made-numbered D c ok))
+    ∙ cell-words-read areas D (ok .roles) (held-agrees D areas xs ys b H ok) (ok .few-each) c x y i

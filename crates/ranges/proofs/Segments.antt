@@ -6,7 +6,7 @@ use Prim.Native.Nat.{ℕ, _+_, _≤_, _<_, min, max}
 use native.Mathlib.Omega.{arith}
 use native.Mathlib.Decide.{decLt}
 use lib.Dec.{ltb, leb, eqb}
-use lib.IntN.{ℤ, pos, negsuc, natAbs}
+use lib.IntN.{pos, negsuc, natAbs}
 use borrow.Author.Tests.{lt-ltb, le-ltb, leb-false}
 use Rattle.geometry.specs.Edges.{sign, counts, firstRow, endRow}
 use Rattle.geometry.specs.Windings.{Line, line}

@@ -1,17 +1,16 @@
 -- The stream of each cell of an accepted drawing passes the check of streams, in tables that hold the drawing. Assumes nothing.
-use mathlib.Core.Path.{_≡_, refl, sym, ap, _∙_, subst}
-use mathlib.Core.Bool.{Bool, true, false, cond, _&&_}
-use mathlib.Core.List.{List, [], _∷_, map}
+use mathlib.Core.Path.{_≡_, refl, sym, ap, _∙_}
+use mathlib.Core.Bool.{Bool, true, false, cond}
+use mathlib.Core.List.{List, [], map}
 use Prim.Native.Nat.{ℕ, zero, suc, _+_, _*_, _-_, _/_, _≤_}
 use native.Mathlib.Omega.{arith}
-use lib.Dec.{leb}
 use lib.ListN.{length, length-map}
 use borrow.Author.Tests.{le-leb}
 use Rattle.pruning.specs.Sides.{paint, flat}
 use Rattle.stream.specs.declared.Words.{Words}
 use Rattle.stream.specs.declared.Bounds.{Bounds}
 use Rattle.stream.specs.Table.{wordsFrom}
-use Rattle.stream.specs.Grammar.{Env, env, isWhole, accepts, usedRange, runRange, checkStream, Ready}
+use Rattle.stream.specs.Grammar.{env, isWhole, accepts, usedRange, runRange, checkStream, Ready}
 use Rattle.cells.specs.Cells.{Cell, low, side}
 use Rattle.cells.specs.Drawings.{Drawing}
 use Rattle.cells.specs.Streams.{source, made}
@@ -29,7 +28,7 @@ pub made-passes : (D : Drawing) → Valid D → (areas xs ys : List ℕ) (b : Bo
     → accepts (env areas xs ys b) (map wordsOf (rowsOf (flat paint (made D c (source D))))) ≡ true
 unfolding accepts
 made-passes D ok areas xs ys b H c same-low same-side =
-    ap isWhole (side-passes (env areas xs ys b) paint (made D c (source D)) [] false 0 0 refl (made-in D ok c areas xs ys b H same-low same-side)
+    ap isWhole (side-passes (env areas xs ys b) paint (made D c (source D)) [] false 0 0 refl (made-in D c ok areas xs ys b H same-low same-side)
     (omega (arith, made-depth D c, ok .few-groups)) (omega (arith, made-areas D c, ok .few-areas)) (omega (arith, made-segments D c, ok .few-lines)))
 
 -- ---- in a table of entries

@@ -1,4 +1,4 @@
--- Pruning makes no stream heavier, and so does classing in a cell: a made stream has at most the rows, areas, lines and shortcuts of the drawing. Assumes nothing.
+-- Neither classing in a cell nor pruning adds to a sum over items and delimiters: a made stream has at most the rows, areas, lines and shortcuts of the drawing. Assumes nothing.
 use mathlib.Core.Path.{_≡_, refl, sym, ap, _∙_}
 use mathlib.Core.List.{List, [], _∷_, _++_, append-assoc, map}
 use Prim.Native.Nat.{ℕ, suc, _+_, _≤_}
@@ -24,8 +24,8 @@ weigh-map f v u d h end = omega arith
 weigh-map f v u d h (leaf a t) = omega (arith, h a, weigh-map f v u d h t)
 weigh-map f v u d h (group l r t) = omega (arith, weigh-map f v u d h l, weigh-map f v u d h r, weigh-map f v u d h t)
 
--- the bare item is no heavier than any
-module _ (I : Items) (v : I .Item → ℕ) (d : ℕ) (light : (a : I .Item) → v (I .bare) ≤ v a) where
+-- no item has less than the bare one
+module _ (I : Items) (v : I .Item → ℕ) (d : ℕ) (least : (a : I .Item) → v (I .bare) ≤ v a) where
   open Items I using (Item, class, bare)
 
   abbrev entryWeight : Entry Item → ℕ
@@ -52,7 +52,7 @@ module _ (I : Items) (v : I .Item → ℕ) (d : ℕ) (light : (a : I .Item) → 
   total-sub nothing = omega arith
   total-sub (drops h) = omega (arith, total-sub h)
   total-sub (keeps h) = omega (arith, total-sub h)
-  total-sub (bares {a = a} e h) = omega (arith, light a, total-sub h)
+  total-sub (bares {a = a} e h) = omega (arith, least a, total-sub h)
 
   pub weigh-normal : (k : Kind) (s : Side Item) → weigh v d (normal I k s) ≤ weigh v d s
   weigh-normal k s = omega (arith, total-sub (normal-sub I k s), total-flat k s, total-flat k (normal I k s))
@@ -82,17 +82,17 @@ module _ (D : Drawing) (c : Cell) where
   kept-length [] = omega arith
   kept-length (g ∷ gs) = omega (arith, kept-by (classIn (D .xs) (D .ys) c g) g (keptIn (D .xs) (D .ys) c gs), kept-length gs)
 
-  area-light : (a : Item) → oneArea (within D c a) ≤ oneArea a
-  area-light always = omega arith
-  area-light (area n z gs) = omega arith
+  areas-within : (a : Item) → oneArea (within D c a) ≤ oneArea a
+  areas-within always = omega arith
+  areas-within (area n z gs) = omega arith
 
-  segments-light : (a : Item) → segments (within D c a) ≤ segments a
-  segments-light always = omega arith
-  segments-light (area n z gs) = kept-length gs
+  segments-within : (a : Item) → segments (within D c a) ≤ segments a
+  segments-within always = omega arith
+  segments-within (area n z gs) = kept-length gs
 
-  rows-light : (a : Item) → rows (within D c a) ≤ rows a
-  rows-light always = omega arith
-  rows-light (area n z gs) = omega (arith, kept-length gs)
+  rows-within : (a : Item) → rows (within D c a) ≤ rows a
+  rows-within always = omega arith
+  rows-within (area n z gs) = omega (arith, kept-length gs)
 
   some-row : (a : Item) → 1 ≤ rows a
   some-row always = omega arith
@@ -101,7 +101,7 @@ module _ (D : Drawing) (c : Cell) where
   lines-length : (n : ℕ) → length (map {B = Segment} drawn (lines D n)) ≡ length (lines D n)
   lines-length n = length-map {B = Segment} (lines D n) drawn
 
-  -- what weighs no more in the cell weighs no more in the made stream than in the plan
+  -- a number of items that is no larger in the cell has no larger sum over the made stream than over the plan
   made-weighs : (v : Item → ℕ) (u : ℕ → ℕ) (d : ℕ) → ((a : Item) → v always ≤ v a) → ((a : Item) → v (within D c a) ≤ v a) → ((n : ℕ) → v (whole D n) ≤ u n)
       → weigh v d (made D c (source D)) ≤ weigh u d (D .plan)
   made-weighs v u d bare inside full =
@@ -109,13 +109,13 @@ module _ (D : Drawing) (c : Cell) where
       (omega (arith, weigh-normal (items D) v d bare paint (mapSide (within D c) (source D)), weigh-map (within D c) v v d inside (source D), weigh-map (whole D) v u d full (D .plan)))
 
   pub made-areas : weigh oneArea 0 (made D c (source D)) ≤ weigh (λ n. 1) 0 (D .plan)
-  made-areas = made-weighs oneArea (λ n. 1) 0 (λ a. omega arith) area-light (λ n. omega arith)
+  made-areas = made-weighs oneArea (λ n. 1) 0 (λ a. omega arith) areas-within (λ n. omega arith)
 
   pub made-segments : weigh segments 0 (made D c (source D)) ≤ weigh (λ n. length (lines D n)) 0 (D .plan)
-  made-segments = made-weighs segments (λ n. length (lines D n)) 0 (λ a. omega arith) segments-light (λ n. omega (arith, lines-length n))
+  made-segments = made-weighs segments (λ n. length (lines D n)) 0 (λ a. omega arith) segments-within (λ n. omega (arith, lines-length n))
 
   pub made-rows : weigh rows 1 (made D c (source D)) ≤ weigh (λ n. suc (length (lines D n))) 1 (D .plan)
-  made-rows = made-weighs rows (λ n. suc (length (lines D n))) 1 some-row rows-light (λ n. omega (arith, lines-length n))
+  made-rows = made-weighs rows (λ n. suc (length (lines D n))) 1 some-row rows-within (λ n. omega (arith, lines-length n))
 
 -- ---- a stream as rows
 
