@@ -1,0 +1,1 @@
+-- An accepted list of records gives a drawing with every number in range; each record gives one row; tables that hold the records hold the drawing.
