@@ -3,3 +3,5 @@ pub mod Runs
 pub mod Fits
 pub mod Depths
 pub mod Numbers
+pub mod Weights
+pub mod Valid
