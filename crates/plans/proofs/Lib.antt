@@ -5,3 +5,4 @@ pub mod Depths
 pub mod Numbers
 pub mod Weights
 pub mod Valid
+pub mod Source
