@@ -142,7 +142,7 @@ area-words : (t : List ℕ) (i : ℕ) → wordsFrom t (i * 8) 8
     ≡ getD t (i * 8) 0 ∷ getD t (i * 8 + 1) 0 ∷ getD t (i * 8 + 2) 0 ∷ getD t (i * 8 + 3) 0 ∷ getD t (i * 8 + 4) 0 ∷ getD t (i * 8 + 5) 0 ∷ getD t (i * 8 + 6) 0 ∷ getD t (i * 8 + 7) 0 ∷ []
 area-words t i = simp towards-suc
 
-row-fields : (t : List ℕ) (i : ℕ) (f : Fields) → wordsFrom t (i * 8) 8 ≡ rowW f → fieldsAt t i ≡ f
+pub row-fields : (t : List ℕ) (i : ℕ) (f : Fields) → wordsFrom t (i * 8) 8 ≡ rowW f → fieldsAt t i ≡ f
 row-fields t i f e₀ = λ d. record { role = at 0 d; rule = at 1 d; alpha = at 2 d; red = at 3 d; green = at 4 d; blue = at 5 d; material = at 6 d }
   where
     at : (k : ℕ) → getD (getD t (i * 8) 0 ∷ getD t (i * 8 + 1) 0 ∷ getD t (i * 8 + 2) 0 ∷ getD t (i * 8 + 3) 0 ∷ getD t (i * 8 + 4) 0 ∷ getD t (i * 8 + 5) 0 ∷ getD t (i * 8 + 6) 0 ∷ getD t (i * 8 + 7) 0 ∷ []) k 0 ≡ getD (rowW f) k 0
@@ -153,7 +153,7 @@ row-last t i f e = ap (λ (l : List ℕ). getD l 7 0) (sym (area-words t i) ∙ 
 
 -- ---- what is in the tables is read as it is
 module _ (t : Tables) (u : Counts) (i : ℕ) (c : Cursor) where
-  area-read : (f : Fields) → inRange (Area f) ≡ true → Has (t .areas) (c .area * 8) (rowW f) → c .area < u .areas → areaRow (t .areas) (u .areas) (c .area) ≡ Good (Area f)
+  pub area-read : (f : Fields) → inRange (Area f) ≡ true → Has (t .areas) (c .area * 8) (rowW f) → c .area < u .areas → areaRow (t .areas) (u .areas) (c .area) ≡ Good (Area f)
   unfolding areaRow
   area-read f g h l = rw (lt-ltb _ _ l, row-last (t .areas) (c .area) f (h .same), row-fields (t .areas) (c .area) f (h .same), g)
 

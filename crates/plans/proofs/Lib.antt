@@ -6,3 +6,4 @@ pub mod Numbers
 pub mod Weights
 pub mod Valid
 pub mod Source
+pub mod Held
