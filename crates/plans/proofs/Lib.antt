@@ -7,3 +7,4 @@ pub mod Weights
 pub mod Valid
 pub mod Source
 pub mod Held
+mod Examples

@@ -21,7 +21,7 @@ use Rattle.cells.specs.Drawings.{Drawing}
 use Rattle.cells.specs.Streams.{Item, area, whole, source}
 use Rattle.cells.specs.Rows.{Row, opens, bar, closes, named, segment, rowsOf}
 use Rattle.plans.specs.Plans.{nexts, contoursHere, contoursFrom, entriesFrom, drawingFrom}
-use Rattle.plans.specs.Source.{endOf, sourceFrom, sourceOf}
+use Rattle.plans.specs.Source.{edgeEnd, sourceFrom, sourceOf}
 use Rattle.plans.proofs.Runs.{Accepts, Runs, start, runs}
 use Rattle.plans.proofs.Fits.{entries-flat}
 use Rattle.plans.proofs.Numbers.{Follows, follows-here, follows-rest, follows-all}
@@ -50,7 +50,7 @@ rows-append [] y = refl
 rows-append (l ∷ x) y = ap (λ z. segment (drawn l) ∷ z) (rows-append x y)
 
 -- one more corner in front
-edge-more : (rs : List Record) (c first : ℕ) → segment (drawn (line c (endOf rs c first))) ∷ lineRows (linesFrom first (suc c) (nexts rs)) ≡ lineRows (linesFrom first c (suc (nexts rs)))
+edge-more : (rs : List Record) (c first : ℕ) → segment (drawn (line c (edgeEnd rs c first))) ∷ lineRows (linesFrom first (suc c) (nexts rs)) ≡ lineRows (linesFrom first c (suc (nexts rs)))
 edge-more [] c first = refl
 edge-more (Area f ∷ rs) c first = refl
 edge-more (First x y ∷ rs) c first = refl
@@ -108,7 +108,7 @@ module _ (all : List (List Contour)) where
   after-mark : (rs : List Record) (p : Progress) (a c first : ℕ) → p .run ≡ 0 → p .held ≡ false → Runs p rs → rowsBy (nexts rs) (contoursHere c rs) c first (entriesFrom a rs) ≡ written (entriesFrom a rs)
   after-mark rs p a c first e g h = ap₂ (λ n cs. rowsBy n cs c first (entriesFrom a rs)) (no-next rs p e h) (no-corner rs p c e g h)
 
-  first-rows : (rs : List Record) (c : ℕ) (es : List (Entry ℕ)) → segment (drawn (line c (endOf rs c c))) ∷ rowsBy (nexts rs) (contoursHere (suc c) rs) (suc c) c es
+  first-rows : (rs : List Record) (c : ℕ) (es : List (Entry ℕ)) → segment (drawn (line c (edgeEnd rs c c))) ∷ rowsBy (nexts rs) (contoursHere (suc c) rs) (suc c) c es
       ≡ lineRows (linesOf (contour c (suc (nexts rs)) ∷ contoursHere (suc c) rs)) ++ written es
   first-rows rs c es =
       ap (λ z. z ++ (lineRows (linesOf (contoursHere (suc c) rs)) ++ written es)) (edge-more rs c c)
@@ -122,9 +122,9 @@ module _ (all : List (List Contour)) where
       (source-by rs (after p (Area f)) (suc a) c first (h .1) (follows-rest all [] a (contoursHere c rs) (contoursFrom c rs) l)
       ∙ ap₂ (λ n cs. rowsBy n cs c first (entriesFrom (suc a) rs)) (no-next rs (after p (Area f)) refl (h .1)) (sym (follows-here all [] a (contoursHere c rs) (contoursFrom c rs) l)))
   source-by (First x y ∷ rs) p a c first h l =
-      ap (λ z. segment (drawn (line c (endOf rs c c))) ∷ z) (source-by rs (after p (First x y)) a (suc c) c (h .1) l) ∙ first-rows rs c (entriesFrom a rs)
+      ap (λ z. segment (drawn (line c (edgeEnd rs c c))) ∷ z) (source-by rs (after p (First x y)) a (suc c) c (h .1) l) ∙ first-rows rs c (entriesFrom a rs)
   source-by (Next x y ∷ rs) p a c first h l =
-      ap (λ z. segment (drawn (line c (endOf rs c first))) ∷ z) (source-by rs (after p (Next x y)) a (suc c) first (h .1) l)
+      ap (λ z. segment (drawn (line c (edgeEnd rs c first))) ∷ z) (source-by rs (after p (Next x y)) a (suc c) first (h .1) l)
       ∙ ap (λ z. z ++ (lineRows (linesOf (contoursHere (suc c) rs)) ++ written (entriesFrom a rs))) (edge-more rs c first)
   source-by (Open ∷ rs) p a c first h l = ap (λ z. opens ∷ z) (source-by rs (after p Open) a c first (h .1) l ∙ after-mark rs (after p Open) a c first refl refl (h .1))
   source-by (Bar ∷ rs) p a c first h l = ap (λ z. bar ∷ z) (source-by rs (after p Bar) a c first (h .1) l ∙ after-mark rs (after p Bar) a c first refl refl (h .1))

@@ -30,7 +30,8 @@ nexts (Open ∷ rs) = 0
 nexts (Bar ∷ rs) = 0
 nexts (Close ∷ rs) = 0
 
--- "2, first corner of a contour": the contours up to the next area or delimiter; the first corner among these records is corner c
+-- "2, first corner of a contour": the contours begun before the next area or delimiter, each with its first corner and the next corners straight
+-- after it; the first corner among these records is corner c
 abbrev pub contoursHere : (c : ℕ) → List Record → List Contour
 contoursHere c [] = []
 contoursHere c (Area f ∷ rs) = []
