@@ -1,7 +1,6 @@
 -- The plan of an accepted list of records has at most 8 open groups. Assumes nothing.
-use Prim.Native.Nat.{ℕ, suc, pred, _+_, _≤_, _<_, max}
-use mathlib.Core.Path.{_≡_, refl, sym, ap, _∙_, subst}
-use mathlib.Core.Bool.{true}
+use Prim.Native.Nat.{ℕ, suc, pred, _+_, _≤_, _<_}
+use mathlib.Core.Path.{_≡_, refl, _∙_, subst}
 use mathlib.Core.List.{List, [], _∷_}
 use native.Mathlib.Omega.{arith}
 use lib.ListN.{length}
@@ -10,12 +9,12 @@ use Rattle.groups.specs.Sides.{Frame, paintLeft, paintRight, clipLeft, clipRigh
 use Rattle.records.specs.declared.Record.{Record}
 use Rattle.records.specs.declared.Record.the-variants.{Area, First, Next, Open, Bar, Close}
 use Rattle.grammar.specs.Grammar.{Progress, after}
-use Rattle.pruning.specs.Sides.{Kind, paint, clip, Side, end, leaf, group, Entry, item, push, activate, pop, flat}
+use Rattle.pruning.specs.Sides.{Kind, paint, clip, Side, end, leaf, group, Entry, item, push, activate, pop}
 use Rattle.pruning.proofs.Sides.{flatOver, flat-is-over}
 use Rattle.pruning.specs.Grammar.{tree}
 use Rattle.ranges.specs.Valid.{depth}
 use Rattle.plans.specs.Plans.{entriesFrom}
-use Rattle.plans.proofs.Runs.{Accepts, Runs, start}
+use Rattle.plans.proofs.Runs.{Runs, start}
 use Rattle.plans.proofs.Fits.{entries-flat}
 
 -- with d groups open before these entries, no `(` opens a ninth

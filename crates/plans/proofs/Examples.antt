@@ -1,7 +1,6 @@
 -- Drawings and rows of a few records, computed from the definitions. Assumes nothing.
 use mathlib.Core.Path.{_≡_, refl}
-use mathlib.Core.List.{List, [], _∷_, map}
-use Prim.Native.Nat.{ℕ}
+use mathlib.Core.List.{List, [], _∷_}
 use native.Mathlib.Omega.{arith}
 use lib.IntN.{pos}
 use Rattle.geometry.specs.Edges.{counts, lineCounts, product, sign}
@@ -16,7 +15,7 @@ use Rattle.drawing.specs.Held.{Acceptable}
 use Rattle.pruning.specs.Sides.{end, leaf, group}
 use Rattle.cells.specs.Cells.{at}
 use Rattle.cells.specs.Segments.{drawn}
-use Rattle.cells.specs.Drawings.{Drawing, winding}
+use Rattle.cells.specs.Drawings.{winding}
 use Rattle.cells.specs.Rows.{opens, bar, closes, named, segment}
 use Rattle.ranges.specs.Valid.{lines, Valid}
 use Rattle.plans.specs.Plans.{drawingFrom}

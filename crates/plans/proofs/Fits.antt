@@ -1,23 +1,22 @@
 -- The entries of an accepted list of records fit the grammar of streams: so they are the stream of their tree. Assumes nothing.
 use Prim.Native.Nat.{ℕ, suc}
-use mathlib.Core.Path.{_≡_, refl, sym, ap, _∙_}
-use mathlib.Core.Bool.{Bool, true, false, cond, _&&_}
+use mathlib.Core.Path.{_≡_, refl}
+use mathlib.Core.Bool.{Bool, true, false, cond}
 use mathlib.Core.List.{List, [], _∷_}
 use lib.Dec.{eqb}
 use borrow.Author.Tests.{eqb-true}
 use Rattle.laws.proofs.Booleans.{clash, and-both}
 use Rattle.groups.specs.Sides.{Frame, paintLeft, paintRight, clipLeft, clipRight, isPaint, onLeft, onRight, opening, toRight, toOuter, isEmpty}
-use Rattle.records.specs.declared.Fields.{Fields}
 use Rattle.records.specs.declared.Record.{Record}
 use Rattle.records.specs.declared.Record.the-variants.{Area, First, Next, Open, Bar, Close}
 use Rattle.grammar.specs.Grammar.{Progress, after}
-use Rattle.pruning.specs.Sides.{Kind, paint, clip, Entry, item, push, activate, pop, flat}
+use Rattle.pruning.specs.Sides.{Kind, paint, clip, Entry, push, activate, pop, flat}
 use Rattle.pruning.specs.Grammar as Stream
 use Rattle.pruning.specs.Grammar.{inLeft, inRight, sameKind, tree}
 use Rattle.pruning.proofs.Grammar.{fits-flat}
 use Rattle.cells.specs.Drawings.{kindOf}
 use Rattle.plans.specs.Plans.{entriesFrom}
-use Rattle.plans.proofs.Runs.{Accepts, Runs, start}
+use Rattle.plans.proofs.Runs.{Runs, start}
 
 -- open groups of records as open groups of a stream
 abbrev opens : List Frame → List Stream.Open

@@ -1,7 +1,7 @@
 -- Tables that hold an accepted list of records hold the areas and corners of its drawing. Assumes nothing.
 use Prim.Native.Nat.{ℕ, zero, suc, _+_, _*_, _≤_, _<_}
 use mathlib.Core.Path.{_≡_, refl, sym, ap, _∙_, subst}
-use mathlib.Core.Bool.{true, _&&_}
+use mathlib.Core.Bool.{true}
 use mathlib.Core.List.{List, [], _∷_}
 use native.Mathlib.Omega.{arith}
 use lib.ListN.{length, getD, take}
@@ -9,12 +9,11 @@ use Rattle.laws.proofs.Booleans.{and-left, and-right}
 use Rattle.records.specs.declared.Fields.{Fields}
 use Rattle.records.specs.declared.Record.{Record}
 use Rattle.records.specs.declared.Record.the-variants.{Area, First, Next, Open, Bar, Close}
-use Rattle.records.specs.declared.Decoded.{Decoded}
 use Rattle.records.specs.declared.Decoded.the-variants.{Good}
 use Rattle.records.specs.Record.{inRange}
 use Rattle.grammar.specs.declared.Counts.{Counts}
 use Rattle.grammar.specs.Lists.{areasIn, cornersIn}
-use Rattle.reader.specs.Words.{Has, rowW, areaW, spread, allRange, areaWords, xWords, yWords}
+use Rattle.reader.specs.Words.{Has, rowW, spread, allRange, areaWords, xWords, yWords}
 use Rattle.reader.proofs.Files.{areas-length, xs-length, ys-length}
 use Rattle.drawing.specs.Tables.{Tables, cursor, areaRow}
 use Rattle.drawing.specs.Held.{Acceptable, Holding}
@@ -24,7 +23,7 @@ use Rattle.stream.specs.declared.Bounds.{Bounds}
 use Rattle.cells.specs.Drawings.{noFields}
 use Rattle.ranges.specs.Held.{fieldsFrom, Held}
 use Rattle.plans.specs.Plans.{fieldsIn, drawingFrom}
-use Rattle.plans.proofs.Runs.{Counted, counted}
+use Rattle.plans.proofs.Runs.{counted}
 use Rattle.plans.proofs.Numbers.{fields-length}
 
 -- ---- the areas
@@ -59,7 +58,8 @@ module _ (t : Tables) (u : Counts) where
   rows-held (Area f ∷ rs) i zero g h l m =
       subst (λ (j : ℕ). Reads j f) (omega arith) (area-read t u 0 (cursor i 0) f (and-left (inRange (Area f)) (allRange rs) g) (area-here (t .areas) f rs i h) (omega arith))
   rows-held (Area f ∷ rs) i (suc n) g h l m =
-      subst (λ (j : ℕ). Reads j (getD (fieldsIn rs) n noFields)) (omega arith) (rows-held rs (i + 1) n (and-right (inRange (Area f)) (allRange rs) g) (area-rest (t .areas) f rs i h) (omega arith) (omega arith))
+      subst (λ (j : ℕ). Reads j (getD (fieldsIn rs) n noFields)) (omega arith)
+      (rows-held rs (i + 1) n (and-right (inRange (Area f)) (allRange rs) g) (area-rest (t .areas) f rs i h) (omega arith) (omega arith))
   rows-held (First x y ∷ rs) i n g h l m = rows-held rs i n (and-right (inRange (First x y)) (allRange rs) g) h (omega arith) (omega arith)
   rows-held (Next x y ∷ rs) i n g h l m = rows-held rs i n (and-right (inRange (Next x y)) (allRange rs) g) h (omega arith) (omega arith)
   rows-held (Open ∷ rs) i n g h l m = rows-held rs i n g h (omega arith) (omega arith)
@@ -82,18 +82,18 @@ accepted-held t rs k a h b ea ec =
     let nc : b .corners ≡ cornersIn rs = ec ∙ c .corners in
     record {
       ready =
-        record {
-          areas = omega (arith, h .areas .room, areas-length rs);
-          xs = omega (arith, h .xs .room, xs-length rs);
-          ys = omega (arith, h .ys .room, ys-length rs);
-        };
+          record {
+            areas = omega (arith, h .areas .room, areas-length rs);
+            xs = omega (arith, h .xs .room, xs-length rs);
+            ys = omega (arith, h .ys .room, ys-length rs);
+          };
       areas-used = na ∙ sym (fields-length rs);
       corners-used = nc ∙ sym (xs-length rs);
       fields-same = fields-held (t .areas) rs 0 (b .areas) na (h .areas);
       xs-same = words-taken (t .xs) (xWords rs) (b .corners) (nc ∙ sym (xs-length rs)) (h .xs);
       ys-same = words-taken (t .ys) (yWords rs) (b .corners) (nc ∙ sym (ys-length rs)) (h .ys);
       rows = λ n l.
-        subst (λ (m : ℕ). areaRow (t .areas) m n ≡ Good (Area (getD (fieldsIn rs) n noFields))) (sym ea)
-        (subst (λ (j : ℕ). areaRow (t .areas) (k .areas) j ≡ Good (Area (getD (fieldsIn rs) n noFields))) (omega arith)
-        (rows-held t k rs 0 n (a .range) (h .areas) (omega (arith, c .areas)) (omega arith)));
+          subst (λ (m : ℕ). areaRow (t .areas) m n ≡ Good (Area (getD (fieldsIn rs) n noFields))) (sym ea)
+          (subst (λ (j : ℕ). areaRow (t .areas) (k .areas) j ≡ Good (Area (getD (fieldsIn rs) n noFields))) (omega arith)
+          (rows-held t k rs 0 n (a .range) (h .areas) (omega (arith, c .areas)) (omega arith)));
     }

@@ -1,21 +1,20 @@
 -- The numbers of a drawing made from records: its areas, their roles and fields, and its corners. Assumes nothing.
 use Prim.Native.Nat.{ℕ, zero, suc, _+_, _≤_, _<_}
 use mathlib.Core.Path.{_≡_, refl, sym, ap, _∙_, subst}
-use mathlib.Core.Bool.{true, _&&_}
+use mathlib.Core.Bool.{true}
 use mathlib.Core.List.{List, [], _∷_, _++_}
 use native.Mathlib.Omega.{arith}
 use native.Mathlib.Nat.{add-suc, suc-add, add-zero, zero-add}
 use lib.ListN.{length, getD}
 use Rattle.laws.proofs.Booleans.{and-left, and-right}
-use Rattle.geometry.specs.Windings.{Line, line, Contour, contour, linesFrom, contourLines, linesOf}
+use Rattle.geometry.specs.Windings.{Line, line, linesFrom, linesOf}
 use Rattle.records.specs.declared.Fields.{Fields}
 use Rattle.records.specs.declared.Record.{Record}
 use Rattle.records.specs.declared.Record.the-variants.{Area, First, Next, Open, Bar, Close}
 use Rattle.records.specs.Record.{areaRange, cornerRange, inRange}
 use Rattle.grammar.specs.Lists.{areasIn, cornersIn}
-use Rattle.reader.specs.Words.{spread, xW, yW, xWords, yWords, allRange}
+use Rattle.reader.specs.Words.{spread, xWords, yWords, allRange}
 use Rattle.pruning.specs.Sides.{Kind, paint, clip, Side, end, leaf, group, Entry, item, push, activate, pop, flat}
-use Rattle.pruning.specs.Grammar.{tree}
 use Rattle.cells.specs.Drawings.{noFields, kindOf}
 use Rattle.cells.specs.Streams.{Each, On}
 use Rattle.ranges.specs.Valid.{CornersBelow}
@@ -151,7 +150,8 @@ below-here : (m : ℕ) (rs : List Record) (c : ℕ) → c + cornersIn rs ≤ m �
 below-here m [] c h = tt
 below-here m (Area f ∷ rs) c h = tt
 below-here m (First x y ∷ rs) c h =
-    below-append m (linesFrom c c (suc (nexts rs))) (linesOf (contoursHere (suc c) rs)) (below-from m c c (suc (nexts rs)) (omega arith) (omega (arith, nexts-few rs))) (below-here m rs (suc c) (omega arith))
+    below-append m (linesFrom c c (suc (nexts rs))) (linesOf (contoursHere (suc c) rs))
+    (below-from m c c (suc (nexts rs)) (omega arith) (omega (arith, nexts-few rs))) (below-here m rs (suc c) (omega arith))
 below-here m (Next x y ∷ rs) c h = below-here m rs (suc c) (omega arith)
 below-here m (Open ∷ rs) c h = tt
 below-here m (Bar ∷ rs) c h = tt

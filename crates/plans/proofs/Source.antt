@@ -14,15 +14,14 @@ use Rattle.grammar.specs.declared.Counts.{Counts}
 use Rattle.grammar.specs.Grammar.{Progress, after}
 use Rattle.drawing.specs.Held.{Acceptable}
 use Rattle.pruning.specs.Sides.{Kind, paint, clip, Side, end, leaf, group, Entry, item, push, activate, pop, flat, mapSide}
-use Rattle.pruning.specs.Grammar.{tree}
 use Rattle.pruning.proofs.Sides.{flatOver, flat-is-over}
-use Rattle.cells.specs.Segments.{Segment, drawn}
+use Rattle.cells.specs.Segments.{drawn}
 use Rattle.cells.specs.Drawings.{Drawing}
-use Rattle.cells.specs.Streams.{Item, area, whole, source}
+use Rattle.cells.specs.Streams.{Item, whole, source}
 use Rattle.cells.specs.Rows.{Row, opens, bar, closes, named, segment, rowsOf}
 use Rattle.plans.specs.Plans.{nexts, contoursHere, contoursFrom, entriesFrom, drawingFrom}
 use Rattle.plans.specs.Source.{edgeEnd, sourceFrom, sourceOf}
-use Rattle.plans.proofs.Runs.{Accepts, Runs, start, runs}
+use Rattle.plans.proofs.Runs.{Runs, start, runs}
 use Rattle.plans.proofs.Fits.{entries-flat}
 use Rattle.plans.proofs.Numbers.{Follows, follows-here, follows-rest, follows-all}
 
@@ -105,7 +104,8 @@ module _ (all : List (List Contour)) where
   rowsBy n cs c first es = lineRows (linesFrom first c n) ++ (lineRows (linesOf cs) ++ written es)
 
   -- behind a delimiter there is neither
-  after-mark : (rs : List Record) (p : Progress) (a c first : ℕ) → p .run ≡ 0 → p .held ≡ false → Runs p rs → rowsBy (nexts rs) (contoursHere c rs) c first (entriesFrom a rs) ≡ written (entriesFrom a rs)
+  after-mark : (rs : List Record) (p : Progress) (a c first : ℕ) → p .run ≡ 0 → p .held ≡ false → Runs p rs
+      → rowsBy (nexts rs) (contoursHere c rs) c first (entriesFrom a rs) ≡ written (entriesFrom a rs)
   after-mark rs p a c first e g h = ap₂ (λ n cs. rowsBy n cs c first (entriesFrom a rs)) (no-next rs p e h) (no-corner rs p c e g h)
 
   first-rows : (rs : List Record) (c : ℕ) (es : List (Entry ℕ)) → segment (drawn (line c (edgeEnd rs c c))) ∷ rowsBy (nexts rs) (contoursHere (suc c) rs) (suc c) c es
@@ -115,7 +115,8 @@ module _ (all : List (List Contour)) where
       ∙ (sym (append-assoc (lineRows (linesFrom c c (suc (nexts rs)))) (lineRows (linesOf (contoursHere (suc c) rs))) (written es))
       ∙ ap (λ z. z ++ written es) (sym (rows-append (linesFrom c c (suc (nexts rs))) (linesOf (contoursHere (suc c) rs)))))
 
-  source-by : (rs : List Record) (p : Progress) (a c first : ℕ) → Runs p rs → Follows all [] a (contoursFrom c rs) → sourceFrom a c first rs ≡ rowsBy (nexts rs) (contoursHere c rs) c first (entriesFrom a rs)
+  source-by : (rs : List Record) (p : Progress) (a c first : ℕ) → Runs p rs → Follows all [] a (contoursFrom c rs)
+      → sourceFrom a c first rs ≡ rowsBy (nexts rs) (contoursHere c rs) c first (entriesFrom a rs)
   source-by [] p a c first h l = refl
   source-by (Area f ∷ rs) p a c first h l =
       ap (λ z. named a (pos 0) ∷ z)
@@ -133,7 +134,8 @@ module _ (all : List (List Contour)) where
 -- ---- the rows of the drawing
 
 module _ (D : Drawing) where
-  side-rows : (k : Kind) (s : Side ℕ) (z : List (Entry ℕ)) (w : List (Entry Item)) → rowsOf w ≡ written (D .contours) z → rowsOf (flatOver k (mapSide (whole D) s) w) ≡ written (D .contours) (flatOver k s z)
+  side-rows : (k : Kind) (s : Side ℕ) (z : List (Entry ℕ)) (w : List (Entry Item)) → rowsOf w ≡ written (D .contours) z
+      → rowsOf (flatOver k (mapSide (whole D) s) w) ≡ written (D .contours) (flatOver k s z)
   side-rows k end z w e = e
   side-rows k (leaf n t) z w e = ap₂ (λ x y. named n (pos 0) ∷ (x ++ y)) (lines-rows (linesAt (D .contours) n)) (side-rows k t z w e)
   side-rows k (group l r t) z w e =

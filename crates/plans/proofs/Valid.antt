@@ -1,20 +1,18 @@
 -- The drawing of an accepted list of records: every number is in range, every role fits its side, nothing is over its limit. Assumes nothing.
-use Prim.Native.Nat.{ℕ, _≤_, _+_}
-use mathlib.Core.Path.{_≡_, refl, sym, ap, _∙_}
+use mathlib.Core.Path.{_≡_, sym, _∙_}
 use mathlib.Core.List.{List}
 use native.Mathlib.Omega.{arith}
 use lib.ListN.{length}
 use Rattle.records.specs.declared.Record.{Record}
 use Rattle.grammar.specs.declared.Counts.{Counts}
-use Rattle.grammar.specs.Lists.{areasIn, cornersIn}
-use Rattle.reader.specs.Words.{xWords, yWords}
+use Rattle.reader.specs.Words.{xWords}
 use Rattle.reader.proofs.Files.{xs-length, ys-length}
 use Rattle.drawing.specs.Held.{Acceptable}
 use Rattle.pruning.specs.Sides.{paint, flat}
 use Rattle.pruning.specs.Grammar.{tree}
 use Rattle.ranges.specs.Valid.{Valid}
 use Rattle.plans.specs.Plans.{entriesFrom, drawingFrom}
-use Rattle.plans.proofs.Runs.{Runs, start, runs, Counted, counted}
+use Rattle.plans.proofs.Runs.{Runs, start, runs, counted}
 use Rattle.plans.proofs.Fits.{entries-flat}
 use Rattle.plans.proofs.Depths.{plan-depth}
 use Rattle.plans.proofs.Numbers.{fields-length, fields-range, corners-range, plan-roles, plan-numbers, below-each}
