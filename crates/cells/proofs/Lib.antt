@@ -6,3 +6,4 @@ pub mod Streams
 pub mod Bounds
 pub mod Rows
 mod Examples
+pub mod Making

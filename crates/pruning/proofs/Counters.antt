@@ -19,8 +19,8 @@ abbrev pub Chain : ℕ → List Frame → Type 0
 Chain b [] = Unit {0}
 Chain b (frame left s o ∷ fs) = (s ≤ b) × ((o ≤ s) × Chain o fs)
 Chain b (frame right s o ∷ fs) = (s ≤ b) × ((o ≤ s) × Chain o fs)
-Chain b (frame through s o ∷ fs) = (b ≡ o) × Chain o fs
-Chain b (frame dead s o ∷ fs) = (b ≡ o) × Chain o fs
+Chain b (frame through s o ∷ fs) = (b ≡ o) × (s ≡ o) × Chain o fs
+Chain b (frame dead s o ∷ fs) = (b ≡ o) × (s ≡ o) × Chain o fs
 
 abbrev pub Fit : Count → Type 0
 Fit (ct n b w fs) = (b ≤ n) × Chain b fs
@@ -47,14 +47,14 @@ module _ (I : Items) (Row : Type 0) (enc : Entry (I .Item) → List Row) (enc-so
 
   left-keeps : (t : Bool) (out : List Row) (b s o : ℕ) (fs : List Frame) → b ≤ length out → Chain b (frame left s o ∷ fs)
       → (count (keepLeft I Row enc t s o out fs) ≡ countKeepLeft I wid t s o (length out) fs) × Fit (countKeepLeft I wid t s o (length out) fs)
-  left-keeps true out b s o fs h c = (rw (length-take-le s out (omega arith)), (c .1 .0, (refl, c .1 .1)))
+  left-keeps true out b s o fs h c = (rw (length-take-le s out (omega arith)), (c .1 .0, (refl, refl, c .1 .1)))
   left-keeps false out b s o fs h c = (rw (length-append out (enc activate)), (omega arith, (omega arith, (c .1 .0, c .1 .1))))
 
   left-counts : (out : List Row) (b : ℕ) (w : Skip) (fs : List Frame) → b ≤ length out → Chain b fs
       → (count (endLeft I Row enc out b w fs) ≡ countLeft I wid (length out) b w fs) × Fit (countLeft I wid (length out) b w fs)
   left-counts out b w [] h c = (refl, (h, c))
   left-counts out b going (frame left s o ∷ fs) h c = left-keeps (eqb (length out) b) out b s o fs h c
-  left-counts out b (shut m) (frame left s o ∷ fs) h c = (rw (length-take-le s out (omega arith)), (c .1 .0, (refl, c .1 .1)))
+  left-counts out b (shut m) (frame left s o ∷ fs) h c = (rw (length-take-le s out (omega arith)), (c .1 .0, (refl, refl, c .1 .1)))
   left-counts out b w (frame right s o ∷ fs) h c = (refl, (h, c))
   left-counts out b w (frame through s o ∷ fs) h c = (refl, (h, c))
   left-counts out b w (frame dead s o ∷ fs) h c = (refl, (h, c))
@@ -69,8 +69,8 @@ module _ (I : Items) (Row : Type 0) (enc : Entry (I .Item) → List Row) (enc-so
   right-counts out b w [] h c = (refl, (h, c))
   right-counts out b w (frame left s o ∷ fs) h c = (refl, (h, c))
   right-counts out b w (frame right s o ∷ fs) h c = right-keeps (eqb (length out) b) out b s o fs h c
-  right-counts out b w (frame through s o ∷ fs) h c = (refl, (h, rw (c .0) (c .1)))
-  right-counts out b w (frame dead s o ∷ fs) h c = (refl, (omega arith, c .1))
+  right-counts out b w (frame through s o ∷ fs) h c = (refl, (h, rw (c .0) (c .2)))
+  right-counts out b w (frame dead s o ∷ fs) h c = (refl, (omega arith, c .2))
 
   pub step-counts : (x : State Row) (e : Entry Item) → Fit (count x) → (count (step′ x e) ≡ countStep I wid (count x) e) × Fit (countStep I wid (count x) e)
   step-counts (st out b going fs) (item k a) f = item-counts k (class k a) a out b fs (f .0) (f .1)

@@ -11,6 +11,7 @@ pub mod Registers
 pub mod Pruner
 pub mod Counters
 pub mod Effects
+pub mod Weights
 pub mod Grammar
 pub mod Bounded
 mod Examples

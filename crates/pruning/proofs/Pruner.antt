@@ -212,11 +212,11 @@ module _ (I : Items) (Row : Type 0) (enc : Entry (I .Item) → List Row) (enc-so
   take-back q x e = rw (append-assoc q e x, take-append-seam q (e ++ x))
 
   at-bar-always : (q : List Row) (x : Side Item) (b : ℕ) (fs : List Frame) → hasOne I clip x ≡ true
-      → step I Row enc (at clip (q ++ enc push) x (frame left (length q) b ∷ fs)) activate ≡ st q b going (frame through (length q) b ∷ fs)
+      → step I Row enc (at clip (q ++ enc push) x (frame left (length q) b ∷ fs)) activate ≡ st q b going (frame through b b ∷ fs)
   at-bar-always q x b fs h = rw (h, take-back q (rows I Row enc clip x) (enc push))
 
   at-bar-empty : (q : List Row) (b : ℕ) (fs : List Frame)
-      → step I Row enc (at clip (q ++ enc push) end (frame left (length q) b ∷ fs)) activate ≡ st q b (shut 0) (frame dead (length q) b ∷ fs)
+      → step I Row enc (at clip (q ++ enc push) end (frame left (length q) b ∷ fs)) activate ≡ st q b (shut 0) (frame dead b b ∷ fs)
   at-bar-empty q b fs = rw (ungrown (q ++ enc push), take-back q [] (enc push))
 
   at-bar-mixed : (k : Kind) (q : List Row) (x : Side Item) (b : ℕ) (fs : List Frame) → isEnd x ≡ false → hasOne I clip x ≡ false
@@ -280,16 +280,19 @@ module _ (I : Items) (Row : Type 0) (enc : Entry (I .Item) → List Row) (enc-so
     abbrev in-group : Place → List Frame
     in-group p = frame p (length q) (length pre) ∷ fs
 
+    abbrev past-left : Place → List Frame
+    past-left p = frame p (length pre) (length pre) ∷ fs
+
     case-empty : L ≡ end → run I Row enc (flatOver k r (pop ∷ T)) (step I Row enc (at clip (q ++ enc push) L (in-group left)) activate) ≡ run I Row enc z (at k pre (put I k y (put I k end N)) fs)
     case-empty e =
-        rw (e, at-bar-empty q (length pre) fs) (skip k r (pop ∷ T) q (length pre) 0 (in-group dead)
+        rw (e, at-bar-empty q (length pre) fs) (skip k r (pop ∷ T) q (length pre) 0 (past-left dead)
         ∙ (ap (run I Row enc T) (sym (at-open k pre y fs h)) ∙ (iht z pre y fs g ∙ ap (λ w. run I Row enc z (at k pre w fs)) (sym (put-seal k y N)))))
 
     case-always : hasOne I clip L ≡ true → run I Row enc (flatOver k r (pop ∷ T)) (step I Row enc (at clip (q ++ enc push) L (in-group left)) activate) ≡ run I Row enc z (at k pre (put I k y (put I k R N)) fs)
     case-always e =
-        ap (run I Row enc (flatOver k r (pop ∷ T))) (at-bar-always q L (length pre) fs e ∙ sym (at-open k pre y (in-group through) h))
-        ∙ (ihr (pop ∷ T) pre y (in-group through) g
-        ∙ (ap (run I Row enc T) (at-pop-through k pre (put I k y R) (length q) (length pre) fs)
+        ap (run I Row enc (flatOver k r (pop ∷ T))) (at-bar-always q L (length pre) fs e ∙ sym (at-open k pre y (past-left through) h))
+        ∙ (ihr (pop ∷ T) pre y (past-left through) g
+        ∙ (ap (run I Row enc T) (at-pop-through k pre (put I k y R) (length pre) (length pre) fs)
         ∙ (iht z pre (put I k y R) fs (good-put k y R (g .closed) (closed-normal I k r)) ∙ ap (λ w. run I Row enc z (at k pre w fs)) (sym (put-put I k y R N)))))
 
     after-right : (b : Bool) → isEnd R ≡ b → run I Row enc T (step I Row enc (at k (q ++ enc push ++ rows I Row enc clip L ++ enc activate) R (in-group right)) pop) ≡ run I Row enc z (at k pre (put I k y (put I k (oneGroup I mixed L R) N)) fs)

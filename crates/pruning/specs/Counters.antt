@@ -37,13 +37,13 @@ module _ (I : Items) (wid : Entry (I .Item) → ℕ) where
   countItem k other a n b fs = ct (n + wid (item k a)) b going fs
 
   abbrev pub countKeepLeft : Bool → ℕ → ℕ → ℕ → List Frame → Count
-  countKeepLeft true s o n fs = ct s o (shut 0) (frame dead s o ∷ fs)
+  countKeepLeft true s o n fs = ct s o (shut 0) (frame dead o o ∷ fs)
   countKeepLeft false s o n fs = ct (n + wid activate) (n + wid activate) going (frame right s o ∷ fs)
 
   abbrev pub countLeft : ℕ → ℕ → Skip → List Frame → Count
   countLeft n b w [] = ct n b w []
   countLeft n b going (frame left s o ∷ fs) = countKeepLeft (eqb n b) s o n fs
-  countLeft n b (shut m) (frame left s o ∷ fs) = ct s o going (frame through s o ∷ fs)
+  countLeft n b (shut m) (frame left s o ∷ fs) = ct s o going (frame through o o ∷ fs)
   countLeft n b w (frame right s o ∷ fs) = ct n b w (frame right s o ∷ fs)
   countLeft n b w (frame through s o ∷ fs) = ct n b w (frame through s o ∷ fs)
   countLeft n b w (frame dead s o ∷ fs) = ct n b w (frame dead s o ∷ fs)

@@ -11,4 +11,5 @@ pub mod Registers
 pub mod Pruner
 pub mod Counters
 pub mod Effects
+pub mod Weights
 pub mod Grammar

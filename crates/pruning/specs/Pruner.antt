@@ -12,7 +12,8 @@ use Rattle.pruning.specs.Items.{Items, Class, fails, passes, other}
 pub data Place : Type 0 where
   left right through dead : Place
 
--- an open group: its mode, the output's length at its `(`, where the side around it begins
+-- an open group: its mode, the output's length at its `(` (not needed any more where its left side always passes or is empty: then as the next), where
+-- the side around it begins
 pub data Frame : Type 0 where
   frame : Place → ℕ → ℕ → Frame
 
@@ -49,14 +50,14 @@ module _ (I : Items) (Row : Type 0) (enc : Entry (I .Item) → List Row) where
   addItem k other a out base fs = st (out ++ enc (item k a)) base going fs
 
   abbrev pub keepLeft : Bool → ℕ → ℕ → List Row → List Frame → State Row
-  keepLeft true start outer out fs = st (take start out) outer (shut 0) (frame dead start outer ∷ fs)
+  keepLeft true start outer out fs = st (take start out) outer (shut 0) (frame dead outer outer ∷ fs)
   keepLeft false start outer out fs = st (out ++ enc activate) (length (out ++ enc activate)) going (frame right start outer ∷ fs)
 
   -- at `|`
   abbrev pub endLeft : List Row → ℕ → Skip → List Frame → State Row
   endLeft out base w [] = st out base w []
   endLeft out base going (frame left start outer ∷ fs) = keepLeft (eqb (length out) base) start outer out fs
-  endLeft out base (shut n) (frame left start outer ∷ fs) = st (take start out) outer going (frame through start outer ∷ fs)
+  endLeft out base (shut n) (frame left start outer ∷ fs) = st (take start out) outer going (frame through outer outer ∷ fs)
   endLeft out base w (frame right start outer ∷ fs) = st out base w (frame right start outer ∷ fs)
   endLeft out base w (frame through start outer ∷ fs) = st out base w (frame through start outer ∷ fs)
   endLeft out base w (frame dead start outer ∷ fs) = st out base w (frame dead start outer ∷ fs)
