@@ -1,0 +1,2 @@
+-- Laws of the pruner's numbers.
+pub mod Laws

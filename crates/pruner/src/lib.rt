@@ -1,0 +1,213 @@
+// The one-pass pruner by numbers: how much is written, and where the open groups and the side being read begin in it. What an entry weighs is up to
+// the caller; a delimiter and the bare "passes" weigh 1.
+ghost use mathlib.Core.Path.{_≡_};
+ghost use mathlib.Core.List.{[], _∷_};
+ghost use Prim.Native.Nat.{_+_, _^_, _≤_, _<_};
+ghost use lib.ListN.{length, getD};
+ghost use Rattle.pruning.specs.Sides.{item, push, activate, pop};
+ghost use Rattle.pruning.specs.Pruner.{going};
+ghost use Rattle.pruning.specs.Counters.{ct, countStep};
+ghost use Rattle.pruning.specs.Weights.{sized, sizedItems, sizeOf};
+ghost use Rattle.pruner.specs.Numbers.{counted, skipOf, frameOf, framesOf, noFrame, classOf, kindOf, barN, closeN};
+
+// An open group. `mode`: 0 on its left side, 1 on its right side, 2 on its right side where its left always passes, 3 on its right side where its
+// left is empty. `start`: what was written at its `(`. `outer`: where the side around it begins.
+pub struct Frame {
+    pub mode: u32,
+    pub start: u64,
+    pub outer: u64,
+}
+
+// `length`: what is written. `base`: where the side begins. `skip`: 0, or 1 more than the groups opened since the side is skipped. `depth`: how many
+// frames are in use.
+pub struct Pruner {
+    pub length: u64,
+    pub base: u64,
+    pub skip: u32,
+    pub depth: usize,
+    pub frames: [Frame; 8],
+}
+
+// Nothing is written, and no group is open.
+pub fn begun() -> Pruner
+    ensures { λ r. ⌜ counted r ≡ ct 0 0 going [] ⌝ }
+{
+    let none = Frame {
+        mode: 0,
+        start: 0,
+        outer: 0,
+    };
+    let frames = [none; 8];
+    Pruner {
+        length: 0,
+        base: 0,
+        skip: 0,
+        depth: 0,
+        frames: frames,
+    }
+}
+
+// Frame d.
+fn frame_at(p: Pruner, d: usize) -> Frame
+    requires { ⌜ d < 8 ⌝ }
+    ensures { λ f. ⌜ f ≡ getD (p .frames) d noFrame ⌝ }
+{
+    let frames = p.frames;
+    frames[d]
+}
+
+// Frame d is the innermost, and is f.
+fn framed(p: Pruner, d: usize, f: Frame, length: u64, base: u64, skip: u32) -> Pruner
+    requires { ⌜ d < 8 ⌝ }
+    ensures { λ r. ⌜ counted r ≡ ct length base (skipOf skip) (frameOf f ∷ framesOf (p .frames) d) ⌝ }
+{
+    let mut frames = p.frames;
+    frames[d] = f;
+    Pruner {
+        length: length,
+        base: base,
+        skip: skip,
+        depth: d + 1,
+        frames: frames,
+    }
+}
+
+// The first d frames are in use.
+fn unframed(p: Pruner, d: usize, length: u64, base: u64, skip: u32) -> Pruner
+    ensures { λ r. ⌜ counted r ≡ ct length base (skipOf skip) (framesOf (p .frames) d) ⌝ }
+{
+    let frames = p.frames;
+    Pruner {
+        length: length,
+        base: base,
+        skip: skip,
+        depth: d,
+        frames: frames,
+    }
+}
+
+// An item of a paint side or of a clip side, of this class (0 fails, 1 passes, 2 neither) and weight.
+pub fn after_item(p: Pruner, paint: bool, class: u32, size: u64) -> Pruner
+    requires { ⌜ p .length + size < 2 ^ 62 ⌝ }
+    requires { ⌜ p .base < 2 ^ 62 ⌝ }
+    ensures { λ r. ⌜ counted r ≡ countStep sizedItems sizeOf (counted p) (item (kindOf paint) (sized (classOf class) size)) ⌝ }
+{
+    if p.skip == 0 {
+        if class == 0 {
+            return p;
+        }
+        if class == 1 {
+            if paint {
+                return unframed(p, p.depth, p.length + size, p.base, 1);
+            }
+            return unframed(p, p.depth, p.base + 1, p.base, 1);
+        }
+        return unframed(p, p.depth, p.length + size, p.base, 0);
+    }
+    p
+}
+
+// `(`
+pub fn after_open(p: Pruner) -> Pruner
+    requires { ⌜ p .length < 2 ^ 62 ⌝ }
+    requires { ⌜ p .skip < 4096 ⌝ }
+    requires { ⌜ (p .skip ≡ 0 → p .depth < 8) ⌝ }
+    ensures { λ r. ⌜ counted r ≡ countStep sizedItems sizeOf (counted p) push ⌝ }
+{
+    if p.skip == 0 {
+        let f = Frame {
+            mode: 0,
+            start: p.length,
+            outer: p.base,
+        };
+        return framed(p, p.depth, f, p.length + 1, p.length + 1, 0);
+    }
+    unframed(p, p.depth, p.length, p.base, p.skip + 1)
+}
+
+// `|` of the innermost group, frame d.
+fn at_bar(p: Pruner, d: usize, f: Frame) -> Pruner
+    requires { ⌜ p .length < 2 ^ 62 ⌝ }
+    requires { ⌜ d < 8 ⌝ }
+    ensures { λ r. ⌜ counted r ≡ barN p d f ⌝ }
+{
+    if f.mode == 0 {
+        if p.skip == 1 {
+            let through = Frame {
+                mode: 2,
+                start: f.outer,
+                outer: f.outer,
+            };
+            return framed(p, d, through, f.start, f.outer, 0);
+        }
+        if p.length == p.base {
+            let dead = Frame {
+                mode: 3,
+                start: f.outer,
+                outer: f.outer,
+            };
+            return framed(p, d, dead, f.start, f.outer, 1);
+        }
+        let right = Frame {
+            mode: 1,
+            start: f.start,
+            outer: f.outer,
+        };
+        return framed(p, d, right, p.length + 1, p.length + 1, 0);
+    }
+    p
+}
+
+// `)` of the innermost group, frame d.
+fn at_close(p: Pruner, d: usize, f: Frame) -> Pruner
+    requires { ⌜ p .length < 2 ^ 62 ⌝ }
+    ensures { λ r. ⌜ counted r ≡ closeN p d f ⌝ }
+{
+    if f.mode == 0 {
+        return p;
+    }
+    if f.mode == 1 {
+        if p.length == p.base {
+            return unframed(p, d, f.start, f.outer, 0);
+        }
+        return unframed(p, d, p.length + 1, f.outer, 0);
+    }
+    if f.mode == 2 {
+        return unframed(p, d, p.length, p.base, p.skip);
+    }
+    unframed(p, d, p.length, f.outer, 0)
+}
+
+// `|`
+pub fn after_bar(p: Pruner) -> Pruner
+    requires { ⌜ p .length < 2 ^ 62 ⌝ }
+    requires { ⌜ p .depth ≤ 8 ⌝ }
+    ensures { λ r. ⌜ counted r ≡ countStep sizedItems sizeOf (counted p) activate ⌝ }
+{
+    if p.skip <= 1 {
+        if p.depth == 0 {
+            return p;
+        }
+        let d = p.depth - 1;
+        let f = frame_at(p, d);
+        return at_bar(p, d, f);
+    }
+    p
+}
+
+// `)`
+pub fn after_close(p: Pruner) -> Pruner
+    requires { ⌜ p .length < 2 ^ 62 ⌝ }
+    requires { ⌜ p .depth ≤ 8 ⌝ }
+    ensures { λ r. ⌜ counted r ≡ countStep sizedItems sizeOf (counted p) pop ⌝ }
+{
+    if p.skip <= 1 {
+        if p.depth == 0 {
+            return p;
+        }
+        let d = p.depth - 1;
+        let f = frame_at(p, d);
+        return at_close(p, d, f);
+    }
+    unframed(p, p.depth, p.length, p.base, p.skip - 1)
+}
