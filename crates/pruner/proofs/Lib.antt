@@ -1,2 +1,3 @@
 -- Laws of the pruner's numbers.
 pub mod Laws
+pub mod Near

@@ -1,5 +1,5 @@
 -- The laws of reading.
-mod Laws
+pub mod Laws
 mod Steps
 mod Loop
 pub mod Words

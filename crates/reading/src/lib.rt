@@ -55,7 +55,7 @@ fn line_adds(xs: &[u32], ys: &[u32], w: Words, x: u32, y: u32) -> i64
 }
 
 // Whether an area with this winding passes.
-fn area_passes(areas: &[u32], n: usize, sum: i64) -> bool
+pub fn area_passes(areas: &[u32], n: usize, sum: i64) -> bool
     requires { ⌜ n * 8 + 8 ≤ length (now areas) ⌝ }
     ensures { λ r. ⌜ r ≡ passAt (now (areas .entry)) n sum ⌝ }
 {
@@ -81,7 +81,7 @@ fn after_area(areas: &[u32], m: Machine, n: u32, sum: i64) -> Machine
 }
 
 // The start number of an area.
-fn start_of(w: Words) -> i64
+pub fn start_of(w: Words) -> i64
     requires { ⌜ startRange (w .q) ≡ true ⌝ }
     ensures { λ r. ⌜ r ≡ toZ w32 (w .q) ⌝ }
 {

@@ -1,0 +1,3 @@
+-- Laws of the numbers of a making.
+pub mod Laws
+pub mod Rooms

@@ -1,0 +1,50 @@
+-- The numbers of a pruner after an area has settled are still far from their ends. Assumes nothing.
+use mathlib.Core.Path.{_≡_, refl, sym, ap, _∙_}
+use mathlib.Core.Bool.{Bool, true, false, cond}
+use mathlib.Core.List.{List}
+use Prim.Native.Nat.{ℕ, _+_, _^_, _≤_, _<_}
+use native.Mathlib.Omega.{arith}
+use lib.IntN.{ℤ, natAbs}
+use borrow.Author.Tests.{ne-eqb}
+use mir.Syntax.{w64}
+use mir.Val.{toZ, ofZ}
+use Rattle.pruning.specs.Sides.{Kind, item}
+use Rattle.pruning.specs.Items.{Class}
+use Rattle.pruning.specs.Counters.{Count, countStep}
+use Rattle.pruning.specs.Weights.{sized, sizedItems, sizeOf}
+use Rattle.pruner.specs.declared.Pruner.{Pruner}
+use Rattle.pruner.specs.Numbers.{counted, classOf}
+use Rattle.pruner.proofs.Near.{Near, near-same, item-near, counted-length, counted-base, counted-skip, counted-depth}
+use Rattle.reading.specs.Reading.{roleAt, passAt}
+use Rattle.reading.proofs.Laws.{small-back}
+use Rattle.making.specs.declared.Waiting.{Waiting}
+use Rattle.making.specs.Numbers.{classN, settledN, movedN, prunedN, Room}
+
+pub settled-near : (areas : List ℕ) (c : Count) (a : Waiting) → Near (a .size) c (settledN areas c a)
+settled-near areas c a = go (a .waits)
+  where
+    go : (b : Bool) → Near (a .size) c (cond b (countStep sizedItems sizeOf c (item (roleAt areas (a .number)) (sized (classOf (classN areas a)) (a .size)))) c)
+    go true = item-near (roleAt areas (a .number)) (classOf (classN areas a)) (a .size) c
+    go false = near-same (a .size) c
+
+pub room-after : (areas : List ℕ) (p q : Pruner) (a : Waiting) (kind : ℕ) → counted q ≡ settledN areas (counted p) a → Room p a kind
+    → ((q .length < 2 ^ 61) × (q .base < 2 ^ 61) × (q .skip < 4096) × (q .depth ≤ 8)) × (kind ≡ 1 → q .skip ≡ 0 → q .depth < 8)
+room-after areas p q a kind e r =
+    let n : Near (a .size) (counted p) (counted q) = rw e (settled-near areas (counted p) a) in
+    let d : q .depth ≡ p .depth = sym (counted-depth q) ∙ (n .depth-same ∙ counted-depth p) in
+    (
+    (
+    omega (arith, n .length-near, counted-length p, counted-length q, counted-base p, r .length, r .base),
+    omega (arith, n .base-same, counted-base p, counted-base q, r .base),
+    omega (arith, n .skip-near, counted-skip p, counted-skip q, r .skip),
+    omega (arith, d, r .depth),
+    ),
+    λ k z. rw d (r .deep k (sym (counted-skip p) ∙ n .skip-zero (counted-skip q ∙ z)))
+    )
+
+-- whether an area passes, by a start number that went through a word of 64 bits
+pub passes-same : (areas : List ℕ) (n : ℕ) (z : ℤ) (r b : Bool) → natAbs z ≤ 8192 → r ≡ passAt areas n (toZ w64 (ofZ w64 z)) → r ≡ b → passAt areas n z ≡ b
+passes-same areas n z r b h e t = ap (passAt areas n) (sym (small-back z h)) ∙ (sym e ∙ t)
+
+pub pruned-by : (areas : List ℕ) (c : Count) (a : Waiting) (kind : ℕ) (d r : Count) → (kind ≡ 5 → ⊥) → (kind ≡ 6 → ⊥) → r ≡ movedN kind d → d ≡ settledN areas c a → r ≡ prunedN areas c a kind
+pruned-by areas c a kind d r x y e f = rw (ne-eqb kind 5 x, ne-eqb kind 6 y) (e ∙ ap (movedN kind) f)

@@ -1,0 +1,17 @@
+-- Document 01, "Cells": the words of the stream that is made, in a cell, of the stream that the words of entries say. Assumes nothing.
+use mathlib.Core.List.{List, map}
+use Rattle.pruning.specs.Sides.{paint, flat}
+use Rattle.cells.specs.Cells.{Cell}
+use Rattle.cells.specs.Drawings.{Drawing}
+use Rattle.cells.specs.Streams.{made}
+use Rattle.cells.specs.Rows.{Row, rowsOf, streamOf, roleIn}
+use Rattle.stream.specs.declared.Words.{Words}
+use Rattle.reading.specs.Reading.{rowsIn}
+use Rattle.reading.specs.Words.{wordsOf}
+
+-- "A child is made from its parent's stream by this rule, orders kept. ... It is then pruned". The areas and corners that entries name are the drawing's.
+unfoldable pub rowsMade : Drawing → Cell → List Words → List Row
+rowsMade D c ws = rowsOf (flat paint (made D c (streamOf (roleIn D) (rowsIn ws))))
+
+unfoldable pub wordsMade : Drawing → Cell → List Words → List Words
+wordsMade D c ws = map wordsOf (rowsMade D c ws)

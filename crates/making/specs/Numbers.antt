@@ -1,0 +1,98 @@
+-- The making of a stream, one entry at a time, as the numbers that the code holds. `Rattle.making.proofs` says that they go as the rows do
+-- (`Rattle.cells.specs.Making`). Assumes nothing.
+use mathlib.Core.Path.{_≡_}
+use mathlib.Core.Bool.{Bool, true, false, cond}
+use mathlib.Core.List.{List}
+use Prim.Native.Nat.{ℕ, _+_, _*_, _^_, _<_, _≤_}
+use lib.Dec.{eqb}
+use lib.ListN.{getD}
+use lib.IntN.{ℤ, pos, _+ℤ_, natAbs}
+use mir.Syntax.{w32}
+use mir.Val.{toZ}
+use Rattle.geometry.specs.Edges.{sign}
+use Rattle.geometry.specs.Windings.{edgeBetween}
+use Rattle.geometry.specs.Classes.{edgeClass, cut}
+use Rattle.geometry.specs.declared.class.Class.{Class}
+use Rattle.geometry.specs.declared.class.Class.the-variants.{Dropped, Start, Shortcut, Kept}
+use Rattle.geometry.specs.declared.class.Square.{Square}
+use Rattle.pruning.specs.Sides.{clip, item, push, activate, pop}
+use Rattle.pruning.specs.Items.{passes}
+use Rattle.pruning.specs.Counters.{Count, countStep}
+use Rattle.pruning.specs.Weights.{sized, sizedItems, sizeOf}
+use Rattle.pruner.specs.declared.Pruner.{Pruner}
+use Rattle.pruner.specs.Numbers.{classOf}
+use Rattle.stream.specs.declared.Words.{Words}
+use Rattle.stream.specs.Entry.{signRange}
+use Rattle.stream.specs.Grammar.{lineRange}
+use Rattle.reading.specs.Reading.{roleAt, passAt, opaqueAt}
+use Rattle.making.specs.declared.Waiting.{Waiting}
+
+-- ---- what is left of a line or a shortcut in a square
+
+abbrev pub leftSign : (xs ys : List ℕ) → Words → ℤ
+leftSign xs ys w = cond (eqb (w .kind) 5) (sign (edgeBetween xs ys (w .p) (w .q))) (cond (eqb (w .kind) 6) (toZ w32 (w .p)) (pos 0))
+
+abbrev pub leftClass : (xs ys : List ℕ) → Square → Words → Class
+leftClass xs ys s w = cond (eqb (w .kind) 5) (edgeClass (edgeBetween xs ys (w .p) (w .q)) s) (cond (eqb (w .kind) 6) (cut (w .q) (w .r) (s .y) (s .side)) Dropped)
+
+-- its numbers are in range
+abbrev pub leftRange : (xs ys : List ℕ) (corners : ℕ) → Words → Bool
+leftRange xs ys corners w = cond (eqb (w .kind) 5) (lineRange xs ys corners (w .p) (w .q)) (cond (eqb (w .kind) 6) (signRange (w .p)) true)
+
+-- ---- the area that waits: its number, its start number, its weight with what is left of its lines and shortcuts
+
+abbrev pub waiting : Bool → ℕ → ℤ → ℕ → Waiting
+waiting b n z s = record { waits = b; number = n; start = z; size = s }
+
+abbrev pub resting : Waiting
+resting = waiting false 0 (pos 0) 0
+
+abbrev pub withClass : Class → Waiting → ℤ → Waiting
+withClass Dropped a z = a
+withClass Start a z = waiting true (a .number) (a .start +ℤ z) (a .size)
+withClass (Shortcut lo hi) a z = waiting true (a .number) (a .start) (a .size + 1)
+withClass Kept a z = waiting true (a .number) (a .start) (a .size + 65537)
+
+abbrev pub withLeft : Waiting → Class → ℤ → Waiting
+withLeft a f z = cond (a .waits) (withClass f a z) a
+
+-- an area alone weighs 4,294,967,297
+abbrev pub waitingN : Waiting → Class → ℤ → Words → Waiting
+waitingN a f z w =
+    cond (eqb (w .kind) 4) (waiting true (w .p) (toZ w32 (w .q)) 4294967297)
+    (cond (eqb (w .kind) 5) (withLeft a f z) (cond (eqb (w .kind) 6) (withLeft a f z) resting))
+
+-- ---- the pruner
+
+-- 0 fails, 1 passes, 2 neither
+abbrev pub classN : List ℕ → Waiting → ℕ
+classN areas a =
+    cond (eqb (a .size) 4294967297)
+    (cond (passAt areas (a .number) (a .start)) (cond (eqb (getD areas (a .number * 8) 0) 0) (cond (opaqueAt areas (a .number)) 1 2) 1) 0)
+    2
+
+abbrev pub settledN : List ℕ → Count → Waiting → Count
+settledN areas c a = cond (a .waits) (countStep sizedItems sizeOf c (item (roleAt areas (a .number)) (sized (classOf (classN areas a)) (a .size)))) c
+
+abbrev pub movedN : ℕ → Count → Count
+movedN kind c =
+    cond (eqb kind 1) (countStep sizedItems sizeOf c push)
+    (cond (eqb kind 2) (countStep sizedItems sizeOf c activate)
+    (cond (eqb kind 3) (countStep sizedItems sizeOf c pop)
+    (cond (eqb kind 7) (countStep sizedItems sizeOf c (item clip (sized passes 1))) c)))
+
+abbrev pub prunedN : List ℕ → Count → Waiting → ℕ → Count
+prunedN areas c a kind = cond (eqb kind 5) c (cond (eqb kind 6) c (movedN kind (settledN areas c a)))
+
+-- the numbers are far from their ends
+pub record Room (p : Pruner) (a : Waiting) (kind : ℕ) : Type 0 where
+  pub length : p .length + a .size < 2 ^ 60
+  pub base : p .base < 2 ^ 60
+  pub skip : p .skip < 4000
+  pub depth : p .depth ≤ 8
+  pub deep : kind ≡ 1 → p .skip ≡ 0 → p .depth < 8
+
+-- the area that waits is one of a table of so many words
+pub record Inside (words : ℕ) (a : Waiting) : Type 0 where
+  pub small : natAbs (a .start) ≤ 8192
+  pub inside : a .waits ≡ true → a .number * 8 + 8 ≤ words

@@ -1,0 +1,233 @@
+// A stream made from another in a cell, one entry at a time: counted, and then written.
+use geometry::class;
+use geometry::class::Class;
+use geometry::class::Square;
+use geometry::edge;
+use geometry::winding;
+use pruner::Pruner;
+use stream::Words;
+ghost use mathlib.Core.Path.{_≡_};
+ghost use mathlib.Core.Bool.{true};
+ghost use Prim.Native.Nat.{_+_, _*_, _^_, _≤_, _<_};
+ghost use lib.ListN.{length, getD};
+ghost use lib.IntN.{natAbs};
+ghost use mir.Syntax.{w32};
+ghost use mir.Val.{toZ};
+ghost use Rattle.geometry.specs.Edges.{sign};
+ghost use Rattle.geometry.specs.Windings.{edgeBetween};
+ghost use Rattle.geometry.specs.Classes.{edgeClass, cut};
+ghost use Rattle.geometry.specs.Reach.{EndsIn, SquareIn};
+ghost use Rattle.stream.specs.Entry.{startRange, signRange};
+ghost use Rattle.pruner.specs.Numbers.{counted};
+ghost use Rattle.making.specs.Numbers.{leftSign, leftClass, leftRange, waiting, resting, withLeft, waitingN, classN, settledN, movedN, prunedN, Room, Inside};
+
+// ---- what is left of a line or a shortcut in a square
+pub struct Left {
+    pub sign: i64,
+    pub class: Class,
+}
+
+fn line_left(xs: &[u32], ys: &[u32], s: Square, w: Words) -> Left
+    requires { ⌜ (w .p < length (now xs)) × (w .p < length (now ys)) × (w .q < length (now xs)) × (w .q < length (now ys)) ⌝ }
+    requires { ⌜ EndsIn (getD (now xs) (w .p) 0) (getD (now ys) (w .p) 0) (getD (now xs) (w .q) 0) (getD (now ys) (w .q) 0) ⌝ }
+    requires { ⌜ SquareIn s ⌝ }
+    ensures { λ r. ⌜ (r .sign ≡ sign (edgeBetween (now (xs .entry)) (now (ys .entry)) (w .p) (w .q))) × (r .class ≡ edgeClass (edgeBetween (now (xs .entry)) (now (ys .entry)) (w .p) (w .q)) s) ⌝ }
+{
+    let e = winding::edge_between(xs, ys, w.p as usize, w.q as usize);
+    let z = edge::edge_sign(e);
+    let k = class::classify(e, s);
+    Left { sign: z, class: k }
+}
+
+fn shortcut_left(s: Square, w: Words) -> Left
+    requires { ⌜ signRange (w .p) ≡ true ⌝ }
+    requires { ⌜ SquareIn s ⌝ }
+    ensures { λ r. ⌜ (r .sign ≡ toZ w32 (w .p)) × (r .class ≡ cut (w .q) (w .r) (s .y) (s .side)) ⌝ }
+{
+    let k = class::cut_rows(w.q, w.r, s);
+    if w.p == 1 {
+        return Left { sign: 1, class: k };
+    }
+    Left { sign: -1, class: k }
+}
+
+// Of an entry that is neither: nothing.
+pub fn left_of(xs: &[u32], ys: &[u32], corners: usize, s: Square, w: Words) -> Left
+    requires { ⌜ (corners ≤ length (now xs)) × (corners ≤ length (now ys)) ⌝ }
+    requires { ⌜ leftRange (now xs) (now ys) corners w ≡ true ⌝ }
+    requires { ⌜ SquareIn s ⌝ }
+    ensures { λ r. ⌜ (r .sign ≡ leftSign (now (xs .entry)) (now (ys .entry)) w) × (r .class ≡ leftClass (now (xs .entry)) (now (ys .entry)) s w) ⌝ }
+{
+    if w.kind == 5 {
+        return line_left(xs, ys, s, w);
+    }
+    if w.kind == 6 {
+        return shortcut_left(s, w);
+    }
+    Left { sign: 0, class: Class::Dropped }
+}
+
+// ---- the area that waits
+// Whether an area waits for its lines and shortcuts, its number, its start number, and its weight: 4,294,967,297 for the area, 65,537 for each
+// line, 1 for each shortcut.
+pub struct Waiting {
+    pub waits: bool,
+    pub number: u32,
+    pub start: i64,
+    pub size: u64,
+}
+
+// No area waits.
+pub fn rest() -> Waiting
+    ensures { λ r. ⌜ r ≡ resting ⌝ }
+{
+    Waiting {
+        waits: false,
+        number: 0,
+        start: 0,
+        size: 0,
+    }
+}
+
+fn named(w: Words) -> Waiting
+    requires { ⌜ startRange (w .q) ≡ true ⌝ }
+    ensures { λ r. ⌜ r ≡ waiting true (w .p) (toZ w32 (w .q)) 4294967297 ⌝ }
+{
+    let z = reading::start_of(w);
+    Waiting {
+        waits: true,
+        number: w.p,
+        start: z,
+        size: 4294967297,
+    }
+}
+
+// The same area with another weight.
+fn grown(a: Waiting, size: u64) -> Waiting
+    requires { ⌜ natAbs (a .start) ≤ 8192 ⌝ }
+    ensures { λ r. ⌜ r ≡ waiting true (a .number) (a .start) size ⌝ }
+{
+    Waiting {
+        waits: true,
+        number: a.number,
+        start: a.start,
+        size: size,
+    }
+}
+
+// A line or a shortcut with this sign and class, of the area that waits.
+fn with_left(a: Waiting, k: Class, sign: i64) -> Waiting
+    requires { ⌜ (natAbs (a .start) ≤ 8192) × (natAbs sign ≤ 1) × (a .size < 2 ^ 60) ⌝ }
+    ensures { λ r. ⌜ r ≡ withLeft a k sign ⌝ }
+{
+    if a.waits {
+        match k {
+            Class::Dropped => {
+                return a;
+            }
+            Class::Start => {
+                return Waiting {
+                    waits: true,
+                    number: a.number,
+                    start: a.start + sign,
+                    size: a.size,
+                };
+            }
+            Class::Shortcut(_, _) => {
+                return grown(a, a.size + 1);
+            }
+            Class::Kept => {
+                return grown(a, a.size + 65537);
+            }
+        }
+    }
+    a
+}
+
+// After an entry, of which l is left.
+pub fn waiting_after(a: Waiting, l: Left, w: Words) -> Waiting
+    requires { ⌜ (natAbs (a .start) ≤ 8192) × (natAbs (l .sign) ≤ 1) × (a .size < 2 ^ 60) ⌝ }
+    requires { ⌜ (w .kind ≡ 4 → startRange (w .q) ≡ true) ⌝ }
+    ensures { λ r. ⌜ r ≡ waitingN a (l .class) (l .sign) w ⌝ }
+{
+    if w.kind == 4 {
+        return named(w);
+    }
+    let k = l.class;
+    if w.kind == 5 {
+        return with_left(a, k, l.sign);
+    }
+    if w.kind == 6 {
+        return with_left(a, k, l.sign);
+    }
+    rest()
+}
+
+// ---- the pruner
+// The class of the area that waits: 0 fails, 1 passes, 2 neither.
+fn class_of(areas: &[u32], a: Waiting) -> u32
+    requires { ⌜ natAbs (a .start) ≤ 8192 ⌝ }
+    requires { ⌜ a .number * 8 + 8 ≤ length (now areas) ⌝ }
+    ensures { λ r. ⌜ r ≡ classN (now (areas .entry)) a ⌝ }
+{
+    if a.size == 4294967297 {
+        let at = (a.number as usize) * 8;
+        if reading::area_passes(areas, a.number as usize, a.start) {
+            if areas[at] == 0 {
+                if areas[at + 2] == 255 {
+                    return 1;
+                }
+                return 2;
+            }
+            return 1;
+        }
+        return 0;
+    }
+    2
+}
+
+// After the area that waits, if one does.
+pub fn settled(areas: &[u32], p: Pruner, a: Waiting) -> Pruner
+    requires { ⌜ Inside (length (now areas)) a ⌝ }
+    requires { ⌜ (p .length + a .size < 2 ^ 60) × (p .base < 2 ^ 60) ⌝ }
+    ensures { λ r. ⌜ counted r ≡ settledN (now (areas .entry)) (counted p) a ⌝ }
+{
+    if a.waits {
+        let k = class_of(areas, a);
+        let at = (a.number as usize) * 8;
+        let paint = areas[at] == 0;
+        return pruner::after_item(p, paint, k, a.size);
+    }
+    p
+}
+
+// After a delimiter, "passes", or an area, which only waits.
+fn moved(p: Pruner, kind: u32) -> Pruner
+    requires { ⌜ (p .length < 2 ^ 61) × (p .base < 2 ^ 61) × (p .skip < 4096) × (p .depth ≤ 8) ⌝ }
+    requires { ⌜ (kind ≡ 1 → p .skip ≡ 0 → p .depth < 8) ⌝ }
+    ensures { λ r. ⌜ counted r ≡ movedN kind (counted p) ⌝ }
+{
+    match kind {
+        1 => pruner::after_open(p),
+        2 => pruner::after_bar(p),
+        3 => pruner::after_close(p),
+        7 => pruner::after_item(p, false, 1, 1),
+        _ => p,
+    }
+}
+
+// After an entry.
+pub fn pruner_after(areas: &[u32], p: Pruner, a: Waiting, kind: u32) -> Pruner
+    requires { ⌜ Inside (length (now areas)) a ⌝ }
+    requires { ⌜ Room p a kind ⌝ }
+    ensures { λ r. ⌜ counted r ≡ prunedN (now (areas .entry)) (counted p) a kind ⌝ }
+{
+    if kind == 5 {
+        return p;
+    }
+    if kind == 6 {
+        return p;
+    }
+    let q = settled(areas, p, a);
+    moved(q, kind)
+}

@@ -1,0 +1,73 @@
+-- How far an item moves the pruner's numbers. Assumes nothing.
+use mathlib.Core.Path.{_≡_, refl, sym, ap, _∙_}
+use mathlib.Core.List.{List, [], _∷_}
+use Prim.Native.Nat.{ℕ, zero, suc, _+_, _≤_}
+use native.Mathlib.Omega.{arith}
+use lib.ListN.{length}
+use Rattle.pruning.specs.Sides.{Kind, paint, clip, item}
+use Rattle.pruning.specs.Items as Items
+use Rattle.pruning.specs.Items.{fails, passes, other}
+use Rattle.pruning.specs.Pruner as Pruning
+use Rattle.pruning.specs.Pruner.{Skip, going, shut}
+use Rattle.pruning.specs.Counters.{Count, ct, lengthOf, countStep}
+use Rattle.pruning.specs.Weights.{sized, sizedItems, sizeOf}
+use Rattle.pruning.proofs.Bounded.{frames}
+use Rattle.pruner.specs.declared.Frame.{Frame}
+use Rattle.pruner.specs.declared.Pruner.{Pruner}
+use Rattle.pruner.specs.Numbers.{skipOf, framesOf, counted}
+
+-- ---- the numbers of a count
+
+abbrev pub baseOf : Count → ℕ
+baseOf (ct n b w fs) = b
+
+abbrev skipNumber : Skip → ℕ
+skipNumber going = 0
+skipNumber (shut m) = suc m
+
+abbrev pub skipIn : Count → ℕ
+skipIn (ct n b w fs) = skipNumber w
+
+skip-back : (n : ℕ) → skipNumber (skipOf n) ≡ n
+skip-back zero = refl
+skip-back (suc n) = refl
+
+frames-length : (l : List Frame) (d : ℕ) → length (framesOf l d) ≡ d
+frames-length l zero = refl
+frames-length l (suc d) = ap suc (frames-length l d)
+
+module _ (p : Pruner) where
+  pub counted-length : lengthOf (counted p) ≡ p .length
+  unfolding counted
+  counted-length = refl
+
+  pub counted-base : baseOf (counted p) ≡ p .base
+  unfolding counted
+  counted-base = refl
+
+  pub counted-skip : skipIn (counted p) ≡ p .skip
+  unfolding counted
+  counted-skip = skip-back (p .skip)
+
+  pub counted-depth : frames (counted p) ≡ p .depth
+  unfolding counted
+  counted-depth = frames-length (p .frames) (p .depth)
+
+-- ---- after an item
+
+pub record Near (size : ℕ) (c d : Count) : Type 0 where
+  pub length-near : lengthOf d ≤ lengthOf c + baseOf c + size + 1
+  pub base-same : baseOf d ≡ baseOf c
+  pub depth-same : frames d ≡ frames c
+  pub skip-near : skipIn d ≤ skipIn c + 1
+  pub skip-zero : skipIn d ≡ 0 → skipIn c ≡ 0
+
+pub near-same : (size : ℕ) (c : Count) → Near size c c
+near-same size c = record { length-near = omega arith; base-same = refl; depth-same = refl; skip-near = omega arith; skip-zero = λ e. e }
+
+pub item-near : (k : Kind) (d : Items.Class) (size : ℕ) (c : Count) → Near size c (countStep sizedItems sizeOf c (item k (sized d size)))
+item-near k d size (ct n b (shut m) fs) = near-same size (ct n b (shut m) fs)
+item-near k fails size (ct n b going fs) = near-same size (ct n b going fs)
+item-near paint passes size (ct n b going fs) = record { length-near = omega arith; base-same = refl; depth-same = refl; skip-near = omega arith; skip-zero = λ e. refl }
+item-near clip passes size (ct n b going fs) = record { length-near = omega arith; base-same = refl; depth-same = refl; skip-near = omega arith; skip-zero = λ e. refl }
+item-near k other size (ct n b going fs) = record { length-near = omega arith; base-same = refl; depth-same = refl; skip-near = omega arith; skip-zero = λ e. refl }
