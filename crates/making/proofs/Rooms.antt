@@ -31,15 +31,14 @@ pub room-after : (areas : List ℕ) (p q : Pruner) (a : Waiting) (kind : ℕ) �
     → ((q .length < 2 ^ 61) × (q .base < 2 ^ 61) × (q .skip < 4096) × (q .depth ≤ 8)) × (kind ≡ 1 → q .skip ≡ 0 → q .depth < 8)
 room-after areas p q a kind e r =
     let n : Near (a .size) (counted p) (counted q) = rw e (settled-near areas (counted p) a) in
-    let d : q .depth ≡ p .depth = sym (counted-depth q) ∙ (n .depth-same ∙ counted-depth p) in
-    (
-    (
-    omega (arith, n .length-near, counted-length p, counted-length q, counted-base p, r .length, r .base),
-    omega (arith, n .base-same, counted-base p, counted-base q, r .base),
-    omega (arith, n .skip-near, counted-skip p, counted-skip q, r .skip),
-    omega (arith, d, r .depth),
-    ),
-    λ k z. rw d (r .deep k (sym (counted-skip p) ∙ n .skip-zero (counted-skip q ∙ z)))
+    let d : q .depth ≡ p .depth = sym (counted-depth q) ∙ (n .depth-same ∙ counted-depth p) in (
+      (
+        omega (arith, n .length-near, counted-length p, counted-length q, counted-base p, r .length, r .base),
+        omega (arith, n .base-same, counted-base p, counted-base q, r .base),
+        omega (arith, n .skip-near, counted-skip p, counted-skip q, r .skip),
+        omega (arith, d, r .depth),
+      ),
+      λ k z. rw d (r .deep k (sym (counted-skip p) ∙ n .skip-zero (counted-skip q ∙ z))),
     )
 
 -- whether an area passes, by a start number that went through a word of 64 bits

@@ -64,7 +64,10 @@ pub fn left_of(xs: &[u32], ys: &[u32], corners: usize, s: Square, w: Words) -> L
     if w.kind == 6 {
         return shortcut_left(s, w);
     }
-    Left { sign: 0, class: Class::Dropped }
+    Left {
+        sign: 0,
+        class: Class::Dropped,
+    }
 }
 
 // ---- the area that waits

@@ -142,3 +142,46 @@ module _ (I : Items) (Row : Type 0) (enc : Entry (I .Item) → List Row) (enc-so
   opened-step (ct n b (shut zero) fs) pop = omega (arith, opened-right n b (shut zero) fs refl)
   opened-step (ct n b (shut (suc m)) fs) activate = omega arith
   opened-step (ct n b (shut (suc m)) fs) pop = omega arith
+
+  -- an entry adds at most its own rows, where the bare item has no more rows than another
+  module _ (bare-short : (a : Item) → wid (item clip bare) ≤ wid (item clip a)) where
+    grows-item : (k : Kind) (c : Class) (a : Item) (n b : ℕ) (fs : List Frame) → b ≤ n → lengthOf (countItem I wid k c a n b fs) ≤ n + wid (item k a)
+    grows-item k fails a n b fs h = omega arith
+    grows-item paint passes a n b fs h = omega arith
+    grows-item clip passes a n b fs h = omega (arith, bare-short a)
+    grows-item k other a n b fs h = omega arith
+
+    grows-left : (n b : ℕ) (w : Skip) (fs : List Frame) → b ≤ n → Chain b fs → lengthOf (countLeft I wid n b w fs) ≤ n + wid activate
+    grows-left n b w [] h c = omega arith
+    grows-left n b going (frame left s o ∷ fs) h c = go (eqb n b)
+      where
+        go : (t : Bool) → lengthOf (countKeepLeft I wid t s o n fs) ≤ n + wid activate
+        go true = omega arith
+        go false = omega arith
+    grows-left n b (shut m) (frame left s o ∷ fs) h c = omega arith
+    grows-left n b w (frame right s o ∷ fs) h c = omega arith
+    grows-left n b w (frame through s o ∷ fs) h c = omega arith
+    grows-left n b w (frame dead s o ∷ fs) h c = omega arith
+
+    grows-right : (n b : ℕ) (w : Skip) (fs : List Frame) → b ≤ n → Chain b fs → lengthOf (countRight I wid n b w fs) ≤ n + wid pop
+    grows-right n b w [] h c = omega arith
+    grows-right n b w (frame left s o ∷ fs) h c = omega arith
+    grows-right n b w (frame right s o ∷ fs) h c = go (eqb n b)
+      where
+        go : (t : Bool) → lengthOf (countKeepRight I wid t s o n fs) ≤ n + wid pop
+        go true = omega arith
+        go false = omega arith
+    grows-right n b w (frame through s o ∷ fs) h c = omega arith
+    grows-right n b w (frame dead s o ∷ fs) h c = omega arith
+
+    pub count-grows : (c : Count) (e : Entry Item) → Fit c → lengthOf (countStep I wid c e) ≤ lengthOf c + wid e
+    count-grows (ct n b going fs) (item k a) f = grows-item k (class k a) a n b fs (f .0)
+    count-grows (ct n b going fs) push f = omega arith
+    count-grows (ct n b going fs) activate f = grows-left n b going fs (f .0) (f .1)
+    count-grows (ct n b going fs) pop f = grows-right n b going fs (f .0) (f .1)
+    count-grows (ct n b (shut m) fs) (item k a) f = omega arith
+    count-grows (ct n b (shut m) fs) push f = omega arith
+    count-grows (ct n b (shut zero) fs) activate f = grows-left n b (shut zero) fs (f .0) (f .1)
+    count-grows (ct n b (shut zero) fs) pop f = grows-right n b (shut zero) fs (f .0) (f .1)
+    count-grows (ct n b (shut (suc m)) fs) activate f = omega arith
+    count-grows (ct n b (shut (suc m)) fs) pop f = omega arith

@@ -47,19 +47,19 @@ shared-slice-read-if4 c = search needs
 
 -- src/lib.rt:178:21
 returns : tie.Need-returns
-returns c = let a = c .before .before .before .before .before .before .before .before .before .before .before .before  .args in let p = c .before .before .before .before .before .before .before .before .before .before .before .before  .pre in search (tests, passes-same (now (a .areas)) (a .a .number) (a .a .start) _ true (p .0) (c .before .before .before .before .before  .area-passes .ensures) (c .before .before .before .before  .if2 .taken))
+returns c = let a = c .before .before .before .before .before .before .before .before .before .before .before .before .args in let p = c .before .before .before .before .before .before .before .before .before .before .before .before .pre in search (tests, passes-same (now (a .areas)) (a .a .number) (a .a .start) _ true (p .0) (c .before .before .before .before .before .area-passes .ensures) (c .before .before .before .before .if2 .taken))
 
 -- src/lib.rt:180:17
 returns-2 : tie.Need-returns-2
-returns-2 c = let a = c .before .before .before .before .before .before .before .before .before .before .before .before  .args in let p = c .before .before .before .before .before .before .before .before .before .before .before .before  .pre in search (tests, passes-same (now (a .areas)) (a .a .number) (a .a .start) _ true (p .0) (c .before .before .before .before .before  .area-passes .ensures) (c .before .before .before .before  .if2 .taken))
+returns-2 c = let a = c .before .before .before .before .before .before .before .before .before .before .before .before .args in let p = c .before .before .before .before .before .before .before .before .before .before .before .before .pre in search (tests, passes-same (now (a .areas)) (a .a .number) (a .a .start) _ true (p .0) (c .before .before .before .before .before .area-passes .ensures) (c .before .before .before .before .if2 .taken))
 
 -- src/lib.rt:182:13
 returns-3 : tie.Need-returns-3
-returns-3 c = let a = c .before .before .before .before .before .before .before .before .before .before  .args in let p = c .before .before .before .before .before .before .before .before .before .before  .pre in search (tests, passes-same (now (a .areas)) (a .a .number) (a .a .start) _ true (p .0) (c .before .before .before  .area-passes .ensures) (c .before .before  .if2 .taken))
+returns-3 c = let a = c .before .before .before .before .before .before .before .before .before .before .args in let p = c .before .before .before .before .before .before .before .before .before .before .pre in search (tests, passes-same (now (a .areas)) (a .a .number) (a .a .start) _ true (p .0) (c .before .before .before .area-passes .ensures) (c .before .before .if2 .taken))
 
 -- src/lib.rt:184:9
 returns-4 : tie.Need-returns-4
-returns-4 c = let a = c .before .before .before .before .before .before .before .before  .args in let p = c .before .before .before .before .before .before .before .before  .pre in search (tests, passes-same (now (a .areas)) (a .a .number) (a .a .start) _ false (p .0) (c .before .area-passes .ensures) (c .if2 .left))
+returns-4 c = let a = c .before .before .before .before .before .before .before .before .args in let p = c .before .before .before .before .before .before .before .before .pre in search (tests, passes-same (now (a .areas)) (a .a .number) (a .a .start) _ false (p .0) (c .before .area-passes .ensures) (c .if2 .left))
 
 -- src/lib.rt:168:1
 returns-5 : tie.Need-returns-5

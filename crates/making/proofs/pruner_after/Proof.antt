@@ -25,11 +25,11 @@ settled-requires c κs = search needs
 
 -- src/lib.rt:232:5
 moved-requires : tie.Need-moved-requires
-moved-requires c κs = let a = c .before .before .before .before  .args in let p = c .before .before .before .before  .pre in room-after (now (a .areas)) (a .p) (c .settled .result) (a .a) (a .kind) (c .settled .ensures) (p .1)
+moved-requires c κs = let a = c .before .before .before .before .args in let p = c .before .before .before .before .pre in room-after (now (a .areas)) (a .p) (c .settled .result) (a .a) (a .kind) (c .settled .ensures) (p .1)
 
 -- src/lib.rt:220:1
 returns-3 : tie.Need-returns-3
-returns-3 c = let a = c .before .before .before .before .before  .args in pruned-by (now (a .areas)) (counted (a .p)) (a .a) (a .kind) (counted (c .before .settled .result)) (counted (c .moved .result)) (c .before .before .before  .if1 .left) (c .before .before  .if2 .left) (c .moved .ensures) (c .before .settled .ensures)
+returns-3 c = let a = c .before .before .before .before .before .args in pruned-by (now (a .areas)) (counted (a .p)) (a .a) (a .kind) (counted (c .before .settled .result)) (counted (c .moved .result)) (c .before .before .before .if1 .left) (c .before .before .if2 .left) (c .moved .ensures) (c .before .settled .ensures)
 
 pub pruner-after-spec : {M : Type 1} → statement M
 pruner-after-spec =

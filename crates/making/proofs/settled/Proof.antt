@@ -27,7 +27,7 @@ mul-paint c = search needs
 
 -- src/lib.rt:198:21
 shared-slice-read-paint : tie.Need-shared-slice-read-paint
-shared-slice-read-paint c = omega (arith, c .before .before .before .before .before  .pre .0 .inside (c .before .before .before  .if1 .taken))
+shared-slice-read-paint c = omega (arith, c .before .before .before .before .before .pre .0 .inside (c .before .before .before .if1 .taken))
 
 -- src/lib.rt:199:9
 after-item-requires : tie.Need-after-item-requires
@@ -35,7 +35,7 @@ after-item-requires c κs = search needs
 
 -- src/lib.rt:199:9
 returns : tie.Need-returns
-returns c = rw (c .before .before .before .before  .if1 .taken) (rw (c .before .before .before  .class-of .ensures) at (c .after-item .ensures))
+returns c = rw (c .before .before .before .before .if1 .taken) (rw (c .before .before .before .class-of .ensures) at (c .after-item .ensures))
 
 -- src/lib.rt:190:1
 returns-2 : tie.Need-returns-2

@@ -24,7 +24,7 @@ with-left-requires c κs = search needs
 
 -- src/lib.rt:158:9
 returns-2 : tie.Need-returns-2
-returns-2 c = rw (c .before .before .if2 .taken) (rw (small-back (c .before .before .before .before .before .before  .args .l .sign) (omega (arith, c .before .before .before .before .before .before  .pre .0 .1))) at (c .with-left .ensures))
+returns-2 c = rw (c .before .before .if2 .taken) (rw (small-back (c .before .before .before .before .before .before .args .l .sign) (omega (arith, c .before .before .before .before .before .before .pre .0 .1))) at (c .with-left .ensures))
 
 -- src/lib.rt:161:9
 with-left-requires-2 : tie.Need-with-left-requires-2
@@ -32,7 +32,7 @@ with-left-requires-2 c κs = search needs
 
 -- src/lib.rt:161:9
 returns-3 : tie.Need-returns-3
-returns-3 c = rw (c .before .before .if3 .taken) (rw (small-back (c .before .before .before .before .before .before .before .before  .args .l .sign) (omega (arith, c .before .before .before .before .before .before .before .before  .pre .0 .1))) at (c .with-left2 .ensures))
+returns-3 c = rw (c .before .before .if3 .taken) (rw (small-back (c .before .before .before .before .before .before .before .before .args .l .sign) (omega (arith, c .before .before .before .before .before .before .before .before .pre .0 .1))) at (c .with-left2 .ensures))
 
 -- src/lib.rt:163:5
 rest-requires : tie.Need-rest-requires
