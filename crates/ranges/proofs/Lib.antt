@@ -1,4 +1,5 @@
 -- The streams of an accepted drawing are in range.
+pub mod Groups
 pub mod Depth
 pub mod Weights
 pub mod Segments
