@@ -23,7 +23,7 @@ use Rattle.cells.specs.Streams.{Each, items, within, whole, source, made
 use Rattle.cells.proofs.Each.{each-sub, each-mapped, on-any}
 use Rattle.cells.proofs.Streams.{made-normal}
 
-sign-abs : (e : Edge) → natAbs (sign e) ≤ 1
+pub sign-abs : (e : Edge) → natAbs (sign e) ≤ 1
 unfolding sign
 sign-abs e = go (ltb (e .y0) (e .y1)) (ltb (e .y1) (e .y0))
   where

@@ -2,3 +2,6 @@
 pub mod Laws
 pub mod Rooms
 pub mod Follows
+pub mod Grammar
+pub mod Standing
+pub mod Turn

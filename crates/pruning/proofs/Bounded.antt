@@ -9,7 +9,7 @@ use lib.ListN.{length}
 use Rattle.pruning.specs.Sides.{Kind, paint, clip, Entry, item, push, activate, pop}
 use Rattle.pruning.specs.Items.{Items, Class, fails, passes, other}
 use Rattle.pruning.specs.Pruner.{left, right, through, dead, Frame, frame, going, shut}
-use Rattle.pruning.specs.Counters.{Count, ct, countStep, countItem, countKeepLeft, countLeft, countKeepRight, countRight}
+use Rattle.pruning.specs.Counters.{Count, ct, opened, countStep, countItem, countKeepLeft, countLeft, countKeepRight, countRight}
 use Rattle.pruning.specs.Grammar.{Open, inLeft, inRight}
 
 -- the frames are those of the open groups
@@ -60,6 +60,11 @@ frames (ct n b w fs) = length fs
 pub tracks-length : (c : Count) (os : List Open) → Tracks c os → frames c ≤ length os
 tracks-length (ct n b going fs) os h = omega (arith, aligned-length fs os h)
 tracks-length (ct n b (shut m) fs) os h = omega (arith, behind-length m fs os h)
+
+-- with the groups opened while skipping there are as many
+pub tracks-opened : (c : Count) (os : List Open) → Tracks c os → opened c ≡ length os
+tracks-opened (ct n b going fs) os h = omega (arith, aligned-length fs os h)
+tracks-opened (ct n b (shut m) fs) os h = behind-length m fs os h
 
 module _ (I : Items) (wid : Entry (I .Item) → ℕ) where
   open Items I using (Item, class)

@@ -86,6 +86,11 @@ met-in xs ys used n h = go (ltb n used) refl h
     go true e t = let p = both (leb (getD xs n 0) 65536) (leb (getD ys n 0) 65536) t in (ltb-true n used e, leb-true (getD xs n 0) 65536 (p .0), leb-true (getD ys n 0) 65536 (p .1))
     go false e t = clash t
 
+pub line-used : (xs ys : List ℕ) (used a b : ℕ) → lineRange xs ys used a b ≡ true → (a < used) × (b < used)
+line-used xs ys used a b h =
+    let p = both (cornerMet xs ys used a) (cornerMet xs ys used b) h in
+    (met-in xs ys used a (p .0) .0, met-in xs ys used b (p .1) .0)
+
 pub line-below : (xs ys : List ℕ) (used a b : ℕ) → lineRange xs ys used a b ≡ true → (used ≤ length xs) × (used ≤ length ys) → (a < length xs) × (a < length ys) × (b < length xs) × (b < length ys)
 line-below xs ys used a b h l =
     let p = both (cornerMet xs ys used a) (cornerMet xs ys used b) h in

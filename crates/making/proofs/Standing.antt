@@ -1,0 +1,119 @@
+-- Where a making stands in a stream that passes the check: the numbers follow the rows, the frames are the open groups, and what is left leads to
+-- the whole. Assumes nothing.
+use mathlib.Core.Path.{_≡_, refl, sym, ap, subst, _∙_}
+use mathlib.Core.Bool.{Bool, true, false, cond, _&&_}
+use mathlib.Core.List.{List, [], _∷_}
+use Prim.Native.Nat.{ℕ, zero, suc, _+_, _*_, _^_, _≤_, _<_}
+use native.Mathlib.Omega.{arith}
+use lib.Dec.{eqb, ltb}
+use lib.ListN.{length}
+use lib.IntN.{ℤ, natAbs}
+use mir.Syntax.{w32}
+use mir.Val.{toZ}
+use borrow.Author.Tests.{eqb-true, ltb-true}
+use Rattle.laws.proofs.Booleans.{clash}
+use Rattle.geometry.specs.Windings as Windings
+use Rattle.geometry.specs.Windings.{edgeBetween}
+use Rattle.groups.specs.Sides.{Frame, paintLeft, paintRight, clipLeft, clipRight, isPaint, onLeft, onRight, opening, toRight, toOuter}
+use Rattle.pruning.specs.Sides.{Kind, paint, clip, Entry, item, push, activate, pop}
+use Rattle.pruning.specs.Pruner as Pruning
+use Rattle.pruning.specs.Counters.{Count, countStep}
+use Rattle.pruning.specs.Effects.{outOf}
+use Rattle.pruning.specs.Weights.{total, weighed}
+use Rattle.pruning.proofs.Counters.{Fit, count}
+use Rattle.pruning.proofs.Bounded.{Tracks, tracks-length, tracks-item, tracks-push, tracks-activate, tracks-pop}
+use Rattle.pruning.proofs.Weights.{step-weighs}
+use Rattle.cells.specs.Cells.{Cell}
+use Rattle.cells.specs.Drawings.{Drawing}
+use Rattle.cells.specs.Streams.{Item, always, area, items}
+use Rattle.cells.specs.Rows.{Row, entryRows, roleIn}
+use Rattle.cells.specs.Making.{nothing, held, Making, making, prune, settle, onRows, rowSize}
+use Rattle.cells.proofs.Making.{entry-some}
+use Rattle.stream.specs.declared.Words.{Words}
+use Rattle.stream.specs.Entry as Entries
+use Rattle.stream.specs.Entry.{decode}
+use Rattle.stream.specs.Grammar.{Env, Place, at, after, course, isWhole}
+use Rattle.pruner.specs.declared.Pruner.{Pruner}
+use Rattle.reading.specs.Reading.{rowFor, rowsIn}
+use Rattle.reading.specs.Words.{Agrees}
+use Rattle.ranges.proofs.Groups.{opens}
+use Rattle.making.specs.declared.Waiting.{Waiting}
+use Rattle.making.proofs.Follows.{stateOf, waitingOf, row-some, Follows}
+
+-- the tables say of their areas and corners what the drawing says
+pub record Reads (v : Env) (D : Drawing) : Type 0 where
+  pub fields : length (D .fields) ≡ v .used .areas
+  pub agrees : (n : ℕ) → n < length (D .fields) → Agrees (v .areas) D n
+  pub edges : (a b : ℕ) → a < v .used .corners → b < v .used .corners → edgeBetween (D .xs) (D .ys) a b ≡ edgeBetween (v .xs) (v .ys) a b
+
+-- after k entries, with ws to come
+pub record Standing (v : Env) (D : Drawing) (c : Cell) (k : ℕ) (p : Pruner) (a : Waiting) (ws : List Words) (whole : Making) : Type 0 where
+  pub rows : Making
+  pub place : Place
+  pub follows : Follows D k p a rows
+  pub tracks : Tracks (weighed rowSize (stateOf rows)) (opens (place .groups))
+  pub few : length (place .groups) ≤ 8
+  pub rest : isWhole (course v (at place) ws) ≡ true
+  pub ahead : onRows D c (rowsIn ws) rows ≡ whole
+
+-- ---- the kinds of entries
+pub by-kind : (w : Words) (P : Entries.Entry → Type 0) → (w .kind ≡ 1 → P Entries.opens) → (w .kind ≡ 2 → P Entries.bar) → (w .kind ≡ 3 → P Entries.closes) → (w .kind ≡ 4 → P (Entries.area (w .p) (w .q)))
+    → (w .kind ≡ 5 → P (Entries.line (w .p) (w .q))) → (w .kind ≡ 6 → P (Entries.shortcut (w .p) (w .q) (w .r))) → (w .kind ≡ 7 → P Entries.passes) → P Entries.bad → P (decode w)
+by-kind w P p₁ p₂ p₃ p₄ p₅ p₆ p₇ p₈ =
+    test 1 p₁ (test 2 p₂ (test 3 p₃ (test 4 p₄ (test 5 p₅ (test 6 p₆ (test 7 p₇ p₈))))))
+  where
+    test : (n : ℕ) {x y : Entries.Entry} → (w .kind ≡ n → P x) → P y → P (cond (eqb (w .kind) n) x y)
+    test n {x} {y} f g = go (eqb (w .kind) n) refl
+      where
+        go : (b : Bool) → eqb (w .kind) n ≡ b → P (cond b x y)
+        go true e = f (eqb-true (w .kind) n e)
+        go false e = g
+
+-- one entry, then the others
+pub one-then : (D : Drawing) (c : Cell) (e : Entries.Entry) (ws : List Row) (m : Making) → onRows D c ws (onRows D c (rowFor e []) m) ≡ onRows D c (rowFor e ws) m
+one-then D c Entries.opens ws m = refl
+one-then D c Entries.bar ws m = refl
+one-then D c Entries.closes ws m = refl
+one-then D c (Entries.area n q) ws m = refl
+one-then D c (Entries.line a b) ws m = refl
+one-then D c (Entries.shortcut s a b) ws m = refl
+one-then D c Entries.passes ws m = refl
+one-then D c Entries.bad ws m = refl
+
+-- ---- the frames are the open groups
+module _ (D : Drawing) (c : Cell) where
+  abbrev Fitted : Pruning.State Row → Type 0
+  Fitted x = Fit (count (items D) Row entryRows entry-some x)
+
+  -- one entry more in the pruner, by its counters
+  stepped : (P : Count → Type 0) (x : Pruning.State Row) (e : Entry Item) → Fitted x → P (countStep (items D) (λ e. total rowSize (entryRows e)) (weighed rowSize x) e) → P (weighed rowSize (prune D c x e))
+  stepped P x e f h = subst P (sym (step-weighs rowSize row-some (items D) entryRows entry-some x e f)) h
+
+  pub settle-tracks : (m : Making) (fs : List Frame) → Fitted (stateOf m) → Tracks (weighed rowSize (stateOf m)) (opens fs) → Tracks (weighed rowSize (settle D c m)) (opens fs)
+  settle-tracks (making x nothing) fs f t = t
+  settle-tracks (making x (held n z gs)) fs f t =
+      stepped (λ (k : Count). Tracks k (opens fs)) x (item (roleIn D n) (area n z gs)) f (tracks-item (items D) (λ e. total rowSize (entryRows e)) (weighed rowSize x) (roleIn D n) (area n z gs) (opens fs) t)
+
+  pub item-tracks : (x : Pruning.State Row) (fs : List Frame) → Fitted x → Tracks (weighed rowSize x) (opens fs) → Tracks (weighed rowSize (prune D c x (item clip always))) (opens fs)
+  item-tracks x fs f t = stepped (λ (k : Count). Tracks k (opens fs)) x (item clip always) f (tracks-item (items D) (λ e. total rowSize (entryRows e)) (weighed rowSize x) clip always (opens fs) t)
+
+  pub open-tracks : (x : Pruning.State Row) (fs : List Frame) → Fitted x → Tracks (weighed rowSize x) (opens fs) → Tracks (weighed rowSize (prune D c x push)) (opens (opening fs))
+  open-tracks x fs f t = go (isPaint fs)
+    where
+      go : (b : Bool) → Tracks (weighed rowSize (prune D c x push)) (opens (cond b paintLeft clipLeft ∷ fs))
+      go true = stepped (λ (k : Count). Tracks k (opens (paintLeft ∷ fs))) x push f (tracks-push (items D) (λ e. total rowSize (entryRows e)) (weighed rowSize x) paint (opens fs) t)
+      go false = stepped (λ (k : Count). Tracks k (opens (clipLeft ∷ fs))) x push f (tracks-push (items D) (λ e. total rowSize (entryRows e)) (weighed rowSize x) clip (opens fs) t)
+
+  pub bar-tracks : (x : Pruning.State Row) (fs : List Frame) → onLeft fs ≡ true → Fitted x → Tracks (weighed rowSize x) (opens fs) → Tracks (weighed rowSize (prune D c x activate)) (opens (toRight fs))
+  bar-tracks x [] h f t = clash h
+  bar-tracks x (paintLeft ∷ fs) h f t = stepped (λ (k : Count). Tracks k (opens (paintRight ∷ fs))) x activate f (tracks-activate (items D) (λ e. total rowSize (entryRows e)) (weighed rowSize x) paint (opens fs) t)
+  bar-tracks x (paintRight ∷ fs) h f t = clash h
+  bar-tracks x (clipLeft ∷ fs) h f t = stepped (λ (k : Count). Tracks k (opens (clipRight ∷ fs))) x activate f (tracks-activate (items D) (λ e. total rowSize (entryRows e)) (weighed rowSize x) clip (opens fs) t)
+  bar-tracks x (clipRight ∷ fs) h f t = clash h
+
+  pub close-tracks : (x : Pruning.State Row) (fs : List Frame) → onRight fs ≡ true → Fitted x → Tracks (weighed rowSize x) (opens fs) → Tracks (weighed rowSize (prune D c x pop)) (opens (toOuter fs))
+  close-tracks x [] h f t = clash h
+  close-tracks x (paintLeft ∷ fs) h f t = clash h
+  close-tracks x (paintRight ∷ fs) h f t = stepped (λ (k : Count). Tracks k (opens fs)) x pop f (tracks-pop (items D) (λ e. total rowSize (entryRows e)) (weighed rowSize x) paint (opens fs) t)
+  close-tracks x (clipLeft ∷ fs) h f t = clash h
+  close-tracks x (clipRight ∷ fs) h f t = stepped (λ (k : Count). Tracks k (opens fs)) x pop f (tracks-pop (items D) (λ e. total rowSize (entryRows e)) (weighed rowSize x) clip (opens fs) t)

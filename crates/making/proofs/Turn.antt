@@ -1,0 +1,261 @@
+-- One entry more of a stream that passes the check: what the code asks holds, and the making stands one entry further. Assumes nothing.
+use mathlib.Core.Path.{_≡_, refl, sym, ap, subst, _∙_}
+use mathlib.Core.Bool.{Bool, true, false, cond, _&&_}
+use mathlib.Core.List.{List, [], _∷_, map}
+use Prim.Native.Nat.{ℕ, zero, suc, _+_, _*_, _^_, _≤_, _<_}
+use native.Mathlib.Omega.{arith}
+use lib.Dec.{eqb, ltb, leb}
+use lib.ListN.{length, take, length-append, take-append-drop, drop}
+use lib.IntN.{ℤ, pos, natAbs}
+use mir.Syntax.{w32}
+use mir.Val.{toZ}
+use borrow.Author.Tests.{ltb-true}
+use Rattle.laws.proofs.Booleans.{clash}
+use Rattle.geometry.specs.Edges.{sign}
+use Rattle.geometry.specs.Windings as Windings
+use Rattle.geometry.specs.Windings.{edgeBetween}
+use Rattle.geometry.specs.Classes.{edgeClass}
+use Rattle.geometry.specs.declared.edge.Edge.{Edge}
+use Rattle.groups.specs.Sides.{Frame, paintLeft, paintRight, clipLeft, clipRight, toRight, toOuter}
+use Rattle.pruning.specs.Sides.{clip, Entry, item, push, activate, pop}
+use Rattle.pruning.specs.Items as Items
+use Rattle.pruning.specs.Pruner as Pruning
+use Rattle.pruning.specs.Pruner.{st, going, shut}
+use Rattle.pruning.specs.Counters.{Count, ct, lengthOf, opened, countStep}
+use Rattle.pruning.specs.Effects.{outOf}
+use Rattle.pruning.specs.Weights.{total, before, weighed, sized, sizedItems, sizeOf}
+use Rattle.pruning.proofs.Counters.{Fit, count}
+use Rattle.pruning.proofs.Bounded.{Tracks, frames, tracks-length, tracks-opened}
+use Rattle.pruning.proofs.Weights.{total-append, asSized, sized-step}
+use Rattle.cells.specs.Cells.{Cell, squareOf}
+use Rattle.cells.specs.Segments as Segments
+use Rattle.cells.specs.Segments.{Segment, drawn, signOf, classIn}
+use Rattle.cells.specs.Drawings.{Drawing}
+use Rattle.cells.specs.Streams.{Item, always, area, items}
+use Rattle.cells.specs.Rows.{Row, segment, entryRows}
+use Rattle.cells.specs.Making.{Waiting, nothing, held, Making, making, prune, settle, addTo, onRows, rowSize}
+use Rattle.stream.specs.declared.Words.{Words}
+use Rattle.stream.specs.Entry as Entries
+use Rattle.stream.specs.Entry.{decode, startRange, signRange}
+use Rattle.stream.specs.Grammar.{Env, Place, at, after, inRange, isGood, areaMet, lineRange, course, isWhole, Ready}
+use Rattle.pruner.specs.declared.Pruner.{Pruner}
+use Rattle.pruner.specs.Numbers.{counted}
+use Rattle.pruner.proofs.Near.{skipIn, baseOf, counted-length, counted-base, counted-skip, counted-depth}
+use Rattle.reading.specs.Reading.{rowFor, rowsIn}
+use Rattle.reading.proofs.Laws.{both, area-below, start-small, shortcut-small, line-used}
+use Rattle.cells.proofs.Bounds.{sign-abs}
+use Rattle.ranges.proofs.Groups.{opens, opens-length}
+use Rattle.making.specs.declared.Waiting as Declared
+use Rattle.making.specs.Numbers.{leftSign, leftClass, leftRange, waiting, resting, withLeft, waitingN, settledN, movedN, prunedN, Room, Inside}
+use Rattle.cells.proofs.Making.{entry-some}
+use Rattle.making.proofs.Follows.{stateOf, waitingOf, waitingFor, rowsFor, WaitsIn, row-some, Follows, total-most, settle-fits, mark-follows, area-follows, segment-follows}
+use Rattle.making.proofs.Grammar.{Passes, one-passes}
+use Rattle.making.proofs.Standing.{Reads, Standing, by-kind, one-then, settle-tracks, item-tracks, open-tracks, bar-tracks, close-tracks}
+
+-- ---- how large the numbers are
+
+before-most : (out : List Row) (b : ℕ) → before rowSize out b ≤ total rowSize out
+before-most out b = omega (arith, total-append rowSize (take b out) (drop b out), ap (total rowSize) (take-append-drop b out))
+
+base-most : (x : Pruning.State Row) → baseOf (weighed rowSize x) ≤ total rowSize (outOf x)
+base-most (st out b w fs) = before-most out b
+
+length-most : (x : Pruning.State Row) → lengthOf (weighed rowSize x) ≡ total rowSize (outOf x)
+length-most (st out b w fs) = refl
+
+skip-most : (c : Count) → skipIn c ≤ opened c + 1
+skip-most (ct n b going fs) = omega arith
+skip-most (ct n b (shut m) fs) = omega arith
+
+segments-length : (gs : List Segment) → total rowSize (map segment gs) ≤ length gs * 4294967297
+segments-length gs = omega (arith, total-most (map segment gs), length-map gs)
+  where
+    length-map : (gs : List Segment) → length (map segment gs) ≡ length gs
+    length-map [] = refl
+    length-map (g ∷ gs) = ap suc (length-map gs)
+
+waiting-most : (w : Waiting) → waitingFor w .size ≤ rowsFor w * 4294967297
+waiting-most nothing = omega arith
+waiting-most (held n z gs) = omega (arith, segments-length gs)
+
+right-length : (fs : List Frame) → length (toRight fs) ≤ length fs
+right-length [] = omega arith
+right-length (paintLeft ∷ fs) = omega arith
+right-length (paintRight ∷ fs) = omega arith
+right-length (clipLeft ∷ fs) = omega arith
+right-length (clipRight ∷ fs) = omega arith
+
+outer-length : (fs : List Frame) → length (toOuter fs) ≤ length fs
+outer-length [] = omega arith
+outer-length (f ∷ fs) = omega arith
+
+-- ---- what the code asks
+module _ (v : Env) (D : Drawing) (c : Cell) (R : Reads v D) (k : ℕ) (p : Pruner) (a : Declared.Waiting) (whole : Making) where
+  pub standing-size : (ws : List Words) → Standing v D c k p a ws whole → p .length + a .size ≤ k * 4294967297
+  standing-size ws s =
+      let f = s .follows in
+      omega (
+        arith,
+        counted-length p,
+        ap lengthOf (f .counts),
+        length-most (stateOf (s .rows)),
+        total-most (outOf (stateOf (s .rows))),
+        ap (λ (x : Declared.Waiting). x .size) (f .waits),
+        waiting-most (waitingOf (s .rows)),
+        f .short,
+      )
+
+  pub standing-base : (ws : List Words) → Standing v D c k p a ws whole → p .base ≤ k * 4294967297
+  standing-base ws s =
+      let f = s .follows in
+      omega (arith, counted-base p, ap baseOf (f .counts), base-most (stateOf (s .rows)), total-most (outOf (stateOf (s .rows))), f .short)
+
+  pub standing-depth : (ws : List Words) (s : Standing v D c k p a ws whole) → p .depth ≤ length (s .place .groups)
+  standing-depth ws s =
+      omega (
+        arith,
+        counted-depth p,
+        ap frames (s .follows .counts),
+        tracks-length (weighed rowSize (stateOf (s .rows))) (opens (s .place .groups)) (s .tracks),
+        opens-length (s .place .groups),
+      )
+
+  pub standing-skip : (ws : List Words) → Standing v D c k p a ws whole → p .skip ≤ 9
+  standing-skip ws s =
+      omega (
+        arith,
+        counted-skip p,
+        ap skipIn (s .follows .counts),
+        skip-most (weighed rowSize (stateOf (s .rows))),
+        tracks-opened (weighed rowSize (stateOf (s .rows))) (opens (s .place .groups)) (s .tracks),
+        opens-length (s .place .groups),
+        s .few,
+      )
+
+  pub standing-inside : (ws : List Words) → k ≤ 4096 → v .used .areas * 8 ≤ length (v .areas) → Standing v D c k p a ws whole → Inside (length (v .areas)) a
+  standing-inside ws l r s = go (waitingOf (s .rows)) (s .follows .waits) (s .follows .named-in)
+    where
+      go : (w : Waiting) → a ≡ waitingFor w → WaitsIn (length (D .fields)) k w → Inside (length (v .areas)) a
+      go nothing e h = rw e (record { small = omega arith; inside = λ t. clash t })
+      go (held n z gs) e h = rw e (record { small = omega (arith, h .1); inside = λ t. omega (arith, h .0, R .fields) })
+
+  -- with entry w to come
+  module _ (w : Words) (ws : List Words) (s : Standing v D c k p a (w ∷ ws) whole) where
+    passes : Passes v (s .place) (decode w) ws
+    passes = one-passes v (s .place) w ws (s .rest)
+
+    pub standing-room : k ≤ 4096 → Room p a (w .kind)
+    standing-room l =
+        record {
+          length = omega (arith, standing-size (w ∷ ws) s);
+          base = omega (arith, standing-base (w ∷ ws) s);
+          skip = omega (arith, standing-skip (w ∷ ws) s);
+          depth = omega (arith, standing-depth (w ∷ ws) s, s .few);
+          deep = λ e z. omega (arith, standing-depth (w ∷ ws) s, ltb-true (length (s .place .groups)) 8 (rw e at (passes .room)));
+        }
+
+    pub standing-start : w .kind ≡ 4 → startRange (w .q) ≡ true
+    standing-start e = both (isGood (areaMet v (w .p))) (startRange (w .q)) (rw e at (passes .range)) .1
+
+    pub standing-left : leftRange (v .xs) (v .ys) (v .used .corners) w ≡ true
+    standing-left =
+        by-kind w (λ e. inRange v e ≡ true → leftRange (v .xs) (v .ys) (v .used .corners) w ≡ true)
+        (λ e r. rw e) (λ e r. rw e) (λ e r. rw e) (λ e r. rw e) (λ e r. rw e r)
+        (λ e r. rw e (both (signRange (w .p)) _ r .0)) (λ e r. rw e) (λ r. clash r)
+        (passes .range)
+
+    pub standing-sign : natAbs (leftSign (v .xs) (v .ys) w) ≤ 1
+    standing-sign =
+        by-kind w (λ e. inRange v e ≡ true → natAbs (leftSign (v .xs) (v .ys) w) ≤ 1)
+        (λ e r. rw e (omega arith)) (λ e r. rw e (omega arith)) (λ e r. rw e (omega arith)) (λ e r. rw e (omega arith)) (λ e r. rw e (sign-abs (edgeBetween (v .xs) (v .ys) (w .p) (w .q))))
+        (λ e r. rw e (shortcut-small (w .p) true (both (signRange (w .p)) _ r .0))) (λ e r. rw e (omega arith)) (λ r. clash r)
+        (passes .range)
+
+    -- ---- one entry further
+    abbrev next : Entries.Entry → Making
+    next e = onRows D c (rowFor e []) (s .rows)
+
+    abbrev Next : Pruner → Declared.Waiting → Entries.Entry → Type 0
+    Next p′ a′ e = Follows D (k + 1) p′ a′ (next e) × Tracks (weighed rowSize (stateOf (next e))) (opens (after (s .place) e .groups)) × (length (after (s .place) e .groups) ≤ 8)
+
+    fitted : Fit (count (items D) Row entryRows entry-some (settle D c (s .rows)))
+    fitted = settle-fits (v .areas) D c (R .agrees) k p a (s .rows) (s .follows)
+
+    tracked : Tracks (weighed rowSize (settle D c (s .rows))) (opens (s .place .groups))
+    tracked = settle-tracks D c (s .rows) (s .place .groups) (s .follows .fit) (s .tracks)
+
+    marked : (p′ : Pruner) (e : Entry Item) → length (entryRows e) ≡ 1
+        → counted p′ ≡ countStep (items D) (λ e. total rowSize (entryRows e)) (settledN (v .areas) (counted p) a) e → Follows D (k + 1) p′ resting (making (prune D c (settle D c (s .rows)) e) nothing)
+    marked p′ e l h = mark-follows (v .areas) D c (R .agrees) k p p′ a (s .rows) e l (s .follows) h
+
+    sized-is : (k : Count) (e : Entry Item) → countStep sizedItems sizeOf k (asSized rowSize row-some (items D) entryRows entry-some e) ≡ countStep (items D) (λ e. total rowSize (entryRows e)) k e
+    sized-is k e = sym (sized-step rowSize row-some (items D) entryRows entry-some refl refl refl refl k e)
+
+    module _ (p′ : Pruner) (a′ : Declared.Waiting) (hp : counted p′ ≡ prunedN (v .areas) (counted p) a (w .kind)) (ha : a′ ≡ waitingN a (leftClass (v .xs) (v .ys) (squareOf c) w) (leftSign (v .xs) (v .ys) w) w) where
+      abbrev settled : Count
+      settled = settledN (v .areas) (counted p) a
+
+      on-open : w .kind ≡ 1 → Passes v (s .place) Entries.opens ws → Next p′ a′ Entries.opens
+      on-open e h =
+          let a₁ : a′ ≡ resting = rw e at ha in
+          let p₁ : counted p′ ≡ countStep sizedItems sizeOf settled push = rw e at hp in
+          (rw a₁ (marked p′ push refl (p₁ ∙ sized-is settled push)), open-tracks D c (settle D c (s .rows)) (s .place .groups) fitted tracked, omega (arith, ltb-true (length (s .place .groups)) 8 (h .room)))
+
+      on-bar : w .kind ≡ 2 → Passes v (s .place) Entries.bar ws → Next p′ a′ Entries.bar
+      on-bar e h =
+          let a₁ : a′ ≡ resting = rw e at ha in
+          let p₁ : counted p′ ≡ countStep sizedItems sizeOf settled activate = rw e at hp in
+          (rw a₁ (marked p′ activate refl (p₁ ∙ sized-is settled activate)), bar-tracks D c (settle D c (s .rows)) (s .place .groups) (h .fit) fitted tracked, omega (arith, s .few, right-length (s .place .groups)))
+
+      on-close : w .kind ≡ 3 → Passes v (s .place) Entries.closes ws → Next p′ a′ Entries.closes
+      on-close e h =
+          let a₁ : a′ ≡ resting = rw e at ha in
+          let p₁ : counted p′ ≡ countStep sizedItems sizeOf settled pop = rw e at hp in
+          (rw a₁ (marked p′ pop refl (p₁ ∙ sized-is settled pop)), close-tracks D c (settle D c (s .rows)) (s .place .groups) (h .fit) fitted tracked, omega (arith, s .few, outer-length (s .place .groups)))
+
+      on-passes : w .kind ≡ 7 → Passes v (s .place) Entries.passes ws → Next p′ a′ Entries.passes
+      on-passes e h =
+          let a₁ : a′ ≡ resting = rw e at ha in
+          let p₁ : counted p′ ≡ countStep sizedItems sizeOf settled (item clip (sized Items.passes 1)) = rw e at hp in
+          (rw a₁ (marked p′ (item clip always) refl (p₁ ∙ sized-is settled (item clip always))), item-tracks D c (settle D c (s .rows)) (s .place .groups) fitted tracked, s .few)
+
+      on-area : w .q < 4294967296 → w .kind ≡ 4 → Passes v (s .place) (Entries.area (w .p) (w .q)) ws → Next p′ a′ (Entries.area (w .p) (w .q))
+      on-area l e h =
+          let a₁ : a′ ≡ waiting true (w .p) (toZ w32 (w .q)) 4294967297 = rw e at ha in
+          let p₁ : counted p′ ≡ settled = rw e at hp in
+          let r = both (isGood (areaMet v (w .p))) (startRange (w .q)) (h .range) in
+          let n : w .p < length (D .fields) = omega (arith, R .fields, area-below (v .areas) (v .used .areas) (w .p) (r .0)) in
+          (rw a₁ (area-follows (v .areas) D c (R .agrees) k p p′ a (s .rows) (w .p) (toZ w32 (w .q)) n (start-small (w .q) (r .1) l) (s .follows) p₁), tracked, s .few)
+
+      segment-next : (g : Segment) → natAbs (signOf (D .xs) (D .ys) g) ≤ 1 → counted p′ ≡ counted p → a′ ≡ withLeft a (classIn (D .xs) (D .ys) c g) (signOf (D .xs) (D .ys) g)
+          → Follows D (k + 1) p′ a′ (addTo D c g (s .rows)) × Tracks (weighed rowSize (stateOf (addTo D c g (s .rows)))) (opens (s .place .groups)) × (length (s .place .groups) ≤ 8)
+      segment-next g z x y = (segment-follows (v .areas) D c (R .agrees) k p p′ a a′ (s .rows) g z (s .follows) x y, same (s .rows) (s .tracks), s .few)
+        where
+          same : (m : Making) → Tracks (weighed rowSize (stateOf m)) (opens (s .place .groups)) → Tracks (weighed rowSize (stateOf (addTo D c g m))) (opens (s .place .groups))
+          same (making x nothing) t = t
+          same (making x (held n z gs)) t = t
+
+      on-line : w .kind ≡ 5 → Passes v (s .place) (Entries.line (w .p) (w .q)) ws → Next p′ a′ (Entries.line (w .p) (w .q))
+      on-line e h =
+          let u = line-used (v .xs) (v .ys) (v .used .corners) (w .p) (w .q) (h .range) in
+          let d = R .edges (w .p) (w .q) (u .0) (u .1) in
+          let a₁ : a′ ≡ withLeft a (edgeClass (edgeBetween (v .xs) (v .ys) (w .p) (w .q)) (squareOf c)) (sign (edgeBetween (v .xs) (v .ys) (w .p) (w .q))) = rw e at ha in
+          segment-next (drawn (Windings.line (w .p) (w .q))) (sign-abs (edgeBetween (D .xs) (D .ys) (w .p) (w .q))) (rw e at hp) (rw d a₁)
+
+      on-shortcut : w .kind ≡ 6 → Passes v (s .place) (Entries.shortcut (w .p) (w .q) (w .r)) ws → Next p′ a′ (Entries.shortcut (w .p) (w .q) (w .r))
+      on-shortcut e h =
+          segment-next (Segments.shortcut (toZ w32 (w .p)) (w .q) (w .r)) (shortcut-small (w .p) true (both (signRange (w .p)) _ (h .range) .0)) (rw e at hp) (rw e at ha)
+
+      pub standing-next : w .q < 4294967296 → Standing v D c (k + 1) p′ a′ ws whole
+      unfolding rowsIn
+      standing-next l =
+          let n = by-kind w (λ e. Passes v (s .place) e ws → Next p′ a′ e) on-open on-bar on-close (on-area l) on-line on-shortcut on-passes (λ h. clash (h .range)) passes in
+          record {
+            rows = next (decode w);
+            place = after (s .place) (decode w);
+            follows = n .0;
+            tracks = n .1;
+            few = n .2;
+            rest = passes .rest;
+            ahead = one-then D c (decode w) (rowsIn ws) (s .rows) ∙ s .ahead;
+          }
