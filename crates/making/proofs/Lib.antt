@@ -5,3 +5,5 @@ pub mod Follows
 pub mod Grammar
 pub mod Standing
 pub mod Turn
+pub mod Lent
+pub mod Whole

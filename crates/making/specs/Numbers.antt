@@ -22,7 +22,7 @@ use Rattle.pruning.specs.Weights.{sized, sizedItems, sizeOf}
 use Rattle.pruner.specs.declared.Pruner.{Pruner}
 use Rattle.pruner.specs.Numbers.{classOf}
 use Rattle.stream.specs.declared.Words.{Words}
-use Rattle.stream.specs.Entry.{signRange}
+use Rattle.stream.specs.Entry.{startRange, signRange}
 use Rattle.stream.specs.Grammar.{lineRange}
 use Rattle.reading.specs.Reading.{roleAt, passAt, opaqueAt}
 use Rattle.making.specs.declared.Waiting.{Waiting}
@@ -96,3 +96,9 @@ pub record Room (p : Pruner) (a : Waiting) (kind : ℕ) : Type 0 where
 pub record Inside (words : ℕ) (a : Waiting) : Type 0 where
   pub small : natAbs (a .start) ≤ 8192
   pub inside : a .waits ≡ true → a .number * 8 + 8 ≤ words
+
+-- what entry w asks of the numbers
+pub record Asks (words : ℕ) (p : Pruner) (a : Waiting) (w : Words) : Type 0 where
+  pub inside : Inside words a
+  pub room : Room p a (w .kind)
+  pub start : w .kind ≡ 4 → startRange (w .q) ≡ true

@@ -33,7 +33,7 @@ use Rattle.ranges.proofs.Items.{on-both, Numbered, made-numbered}
 
 -- ---- the table of areas
 
-fields-at : (t : List ℕ) (i n k : ℕ) → k < n → getD (fieldsFrom t i n) k noFields ≡ fieldsAt t (i + k)
+pub fields-at : (t : List ℕ) (i n k : ℕ) → k < n → getD (fieldsFrom t i n) k noFields ≡ fieldsAt t (i + k)
 fields-at t i zero k l = absurd (omega arith)
 fields-at t i (suc n) zero l = ap (fieldsAt t) (omega arith)
 fields-at t i (suc n) (suc k) l = fields-at t (i + 1) n k (omega arith) ∙ ap (fieldsAt t) (omega arith)

@@ -1,0 +1,1 @@
+-- Laws of the loops over a parent's stream.

@@ -1,0 +1,1 @@
+-- What a child's stream is.

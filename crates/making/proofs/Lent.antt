@@ -1,0 +1,43 @@
+-- Lent tables say of their areas and corners what the drawing of lent tables says. Assumes nothing.
+use mathlib.Core.Path.{_≡_, refl, sym, ap, _∙_}
+use mathlib.Core.List.{List, [], _∷_}
+use Prim.Native.Nat.{ℕ, zero, suc, _+_, _*_, _<_}
+use native.Mathlib.Omega.{arith}
+use native.Mathlib.Nat.{zero-add}
+use lib.Dec.{eqb}
+use lib.ListN.{length, getD, take}
+use lib.Seq.{getD-take}
+use Rattle.geometry.specs.FillRules as FillRules
+use Rattle.geometry.specs.Windings.{edgeBetween}
+use Rattle.records.specs.declared.Fields.{Fields}
+use Rattle.drawing.specs.Tables.{fieldsAt}
+use Rattle.cells.specs.Drawings.{Drawing, noFields, fieldsOf, kindOf, ruleOf}
+use Rattle.stream.specs.declared.Bounds.{Bounds}
+use Rattle.stream.specs.Grammar.{env}
+use Rattle.reading.specs.Words.{Agrees}
+use Rattle.ranges.specs.Held.{fieldsFrom, lent}
+use Rattle.ranges.proofs.Reading.{fields-at}
+use Rattle.making.proofs.Standing.{Reads}
+
+fields-length : (t : List ℕ) (i n : ℕ) → length (fieldsFrom t i n) ≡ n
+fields-length t i zero = refl
+fields-length t i (suc n) = ap suc (fields-length t (i + 1) n)
+
+module _ (areas xs ys : List ℕ) (b : Bounds) where
+  fields-are : (n : ℕ) → n < b .areas → fieldsAt areas n ≡ fieldsOf (lent areas xs ys b) n
+  fields-are n l = sym (fields-at areas 0 (b .areas) n l ∙ ap (fieldsAt areas) (zero-add n))
+
+  lent-agrees : (n : ℕ) → n < length (lent areas xs ys b .fields) → Agrees areas (lent areas xs ys b) n
+  lent-agrees n l =
+      let e = fields-are n (omega (arith, fields-length areas 0 (b .areas))) in
+      record {
+        role = ap (λ (f : Fields). kindOf (f .role)) e;
+        pass = λ z. ap (λ (f : Fields). FillRules.passes (ruleOf (f .rule)) z) e;
+        opaque = ap (λ (f : Fields). eqb (f .alpha) 255) e;
+      }
+
+  lent-edges : (p q : ℕ) → p < b .corners → q < b .corners → edgeBetween (take (b .corners) xs) (take (b .corners) ys) p q ≡ edgeBetween xs ys p q
+  lent-edges p q h g = rw (getD-take (b .corners) xs p 0 h, getD-take (b .corners) ys p 0 h, getD-take (b .corners) xs q 0 g, getD-take (b .corners) ys q 0 g)
+
+  pub lent-reads : Reads (env areas xs ys b) (lent areas xs ys b)
+  lent-reads = record { fields = fields-length areas 0 (b .areas); agrees = lent-agrees; edges = lent-edges }

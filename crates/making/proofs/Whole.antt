@@ -1,0 +1,63 @@
+-- A making from its begin to its end: what a stream that passes the check gives is the stream that document 01 defines. Assumes nothing.
+use mathlib.Core.Path.{_≡_, refl, sym, ap, _∙_}
+use mathlib.Core.Bool as Bool
+use mathlib.Core.Bool.{true}
+use mathlib.Core.List.{List, []}
+use Prim.Native.Nat.{ℕ}
+use native.Mathlib.Omega.{arith}
+use Rattle.pruning.specs.Pruner as Pruning
+use Rattle.pruning.specs.Pruner.{st, going}
+use Rattle.pruning.specs.Counters.{ct, lengthOf}
+use Rattle.pruning.specs.Effects.{outOf}
+use Rattle.pruning.specs.Weights.{total, weighed}
+use Rattle.cells.specs.Cells.{Cell}
+use Rattle.cells.specs.Drawings.{Drawing}
+use Rattle.cells.specs.Rows.{Row, decode, entriesOf, streamOf, roleIn}
+use Rattle.cells.specs.Making.{Making, settle, onRows, begun, madeRows, rowSize}
+use Rattle.cells.proofs.Making.{rows-made}
+use Rattle.stream.specs.declared.Words.{Words}
+use Rattle.stream.specs.Grammar as Stream
+use Rattle.stream.specs.Grammar.{Env, accepts}
+use Rattle.pruner.specs.declared.Pruner.{Pruner}
+use Rattle.pruner.specs.Numbers.{counted}
+use Rattle.reading.specs.Reading.{rowsIn}
+use Rattle.making.specs.declared.Waiting.{Waiting}
+use Rattle.making.specs.Made.{rowsMade}
+use Rattle.making.specs.Numbers.{resting, settledN}
+use Rattle.making.proofs.Follows.{begun-follows, settle-counts}
+use Rattle.making.proofs.Grammar.{entries-flat}
+use Rattle.making.proofs.Standing.{Reads, Standing}
+
+-- the rows of all entries
+abbrev pub allOf : Drawing → Cell → List Words → Making
+allOf D c ws = onRows D c (rowsIn ws) (begun D c)
+
+module _ (v : Env) (D : Drawing) (c : Cell) (R : Reads v D) (ws : List Words) (h : accepts v ws ≡ true) where
+  pub standing-begin : (p : Pruner) (a : Waiting) → counted p ≡ ct 0 0 going [] → a ≡ resting → Standing v D c 0 p a ws (allOf D c ws)
+  unfolding accepts
+  standing-begin p a e f =
+      record {
+        rows = begun D c;
+        place = Stream.place [] Bool.false 0 0;
+        follows = rw f (begun-follows (v .areas) D c (R .agrees) p e);
+        tracks = tt;
+        few = omega arith;
+        rest = h;
+        ahead = refl;
+      }
+
+  pub rows-all : outOf (settle D c (allOf D c ws)) ≡ rowsMade D c ws
+  unfolding rowsMade
+  rows-all = rows-made D c (rowsIn ws) (streamOf (roleIn D) (rowsIn ws)) (entries-flat v (roleIn D) (λ n l. R .agrees n (omega (arith, R .fields)) .role) ws h)
+
+  -- no entry is left
+  module _ (k : ℕ) (p : Pruner) (a : Waiting) (s : Standing v D c k p a [] (allOf D c ws)) where
+    pub standing-end : settledN (v .areas) (counted p) a ≡ weighed rowSize (settle D c (allOf D c ws))
+    unfolding rowsIn
+    standing-end = settle-counts (v .areas) D c (R .agrees) k p a (s .rows) (s .follows) ∙ ap (λ m. weighed rowSize (settle D c m)) (s .ahead)
+
+    pub size-end : lengthOf (settledN (v .areas) (counted p) a) ≡ total rowSize (rowsMade D c ws)
+    size-end = ap lengthOf standing-end ∙ (length-is (settle D c (allOf D c ws)) ∙ ap (total rowSize) rows-all)
+      where
+        length-is : (x : Pruning.State Row) → lengthOf (weighed rowSize x) ≡ total rowSize (outOf x)
+        length-is (st out b w fs) = refl
