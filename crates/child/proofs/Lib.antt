@@ -1,1 +1,2 @@
 -- Laws of the loops over a parent's stream.
+pub mod Loop
