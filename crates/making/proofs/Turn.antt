@@ -39,8 +39,8 @@ use Rattle.stream.specs.Entry as Entries
 use Rattle.stream.specs.Entry.{decode, startRange, signRange}
 use Rattle.stream.specs.Grammar.{Env, Place, at, after, inRange, isGood, areaMet, lineRange, course, isWhole, Ready}
 use Rattle.pruner.specs.declared.Pruner.{Pruner}
-use Rattle.pruner.specs.Numbers.{counted}
-use Rattle.pruner.proofs.Near.{skipIn, baseOf, counted-length, counted-base, counted-skip, counted-depth}
+use Rattle.pruner.specs.Numbers.{counted, baseOf, skipIn}
+use Rattle.pruner.proofs.Near.{counted-length, counted-base, counted-skip, counted-depth}
 use Rattle.reading.specs.Reading.{rowFor, rowsIn}
 use Rattle.reading.proofs.Laws.{both, area-below, start-small, shortcut-small, line-used}
 use Rattle.cells.proofs.Bounds.{sign-abs}

@@ -171,7 +171,7 @@ pub fn waiting_after(a: Waiting, l: Left, w: Words) -> Waiting
 
 // ---- the pruner
 // The class of the area that waits: 0 fails, 1 passes, 2 neither.
-fn class_of(areas: &[u32], a: Waiting) -> u32
+pub fn class_of(areas: &[u32], a: Waiting) -> u32
     requires { ⌜ natAbs (a .start) ≤ 8192 ⌝ }
     requires { ⌜ a .number * 8 + 8 ≤ length (now areas) ⌝ }
     ensures { λ r. ⌜ r ≡ classN (now (areas .entry)) a ⌝ }

@@ -14,19 +14,9 @@ use Rattle.pruning.specs.Weights.{sized, sizedItems, sizeOf}
 use Rattle.pruning.proofs.Bounded.{frames}
 use Rattle.pruner.specs.declared.Frame.{Frame}
 use Rattle.pruner.specs.declared.Pruner.{Pruner}
-use Rattle.pruner.specs.Numbers.{skipOf, framesOf, counted}
+use Rattle.pruner.specs.Numbers.{skipOf, framesOf, counted, baseOf, skipNumber, skipIn}
 
 -- ---- the numbers of a count
-
-abbrev pub baseOf : Count → ℕ
-baseOf (ct n b w fs) = b
-
-abbrev skipNumber : Skip → ℕ
-skipNumber going = 0
-skipNumber (shut m) = suc m
-
-abbrev pub skipIn : Count → ℕ
-skipIn (ct n b w fs) = skipNumber w
 
 skip-back : (n : ℕ) → skipNumber (skipOf n) ≡ n
 skip-back zero = refl

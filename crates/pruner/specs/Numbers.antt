@@ -39,6 +39,18 @@ framesOf l (suc d) = frameOf (getD l d noFrame) ∷ framesOf l d
 unfoldable pub counted : Pruner → Count
 counted p = ct (p .length) (p .base) (skipOf (p .skip)) (framesOf (p .frames) (p .depth))
 
+-- ---- the numbers of a count
+
+abbrev pub baseOf : Count → ℕ
+baseOf (ct n b w fs) = b
+
+abbrev pub skipNumber : Skip → ℕ
+skipNumber going = 0
+skipNumber (shut m) = suc m
+
+abbrev pub skipIn : Count → ℕ
+skipIn (ct n b w fs) = skipNumber w
+
 -- classes: 0 fails, 1 passes, 2 neither
 abbrev pub classOf : ℕ → Items.Class
 classOf n = cond (eqb n 0) fails (cond (eqb n 1) passes other)

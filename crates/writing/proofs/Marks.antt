@@ -1,0 +1,12 @@
+-- A delimiter by a pruner's numbers and by those of its count. Assumes nothing.
+use mathlib.Core.Path.{_≡_, refl}
+use mathlib.Core.List.{List}
+use Prim.Native.Nat.{ℕ}
+use Rattle.pruning.specs.Counters.{Count}
+use Rattle.pruner.specs.declared.Pruner.{Pruner}
+use Rattle.pruner.specs.Numbers.{counted}
+use Rattle.pruner.proofs.Near.{counted-length, counted-base, counted-skip}
+use Rattle.writing.specs.Numbers.{markPut, markOn}
+
+pub mark-is : (limit : ℕ) (t : List ℕ) (q : Pruner) (n kind : ℕ) (c : Count) → counted q ≡ c → markPut limit t q n kind ≡ markOn limit t c n kind
+mark-is limit t q n kind c e = rw (← e, counted-length q, counted-base q, counted-skip q)

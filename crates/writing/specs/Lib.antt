@@ -1,0 +1,2 @@
+-- What a making writes.
+pub mod Numbers

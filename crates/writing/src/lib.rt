@@ -1,0 +1,255 @@
+// Writes what a making makes, one entry at a time, to a table that is lent from its first free entry on. An entry that goes again is written only where
+// another will stand in the end: nothing is written from the limit on, which is the length of what is made.
+use geometry::class::Class;
+use making::Left;
+use making::Maker;
+use pruner::Pruner;
+use stream::Words;
+ghost use mathlib.Core.Path.{_≡_};
+ghost use mathlib.Core.Bool.{true};
+ghost use Prim.Native.Nat.{_+_, _*_, _^_, _≤_, _<_};
+ghost use lib.ListN.{length};
+ghost use lib.IntN.{natAbs};
+ghost use mir.Syntax.{w32};
+ghost use mir.Val.{ofZ};
+ghost use Rattle.pruner.specs.Numbers.{counted};
+ghost use Rattle.making.specs.Numbers.{settledN, prunedN, waitingN, Inside, Asks};
+ghost use Rattle.writing.specs.Numbers.{putBelow, placeOf, keptPut, segmentPut, namedPut, barePut, classPut, settledPut, markPut, markOn, onePut};
+
+// A signed number as a word in two's complement.
+fn word_of(z: i64) -> u32
+    requires { ⌜ natAbs z ≤ 8192 ⌝ }
+    ensures { λ r. ⌜ r ≡ ofZ w32 z ⌝ }
+{
+    if z < 0 {
+        return (z + 4294967296) as u32;
+    }
+    z as u32
+}
+
+fn put_below(out: &mut [u32], limit: usize, at: usize, w: Words)
+    requires { ⌜ limit * 4 ≤ length (now out) ⌝ }
+    ensures { λ _. ⌜ now (out .exit) ≡ putBelow limit (now (out .entry)) at w ⌝ }
+{
+    if at < limit {
+        stream::put_entry(out, at, w);
+    }
+}
+
+fn place_of(n: u64) -> usize
+    ensures { λ r. ⌜ r ≡ placeOf n ⌝ }
+{
+    (n % 65536) as usize
+}
+
+// Entry `at` is what is left of the line or the shortcut of entry w.
+fn put_kept(out: &mut [u32], limit: usize, at: usize, l: Left, w: Words)
+    requires { ⌜ limit * 4 ≤ length (now out) ⌝ }
+    requires { ⌜ natAbs (l .sign) ≤ 1 ⌝ }
+    ensures { λ _. ⌜ now (out .exit) ≡ keptPut (l .class) limit (now (out .entry)) at (l .sign) w ⌝ }
+{
+    let k = l.class;
+    match k {
+        Class::Shortcut(lo, hi) => {
+            let z = word_of(l.sign);
+            put_below(
+                out,
+                limit,
+                at,
+                Words {
+                    kind: 6,
+                    p: z,
+                    q: lo,
+                    r: hi,
+                },
+            );
+        }
+        Class::Kept => {
+            put_below(
+                out,
+                limit,
+                at,
+                Words {
+                    kind: 5,
+                    p: w.p,
+                    q: w.q,
+                    r: 0,
+                },
+            );
+        }
+        Class::Dropped => {}
+        Class::Start => {}
+    }
+}
+
+// The line or the shortcut of entry w, behind what waits.
+fn put_segment(out: &mut [u32], limit: usize, m: Maker, l: Left, w: Words)
+    requires { ⌜ limit * 4 ≤ length (now out) ⌝ }
+    requires { ⌜ natAbs (l .sign) ≤ 1 ⌝ }
+    ensures { λ _. ⌜ now (out .exit) ≡ segmentPut limit (now (out .entry)) m (l .class) (l .sign) w ⌝ }
+{
+    let p = m.pruner;
+    let a = m.waiting;
+    if p.skip == 0 {
+        if a.waits {
+            let n = place_of(p.length);
+            let k = place_of(a.size);
+            put_kept(out, limit, n + k, l, w);
+        }
+    }
+}
+
+// The bare "passes", where the side begins.
+fn put_bare(out: &mut [u32], limit: usize, p: Pruner)
+    requires { ⌜ limit * 4 ≤ length (now out) ⌝ }
+    ensures { λ _. ⌜ now (out .exit) ≡ barePut limit (now (out .entry)) p ⌝ }
+{
+    let at = place_of(p.base);
+    put_below(
+        out,
+        limit,
+        at,
+        Words {
+            kind: 7,
+            p: 0,
+            q: 0,
+            r: 0,
+        },
+    );
+}
+
+// The area that waits, behind what is written.
+fn put_named(out: &mut [u32], limit: usize, m: Maker)
+    requires { ⌜ limit * 4 ≤ length (now out) ⌝ }
+    requires { ⌜ natAbs (m .waiting .start) ≤ 8192 ⌝ }
+    ensures { λ _. ⌜ now (out .exit) ≡ namedPut limit (now (out .entry)) m ⌝ }
+{
+    let p = m.pruner;
+    let a = m.waiting;
+    let at = place_of(p.length);
+    let z = word_of(a.start);
+    put_below(
+        out,
+        limit,
+        at,
+        Words {
+            kind: 4,
+            p: a.number,
+            q: z,
+            r: 0,
+        },
+    );
+}
+
+// The area that waits, of class k: 0 fails, 1 passes, 2 neither.
+fn put_class(out: &mut [u32], limit: usize, areas: &[u32], m: Maker, k: u32)
+    requires { ⌜ limit * 4 ≤ length (now out) ⌝ }
+    requires { ⌜ natAbs (m .waiting .start) ≤ 8192 ⌝ }
+    requires { ⌜ m .waiting .number * 8 + 8 ≤ length (now areas) ⌝ }
+    ensures { λ _. ⌜ now (out .exit) ≡ classPut limit (now (areas .entry)) (now (out .entry)) m k ⌝ }
+{
+    if k == 0 {
+        return;
+    }
+    if k == 1 {
+        let p = m.pruner;
+        let a = m.waiting;
+        let at = (a.number as usize) * 8;
+        if areas[at] == 0 {
+            put_named(out, limit, m);
+            return;
+        }
+        put_bare(out, limit, p);
+        return;
+    }
+    put_named(out, limit, m);
+}
+
+// What the area that waits, if one does, is written as.
+pub fn put_settled(out: &mut [u32], limit: usize, areas: &[u32], m: Maker)
+    requires { ⌜ limit * 4 ≤ length (now out) ⌝ }
+    requires { ⌜ Inside (length (now areas)) (m .waiting) ⌝ }
+    ensures { λ _. ⌜ now (out .exit) ≡ settledPut limit (now (areas .entry)) (now (out .entry)) m ⌝ }
+{
+    let p = m.pruner;
+    let a = m.waiting;
+    if a.waits {
+        if p.skip == 0 {
+            let k = making::class_of(areas, a);
+            put_class(out, limit, areas, m, k);
+        }
+    }
+}
+
+// A delimiter or "passes", after which so much is made.
+fn put_mark(out: &mut [u32], limit: usize, q: Pruner, made: u64, kind: u32)
+    requires { ⌜ limit * 4 ≤ length (now out) ⌝ }
+    ensures { λ _. ⌜ now (out .exit) ≡ markPut limit (now (out .entry)) q made kind ⌝ }
+{
+    if kind == 7 {
+        if q.skip == 0 {
+            put_bare(out, limit, q);
+        }
+        return;
+    }
+    if q.length < made {
+        let at = place_of(q.length);
+        put_below(
+            out,
+            limit,
+            at,
+            Words {
+                kind: kind,
+                p: 0,
+                q: 0,
+                r: 0,
+            },
+        );
+    }
+}
+
+// The area that waits, and then a delimiter, "passes" or nothing, after which so much is made.
+fn put_other(out: &mut [u32], limit: usize, areas: &[u32], m: Maker, made: u64, kind: u32)
+    requires { ⌜ limit * 4 ≤ length (now out) ⌝ }
+    requires { ⌜ Inside (length (now areas)) (m .waiting) ⌝ }
+    requires { ⌜ (m .pruner .length + m .waiting .size < 2 ^ 60) × (m .pruner .base < 2 ^ 60) ⌝ }
+    ensures { λ _. ⌜ now (out .exit) ≡ markOn limit (settledPut limit (now (areas .entry)) (now (out .entry)) m) (settledN (now (areas .entry)) (counted (m .pruner)) (m .waiting)) made kind ⌝ }
+{
+    let p = m.pruner;
+    let a = m.waiting;
+    let q = making::settled(areas, p, a);
+    put_settled(out, limit, areas, m);
+    put_mark(out, limit, q, made, kind);
+}
+
+// Entry w, of which l is left and after which so much is made.
+fn put_made(out: &mut [u32], limit: usize, areas: &[u32], m: Maker, l: Left, w: Words, made: u64)
+    requires { ⌜ limit * 4 ≤ length (now out) ⌝ }
+    requires { ⌜ Asks (length (now areas)) (m .pruner) (m .waiting) w ⌝ }
+    requires { ⌜ natAbs (l .sign) ≤ 1 ⌝ }
+    ensures { λ _. ⌜ now (out .exit) ≡ onePut limit (now (areas .entry)) (now (out .entry)) m (l .class) (l .sign) w made ⌝ }
+{
+    if w.kind == 5 {
+        put_segment(out, limit, m, l, w);
+        return;
+    }
+    if w.kind == 6 {
+        put_segment(out, limit, m, l, w);
+        return;
+    }
+    put_other(out, limit, areas, m, made, w.kind);
+}
+
+// One entry more: what it makes is written, and the making goes on.
+pub fn write_one(out: &mut [u32], limit: usize, areas: &[u32], m: Maker, l: Left, w: Words) -> Maker
+    requires { ⌜ limit * 4 ≤ length (now out) ⌝ }
+    requires { ⌜ Asks (length (now areas)) (m .pruner) (m .waiting) w ⌝ }
+    requires { ⌜ natAbs (l .sign) ≤ 1 ⌝ }
+    ensures { λ r. ⌜ (counted (r .pruner) ≡ prunedN (now (areas .entry)) (counted (m .pruner)) (m .waiting) (w .kind)) × (r .waiting ≡ waitingN (m .waiting) (l .class) (l .sign) w) ⌝ }
+    ensures { λ r. ⌜ now (out .exit) ≡ onePut limit (now (areas .entry)) (now (out .entry)) m (l .class) (l .sign) w (r .pruner .length) ⌝ }
+{
+    let n = making::made_after(areas, m, l, w);
+    let r = n.pruner;
+    put_made(out, limit, areas, m, l, w, r.length);
+    n
+}
