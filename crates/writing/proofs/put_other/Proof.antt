@@ -8,6 +8,10 @@ use Rattle.writing.proofs.put_mark.Reads as put-mark-reads
 use Rattle.writing.proofs.put_settled.Reads as put-settled-reads
 use mathlib.Core.Path.{_∙_}
 use Rattle.writing.proofs.Marks.{mark-is}
+use denote.Ref.{now}
+use Rattle.pruner.specs.Numbers.{counted}
+use Rattle.making.specs.Numbers.{settledN}
+use Rattle.writing.specs.Numbers.{settledPut}
 
 -- src/lib.rt:170:9
 settled-requires : tie.Need-settled-requires
@@ -27,7 +31,7 @@ same-length c = search needs
 
 -- src/lib.rt:162:1
 returns : tie.Need-returns
-returns c = (rw (c .before .before .before .before .before .before .put-settled .ensures) at (c .before .before .put-mark .ensures)) ∙ mark-is _ _ _ _ _ _ (c .before .before .before .before .before .before .before .before .settled .ensures)
+returns c = let a = c .before .before .before .before .before .before .before .before .before .before .before .before .before .args in (rw (c .before .before .before .before .before .before .put-settled .ensures) at (c .before .before .put-mark .ensures)) ∙ mark-is (a .limit) (settledPut (a .limit) (now (a .areas)) (now (a .out)) (a .m)) (c .before .before .before .before .before .before .before .before .settled .result) (a .made) (a .kind) (settledN (now (a .areas)) (counted (a .m .pruner)) (a .m .waiting)) (c .before .before .before .before .before .before .before .before .settled .ensures)
 
 pub put-other-spec : {M : Type 1} → statement M
 put-other-spec =
