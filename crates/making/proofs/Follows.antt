@@ -140,7 +140,7 @@ module _ (areas : List ℕ) (D : Drawing) (c : Cell) (agrees : (n : ℕ) → n <
       go true false k e = subst (λ j. passes ≡ passing D j n) e refl
       go false t k e = refl
 
-  class-is : (n : ℕ) (z : ℤ) (gs : List Segment) → n < length (D .fields)
+  pub class-is : (n : ℕ) (z : ℤ) (gs : List Segment) → n < length (D .fields)
       → Numbers.classOf (classN areas (waitingFor (held n z gs))) ≡ classOf D (roleIn D n) (area n z gs)
   class-is n z [] h = class-alone n z h
   class-is n z (g ∷ gs) h = rw (ne-eqb (total rowSize (itemRows (area n z (g ∷ gs)))) 4294967297 (λ e. omega (arith, row-some (segment g))))
@@ -209,7 +209,7 @@ module _ (areas : List ℕ) (D : Drawing) (c : Cell) (agrees : (n : ℕ) → n <
       go true e = start-kept e
       go false e = shortcut-kept lo hi e
 
-  kept-size : (g : Segment) → classIn (D .xs) (D .ys) c g ≡ Kept → rowSize (segment g) ≡ 65537
+  pub kept-size : (g : Segment) → classIn (D .xs) (D .ys) c g ≡ Kept → rowSize (segment g) ≡ 65537
   unfolding cut verdict
   kept-size (drawn l) e = refl
   kept-size (shortcut z lo hi) e = absurd (cut-kept (leb (min hi (low c + side c)) (max lo (low c)) || false) (max lo (low c)) (min hi (low c + side c)) (low c) (side c) e)

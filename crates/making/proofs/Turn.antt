@@ -54,7 +54,7 @@ use Rattle.making.proofs.Standing.{Reads, Standing, by-kind, one-then, 
 
 -- ---- how large the numbers are
 
-before-most : (out : List Row) (b : ℕ) → before rowSize out b ≤ total rowSize out
+pub before-most : (out : List Row) (b : ℕ) → before rowSize out b ≤ total rowSize out
 before-most out b = omega (arith, total-append rowSize (take b out) (drop b out), ap (total rowSize) (take-append-drop b out))
 
 base-most : (x : Pruning.State Row) → baseOf (weighed rowSize x) ≤ total rowSize (outOf x)
@@ -172,7 +172,7 @@ module _ (v : Env) (D : Drawing) (c : Cell) (R : Reads v D) (k : ℕ) (p : Prune
         (passes .range)
 
     -- ---- one entry further
-    abbrev next : Entries.Entry → Making
+    abbrev pub next : Entries.Entry → Making
     next e = onRows D c (rowFor e []) (s .rows)
 
     abbrev Next : Pruner → Declared.Waiting → Entries.Entry → Type 0
@@ -246,10 +246,12 @@ module _ (v : Env) (D : Drawing) (c : Cell) (R : Reads v D) (k : ℕ) (p : Prune
       on-shortcut e h =
           segment-next (Segments.shortcut (toZ w32 (w .p)) (w .q) (w .r)) (shortcut-small (w .p) true (both (signRange (w .p)) _ (h .range) .0)) (rw e at hp) (rw e at ha)
 
-      pub standing-next : w .q < 4294967296 → Standing v D c (k + 1) p′ a′ ws whole
+      -- with the rows that it then has
+      pub standing-rows : w .q < 4294967296 → (x : Standing v D c (k + 1) p′ a′ ws whole) × (x .rows ≡ next (decode w))
       unfolding rowsIn
-      standing-next l =
+      standing-rows l =
           let n = by-kind w (λ e. Passes v (s .place) e ws → Next p′ a′ e) on-open on-bar on-close (on-area l) on-line on-shortcut on-passes (λ h. clash (h .range)) passes in
+          (
           record {
             rows = next (decode w);
             place = after (s .place) (decode w);
@@ -258,4 +260,9 @@ module _ (v : Env) (D : Drawing) (c : Cell) (R : Reads v D) (k : ℕ) (p : Prune
             few = n .2;
             rest = passes .rest;
             ahead = one-then D c (decode w) (rowsIn ws) (s .rows) ∙ s .ahead;
-          }
+          },
+          refl
+          )
+
+      pub standing-next : w .q < 4294967296 → Standing v D c (k + 1) p′ a′ ws whole
+      standing-next l = standing-rows l .0

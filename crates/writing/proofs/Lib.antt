@@ -1,3 +1,6 @@
 -- Laws of writing.
 pub mod Signed
 pub mod Marks
+pub mod Agree
+pub mod Places
+pub mod Written
