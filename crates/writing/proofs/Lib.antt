@@ -4,3 +4,5 @@ pub mod Marks
 pub mod Agree
 pub mod Places
 pub mod Written
+pub mod Same
+pub mod Turn

@@ -91,7 +91,7 @@ module _ (limit : ℕ) where
       subst (λ (n : ℕ). Agree limit (putBelow limit t n (wordsOf r)) 0 (take b out ++ (r ∷ []))) (zero-add (length (take b out)) ∙ length-take-le b out l) (agree-more limit t 0 (take b out) r h (agree-take limit t 0 b out a))
 
   -- ---- a delimiter
-  mark-agrees : (t : List ℕ) (x : Pruning.State Row) (r : Row) (kind : ℕ) (out′ : List Row) → wordsOf r ≡ words kind 0 0 0 → rowSize r ≡ 1 → limit * 4 ≤ length t → length (outOf x) < 65536
+  pub mark-agrees : (t : List ℕ) (x : Pruning.State Row) (r : Row) (kind : ℕ) (out′ : List Row) → wordsOf r ≡ words kind 0 0 0 → rowSize r ≡ 1 → limit * 4 ≤ length t → length (outOf x) < 65536
       → Moves (outOf x) r out′ → Agree limit t 0 (outOf x) → Agree limit (cond (ltb (lengthOf (weighed rowSize x)) (total rowSize out′)) (putBelow limit t (placeOf (lengthOf (weighed rowSize x))) (words kind 0 0 0)) t) 0 out′
   mark-agrees t (st out b w fs) r kind out′ e s h l (adds m) a =
       let n : total rowSize (out ++ (r ∷ [])) ≡ total rowSize out + 1 = omega (arith, total-append rowSize out (r ∷ [])) in
@@ -100,7 +100,7 @@ module _ (limit : ℕ) where
       rw (m, le-ltb (total rowSize out) (total rowSize (take p out)) (before-most out p)) (agree-take limit t 0 p out a)
 
   -- ---- "passes"
-  bare-agrees : (t : List ℕ) (D : Drawing) (c : Cell) (x : Pruning.State Row) → Fit (count (items D) Row entryRows entry-some x) → limit * 4 ≤ length t → length (outOf x) < 65536 → Agree limit t 0 (outOf x)
+  pub bare-agrees : (t : List ℕ) (D : Drawing) (c : Cell) (x : Pruning.State Row) → Fit (count (items D) Row entryRows entry-some x) → limit * 4 ≤ length t → length (outOf x) < 65536 → Agree limit t 0 (outOf x)
       → Agree limit (cond (isGoing x) (putBelow limit t (placeOf (baseOf (weighed rowSize x))) (words 7 0 0 0)) t) 0 (outOf (prune D c x (item clip always)))
   bare-agrees t D c (st out b going fs) f h l a = rw (base-at out b (f .0) l) (back-agrees t out b bare h (f .0) a)
   bare-agrees t D c (st out b (shut m) fs) f h l a = a

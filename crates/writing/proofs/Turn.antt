@@ -1,0 +1,162 @@
+-- One entry more of a stream that passes the check is written. Assumes nothing.
+use mathlib.Core.Path.{_≡_, refl, sym, ap, subst, _∙_}
+use mathlib.Core.Bool.{Bool, true, false, cond, _&&_}
+use mathlib.Core.List.{List, [], _∷_}
+use Prim.Native.Nat.{ℕ, suc, _+_, _*_, _≤_, _<_}
+use native.Mathlib.Omega.{arith}
+use lib.Dec.{eqb, ltb}
+use lib.ListN.{length}
+use borrow.Author.Tests.{le-ltb, eq-eqb, ne-eqb}
+use lib.IntN.{ℤ}
+use mir.Syntax.{w32}
+use mir.Val.{toZ}
+use Rattle.laws.proofs.Booleans.{clash}
+use Rattle.geometry.specs.Edges.{sign}
+use Rattle.geometry.specs.Windings as Windings
+use Rattle.geometry.specs.Windings.{edgeBetween}
+use Rattle.geometry.specs.Classes.{edgeClass}
+use Rattle.geometry.specs.declared.class.Class.{Class}
+use Rattle.geometry.specs.declared.class.Class.the-variants.{Kept}
+use Rattle.geometry.specs.declared.class.Square.{Square}
+use Rattle.pruning.specs.Sides.{clip, item, push, activate, pop}
+use Rattle.pruning.specs.Pruner as Pruning
+use Rattle.pruning.specs.Pruner.{st, going, shut}
+use Rattle.pruning.specs.Counters.{lengthOf}
+use Rattle.pruning.specs.Effects.{outOf}
+use Rattle.pruning.specs.Weights.{total, weighed}
+use Rattle.cells.specs.Cells.{Cell, squareOf}
+use Rattle.cells.specs.Segments as Segments
+use Rattle.cells.specs.Segments.{Segment, drawn, signOf, classIn}
+use Rattle.cells.specs.Drawings.{Drawing}
+use Rattle.cells.specs.Streams.{always}
+use Rattle.cells.specs.Rows as Rows
+use Rattle.cells.specs.Rows.{Row}
+use Rattle.cells.specs.Making.{nothing, held, Making, making, prune, settle, addTo, onRows, rowSize}
+use Rattle.stream.specs.declared.Words.{Words}
+use Rattle.stream.specs.Entry as Entries
+use Rattle.stream.specs.Entry.{decode}
+use Rattle.stream.specs.Grammar.{Env}
+use Rattle.pruner.specs.Numbers.{counted, skipIn, baseOf}
+use Rattle.pruner.proofs.Near.{counted-length}
+use Rattle.reading.specs.Reading.{rowFor}
+use Rattle.reading.specs.Words.{words, wordsOf}
+use Rattle.reading.proofs.Laws.{line-used}
+use Rattle.making.specs.declared.Maker.{Maker}
+use Rattle.making.specs.Numbers.{leftSign, leftClass, waitingN, settledN, prunedN}
+use Rattle.making.proofs.Follows.{stateOf, waitingOf, settle-counts, settle-fits, settle-short, kept-size}
+use Rattle.making.proofs.Grammar.{Passes, one-passes}
+use Rattle.making.proofs.Standing.{Reads, Standing, by-kind}
+use Rattle.making.proofs.Turn.{standing-rows}
+use Rattle.writing.specs.Numbers.{putBelow, placeOf, segmentPut, settledPut, markOn, onePut}
+use Rattle.writing.proofs.Agree.{Agree}
+use Rattle.writing.proofs.Same.{Same, same-then, same-settled, same-one}
+use Rattle.writing.proofs.Places.{Moves, open-moves, bar-moves, close-moves}
+use Rattle.writing.proofs.Written.{isGoing, Writes, mark-agrees, bare-agrees, settle-agrees, segment-writes}
+
+-- the table t was t₀; what is made so far stands in it
+pub record Writing (v : Env) (D : Drawing) (c : Cell) (k : ℕ) (mk : Maker) (ws : List Words) (whole : Making) (limit : ℕ) (t₀ t : List ℕ) : Type 0 where
+  pub standing : Standing v D c k (mk .pruner) (mk .waiting) ws whole
+  pub writes : Writes limit t (standing .rows)
+  pub same : Same limit t₀ t
+
+length-is : (x : Pruning.State Row) → lengthOf (weighed rowSize x) ≡ total rowSize (outOf x)
+length-is (st out b w fs) = refl
+
+going-is : (x : Pruning.State Row) → eqb (skipIn (weighed rowSize x)) 0 ≡ isGoing x
+going-is (st out b going fs) = refl
+going-is (st out b (shut m) fs) = ne-eqb (suc m) 0 (λ e. omega arith)
+
+module _ (v : Env) (D : Drawing) (c : Cell) (R : Reads v D) (k : ℕ) (mk : Maker) (whole : Making) (limit : ℕ) (t₀ t : List ℕ) (l : k ≤ 4096) (room : limit * 4 ≤ length t) (w : Words) (ws : List Words)
+    (s : Writing v D c k mk (w ∷ ws) whole limit t₀ t) where
+  abbrev rows : Making
+  rows = s .standing .rows
+
+  abbrev next : Entries.Entry → Making
+  next e = onRows D c (rowFor e []) rows
+
+  abbrev areas : List ℕ
+  areas = v .areas
+
+  -- a shortcut is never kept as a line
+  never-kept : (z : ℤ) (lo hi : ℕ) → classIn (D .xs) (D .ys) c (Segments.shortcut z lo hi) ≡ Kept → ⊥
+  never-kept z lo hi e = let n : _≡_ {A = ℕ} 1 65537 = kept-size areas D c (R .agrees) (Segments.shortcut z lo hi) e in omega arith
+
+  -- after the area that waits
+  abbrev settled : List ℕ
+  settled = settledPut limit areas t mk
+
+  stands : Agree limit settled 0 (outOf (settle D c rows))
+  stands = settle-agrees limit areas D c (R .agrees) k mk rows t l room (s .standing .follows) (s .writes)
+
+  roomy : limit * 4 ≤ length settled
+  roomy = omega (arith, room, same-settled limit areas t mk .size)
+
+  small : length (outOf (settle D c rows)) < 65536
+  small = omega (arith, settle-short areas D c (R .agrees) k (mk .pruner) (mk .waiting) rows (s .standing .follows), l)
+
+  counts : settledN areas (counted (mk .pruner)) (mk .waiting) ≡ weighed rowSize (settle D c rows)
+  counts = settle-counts areas D c (R .agrees) k (mk .pruner) (mk .waiting) rows (s .standing .follows)
+
+  resting : (u : List ℕ) (x : Pruning.State Row) → Agree limit u 0 (outOf x) → Writes limit u (making x nothing)
+  resting u x a = record { done = a; behind = λ e. tt }
+
+  marked : (kind n : ℕ) (r : Row) (x : Pruning.State Row) (u : List ℕ) → wordsOf r ≡ words kind 0 0 0 → rowSize r ≡ 1 → Moves (outOf (settle D c rows)) r (outOf x) → n ≡ total rowSize (outOf x)
+      → u ≡ cond (ltb (lengthOf (settledN areas (counted (mk .pruner)) (mk .waiting))) n) (putBelow limit settled (placeOf (lengthOf (settledN areas (counted (mk .pruner)) (mk .waiting)))) (words kind 0 0 0)) settled
+      → Writes limit u (making x nothing)
+  marked kind n r x u e z m h g = resting u x (rw (g, counts, h) (mark-agrees limit settled (settle D c rows) r kind (outOf x) e z roomy small m stands))
+
+  module _ (u : List ℕ) (n : ℕ) (f : Class) (z : ℤ) (hf : f ≡ leftClass (v .xs) (v .ys) (squareOf c) w) (hz : z ≡ leftSign (v .xs) (v .ys) w) (hu : u ≡ onePut limit areas t mk f z w n) where
+    on-open : w .kind ≡ 1 → n ≡ total rowSize (outOf (stateOf (next Entries.opens))) → Writes limit u (next Entries.opens)
+    on-open e h = marked 1 n Rows.opens (prune D c (settle D c rows) push) u refl refl (open-moves D c (settle D c rows)) h (rw e at hu)
+
+    on-bar : w .kind ≡ 2 → n ≡ total rowSize (outOf (stateOf (next Entries.bar))) → Writes limit u (next Entries.bar)
+    on-bar e h = marked 2 n Rows.bar (prune D c (settle D c rows) activate) u refl refl (bar-moves D c (settle D c rows)) h (rw e at hu)
+
+    on-close : w .kind ≡ 3 → n ≡ total rowSize (outOf (stateOf (next Entries.closes))) → Writes limit u (next Entries.closes)
+    on-close e h = marked 3 n Rows.closes (prune D c (settle D c rows) pop) u refl refl (close-moves D c (settle D c rows)) h (rw e at hu)
+
+    on-passes : w .kind ≡ 7 → Writes limit u (next Entries.passes)
+    on-passes e =
+        let g : u ≡ cond (eqb (skipIn (settledN areas (counted (mk .pruner)) (mk .waiting))) 0) (putBelow limit settled (placeOf (baseOf (settledN areas (counted (mk .pruner)) (mk .waiting)))) (words 7 0 0 0)) settled = rw e at hu in
+        resting u (prune D c (settle D c rows) (item clip always))
+        (rw (g, counts, going-is (settle D c rows)) (bare-agrees limit settled D c (settle D c rows) (settle-fits areas D c (R .agrees) k (mk .pruner) (mk .waiting) rows (s .standing .follows)) roomy small stands))
+
+    on-area : w .kind ≡ 4 → n ≡ total rowSize (outOf (settle D c rows)) → Writes limit u (next (Entries.area (w .p) (w .q)))
+    on-area e h =
+        let g : u ≡ cond (ltb (lengthOf (settledN areas (counted (mk .pruner)) (mk .waiting))) n) (putBelow limit settled (placeOf (lengthOf (settledN areas (counted (mk .pruner)) (mk .waiting)))) (words 4 0 0 0)) settled = rw e at hu in
+        record { done = rw (g, counts, h, length-is (settle D c rows), le-ltb (total rowSize (outOf (settle D c rows))) (total rowSize (outOf (settle D c rows))) (omega arith)) stands; behind = λ q. tt }
+
+    -- a line or a shortcut
+    on-segment : (g : Segment) → u ≡ segmentPut limit t mk (classIn (D .xs) (D .ys) c g) (signOf (D .xs) (D .ys) g) w → (classIn (D .xs) (D .ys) c g ≡ Kept → wordsOf (Rows.segment g) ≡ words 5 (w .p) (w .q) 0) → Writes limit u (addTo D c g rows)
+    on-segment g e k′ = rw e (segment-writes limit areas D c (R .agrees) k mk rows t g w l room k′ (s .standing .follows) (s .writes))
+
+    on-line : w .kind ≡ 5 → Passes v (s .standing .place) (Entries.line (w .p) (w .q)) ws → Writes limit u (next (Entries.line (w .p) (w .q)))
+    on-line e h =
+        let b = line-used (v .xs) (v .ys) (v .used .corners) (w .p) (w .q) (h .range) in
+        let d = R .edges (w .p) (w .q) (b .0) (b .1) in
+        let x : f ≡ edgeClass (edgeBetween (v .xs) (v .ys) (w .p) (w .q)) (squareOf c) = rw e at hf in
+        let y : z ≡ sign (edgeBetween (v .xs) (v .ys) (w .p) (w .q)) = rw e at hz in
+        let g : u ≡ segmentPut limit t mk f z w = simp (eq-eqb (w .kind) 5 e) at hu in
+        on-segment (drawn (Windings.line (w .p) (w .q))) (rw (d, ← x, ← y) g) (λ q. refl)
+
+    on-shortcut : w .kind ≡ 6 → Writes limit u (next (Entries.shortcut (w .p) (w .q) (w .r)))
+    on-shortcut e =
+        let x : f ≡ classIn (D .xs) (D .ys) c (Segments.shortcut (toZ w32 (w .p)) (w .q) (w .r)) = rw e at hf in
+        let y : z ≡ toZ w32 (w .p) = rw e at hz in
+        let g : u ≡ segmentPut limit t mk f z w = simp (ne-eqb (w .kind) 5 (λ q. omega arith), eq-eqb (w .kind) 6 e) at hu in
+        on-segment (Segments.shortcut (toZ w32 (w .p)) (w .q) (w .r)) (rw (← x, ← y) g) (λ q. absurd (never-kept (toZ w32 (w .p)) (w .q) (w .r) q))
+
+    pub writing-next : (nk : Maker) → n ≡ nk .pruner .length → w .q < 4294967296 → counted (nk .pruner) ≡ prunedN areas (counted (mk .pruner)) (mk .waiting) (w .kind)
+        → nk .waiting ≡ waitingN (mk .waiting) f z w → Writing v D c (k + 1) nk ws whole limit t₀ u
+    writing-next nk hn q hp ha =
+        let x = standing-rows v D c R k (mk .pruner) (mk .waiting) whole w ws (s .standing) (nk .pruner) (nk .waiting) hp (rw (← hf, ← hz) ha) q in
+        let m : n ≡ total rowSize (outOf (stateOf (next (decode w)))) =
+            hn ∙ (sym (counted-length (nk .pruner)) ∙ (ap lengthOf (x .0 .follows .counts) ∙ (length-is (stateOf (x .0 .rows)) ∙ ap (λ (y : Making). total rowSize (outOf (stateOf y))) (x .1)))) in
+        let y : Writes limit u (next (decode w)) =
+            by-kind w (λ e. Passes v (s .standing .place) e ws → n ≡ total rowSize (outOf (stateOf (next e))) → Writes limit u (next e)) (λ e h a. on-open e a) (λ e h a. on-bar e a) (λ e h a. on-close e a) (λ e h a. on-area e a)
+            (λ e h a. on-line e h) (λ e h a. on-shortcut e) (λ e h a. on-passes e) (λ h a. clash (h .range)) (one-passes v (s .standing .place) w ws (s .standing .rest)) m in
+        record {
+          standing = x .0;
+          writes = subst (λ (y : Making). Writes limit u y) (sym (x .1)) y;
+          same = same-then limit (s .same) (rw hu (same-one limit areas t mk f z w n));
+        }
