@@ -6,3 +6,4 @@ pub mod Places
 pub mod Written
 pub mod Same
 pub mod Turn
+pub mod Whole
