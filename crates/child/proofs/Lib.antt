@@ -1,2 +1,4 @@
 -- Laws of the loops over a parent's stream.
 pub mod Loop
+pub mod Tail
+pub mod Fill
