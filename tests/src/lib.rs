@@ -2,13 +2,20 @@
 
 #![deny(unsafe_code)]
 
+pub mod class;
 pub mod compare;
 pub mod damage;
 pub mod drawing;
 pub mod lent;
+pub mod lister;
+pub mod meaning;
+pub mod prune;
+pub mod query;
 pub mod random;
 pub mod record;
 pub mod samples;
+pub mod stream;
 pub mod tally;
+pub mod tree;
 #[allow(unsafe_code)]
 pub mod zones;
