@@ -14,8 +14,10 @@ pub mod query;
 pub mod random;
 pub mod record;
 pub mod samples;
+pub mod scenes;
 pub mod stream;
 pub mod tally;
 pub mod tree;
+pub mod tree_damage;
 #[allow(unsafe_code)]
 pub mod zones;
