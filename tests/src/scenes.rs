@@ -79,10 +79,11 @@ impl Look {
             // One area, or none.
             0 => (look.areas, look.top) = (random.below(2), 1),
             // Many areas.
-            1 => (look.areas, look.top) = (MOST_AREAS, MOST_AREAS),
+            1 => (look.areas, look.top) = (MOST_AREAS, 4 * MOST_AREAS),
             // Deep, with many groups.
             2..5 => {
-                (look.groups, look.grouped) = (MOST_GROUPS, 8);
+                look.groups = random.within(5..=MOST_GROUPS);
+                look.grouped = 8;
                 (look.areas, look.items) = (MOST_AREAS, 3);
             }
             // Squares of cells in groups: what is covered or left out as a whole.
@@ -133,7 +134,7 @@ pub fn of(random: &mut Random, look: &Look) -> Vec<Record> {
         look,
         random,
     };
-    maker.side(PAINT, 0, look.top);
+    maker.side(PAINT, 0, look.top, look.areas);
     maker.records
 }
 
@@ -148,18 +149,28 @@ struct Maker<'a> {
 }
 
 impl Maker<'_> {
-    fn side(&mut self, role: u32, open: usize, most: usize) {
+    /// A side with so many open groups around it. `end` is how many areas there may be after it: the
+    /// items share what is left, and of a group its left side has about half.
+    fn side(&mut self, role: u32, open: usize, most: usize, end: usize) {
         let least = if self.random.one_in(8) { 0 } else { 1 };
-        for _ in 0..self.random.within(least..=most) {
-            let group = self.random.below(10) < self.look.grouped;
-            if group && open < self.look.groups && self.room >= 3 {
+        let items = self.random.within(least..=most);
+        for item in 0..items {
+            let left = end.saturating_sub(self.areas);
+            let share = left.min(left * 2 / (items - item) + 1);
+            let group = self.random.below(10) < self.look.grouped
+                && open < self.look.groups
+                && self.room >= 3
+                && (share >= 2 || self.random.one_in(10));
+            if group {
+                let end = self.areas + share;
+                let half = self.areas + self.random.within(share.div_ceil(3)..=share.div_ceil(2));
                 self.room -= 3;
                 self.records.push(delimiter(OPEN));
-                self.side(CLIP, open + 1, self.look.items);
+                self.side(CLIP, open + 1, self.look.items, half);
                 self.records.push(delimiter(BAR));
-                self.side(role, open + 1, self.look.items);
+                self.side(role, open + 1, self.look.items, end);
                 self.records.push(delimiter(CLOSE));
-            } else if self.areas < self.look.areas && self.room >= 1 {
+            } else if share > 0 && self.room >= 1 {
                 self.area(role);
             }
         }

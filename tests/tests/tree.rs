@@ -6,7 +6,7 @@ use zones_tests::drawing::{
     self, check_tables, refusal, Refusal, CLIP, FIRST, MOST_RECORDS, NEXT, PAINT,
 };
 use zones_tests::lister;
-use zones_tests::meaning::{self, Drawing, Drawn, Edge, Item, Reading, Scene, Side};
+use zones_tests::meaning::{self, Drawing, Edge, Item, Reading, Scene, Side};
 use zones_tests::prune::{prune, prune_and_count, prune_in_any_order};
 use zones_tests::query;
 use zones_tests::random::Random;
@@ -405,6 +405,68 @@ fn rules_by_hand() {
     }
 }
 
+/// Drawings of all shapes are made.
+#[test]
+fn the_random_drawings() {
+    let random = &mut Random::for_test(49);
+    let mut tally = Tally::default();
+    let (mut all_areas, mut all_corners, mut all_entries) = (0, 0, 0);
+    for _ in 0..2_000 {
+        let tables = random_tables(random);
+        let areas = tables.plan[1] as usize;
+        all_areas += areas;
+        all_corners += tables.xs.len();
+        let drawing = Drawing::of(&tables);
+        let deepest = nested(&Scene::of(drawing).top);
+        tally.note(format!("{deepest} deep"));
+        let clips = tables.areas.chunks(8).filter(|row| row[0] == CLIP).count();
+        for (what, so) in [
+            ("no record", tables.plan[0] == 0),
+            ("no area", areas == 0),
+            ("one area", areas == 1),
+            ("over 8 areas", areas > 8),
+            ("64 areas", areas == 64),
+            ("clip areas", clips > 0),
+            ("over 100 corners", tables.xs.len() > 100),
+            ("even-odd", tables.areas.chunks(8).any(|row| row[1] == 1)),
+        ] {
+            if so {
+                tally.note(what.to_string());
+            }
+        }
+        let stream = tree::stream_in(drawing, Square::WHOLE);
+        all_entries += stream.len();
+        if stream.is_empty() {
+            tally.note("empty stream".to_string());
+        }
+        if stream.contains(&Entry::Passes) {
+            tally.note("passes".to_string());
+        }
+    }
+    println!("areas {all_areas}, corners {all_corners}, entries of cells 0 {all_entries}");
+    tally.print("drawings");
+    for deep in 0..=8 {
+        tally.reached(&format!("{deep} deep"), 20);
+    }
+    for what in [
+        "no record",
+        "one area",
+        "over 8 areas",
+        "64 areas",
+        "passes",
+    ] {
+        tally.reached(what, 20);
+    }
+}
+
+fn nested<T>(side: &Side<T>) -> usize {
+    let deep = |item: &Item<T>| match item {
+        Item::One(_) => 0,
+        Item::Group { left, right } => 1 + nested(left).max(nested(right)),
+    };
+    side.iter().map(deep).max().unwrap_or(0)
+}
+
 // ---- the tree against no tree ----
 
 /// Tables for a tree, full of other words.
@@ -436,20 +498,14 @@ fn stream_of(tree: &TreeTables, number: u32) -> Vec<Entry> {
     decoded.expect("kinds that are known")
 }
 
-fn areas_of(side: &Side<Drawn>) -> Vec<&Drawn> {
-    let of_item = |item| match item {
-        &Item::One(ref drawn) => vec![drawn],
-        Item::Group { left, right } => [areas_of(left), areas_of(right)].concat(),
-    };
-    side.iter().flat_map(of_item).collect()
-}
-
-fn pieces_of(side: &Side<Piece>) -> Vec<&Piece> {
-    let of_item = |item| match item {
-        &Item::One(ref piece) => vec![piece],
-        Item::Group { left, right } => [pieces_of(left), pieces_of(right)].concat(),
-    };
-    side.iter().flat_map(of_item).collect()
+/// What stands on a side and in its groups, in order.
+fn all_on<T>(side: &Side<T>) -> Vec<&T> {
+    side.iter()
+        .flat_map(|item| match item {
+            Item::One(one) => vec![one],
+            Item::Group { left, right } => [all_on(left), all_on(right)].concat(),
+        })
+        .collect()
 }
 
 /// A position's leaf, windings and reading are those with no tree.
@@ -460,8 +516,8 @@ fn expect_position(scene: &Scene, tree: &TreeTables, x: u32, y: u32) {
     assert!(cell.is_leaf() && cell.square == leaf.square && leaf.square.holds(x, y));
     assert_eq!(leaf.steps, leaf.square.depth());
     assert_eq!(leaf.stream, stream_of(tree, leaf.cell));
-    let drawn = areas_of(&scene.top);
-    for piece in pieces_of(&stream::sides_of(&leaf.stream)) {
+    let drawn = all_on(&scene.top);
+    for piece in all_on(&stream::sides_of(&leaf.stream)) {
         if let Piece::Area {
             number,
             start,
