@@ -6,6 +6,7 @@ pub mod class;
 pub mod compare;
 pub mod damage;
 pub mod drawing;
+pub mod foreign;
 pub mod lent;
 pub mod lister;
 pub mod meaning;
