@@ -7,7 +7,7 @@ use crate::drawing::{
 use crate::meaning::Drawing;
 use crate::samples::Tables;
 use crate::stream;
-use crate::tree::{self, Cell, End, TreeTables};
+use crate::tree::{self, End, TreeTables};
 use crate::zones::Answer;
 
 /// "Its tables hold 1,024 cells and 4,096 entries".
@@ -42,22 +42,14 @@ fn listed(input: &[u8]) -> Result<String, Refusal> {
     let mut tables = TreeTables::new(CELLS, ENTRIES);
     tree::open(drawing, &mut tables.lend())?;
     let growth = tree::grow(drawing, &mut tables.lend(), THRESHOLD, LIMIT)?;
-    let mut leaves: Vec<(u32, Cell)> = (0..tables.head[0])
-        .map(|number| (number, tables.view().cell(number)))
-        .filter(|(_, cell)| cell.is_leaf())
-        .collect();
-    leaves.sort_by_key(|(_, cell)| cell.square.key());
+    let mut leaves = tables.leaves();
+    leaves.sort_by_key(|number| tables.view().cell(*number).square.key());
     let mut text = String::new();
-    for (number, cell) in leaves {
-        let (key, side, entries) = (cell.square.key(), cell.square.side, cell.count);
-        let words = &tables.entries[4 * cell.first as usize..][..4 * cell.count as usize];
-        let decoded = words
-            .as_chunks()
-            .0
-            .iter()
-            .map(|w| stream::Entry::decode(*w));
-        let stream: Vec<stream::Entry> = decoded.flatten().collect();
-        let lines = stream::lines(&stream);
+    for number in leaves {
+        let square = tables.view().cell(number).square;
+        let (key, side) = (square.key(), square.side);
+        let stream = tables.stream(number);
+        let (entries, lines) = (stream.len(), stream::lines(&stream));
         text += &format!("{number} {key} {side} {entries} {lines}\n");
     }
     // "if growing ends on "full", a last line `full` follows."

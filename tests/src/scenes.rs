@@ -4,13 +4,13 @@
 
 use crate::class::{Square, WHOLE_SIDE};
 use crate::drawing::{
-    BAR, CLIP, CLOSE, FIRST, MOST_AREAS, MOST_COORDINATE, MOST_CORNERS, MOST_GROUPS, MOST_RECORDS,
-    NEXT, OPEN, PAINT,
+    check, BAR, CLIP, CLOSE, FIRST, MOST_AREAS, MOST_COORDINATE, MOST_CORNERS, MOST_GROUPS,
+    MOST_RECORDS, NEXT, OPEN, PAINT,
 };
 use crate::meaning::MOST_POSITION;
 use crate::random::Random;
-use crate::record::{self, corner, delimiter, Record};
-use crate::samples::Tables;
+use crate::record::{self, area, corner, delimiter, Record};
+use crate::samples::{self, Tables};
 
 /// How large a drawing may grow, what it is mostly made of, and where it lies.
 #[derive(Clone, Copy, Debug)]
@@ -122,6 +122,13 @@ impl Look {
 pub fn any(random: &mut Random) -> Vec<Record> {
     let look = Look::any(random);
     of(random, &look)
+}
+
+/// The tables of a drawing of any look.
+pub fn tables(random: &mut Random) -> Tables {
+    let records = any(random);
+    assert!(check(&records.concat()).is_ok());
+    samples::tables(&records)
 }
 
 /// A drawing of a look: always accepted.
@@ -314,4 +321,40 @@ fn coordinate(random: &mut Random, corner: Option<u32>) -> u32 {
         _ => near,
     };
     beside.min(MOST_POSITION)
+}
+
+/// A run of positions: steps along a line, or jumps.
+pub fn run(random: &mut Random, tables: &Tables, len: usize) -> (Vec<u32>, Vec<u32>) {
+    let (x, y) = position(random, tables);
+    let step = random.pick(&[1, 7, 300, 5_000]);
+    let jump = random.one_in(2);
+    let mut run = (Vec::new(), Vec::new());
+    for i in 0..len as u32 {
+        let (x, y) = match jump {
+            true => position(random, tables),
+            false => ((x + i * step).min(65_535), y),
+        };
+        run.0.push(x);
+        run.1.push(y);
+    }
+    run
+}
+
+// ---- chosen ones ----
+
+/// A contour through some corners.
+pub fn contour(corners: &[(u32, u32)]) -> Vec<Record> {
+    let kinds = [FIRST].into_iter().chain([NEXT; 64]);
+    let pairs = kinds.zip(corners);
+    pairs.map(|(kind, (x, y))| corner(kind, *x, *y)).collect()
+}
+
+/// The contour of a square.
+pub fn square_at(x: u32, y: u32, side: u32) -> Vec<Record> {
+    contour(&[(x, y), (x + side, y), (x + side, y + side), (x, y + side)])
+}
+
+/// A paint area of material 7.
+pub fn painted(alpha: u8, colour: [u8; 3], contour: Vec<Record>) -> Vec<Record> {
+    [vec![area(PAINT, 0, alpha, colour, 7)], contour].concat()
 }

@@ -85,6 +85,24 @@ impl TreeTables {
             entries: &mut self.entries,
         }
     }
+
+    /// The cells in use that are leaves, of a tree that passes 12.
+    pub fn leaves(&self) -> Vec<u32> {
+        let cells = 0..self.head[0];
+        cells
+            .filter(|number| self.view().cell(*number).is_leaf())
+            .collect()
+    }
+
+    /// The stream of a cell, of a tree that passes 12.
+    pub fn stream(&self, number: u32) -> Vec<Entry> {
+        let cell = self.view().cell(number);
+        let rows = self.entries.as_chunks::<ENTRY_WORDS>().0;
+        let run = &rows[cell.first as usize..][..cell.count as usize];
+        run.iter()
+            .map(|words| Entry::decode(*words).expect("a kind that is known"))
+            .collect()
+    }
 }
 
 impl Tree<'_> {
