@@ -95,9 +95,9 @@ impl Steps {
             self.way.push(i);
             match item {
                 Item::One(piece) => match terminal(drawing, piece) {
-                    // "F0 → ε (12)"
+                    // "F0 → ε (12)": a paint area that fails in the whole cell goes.
                     Terminal::F0 => self.fits(12),
-                    // "C0 → ε (13)"
+                    // "C0 → ε (13)": a clip area likewise.
                     Terminal::C0 => self.fits(13),
                     _ => {}
                 },
@@ -116,24 +116,27 @@ impl Steps {
 
     /// The rules at a group's own place.
     fn search_group(&mut self, drawing: Drawing, left: &Side<Piece>, right: &Side<Piece>) {
-        // "(A | B F1 C) → (A | B F1) (14)", "where they remove something": C not empty.
+        // "(A | B F1 C) → (A | B F1) (14)": of several F1 the first, so that B has none. "Rules 14
+        // and 18 apply where they remove something": C is not empty.
         let opaque = first_of(drawing, right, Terminal::F1);
         if opaque.is_some_and(|at| at + 1 < right.len()) {
             self.fits(14);
         }
-        // "(| A) → ε (15)"
+        // "(| A) → ε (15)": nothing on the left never passes, so the group goes with its right.
         if left.is_empty() {
             self.fits(15);
         }
-        // "(A |) → ε (16)"
+        // "(A |) → ε (16)": nothing on the right shows or passes nothing.
         if right.is_empty() {
             self.fits(16);
         }
-        // "(A C1 B | C) → C (17)"
+        // "(A C1 B | C) → C (17)": the left passes everywhere, so what stands on the right takes
+        // the group's place on the side around it.
         if first_of(drawing, left, Terminal::C1).is_some() {
             self.fits(17);
         }
-        // "(A | B C1 C) → (A | C1) (18)", "where they remove something": B or C not empty.
+        // "(A | B C1 C) → (A | C1) (18)": on a clip side, as C1 stands on no other. Of several C1
+        // any is kept: all become the bare entry. B or C is not empty.
         if first_of(drawing, right, Terminal::C1).is_some() && right.len() > 1 {
             self.fits(18);
         }

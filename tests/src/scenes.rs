@@ -97,7 +97,7 @@ impl Look {
         look
     }
 
-    /// As many areas and corners as a drawing may have.
+    /// Areas and corners up to what a drawing may have, spread over the whole grid.
     pub fn fullest(random: &mut Random) -> Look {
         Look {
             records: MOST_RECORDS,

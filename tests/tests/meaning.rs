@@ -198,7 +198,11 @@ fn the_class_at_four_positions_is_the_class_at_all() {
     let random = &mut Random::for_test(41);
     let mut tally = Tally::default();
     for _ in 0..60_000 {
-        let levels = random.within(12..=16) as u32;
+        // Sides 1 to 16, and now and then 256.
+        let levels = match random.one_in(500) {
+            true => 8,
+            false => random.within(12..=16) as u32,
+        };
         let square = scenes::square_in(random, Square::WHOLE, levels);
         let near = |random: &mut Random, low: u32| {
             let side = i64::from(square.side);

@@ -539,6 +539,50 @@ fn order_and_places_of_refusals() {
     assert_eq!(split(&deep, leaf.cell), Err((9, 0)));
 }
 
+/// "The caller's tables hold so many whole cells (up to 4,096) and entries (up to 65,536)."
+#[test]
+fn tables_longer_than_their_limits() {
+    let (tables, tree) = small_tree();
+    let drawing = Drawing::of(&tables);
+    let with = |cells: u32, entries: u32| {
+        let mut tree = tree.clone();
+        tree.cells.resize(CELL_WORDS * 4_200, 0);
+        tree.entries.resize(4 * 70_000, 0);
+        tree.head = vec![cells, entries];
+        tree
+    };
+    let split = |tree: &TreeTables| {
+        let mut after = tree.clone();
+        let answer = tree::split(drawing, &mut after.lend(), 2);
+        assert!(answer.is_ok() || after == *tree);
+        answer.map_err(|refusal| refusal.number)
+    };
+    let find = |tree: &TreeTables| tree::find_leaf(drawing, tree.view(), 0, 0).is_ok();
+    let mut after = tree.clone();
+    assert!(tree::split(drawing, &mut after.lend(), 2).is_ok());
+    let more = after.head[1] - tree.head[1];
+    for (cells, entries, answer) in [
+        (4_092, 1_000, Ok(4_092)),
+        (4_093, 1_000, Err(11)),
+        (4_096, 1_000, Err(11)),
+        (4_097, 1_000, Err(12)),
+        (9, 65_536 - more, Ok(9)),
+        (9, 65_536 - more + 1, Err(11)),
+        (9, 65_536, Err(11)),
+        (9, 65_537, Err(12)),
+    ] {
+        let tree = with(cells, entries);
+        assert_eq!(split(&tree), answer, "{cells} {entries}");
+        assert_eq!(find(&tree), answer != Err(12));
+    }
+    // Words that make no whole cell or entry do not count.
+    let mut tree = tree.clone();
+    tree.cells.truncate(CELL_WORDS * 9 - 1);
+    assert!(!find(&tree));
+    tree.head[0] = 8;
+    assert_eq!(split(&tree), Err(11));
+}
+
 #[test]
 fn growing_and_its_refusals() {
     let (tables, tree) = small_tree();

@@ -162,7 +162,7 @@ fn pick_leaf(random: &mut Random, tables: &Tables, tree: &TreeTables) -> u32 {
 fn readings_from_the_tree_are_those_with_no_tree() {
     let random = &mut Random::for_test(45);
     let mut tally = Tally::default();
-    for _ in 0..1_000 {
+    for _ in 0..2_000 {
         let tables = scenes::tables(random);
         let drawing = Drawing::of(&tables);
         let scene = Scene::of(drawing);
