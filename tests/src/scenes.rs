@@ -2,6 +2,8 @@
 //! often are the squares of cells, so that whole cells are covered or left out and every rule of
 //! pruning is used; groups stand in groups, up to eight deep.
 
+use std::iter;
+
 use crate::class::{Square, WHOLE_SIDE};
 use crate::drawing::{
     check, BAR, CLIP, CLOSE, FIRST, MOST_AREAS, MOST_COORDINATE, MOST_CORNERS, MOST_GROUPS,
@@ -344,7 +346,7 @@ pub fn run(random: &mut Random, tables: &Tables, len: usize) -> (Vec<u32>, Vec<u
 
 /// A contour through some corners.
 pub fn contour(corners: &[(u32, u32)]) -> Vec<Record> {
-    let kinds = [FIRST].into_iter().chain([NEXT; 64]);
+    let kinds = iter::once(FIRST).chain(iter::repeat(NEXT));
     let pairs = kinds.zip(corners);
     pairs.map(|(kind, (x, y))| corner(kind, *x, *y)).collect()
 }
