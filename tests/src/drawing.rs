@@ -29,7 +29,7 @@ pub struct Refusal {
     pub place: u32,
 }
 
-fn refusal(number: u32, place: usize) -> Refusal {
+pub fn refusal(number: u32, place: usize) -> Refusal {
     Refusal {
         number,
         place: place as u32,
@@ -44,12 +44,14 @@ pub struct Size {
     pub corners: usize,
 }
 
-struct Area {
-    role: u32,
-    rule: u32,
-    alpha: u32,
-    colour: [u32; 3],
-    material: u32,
+/// The named fields of an area.
+#[derive(Clone, Copy, PartialEq, Eq, Debug)]
+pub struct Area {
+    pub role: u32,
+    pub rule: u32,
+    pub alpha: u32,
+    pub colour: [u32; 3],
+    pub material: u32,
 }
 
 impl Area {
@@ -63,7 +65,7 @@ impl Area {
         }
     }
 
-    fn of_words(row: &[u32]) -> Area {
+    pub fn of_words(row: &[u32]) -> Area {
         Area {
             role: row[0],
             rule: row[1],
@@ -73,7 +75,7 @@ impl Area {
         }
     }
 
-    fn in_range(&self) -> bool {
+    pub fn in_range(&self) -> bool {
         let colour_in_range = self.colour.iter().all(|channel| *channel <= 255);
         if self.rule > 1 || self.alpha > 255 || !colour_in_range || self.material > 65_535 {
             return false;
@@ -92,7 +94,7 @@ fn corner_of_record(record: &[u8; RECORD_BYTES]) -> (u32, u32) {
     (x, y)
 }
 
-fn corner_in_range(x: u32, y: u32) -> bool {
+pub fn corner_in_range(x: u32, y: u32) -> bool {
     x <= MOST_COORDINATE && y <= MOST_COORDINATE
 }
 

@@ -2,13 +2,25 @@
 
 #![deny(unsafe_code)]
 
+pub mod class;
 pub mod compare;
 pub mod damage;
 pub mod drawing;
+pub mod expect;
+pub mod foreign;
 pub mod lent;
+pub mod lister;
+pub mod machine;
+pub mod meaning;
+pub mod prune;
+pub mod query;
 pub mod random;
 pub mod record;
 pub mod samples;
+pub mod scenes;
+pub mod stream;
 pub mod tally;
+pub mod tree;
+pub mod tree_damage;
 #[allow(unsafe_code)]
 pub mod zones;
