@@ -1,0 +1,21 @@
+use borrow.Author.Needs.{needs}
+use native.Mathlib.Omega.{arith}
+use Rattle.celltable.proofs.Ranges.{square-fits}
+use Rattle.celltable.proofs.Quarters.{quarter-is}
+use Rattle.celltable.proofs.quarter_of.Statement.{statement}
+use Rattle.celltable.proofs.quarter_of.Tie as tie
+use Rattle.celltable.proofs.quarter_of.Reads as reads
+use Rattle.celltable.proofs.quarter_of.Lts as lts
+use Rattle.celltable.proofs.half_of.Reads as half-of-reads
+
+half-of-requires : tie.Need-half-of-requires
+half-of-requires c κs = let f = square-fits (c .before .args .w) (c .before .pre .0) in (omega arith, omega arith)
+
+half-of-requires-2 : tie.Need-half-of-requires-2
+half-of-requires-2 c κs = let f = square-fits (c .before .before .args .w) (c .before .before .pre .0) in (omega arith, omega arith)
+
+returns : tie.Need-returns
+returns c = rw (c .half-of2 .ensures .0, c .before .half-of .ensures .0) (quarter-is (c .before .before .before .args .w) (c .before .before .before .args .q) (c .before .before .before .pre .0) (c .before .before .before .pre .1))
+
+pub quarter-of-spec : {M : Type 1} → statement M
+quarter-of-spec = tie.close (tie.spec half-of-requires half-of-requires-2 returns)
