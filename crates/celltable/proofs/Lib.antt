@@ -1,5 +1,7 @@
--- Laws of the table of cells; what a cell that passes says; the way down; examples.
+-- Laws of the table of cells; what a cell that passes says; the way down and the leaf that it finds; examples.
+pub mod Table
 pub mod Ranges
 pub mod Meaning
 pub mod Quarters
 pub mod Walk
+pub mod Landing
