@@ -6,7 +6,8 @@ use mathlib.Core.List.{List}
 use native.Mathlib.Omega.{arith}
 use native.Mathlib.Nat.{two-pow-succ}
 use lib.Dec.{eqb, leb}
-use Rattle.cells.specs.Cells.{Position, at, Cell, cell, left, low, level, side, root, alongX, alongY, child, quarterBy, quarterOf}
+use borrow.Author.Tests.{eqb-false}
+use Rattle.cells.specs.Cells.{Position, at, Cell, cell, left, low, level, side, root, Quarter, alongX, alongY, child, quarterBy, quarterOf}
 use Rattle.celltable.specs.declared.CellWords.{CellWords}
 use Rattle.celltable.specs.declared.Cursor.{Cursor}
 use Rattle.celltable.specs.declared.Down.{Down}
@@ -14,9 +15,10 @@ use Rattle.celltable.specs.declared.Down.the-variants.{Deeper, Landed, B
 use Rattle.celltable.specs.declared.Found.{Found}
 use Rattle.celltable.specs.declared.Found.the-variants.{At, Broken}
 use Rattle.celltable.specs.Table.{cellAt}
-use Rattle.celltable.specs.Ranges.{cellRange}
+use Rattle.celltable.specs.Ranges.{numbersRange, cellRange}
 use Rattle.celltable.specs.Descent.{placeOf, onSquare, leafOf, downFrom, descendIn}
 use Rattle.celltable.specs.Numbers.{halfN, deeperN, metN, goOn, walkN, startN}
+use Rattle.celltable.proofs.Grid.{Gridded, root-gridded, child-gridded, gridded-range}
 
 -- the cursor at cell i, which has to be the cell c
 abbrev pub cursorOf : (i steps : ℕ) → Cell → Cursor
@@ -58,36 +60,44 @@ deeper-is i steps x y k first p px py e = rw (e, half-pow k) (go (leb (x + 2 ^ k
 -- ---- the way down
 module _ (t : List ℕ) (used entries px py : ℕ) where
   -- at one cell, where the rest of the way is the same
-  one-cell : (n i steps : ℕ) (c : Cell)
+  one-cell : (n i steps : ℕ) (c : Cell) → Gridded c → (i ≡ 0 → c ≡ root)
+      → ((cellAt t i .child ≡ 0 → ⊥)
       → walkN t used entries px py n (deeperN (cursorOf i steps c) (cellAt t i .child) px py)
-      ≡ downFrom t used entries (at px py) n (cellAt t i .child + placeOf (quarterOf c (at px py))) (steps + 1) (child c (quarterOf c (at px py)))
+      ≡ downFrom t used entries (at px py) n (cellAt t i .child + placeOf (quarterOf c (at px py))) (steps + 1) (child c (quarterOf c (at px py))))
       → walkN t used entries px py (suc n) (cursorOf i steps c) ≡ downFrom t used entries (at px py) (suc n) i steps c
   unfolding walkN downFrom metN
-  one-cell n i steps c next = go (cellRange w i used entries) (onSquare w c) (eqb (w .child) 0)
+  one-cell n i steps c g o next = go (onSquare w c) (numbersRange w used entries) (eqb (w .child) 0) refl refl refl
     where
       w : CellWords
       w = cellAt t i
 
-      go : (a b d : Bool)
-          → goOn (cond a (cond b (cond d (Landed (leafOf i steps w)) (Deeper (deeperN (cursorOf i steps c) (w .child) px py))) Bad) Bad) (walkN t used entries px py n)
-          ≡ cond a (cond b (cond d (At (leafOf i steps w)) (downFrom t used entries (at px py) n (w .child + placeOf (quarterOf c (at px py))) (steps + 1) (child c (quarterOf c (at px py))))) Broken) Broken
-      go true true true = refl
-      go true true false = next
-      go true false d = refl
-      go false b d = refl
+      deeper : Found
+      deeper = downFrom t used entries (at px py) n (w .child + placeOf (quarterOf c (at px py))) (steps + 1) (child c (quarterOf c (at px py)))
 
-  walk-down : (n i steps : ℕ) (c : Cell) → n ≤ suc (level c) → walkN t used entries px py n (cursorOf i steps c) ≡ downFrom t used entries (at px py) n i steps c
+      astray : (a : Bool) → Broken ≡ cond a Broken Broken
+      astray true = refl
+      astray false = refl
+
+      go : (a b d : Bool) → onSquare w c ≡ a → numbersRange w used entries ≡ b → eqb (w .child) 0 ≡ d
+          → goOn (cond a (cond b (cond d (Landed (leafOf i steps w)) (Deeper (deeperN (cursorOf i steps c) (w .child) px py))) Bad) Bad) (walkN t used entries px py n)
+          ≡ cond (cellRange w i used entries) (cond a (cond d (At (leafOf i steps w)) deeper) Broken) Broken
+      go true true true e f k = rw (gridded-range w c i used entries g o e, f)
+      go true true false e f k = rw (gridded-range w c i used entries g o e, f) (next (eqb-false (w .child) 0 k))
+      go true false d e f k = rw (gridded-range w c i used entries g o e, f)
+      go false b d e f k = astray (cellRange w i used entries)
+
+  walk-down : (n i steps : ℕ) (c : Cell) → n ≤ suc (level c) → Gridded c → (i ≡ 0 → c ≡ root) → walkN t used entries px py n (cursorOf i steps c) ≡ downFrom t used entries (at px py) n i steps c
   unfolding walkN downFrom
-  walk-down zero i steps c h = refl
-  walk-down (suc zero) i steps c h = one-cell zero i steps c refl
-  walk-down (suc (suc n)) i steps (cell x y zero) h = absurd (omega arith)
-  walk-down (suc (suc n)) i steps (cell x y (suc k)) h =
+  walk-down zero i steps c h g o = refl
+  walk-down (suc zero) i steps c h g o = one-cell zero i steps c g o (λ s. refl)
+  walk-down (suc (suc n)) i steps (cell x y zero) h g o = absurd (omega arith)
+  walk-down (suc (suc n)) i steps (cell x y (suc k)) h g o =
       let c : Cell = cell x y (suc k) in
-      let q = quarterOf c (at px py) in
-      one-cell (suc n) i steps c
-      (ap (λ (u : Cursor). walkN t used entries px py (suc n) u) (deeper-is i steps x y k (cellAt t i .child) (at px py) px py refl)
-      ∙ walk-down (suc n) (cellAt t i .child + placeOf q) (steps + 1) (child c q) (omega arith))
+      let q : Quarter = quarterOf c (at px py) in
+      one-cell (suc n) i steps c g o
+      (λ s. ap (λ (u : Cursor). walkN t used entries px py (suc n) u) (deeper-is i steps x y k (cellAt t i .child) (at px py) px py refl)
+      ∙ walk-down (suc n) (cellAt t i .child + placeOf q) (steps + 1) (child c q) (omega arith) (child-gridded c q g) (λ z. absurd (s (omega arith))))
 
   pub walk-is : walkN t used entries px py 17 startN ≡ descendIn t used entries px py
   unfolding descendIn
-  walk-is = walk-down 17 0 0 root (omega arith)
+  walk-is = walk-down 17 0 0 root (omega arith) root-gridded (λ e. refl)

@@ -34,6 +34,10 @@ level-most (suc n) s = go (eqb s (2 ^ suc n)) (level-most n s)
     go true h = omega arith
     go false h = omega arith
 
+or-true : (a b : Bool) → b ≡ true → (a || b) ≡ true
+or-true true b h = refl
+or-true false b h = h
+
 pow-more : (k n : ℕ) → k ≤ n → 2 ^ k < 2 ^ suc n
 pow-more k n h = omega (arith, pow-le-pow-right {n = 2} (omega arith) {i = k} {j = n} h, two-pow-succ n, one-le-pow n 2 (omega arith))
 
@@ -57,6 +61,19 @@ level-of (suc n) k h = go (eqb k (suc n)) refl (λ q. level-of n k q)
 
         apart : 2 ^ k ≡ 2 ^ suc n → 2 ^ k < 2 ^ suc n → ⊥
         apart q l = omega arith
+
+pub power-of : (n k : ℕ) → k ≤ n → powerUpTo n (2 ^ k) ≡ true
+unfolding powerUpTo
+power-of zero zero h = refl
+power-of zero (suc k) h = absurd (omega arith)
+power-of (suc n) k h = go (eqb k (suc n)) refl (λ q. power-of n k q)
+  where
+    below : (k ≡ suc n → ⊥) → k ≤ n
+    below f = omega arith
+
+    go : (b : Bool) → eqb k (suc n) ≡ b → (k ≤ n → powerUpTo n (2 ^ k) ≡ true) → (eqb (2 ^ k) (2 ^ suc n) || powerUpTo n (2 ^ k)) ≡ true
+    go true e f = rw (eq-eqb (2 ^ k) (2 ^ suc n) (ap (λ (m : ℕ). 2 ^ m) (eqb-true k (suc n) e)))
+    go false e f = or-true (eqb (2 ^ k) (2 ^ suc n)) (powerUpTo n (2 ^ k)) (f (below (eqb-false k (suc n) e)))
 
 -- ---- the square of a cell
 
@@ -111,6 +128,21 @@ module _ (w : CellWords) (h : squareRange w ≡ true) where
         power = level-is 16 (w .side) side-passes;
       }
 
+-- ---- the numbers that a cell holds
+
+module _ (w : CellWords) (used entries : ℕ) (h : numbersRange w used entries ≡ true) where
+  -- the four children of a cell that is split are in use
+  pub child-in-use : (w .child ≡ 0 → ⊥) → w .child + 3 < used
+  child-in-use f = ltb-true (w .child + 3) used (go (eqb (w .child) 0) refl (and-left (childRange (w .child) used) (entryRange (w .first) (w .count) entries) h))
+    where
+      go : (b : Bool) → eqb (w .child) 0 ≡ b → (b || ltb (w .child + 3) used) ≡ true → ltb (w .child + 3) used ≡ true
+      go true e q = absurd (f (eqb-true (w .child) 0 e))
+      go false e q = q
+
+  -- and so are its entries
+  pub entries-in-use : w .first + w .count ≤ entries
+  entries-in-use = leb-true (w .first + w .count) entries (and-right (childRange (w .child) used) (entryRange (w .first) (w .count) entries) h)
+
 -- ---- a cell that passes
 
 module _ (w : CellWords) (i used entries : ℕ) (h : cellRange w i used entries ≡ true) where
@@ -138,17 +170,11 @@ module _ (w : CellWords) (i used entries : ℕ) (h : cellRange w i used entries 
   pub passes-square : SquareIn (squareIn w)
   passes-square = let f = passes-fits in record { some-side = omega arith; right = omega arith; top = omega arith }
 
-  -- the four children of a cell that is split are in use
   pub passes-child : (w .child ≡ 0 → ⊥) → w .child + 3 < used
-  passes-child f = ltb-true (w .child + 3) used (go (eqb (w .child) 0) refl (and-left (childRange (w .child) used) (entryRange (w .first) (w .count) entries) numbers-pass))
-    where
-      go : (b : Bool) → eqb (w .child) 0 ≡ b → (b || ltb (w .child + 3) used) ≡ true → ltb (w .child + 3) used ≡ true
-      go true e q = absurd (f (eqb-true (w .child) 0 e))
-      go false e q = q
+  passes-child f = child-in-use w used entries numbers-pass f
 
-  -- and so are its entries
   pub passes-entries : w .first + w .count ≤ entries
-  passes-entries = leb-true (w .first + w .count) entries (and-right (childRange (w .child) used) (entryRange (w .first) (w .count) entries) numbers-pass)
+  passes-entries = entries-in-use w used entries numbers-pass
 
 -- ---- a head that passes
 

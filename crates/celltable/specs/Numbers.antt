@@ -1,5 +1,5 @@
 -- The way down over the numbers that the code holds. `Rattle.celltable.proofs.Meaning` says that it is `descendIn`. Assumes nothing.
-use Prim.Native.Nat.{ℕ, zero, suc, _+_, _*_, _/_}
+use Prim.Native.Nat.{ℕ, zero, suc, _+_, _*_, _/_, _≤_, _<_}
 use mathlib.Core.Bool.{Bool, cond, _&&_}
 use mathlib.Core.List.{List}
 use lib.Dec.{eqb, leb}
@@ -11,7 +11,7 @@ use Rattle.celltable.specs.declared.Down.the-variants.{Deeper, Landed, B
 use Rattle.celltable.specs.declared.Found.{Found}
 use Rattle.celltable.specs.declared.Found.the-variants.{At, Broken}
 use Rattle.celltable.specs.Table.{cellAt}
-use Rattle.celltable.specs.Ranges.{cellRange}
+use Rattle.celltable.specs.Ranges.{numbersRange}
 use Rattle.celltable.specs.Descent.{leafOf}
 
 -- where the low or the high half of a side begins
@@ -32,11 +32,11 @@ deeperN c first px py =
 abbrev pub standsN : Cursor → CellWords → Bool
 standsN c w = eqb (w .x) (c .x) && (eqb (w .y) (c .y) && eqb (w .side) (c .side))
 
--- what a cell with the words w gives
+-- what a cell with the words w gives. A cell on the square that the way expects has a side and a corner in range, so only its other numbers are tried.
 unfoldable pub metN : CellWords → (used entries : ℕ) → Cursor → (px py : ℕ) → Down
 metN w used entries c px py =
-    cond (cellRange w (c .cell) used entries)
-    (cond (standsN c w) (cond (eqb (w .child) 0) (Landed (leafOf (c .cell) (c .steps) w)) (Deeper (deeperN c (w .child) px py))) Bad)
+    cond (standsN c w)
+    (cond (numbersRange w used entries) (cond (eqb (w .child) 0) (Landed (leafOf (c .cell) (c .steps) w)) (Deeper (deeperN c (w .child) px py))) Bad)
     Bad
 
 -- "Each step down picks one quarter and gives the next cell"
@@ -55,3 +55,10 @@ walkN t used entries px py (suc n) c = goOn (stepN t used entries c px py) (walk
 
 abbrev pub startN : Cursor
 startN = record { cell = 0; x = 0; y = 0; side = 65536; steps = 0 }
+
+-- what holds of the cursor on its way: the cell is in use, the square lies in the grid, and at most 16 steps were made
+pub record CursorIn (c : Cursor) (used : ℕ) : Type 0 where
+  pub in-use : c .cell < used
+  pub east : c .x + c .side ≤ 65536
+  pub north : c .y + c .side ≤ 65536
+  pub steps-few : c .steps ≤ 16

@@ -9,7 +9,7 @@ ghost use Rattle.cells.specs.Cells.{squareOf, child};
 ghost use Rattle.celltable.specs.Table.{cellAt, putCellAt, putChildAt};
 ghost use Rattle.celltable.specs.Ranges.{sideRange, squareRange, rootRange, numbersRange, cellRange, headRange, CellsIn, cellOf};
 ghost use Rattle.celltable.specs.Descent.{quarterAt, descendIn};
-ghost use Rattle.celltable.specs.Numbers.{halfN, deeperN, standsN, stepN};
+ghost use Rattle.celltable.specs.Numbers.{halfN, deeperN, standsN, stepN, CursorIn};
 
 // The words of a cell that have a name. `child` is the first of its four children, or 0 for a leaf.
 pub struct CellWords {
@@ -178,7 +178,7 @@ pub fn head_fits(head: &[u32], cells: usize, entries: usize) -> bool
 // ---- the quarters of a cell
 // The low or the high half of a side.
 fn half_of(at: u32, half: u32, high: bool) -> Half
-    requires { ⌜ (at < 65536) × (half ≤ 65536) ⌝ }
+    requires { ⌜ at + half ≤ 65536 ⌝ }
     ensures { λ r. ⌜ r ≡ halfN at half high ⌝ }
     ensures { λ r. ⌜ r .bit ≤ 1 ⌝ }
 {
@@ -218,7 +218,7 @@ impl Cursor {
 
     // One level deeper: the child that holds (px, py), of the four from `first` on.
     fn deeper(self, first: u32, px: u32, py: u32) -> Self
-        requires { ⌜ (self .x < 65536) × ((self .y < 65536) × (self .side ≤ 65536)) ⌝ }
+        requires { ⌜ (self .x + self .side ≤ 65536) × (self .y + self .side ≤ 65536) ⌝ }
         requires { ⌜ (first < 65536) × (self .steps ≤ 16) ⌝ }
         ensures { λ r. ⌜ r ≡ deeperN self first px py ⌝ }
     {
@@ -235,15 +235,14 @@ impl Cursor {
     }
 
     // The cell is read and tried; a leaf ends the way, another cell gives the cursor one level deeper.
-    pub fn step(self, cells: &[u32], used: usize, entries: usize, px: u32, py: u32) -> Down
+    fn step(self, cells: &[u32], used: usize, entries: usize, px: u32, py: u32) -> Down
         requires { ⌜ CellsIn (now cells) used ⌝ }
-        requires { ⌜ (self .cell < used) × (self .steps ≤ 16) ⌝ }
+        requires { ⌜ CursorIn self used ⌝ }
         ensures { λ r. ⌜ r ≡ stepN (now (cells .entry)) used entries self px py ⌝ }
     {
-        let i = self.cell as usize;
-        let w = read_cell(cells, i);
-        if cell_fits(w, i, used, entries) {
-            if self.stands_on(w) {
+        let w = read_cell(cells, self.cell as usize);
+        if self.stands_on(w) {
+            if numbers_fit(w, used, entries) {
                 if w.child == 0 {
                     return Down::Landed(Leaf {
                         cell: self.cell,

@@ -1,10 +1,9 @@
-use Prim.Native.Nat.{_+_, _≤_, _<_}
 use mathlib.Core.Path.{_≡_}
 use borrow.Author.Needs.{needs}
 use Rattle.celltable.specs.Descent.{descendIn}
 use Rattle.celltable.specs.Numbers.{walkN}
 use Rattle.celltable.proofs.Meaning.{walk-is}
-use Rattle.celltable.proofs.Walk.{walk-deeper, walk-landed, walk-bad, walk-done, walk-in-use, walk-counted}
+use Rattle.celltable.proofs.Walk.{walk-deeper, walk-landed, walk-bad, walk-done, Going, going-start, going-in, going-on}
 use Rattle.celltable.proofs.descend.Statement.{statement}
 use Rattle.celltable.proofs.descend.Tie as tie
 use Rattle.celltable.proofs.descend.Reads as reads
@@ -12,17 +11,16 @@ use Rattle.celltable.proofs.descend.Lts as lts
 use Rattle.celltable.proofs.Cursor.step.Reads as step-reads
 
 abbrev Inv-loop : tie.InvT-loop
-Inv-loop cells used entries x y c₀ left₀ c left =
-    (c .cell < used) × ((c .steps + left ≡ 17) × (walkN cells used entries x y left c ≡ descendIn cells used entries x y))
+Inv-loop cells used entries x y c₀ left₀ c left = Going c used left × (walkN cells used entries x y left c ≡ descendIn cells used entries x y)
 
 abbrev μ-loop : tie.MeasureT-loop
 μ-loop cells used entries x y c₀ left₀ c left = left
 
 loop-holds : tie.Need-loop-holds Inv-loop μ-loop
-loop-holds c = (search needs, (search needs, walk-is _ _ _ _ _))
+loop-holds c = (search going-start, walk-is _ _ _ _ _)
 
 step-requires : tie.Need-step-requires Inv-loop μ-loop
-step-requires c κs = search needs
+step-requires c κs = (search needs, search going-in)
 
 enum-known-d : tie.Need-enum-known-d Inv-loop μ-loop
 enum-known-d c = search needs
@@ -46,7 +44,7 @@ loop-less : tie.Need-loop-less Inv-loop μ-loop
 loop-less c = search needs
 
 loop-again : tie.Need-loop-again Inv-loop μ-loop
-loop-again c = (search walk-in-use, (search walk-counted, search walk-deeper))
+loop-again c = (search going-on, search walk-deeper)
 
 returns-3 : tie.Need-returns-3 Inv-loop μ-loop
 returns-3 c = search walk-done
