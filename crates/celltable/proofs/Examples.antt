@@ -1,11 +1,10 @@
 -- Small trees, and what is found in them, computed from the definitions. Assumes nothing.
 use mathlib.Core.Path.{_≡_, refl}
-use mathlib.Core.Bool.{Bool, true, false}
+use mathlib.Core.Bool.{true, false}
 use mathlib.Core.List.{List, [], _∷_, _++_}
 use Prim.Native.Nat.{ℕ}
 use Rattle.cells.specs.Cells.{at, cell}
 use Rattle.celltable.specs.declared.CellWords.{CellWords}
-use Rattle.celltable.specs.declared.Leaf.{Leaf}
 use Rattle.celltable.specs.declared.Found.{Found}
 use Rattle.celltable.specs.declared.Found.the-variants.{At, Broken}
 use Rattle.celltable.specs.Table.{rowOf}

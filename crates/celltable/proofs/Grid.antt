@@ -1,16 +1,15 @@
 -- The cells that splitting gives are those whose squares pass: cell 0, each child, and nothing else. Assumes nothing.
 use Prim.Native.Nat.{ℕ, zero, suc, _+_, _*_, _-_, _/_, _%_, _^_, _≤_, _<_}
-use mathlib.Core.Path.{_≡_, refl, sym, ap, _∙_}
-use mathlib.Core.Bool.{Bool, true, false, cond, _&&_}
-use mathlib.Core.Logic.{_↔_}
+use mathlib.Core.Path.{_≡_, refl, ap, _∙_}
+use mathlib.Core.Bool.{Bool, true, false, _&&_}
 use native.Mathlib.Omega.{arith}
 use native.Mathlib.Nat.{zero-add, one-le-pow, two-pow-succ, div-add-mod', div-lt-iff-lt-mul, mul-le-mul-right, mul-mod-left}
 use lib.Dec.{eqb, ltb}
-use borrow.Author.Tests.{eqb-true, eqb-false, eq-eqb, lt-ltb}
+use borrow.Author.Tests.{eqb-true, eq-eqb, lt-ltb}
 use Rattle.laws.proofs.Booleans.{and-left, and-right, and-both}
 use Rattle.cells.specs.Cells.{Cell, cell, left, low, level, side, root, Quarter, lowLow, highLow, lowHigh, highHigh, alongX, alongY, child}
 use Rattle.celltable.specs.declared.CellWords.{CellWords}
-use Rattle.celltable.specs.Ranges.{sideRange, gridRange, squareRange, rootRange, numbersRange, cellRange, levelOf, cellOf}
+use Rattle.celltable.specs.Ranges.{gridRange, squareRange, rootRange, numbersRange, cellRange, levelOf, cellOf}
 use Rattle.celltable.specs.Descent.{onSquare}
 use Rattle.celltable.proofs.Ranges.{power-of, level-most, SquareFits, square-fits}
 
@@ -118,6 +117,9 @@ says-cell w c h =
   where
     rest : Bool
     rest = eqb (w .y) (low c) && eqb (w .side) (side c)
+
+pub on-square : (w : CellWords) (c : Cell) → SaysCell w c → onSquare w c ≡ true
+on-square w c s = rw (eq-eqb (w .x) (left c) (s .same-x), eq-eqb (w .y) (low c) (s .same-y), eq-eqb (w .side) (side c) (s .same-side))
 
 grid-true : (v s : ℕ) → v % s ≡ 0 → v < 65536 → gridRange v s ≡ true
 grid-true v s m h = and-both (eqb (v % s) 0) (ltb v 65536) (eq-eqb (v % s) 0 m) (lt-ltb v 65536 h)

@@ -1,22 +1,21 @@
--- The leaf that a way down finds holds the position, passes 12, and is as deep as the steps say. Assumes nothing.
+-- One cell on the way down; and the leaf that is found holds the position, passes 12, and is as deep as the steps say. Assumes nothing.
 use Prim.Native.Nat.{ℕ, zero, suc, _+_, _-_, _^_, _≤_, _<_}
-use mathlib.Core.Path.{_≡_, refl, sym, ap, _∙_, subst}
-use mathlib.Core.Bool.{Bool, true, false, cond, _&&_}
+use mathlib.Core.Path.{_≡_, refl, ap, _∙_, subst}
+use mathlib.Core.Bool.{Bool, true, false, cond}
 use mathlib.Core.List.{List}
 use native.Mathlib.Omega.{arith}
 use lib.Dec.{eqb}
-use borrow.Author.Tests.{eqb-true, eqb-false}
-use Rattle.laws.proofs.Booleans.{and-left, and-right}
-use Rattle.cells.specs.Cells.{Position, at, OnGrid, Cell, cell, left, low, level, side, root, Holds, Quarter, lowLow, highLow, lowHigh, highHigh, child, quarterOf}
+use borrow.Author.Tests.{eqb-true, eqb-false, eq-eqb, ne-eqb}
+use Rattle.cells.specs.Cells.{Position, at, OnGrid, Cell, cell, level, side, root, Holds, Quarter, lowLow, highLow, lowHigh, highHigh, child, quarterOf}
 use Rattle.cells.proofs.Cells.{root-holds, child-holds}
 use Rattle.celltable.specs.declared.CellWords.{CellWords}
 use Rattle.celltable.specs.declared.Leaf.{Leaf}
-use Rattle.celltable.specs.declared.Found.{Found}
 use Rattle.celltable.specs.declared.Found.the-variants.{At, Broken}
 use Rattle.celltable.specs.Table.{cellAt}
 use Rattle.celltable.specs.Ranges.{cellRange, levelOf}
 use Rattle.celltable.specs.Descent.{placeOf, onSquare, leafOf, downFrom, descendIn}
 use Rattle.celltable.proofs.Ranges.{passes-child, level-of}
+use Rattle.celltable.proofs.Grid.{SaysCell, says-cell}
 
 -- the cell that a leaf says it is: "finding a leaf reports as many steps as the leaf's depth", so its level is 16 less the steps
 abbrev pub leafCell : Leaf → Cell
@@ -31,6 +30,19 @@ pub record LeafFound (t : List ℕ) (used entries : ℕ) (p : Position) (l : Lea
   pub side-is : l .side ≡ 2 ^ (16 - l .steps)
   pub level-is : levelOf (l .side) ≡ 16 - l .steps
   pub holds : Holds (leafCell l) p
+
+-- ---- one cell on the way: a leaf ends it, a cell that is split gives the child
+
+module _ (t : List ℕ) (used entries : ℕ) (p : Position) (n i steps : ℕ) (c : Cell) (f : cellRange (cellAt t i) i used entries ≡ true) (s : onSquare (cellAt t i) c ≡ true) where
+  pub down-leaf : cellAt t i .child ≡ 0 → downFrom t used entries p (suc n) i steps c ≡ At (leafOf i steps (cellAt t i))
+  unfolding downFrom
+  down-leaf z = rw (f, s, eq-eqb (cellAt t i .child) 0 z)
+
+  pub down-split : (cellAt t i .child ≡ 0 → ⊥) → downFrom t used entries p (suc n) i steps c ≡ downFrom t used entries p n (cellAt t i .child + placeOf (quarterOf c p)) (steps + 1) (child c (quarterOf c p))
+  unfolding downFrom
+  down-split z = rw (f, s, ne-eqb (cellAt t i .child) 0 z)
+
+-- ---- the leaf that is found
 
 few-places : (q : Quarter) → placeOf q ≤ 3
 few-places lowLow = omega arith
@@ -52,25 +64,13 @@ module _ (t : List ℕ) (used entries : ℕ) (p : Position) (l : Leaf) where
         passes = f;
         whole = z;
         depth = omega arith;
-        side-is = same-side ∙ ap (λ (m : ℕ). 2 ^ m) same-level;
-        level-is = ap levelOf same-side ∙ level-of 16 k (omega arith) ∙ same-level;
-        holds = rw (same-x, same-y, ← same-level) h;
+        side-is = says .same-side ∙ ap (λ (m : ℕ). 2 ^ m) same-level;
+        level-is = ap levelOf (says .same-side) ∙ level-of 16 k (omega arith) ∙ same-level;
+        holds = rw (says .same-x, says .same-y, ← same-level) h;
       }
     where
-      w : CellWords
-      w = cellAt t i
-
-      rest : Bool
-      rest = eqb (w .y) y && eqb (w .side) (2 ^ k)
-
-      same-x : w .x ≡ x
-      same-x = eqb-true (w .x) x (and-left (eqb (w .x) x) rest s)
-
-      same-y : w .y ≡ y
-      same-y = eqb-true (w .y) y (and-left (eqb (w .y) y) (eqb (w .side) (2 ^ k)) (and-right (eqb (w .x) x) rest s))
-
-      same-side : w .side ≡ 2 ^ k
-      same-side = eqb-true (w .side) (2 ^ k) (and-right (eqb (w .y) y) (eqb (w .side) (2 ^ k)) (and-right (eqb (w .x) x) rest s))
+      says : SaysCell (cellAt t i) (cell x y k)
+      says = says-cell (cellAt t i) (cell x y k) s
 
       same-level : k ≡ 16 - steps
       same-level = omega arith

@@ -1,6 +1,6 @@
 -- The way down over the code's numbers is that of document 01's cells and quarters. Assumes nothing.
 use Prim.Native.Nat.{ℕ, zero, suc, _+_, _*_, _/_, _^_, _≤_}
-use mathlib.Core.Path.{_≡_, refl, sym, ap, _∙_}
+use mathlib.Core.Path.{_≡_, refl, ap, _∙_}
 use mathlib.Core.Bool.{Bool, true, false, cond}
 use mathlib.Core.List.{List}
 use native.Mathlib.Omega.{arith}
@@ -10,7 +10,6 @@ use borrow.Author.Tests.{eqb-false}
 use Rattle.cells.specs.Cells.{Position, at, Cell, cell, left, low, level, side, root, Quarter, alongX, alongY, child, quarterBy, quarterOf}
 use Rattle.celltable.specs.declared.CellWords.{CellWords}
 use Rattle.celltable.specs.declared.Cursor.{Cursor}
-use Rattle.celltable.specs.declared.Down.{Down}
 use Rattle.celltable.specs.declared.Down.the-variants.{Deeper, Landed, Bad}
 use Rattle.celltable.specs.declared.Found.{Found}
 use Rattle.celltable.specs.declared.Found.the-variants.{At, Broken}

@@ -1,15 +1,14 @@
--- The numbers of a quarter are those of document 01's child. Assumes nothing.
-use Prim.Native.Nat.{ℕ, zero, suc, _+_, _*_, _/_, _%_, _^_, _<_}
+-- The numbers of a quarter are those of document 01's child, and the places of the quarters are 0 to 3 in its order. Assumes nothing.
+use Prim.Native.Nat.{ℕ, zero, suc, _/_, _%_, _^_, _<_}
 use mathlib.Core.Path.{_≡_, refl, sym, ap, _∙_}
 use mathlib.Core.Bool.{Bool, true}
 use native.Mathlib.Omega.{arith}
-use native.Mathlib.Nat.{two-pow-succ}
 use lib.Dec.{eqb, leb}
 use Rattle.geometry.specs.declared.class.Square.{Square}
-use Rattle.cells.specs.Cells.{cell, squareOf, child, quarterBy}
+use Rattle.cells.specs.Cells.{Quarter, lowLow, highLow, lowHigh, highHigh, cell, squareOf, child, quarterBy}
 use Rattle.celltable.specs.declared.CellWords.{CellWords}
 use Rattle.celltable.specs.Ranges.{squareRange, levelOf, cellOf}
-use Rattle.celltable.specs.Descent.{quarterAt}
+use Rattle.celltable.specs.Descent.{placeOf, quarterAt}
 use Rattle.celltable.specs.Numbers.{halfN}
 use Rattle.celltable.proofs.Ranges.{square-fits}
 use Rattle.celltable.proofs.Meaning.{half-pow, part-x, part-y}
@@ -25,3 +24,9 @@ at-level w a b (suc k) e h =
 
 pub quarter-is : (w : CellWords) (q : ℕ) → squareRange w ≡ true → 1 < w .side → quarterN w (eqb (q % 2) 1) (leb 2 q) ≡ squareOf (child (cellOf w) (quarterAt q))
 quarter-is w q h l = at-level w (eqb (q % 2) 1) (leb 2 q) (levelOf (w .side)) (square-fits w h .power) l
+
+pub place-quarter : (q : Quarter) → quarterAt (placeOf q) ≡ q
+place-quarter lowLow = refl
+place-quarter highLow = refl
+place-quarter lowHigh = refl
+place-quarter highHigh = refl

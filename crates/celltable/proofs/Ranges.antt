@@ -1,6 +1,6 @@
 -- What it says that a cell passes, and that the numbers in use do: its square is that of a cell of document 01, and the other numbers are below what is in use. Assumes nothing.
-use Prim.Native.Nat.{ℕ, zero, suc, _+_, _*_, _-_, _/_, _%_, _^_, _≤_, _<_}
-use mathlib.Core.Path.{_≡_, refl, sym, ap, _∙_}
+use Prim.Native.Nat.{ℕ, zero, suc, _+_, _*_, _/_, _%_, _^_, _≤_, _<_}
+use mathlib.Core.Path.{_≡_, refl, sym, ap}
 use mathlib.Core.Bool.{Bool, true, false, cond, _&&_, _||_}
 use mathlib.Core.List.{List}
 use native.Mathlib.Omega.{arith}
@@ -178,27 +178,42 @@ module _ (w : CellWords) (i used entries : ℕ) (h : cellRange w i used entries 
 
 -- ---- a head that passes
 
-pub head-cells : (head t : List ℕ) (entries : ℕ) → headRange head (length t) entries ≡ true → CellsIn t (getD head 0 0)
-unfolding headRange
-head-cells head t entries h = record { some = leb-true 1 n (and-left a b′ c); few = leb-true n 4096 (and-right a′ b c′); within = omega (arith, leb-true n (length t / 8) (and-left a′ b c′)) }
-  where
-    n : ℕ
-    n = getD head 0 0
+module _ (head t : List ℕ) (entries : ℕ) (h : headRange head (length t) entries ≡ true) where
+  abbrev inCells : Bool
+  inCells = cellsHeld (getD head 0 0) (length t)
 
-    a : Bool
-    a = leb 1 n
+  abbrev inEntries : Bool
+  inEntries = entriesHeld (getD head 1 0) entries
 
-    a′ : Bool
-    a′ = leb n (length t / 8)
+  head-parts : cond (leb 2 (length head)) (inCells && inEntries) false ≡ true
+  unfolding headRange
+  head-parts = h
 
-    b : Bool
-    b = leb n 4096
+  pub head-long : 2 ≤ length head
+  head-long = leb-true 2 (length head) (cond-left (leb 2 (length head)) (inCells && inEntries) head-parts)
 
-    b′ : Bool
-    b′ = a′ && b
+  cells-held : inCells ≡ true
+  cells-held = and-left inCells inEntries (cond-right (leb 2 (length head)) (inCells && inEntries) head-parts)
 
-    c : (a && b′) ≡ true
-    c = and-left (cellsHeld n (length t)) (entriesHeld (getD head 1 0) entries) (cond-right (leb 2 (length head)) (cellsHeld n (length t) && entriesHeld (getD head 1 0) entries) h)
+  entries-held : inEntries ≡ true
+  entries-held = and-right inCells inEntries (cond-right (leb 2 (length head)) (inCells && inEntries) head-parts)
 
-    c′ : (a′ && b) ≡ true
-    c′ = and-right a b′ c
+  pub head-cells : CellsIn t (getD head 0 0)
+  head-cells =
+      record {
+        some = leb-true 1 (getD head 0 0) (and-left (leb 1 (getD head 0 0)) rest cells-held);
+        few = leb-true (getD head 0 0) 4096 (and-right (leb (getD head 0 0) (length t / 8)) (leb (getD head 0 0) 4096) tables);
+        within = omega (arith, leb-true (getD head 0 0) (length t / 8) (and-left (leb (getD head 0 0) (length t / 8)) (leb (getD head 0 0) 4096) tables));
+      }
+    where
+      rest : Bool
+      rest = leb (getD head 0 0) (length t / 8) && leb (getD head 0 0) 4096
+
+      tables : rest ≡ true
+      tables = and-right (leb 1 (getD head 0 0)) rest cells-held
+
+  pub head-entries : (getD head 1 0 ≤ 65536) × (getD head 1 0 * 4 ≤ entries)
+  head-entries = (
+    leb-true (getD head 1 0) 65536 (and-right (leb (getD head 1 0) (entries / 4)) (leb (getD head 1 0) 65536) entries-held),
+    omega (arith, leb-true (getD head 1 0) (entries / 4) (and-left (leb (getD head 1 0) (entries / 4)) (leb (getD head 1 0) 65536) entries-held)),
+  )

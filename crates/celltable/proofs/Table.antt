@@ -1,11 +1,11 @@
 -- Laws of a table of eight words a cell: reading back what was written, and what a write leaves as it was. Assumes nothing.
 use Prim.Native.Nat.{ℕ, _+_, _*_, _-_, _≤_, _<_}
-use mathlib.Core.Path.{_≡_, refl, sym, ap, _∙_}
-use mathlib.Core.List.{List, [], _∷_, _++_, append-assoc}
+use mathlib.Core.Path.{_≡_, sym, ap, _∙_}
+use mathlib.Core.List.{List, _++_, append-assoc}
 use native.Mathlib.Omega.{arith}
 use native.Mathlib.Decide.{decLt}
 use native.Mathlib.Numerals.{towards-suc}
-use lib.ListN.{length, getD, take, drop, set, length-set}
+use lib.ListN.{length, getD, take, drop, length-set}
 use lib.Seq.{getD-set-same, getD-set-other, getD-take, getD-drop, take-set-le, drop-set-lt, length-take-le, getD-append-add, sets, sets-eq}
 use Rattle.celltable.specs.declared.CellWords.{CellWords}
 use Rattle.celltable.specs.Table.{cellAt, rowOf, putCellAt, putChildAt, withChild}

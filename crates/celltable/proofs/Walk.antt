@@ -1,14 +1,12 @@
 -- The steps of a way down and the loop over them, as plain laws. Assumes nothing.
-use Prim.Native.Nat.{ℕ, zero, suc, _+_, _*_, _-_, _/_, _≤_, _<_}
+use Prim.Native.Nat.{ℕ, suc, _+_, _-_, _/_, _≤_, _<_}
 use mathlib.Core.Path.{_≡_, refl, sym, ap, _∙_, subst}
-use mathlib.Core.Bool.{Bool, true, false, cond, _&&_}
+use mathlib.Core.Bool.{Bool, true, false, cond}
 use mathlib.Core.List.{List}
 use native.Mathlib.Omega.{arith}
 use lib.Dec.{eqb, leb}
-use borrow.Author.Tests.{eqb-true, eqb-false, eq-eqb, ne-eqb}
-use Rattle.laws.proofs.Booleans.{and-left, and-right}
+use borrow.Author.Tests.{eqb-false, eq-eqb, ne-eqb}
 use Rattle.celltable.specs.declared.CellWords.{CellWords}
-use Rattle.celltable.specs.declared.Half.{Half}
 use Rattle.celltable.specs.declared.Cursor.{Cursor}
 use Rattle.celltable.specs.declared.Leaf.{Leaf}
 use Rattle.celltable.specs.declared.Down.{Down}

@@ -1,3 +1,4 @@
+-- `celltable::descend` meets its contract. Assumes nothing.
 use mathlib.Core.Path.{_≡_}
 use borrow.Author.Needs.{needs}
 use Rattle.celltable.specs.Descent.{descendIn}
@@ -6,9 +7,6 @@ use Rattle.celltable.proofs.Meaning.{walk-is}
 use Rattle.celltable.proofs.Walk.{walk-deeper, walk-landed, walk-bad, walk-done, Going, going-start, going-in, going-on}
 use Rattle.celltable.proofs.descend.Statement.{statement}
 use Rattle.celltable.proofs.descend.Tie as tie
-use Rattle.celltable.proofs.descend.Reads as reads
-use Rattle.celltable.proofs.descend.Lts as lts
-use Rattle.celltable.proofs.Cursor.step.Reads as step-reads
 
 abbrev Inv-loop : tie.InvT-loop
 Inv-loop cells used entries x y c₀ left₀ c left = Going c used left × (walkN cells used entries x y left c ≡ descendIn cells used entries x y)

@@ -1,34 +1,26 @@
+-- `celltable::head_fits` meets its contract. Assumes nothing.
 use borrow.Author.Tests.{le-leb, lt-leb}
 use Rattle.celltable.specs.Ranges.{headRange}
 use borrow.Author.Needs.{needs}
 use Rattle.celltable.proofs.head_fits.Statement.{statement}
 use Rattle.celltable.proofs.head_fits.Tie as tie
-use Rattle.celltable.proofs.head_fits.Reads as reads
-use Rattle.celltable.proofs.head_fits.Lts as lts
-use Rattle.laws.proofs.wide.Reads as wide-reads
 
--- src/lib.rt:171:28
 shared-slice-read-wide : tie.Need-shared-slice-read-wide
 shared-slice-read-wide c = search needs
 
--- src/lib.rt:171:13
 wide-requires : tie.Need-wide-requires
 wide-requires c κs = search needs
 
--- src/lib.rt:172:28
 shared-slice-read-wide-2 : tie.Need-shared-slice-read-wide-2
 shared-slice-read-wide-2 c = search needs
 
--- src/lib.rt:172:13
 wide-requires-2 : tie.Need-wide-requires-2
 wide-requires-2 c κs = search needs
 
--- src/lib.rt:173:9
 returns : tie.Need-returns
 unfolding headRange
 returns c = rw (le-leb _ _ (c .before .before .before .before .if1 .taken), c .wide2 .ensures, c .before .before .wide .ensures)
 
--- src/lib.rt:167:1
 returns-2 : tie.Need-returns-2
 unfolding headRange
 returns-2 c = rw (lt-leb _ _ (c .if1 .left))

@@ -1,112 +1,85 @@
+-- `celltable::put_cell` meets its contract. Assumes nothing.
 use lib.ListN.{length-set}
 use native.Mathlib.Omega.{arith}
 use borrow.Author.Needs.{needs}
 use Rattle.celltable.proofs.put_cell.Statement.{statement}
 use Rattle.celltable.proofs.put_cell.Tie as tie
-use Rattle.celltable.proofs.put_cell.Reads as reads
-use Rattle.celltable.proofs.put_cell.Lts as lts
 
--- src/lib.rt:84:14
 mul-at : tie.Need-mul-at
 mul-at c = search needs
 
--- src/lib.rt:85:5
 mul-cells : tie.Need-mul-cells
 mul-cells c = search needs
 
--- src/lib.rt:85:5
 slice-write-cells : tie.Need-slice-write-cells
 slice-write-cells c = search needs
 
--- src/lib.rt:86:11
 add-cells : tie.Need-add-cells
 add-cells c = search needs
 
--- src/lib.rt:86:5
 mul-cells-2 : tie.Need-mul-cells-2
 mul-cells-2 c = search needs
 
--- src/lib.rt:86:5
 slice-write-cells-2 : tie.Need-slice-write-cells-2
 slice-write-cells-2 c = simp length-set (omega arith)
 
--- src/lib.rt:87:11
 add-cells-2 : tie.Need-add-cells-2
 add-cells-2 c = search needs
 
--- src/lib.rt:87:5
 mul-cells-3 : tie.Need-mul-cells-3
 mul-cells-3 c = search needs
 
--- src/lib.rt:87:5
 slice-write-cells-3 : tie.Need-slice-write-cells-3
 slice-write-cells-3 c = simp length-set (omega arith)
 
--- src/lib.rt:88:11
 add-cells-3 : tie.Need-add-cells-3
 add-cells-3 c = search needs
 
--- src/lib.rt:88:5
 mul-cells-4 : tie.Need-mul-cells-4
 mul-cells-4 c = search needs
 
--- src/lib.rt:88:5
 slice-write-cells-4 : tie.Need-slice-write-cells-4
 slice-write-cells-4 c = simp length-set (omega arith)
 
--- src/lib.rt:89:11
 add-cells-4 : tie.Need-add-cells-4
 add-cells-4 c = search needs
 
--- src/lib.rt:89:5
 mul-cells-5 : tie.Need-mul-cells-5
 mul-cells-5 c = search needs
 
--- src/lib.rt:89:5
 slice-write-cells-5 : tie.Need-slice-write-cells-5
 slice-write-cells-5 c = simp length-set (omega arith)
 
--- src/lib.rt:90:11
 add-cells-5 : tie.Need-add-cells-5
 add-cells-5 c = search needs
 
--- src/lib.rt:90:5
 mul-cells-6 : tie.Need-mul-cells-6
 mul-cells-6 c = search needs
 
--- src/lib.rt:90:5
 slice-write-cells-6 : tie.Need-slice-write-cells-6
 slice-write-cells-6 c = simp length-set (omega arith)
 
--- src/lib.rt:91:11
 add-cells-6 : tie.Need-add-cells-6
 add-cells-6 c = search needs
 
--- src/lib.rt:91:5
 mul-cells-7 : tie.Need-mul-cells-7
 mul-cells-7 c = search needs
 
--- src/lib.rt:91:5
 slice-write-cells-7 : tie.Need-slice-write-cells-7
 slice-write-cells-7 c = simp length-set (omega arith)
 
--- src/lib.rt:92:11
 add-cells-7 : tie.Need-add-cells-7
 add-cells-7 c = search needs
 
--- src/lib.rt:92:5
 mul-cells-8 : tie.Need-mul-cells-8
 mul-cells-8 c = search needs
 
--- src/lib.rt:92:5
 slice-write-cells-8 : tie.Need-slice-write-cells-8
 slice-write-cells-8 c = simp length-set (omega arith)
 
--- src/lib.rt:80:1
 same-length : tie.Need-same-length
 same-length c = search needs
 
--- src/lib.rt:80:1
 returns : tie.Need-returns
 returns c = search needs
 

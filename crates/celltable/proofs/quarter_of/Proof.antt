@@ -1,12 +1,9 @@
-use borrow.Author.Needs.{needs}
+-- `celltable::quarter_of` meets its contract. Assumes nothing.
 use native.Mathlib.Omega.{arith}
 use Rattle.celltable.proofs.Grid.{passes-east, passes-north}
 use Rattle.celltable.proofs.Quarters.{quarter-is}
 use Rattle.celltable.proofs.quarter_of.Statement.{statement}
 use Rattle.celltable.proofs.quarter_of.Tie as tie
-use Rattle.celltable.proofs.quarter_of.Reads as reads
-use Rattle.celltable.proofs.quarter_of.Lts as lts
-use Rattle.celltable.proofs.half_of.Reads as half-of-reads
 
 half-of-requires : tie.Need-half-of-requires
 half-of-requires c κs = omega (arith, passes-east (c .before .args .w) (c .before .pre .0))

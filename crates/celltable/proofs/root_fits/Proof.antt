@@ -1,14 +1,11 @@
+-- `celltable::root_fits` meets its contract. Assumes nothing.
 use Rattle.laws.proofs.Tests.{tests}
 use Rattle.celltable.proofs.root_fits.Statement.{statement}
 use Rattle.celltable.proofs.root_fits.Tie as tie
-use Rattle.celltable.proofs.root_fits.Reads as reads
-use Rattle.celltable.proofs.root_fits.Lts as lts
 
--- src/lib.rt:154:9
 returns : tie.Need-returns
 returns c = search tests
 
--- src/lib.rt:150:1
 returns-2 : tie.Need-returns-2
 returns-2 c = search tests
 

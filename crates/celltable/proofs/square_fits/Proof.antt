@@ -1,29 +1,22 @@
+-- `celltable::square_fits` meets its contract. Assumes nothing.
 use mathlib.Core.Path.{sym, _∙_}
 use Rattle.celltable.proofs.Ranges.{side-some}
 use borrow.Author.Needs.{needs}
 use Rattle.celltable.proofs.square_fits.Statement.{statement}
 use Rattle.celltable.proofs.square_fits.Tie as tie
-use Rattle.celltable.proofs.square_fits.Reads as reads
-use Rattle.celltable.proofs.square_fits.Lts as lts
-use Rattle.celltable.proofs.side_fits.Reads as side-fits-reads
 
--- src/lib.rt:132:8
 side-fits-requires : tie.Need-side-fits-requires
 side-fits-requires c κs = search needs
 
--- src/lib.rt:133:18
 rem-result : tie.Need-rem-result
 rem-result c = side-some _ (sym (c .before .before .side-fits .ensures) ∙ c .before .if1 .taken)
 
--- src/lib.rt:133:58
 rem-result-2 : tie.Need-rem-result-2
 rem-result-2 c = side-some _ (sym (c .before .before .before .before .side-fits .ensures) ∙ c .before .before .before .if1 .taken)
 
--- src/lib.rt:133:9
 returns : tie.Need-returns
 returns c = rw (sym (c .before .before .before .before .before .side-fits .ensures) ∙ c .before .before .before .before .if1 .taken)
 
--- src/lib.rt:129:1
 returns-2 : tie.Need-returns-2
 returns-2 c = rw (sym (c .before .side-fits .ensures) ∙ c .if1 .left)
 

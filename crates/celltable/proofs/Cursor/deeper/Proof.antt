@@ -1,43 +1,32 @@
+-- `celltable::Cursor::deeper` meets its contract. Assumes nothing.
 use borrow.Author.Needs.{needs}
 use Rattle.celltable.proofs.Cursor.deeper.Statement.{statement}
 use Rattle.celltable.proofs.Cursor.deeper.Tie as tie
-use Rattle.celltable.proofs.Cursor.deeper.Reads as reads
-use Rattle.celltable.proofs.Cursor.deeper.Lts as lts
-use Rattle.celltable.proofs.half_of.Reads as half-of-reads
 
--- src/lib.rt:229:39
 add-half-of : tie.Need-add-half-of
 add-half-of c = search needs
 
--- src/lib.rt:229:13
 half-of-requires : tie.Need-half-of-requires
 half-of-requires c κs = search needs
 
--- src/lib.rt:230:39
 add-half-of-2 : tie.Need-add-half-of-2
 add-half-of-2 c = search needs
 
--- src/lib.rt:230:13
 half-of-requires-2 : tie.Need-half-of-requires-2
 half-of-requires-2 c κs = search needs
 
--- src/lib.rt:232:19
 add-t8 : tie.Need-add-t8
 add-t8 c = search needs
 
--- src/lib.rt:232:35
 mul-t10 : tie.Need-mul-t10
 mul-t10 c = search needs
 
--- src/lib.rt:232:19
 add-t11 : tie.Need-add-t11
 add-t11 c = search needs
 
--- src/lib.rt:236:20
 add-t12 : tie.Need-add-t12
 add-t12 c = search needs
 
--- src/lib.rt:223:5
 returns : tie.Need-returns
 returns c = rw (c .before .before .before .half-of2 .ensures .0, c .before .before .before .before .before .half-of .ensures .0)
 

@@ -1,3 +1,4 @@
+-- `celltable::Cursor::step` meets its contract. Assumes nothing.
 use mathlib.Core.Path.{sym, _∙_}
 use native.Mathlib.Omega.{arith}
 use Rattle.celltable.proofs.Ranges.{child-in-use}
@@ -5,46 +6,31 @@ use Rattle.celltable.proofs.Walk.{step-astray, step-unfit, step-landed,
 use borrow.Author.Needs.{needs}
 use Rattle.celltable.proofs.Cursor.step.Statement.{statement}
 use Rattle.celltable.proofs.Cursor.step.Tie as tie
-use Rattle.celltable.proofs.Cursor.step.Reads as reads
-use Rattle.celltable.proofs.Cursor.step.Lts as lts
-use Rattle.celltable.proofs.Cursor.deeper.Reads as deeper-reads
-use Rattle.celltable.proofs.Cursor.stands_on.Reads as stands-on-reads
-use Rattle.celltable.proofs.numbers_fit.Reads as numbers-fit-reads
-use Rattle.celltable.proofs.read_cell.Reads as read-cell-reads
 
--- src/lib.rt:243:34
 cast-read-cell : tie.Need-cast-read-cell
 cast-read-cell c = search needs
 
--- src/lib.rt:243:13
 read-cell-requires : tie.Need-read-cell-requires
 read-cell-requires c κs = search needs
 
--- src/lib.rt:244:12
 stands-on-requires : tie.Need-stands-on-requires
 stands-on-requires c κs = search needs
 
--- src/lib.rt:245:16
 numbers-fit-requires : tie.Need-numbers-fit-requires
 numbers-fit-requires c κs = search needs
 
--- src/lib.rt:247:21
 returns : tie.Need-returns
 returns c = search step-landed
 
--- src/lib.rt:257:21
 deeper-requires : tie.Need-deeper-requires
 deeper-requires c κs = (search needs, (omega (arith, child-in-use (c .before .before .before .before .before .before .read-cell .result) (c .before .before .before .before .before .before .before .before .before .args .used) (c .before .before .before .before .before .before .before .before .before .args .entries) (sym (c .before .before .before .numbers-fit .ensures) ∙ c .before .before .if2 .taken) (c .if3 .left)), search needs))
 
--- src/lib.rt:258:17
 returns-2 : tie.Need-returns-2
 returns-2 c = search step-deeper
 
--- src/lib.rt:260:13
 returns-3 : tie.Need-returns-3
 returns-3 c = search step-unfit
 
--- src/lib.rt:238:5
 returns-4 : tie.Need-returns-4
 returns-4 c = search step-astray
 
