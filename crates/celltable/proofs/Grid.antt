@@ -3,7 +3,7 @@ use Prim.Native.Nat.{ℕ, zero, suc, _+_, _*_, _-_, _/_, _%_, _^_, _≤_, _<_}
 use mathlib.Core.Path.{_≡_, refl, ap, _∙_}
 use mathlib.Core.Bool.{Bool, true, false, _&&_}
 use native.Mathlib.Omega.{arith}
-use native.Mathlib.Nat.{zero-add, one-le-pow, two-pow-succ, div-add-mod', div-lt-iff-lt-mul, mul-le-mul-right, mul-mod-left}
+use native.Mathlib.Nat.{one-le-pow, two-pow-succ, div-add-mod', div-lt-iff-lt-mul, mul-le-mul-right, mul-mod-left}
 use lib.Dec.{eqb, ltb}
 use borrow.Author.Tests.{eqb-true, eq-eqb, lt-ltb}
 use Rattle.laws.proofs.Booleans.{and-left, and-right, and-both}
@@ -11,7 +11,8 @@ use Rattle.cells.specs.Cells.{Cell, cell, left, low, level, side, root, Quarter
 use Rattle.celltable.specs.declared.CellWords.{CellWords}
 use Rattle.celltable.specs.Ranges.{gridRange, squareRange, rootRange, numbersRange, cellRange, levelOf, cellOf}
 use Rattle.celltable.specs.Descent.{onSquare}
-use Rattle.celltable.proofs.Ranges.{power-of, level-most, SquareFits, square-fits}
+use Rattle.celltable.proofs.Powers.{level-most, power-of, pow-split}
+use Rattle.celltable.proofs.Ranges.{SquareFits, square-fits}
 
 -- a cell of the grid: of level 0 to 16, its low corner on the grid in multiples of its side, and all of it below 65,536
 pub record Gridded (c : Cell) : Type 0 where
@@ -65,12 +66,6 @@ child-gridded (cell x y (suc k)) q g =
     }
 
 -- ---- a cell that passes is one of the grid
-
-pow-split : (a b : ℕ) → 2 ^ a * 2 ^ b ≡ 2 ^ (a + b)
-pow-split zero b = rw zero-add (omega arith)
-pow-split (suc a) b =
-    let e : suc a + b ≡ suc (a + b) = omega arith in
-    rw (e, two-pow-succ a, two-pow-succ (a + b)) (omega (arith, pow-split a b))
 
 inside : (x s k : ℕ) → 2 ^ k ≡ s → k ≤ 16 → 0 < s → x % s ≡ 0 → x < 65536 → x + s ≤ 65536
 inside x s k e l p m h = omega (arith, mul-le-mul-right s below, div-add-mod' x s, grid)
@@ -132,7 +127,8 @@ gridded-passes w (cell x y k) g s =
     (grid-true y (2 ^ k) (g .y-multiple) (omega (arith, one-le-pow k 2 (omega arith)))))
 
 -- where the words say a cell of the grid, and cell 0 the root, only the other numbers decide whether they pass
-pub gridded-range : (w : CellWords) (c : Cell) (i used entries : ℕ) → Gridded c → (i ≡ 0 → c ≡ root) → onSquare w c ≡ true → cellRange w i used entries ≡ numbersRange w used entries
+pub gridded-range : (w : CellWords) (c : Cell) (i used entries : ℕ) → Gridded c → (i ≡ 0 → c ≡ root) → onSquare w c ≡ true
+    → cellRange w i used entries ≡ numbersRange w used entries
 unfolding cellRange
 gridded-range w c i used entries g r h = rw (gridded-passes w c g s, own (eqb i 0) refl) (and-true (numbersRange w used entries))
   where
@@ -148,3 +144,7 @@ gridded-range w c i used entries g r h = rw (gridded-passes w c g s, own (eqb i 
     and-true : (a : Bool) → (a && true) ≡ a
     and-true true = refl
     and-true false = refl
+
+pub gridded-cell : (w : CellWords) (c : Cell) (i used entries : ℕ) → Gridded c → (i ≡ 0 → c ≡ root) → SaysCell w c → numbersRange w used entries ≡ true
+    → cellRange w i used entries ≡ true
+gridded-cell w c i used entries g r s h = gridded-range w c i used entries g r (on-square w c s) ∙ h

@@ -14,7 +14,8 @@ use Rattle.celltable.specs.declared.Found.the-variants.{At, Broken}
 use Rattle.celltable.specs.Table.{cellAt}
 use Rattle.celltable.specs.Ranges.{cellRange, levelOf}
 use Rattle.celltable.specs.Descent.{placeOf, onSquare, leafOf, downFrom, descendIn}
-use Rattle.celltable.proofs.Ranges.{passes-child, level-of}
+use Rattle.celltable.proofs.Powers.{level-of}
+use Rattle.celltable.proofs.Ranges.{passes-child}
 use Rattle.celltable.proofs.Grid.{SaysCell, says-cell}
 
 -- the cell that a leaf says it is: "finding a leaf reports as many steps as the leaf's depth", so its level is 16 less the steps

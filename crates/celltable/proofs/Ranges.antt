@@ -1,79 +1,19 @@
 -- What it says that a cell passes, and that the numbers in use do: its square is that of a cell of document 01, and the other numbers are below what is in use. Assumes nothing.
-use Prim.Native.Nat.{ℕ, zero, suc, _+_, _*_, _/_, _%_, _^_, _≤_, _<_}
-use mathlib.Core.Path.{_≡_, refl, sym, ap}
+use Prim.Native.Nat.{ℕ, _+_, _*_, _/_, _%_, _^_, _≤_, _<_}
+use mathlib.Core.Path.{_≡_, refl, sym, _∙_}
 use mathlib.Core.Bool.{Bool, true, false, cond, _&&_, _||_}
 use mathlib.Core.List.{List}
 use native.Mathlib.Omega.{arith}
-use native.Mathlib.Nat.{one-le-pow, pow-le-pow-right, two-pow-succ}
+use native.Mathlib.Nat.{one-le-pow, pow-le-pow-right}
 use lib.Dec.{eqb, ltb, leb}
 use lib.ListN.{length, getD}
-use borrow.Author.Tests.{eqb-true, eqb-false, ltb-true, leb-true, ne-eqb, eq-eqb}
-use Rattle.laws.proofs.Booleans.{and-left, and-right, clash}
+use borrow.Author.Tests.{eqb-true, eqb-false, ltb-true, leb-true, eq-eqb, le-leb, lt-ltb}
+use Rattle.laws.proofs.Booleans.{and-left, and-right, and-both, clash}
+use Rattle.celltable.proofs.Powers.{level-is, level-most}
 use Rattle.geometry.specs.Reach.{SquareIn}
 use Rattle.cells.specs.Cells.{level, squareOf}
 use Rattle.celltable.specs.declared.CellWords.{CellWords}
-use Rattle.celltable.specs.Ranges.{powerUpTo, sideRange, gridRange, squareRange, rootRange, childRange, entryRange, numbersRange, cellRange, cellsHeld, entriesHeld, headRange, CellsIn, levelUpTo, levelOf, cellOf, squareIn}
-
--- ---- powers of two
-
-pub level-is : (n s : ℕ) → powerUpTo n s ≡ true → 2 ^ levelUpTo n s ≡ s
-unfolding powerUpTo levelUpTo
-level-is zero s h = sym (eqb-true s 1 h)
-level-is (suc n) s h = go (eqb s (2 ^ suc n)) refl (λ q. level-is n s q) h
-  where
-    go : (b : Bool) → eqb s (2 ^ suc n) ≡ b → (powerUpTo n s ≡ true → 2 ^ levelUpTo n s ≡ s) → (b || powerUpTo n s) ≡ true → 2 ^ cond b (suc n) (levelUpTo n s) ≡ s
-    go true e f q = sym (eqb-true s (2 ^ suc n) e)
-    go false e f q = f q
-
-pub level-most : (n s : ℕ) → levelUpTo n s ≤ n
-unfolding levelUpTo
-level-most zero s = omega arith
-level-most (suc n) s = go (eqb s (2 ^ suc n)) (level-most n s)
-  where
-    go : (b : Bool) → levelUpTo n s ≤ n → cond b (suc n) (levelUpTo n s) ≤ suc n
-    go true h = omega arith
-    go false h = omega arith
-
-or-true : (a b : Bool) → b ≡ true → (a || b) ≡ true
-or-true true b h = refl
-or-true false b h = h
-
-pow-more : (k n : ℕ) → k ≤ n → 2 ^ k < 2 ^ suc n
-pow-more k n h = omega (arith, pow-le-pow-right {n = 2} (omega arith) {i = k} {j = n} h, two-pow-succ n, one-le-pow n 2 (omega arith))
-
--- the level of a power of two is its exponent
-pub level-of : (n k : ℕ) → k ≤ n → levelUpTo n (2 ^ k) ≡ k
-unfolding levelUpTo
-level-of zero zero h = refl
-level-of zero (suc k) h = absurd (omega arith)
-level-of (suc n) k h = go (eqb k (suc n)) refl (λ q. level-of n k q)
-  where
-    go : (b : Bool) → eqb k (suc n) ≡ b → (k ≤ n → levelUpTo n (2 ^ k) ≡ k) → cond (eqb (2 ^ k) (2 ^ suc n)) (suc n) (levelUpTo n (2 ^ k)) ≡ k
-    go true e f =
-        let q : k ≡ suc n = eqb-true k (suc n) e in
-        rw (eq-eqb (2 ^ k) (2 ^ suc n) (ap (λ (m : ℕ). 2 ^ m) q)) (sym q)
-    go false e f =
-        let l : k ≤ n = below (eqb-false k (suc n) e) in
-        rw (ne-eqb (2 ^ k) (2 ^ suc n) (λ q. apart q (pow-more k n l))) (f l)
-      where
-        below : (k ≡ suc n → ⊥) → k ≤ n
-        below f = omega arith
-
-        apart : 2 ^ k ≡ 2 ^ suc n → 2 ^ k < 2 ^ suc n → ⊥
-        apart q l = omega arith
-
-pub power-of : (n k : ℕ) → k ≤ n → powerUpTo n (2 ^ k) ≡ true
-unfolding powerUpTo
-power-of zero zero h = refl
-power-of zero (suc k) h = absurd (omega arith)
-power-of (suc n) k h = go (eqb k (suc n)) refl (λ q. power-of n k q)
-  where
-    below : (k ≡ suc n → ⊥) → k ≤ n
-    below f = omega arith
-
-    go : (b : Bool) → eqb k (suc n) ≡ b → (k ≤ n → powerUpTo n (2 ^ k) ≡ true) → (eqb (2 ^ k) (2 ^ suc n) || powerUpTo n (2 ^ k)) ≡ true
-    go true e f = rw (eq-eqb (2 ^ k) (2 ^ suc n) (ap (λ (m : ℕ). 2 ^ m) (eqb-true k (suc n) e)))
-    go false e f = or-true (eqb (2 ^ k) (2 ^ suc n)) (powerUpTo n (2 ^ k)) (f (below (eqb-false k (suc n) e)))
+use Rattle.celltable.specs.Ranges.{sideRange, gridRange, squareRange, rootRange, childRange, entryRange, numbersRange, cellRange, cellsHeld, entriesHeld, headRange, CellsIn, levelOf, cellOf, squareIn}
 
 -- ---- the square of a cell
 
@@ -143,6 +83,25 @@ module _ (w : CellWords) (used entries : ℕ) (h : numbersRange w used entries �
   pub entries-in-use : w .first + w .count ≤ entries
   entries-in-use = leb-true (w .first + w .count) entries (and-right (childRange (w .child) used) (entryRange (w .first) (w .count) entries) h)
 
+-- such a child has a number far below what a word holds; f is the outcome of the code's test
+pub child-few : (t : List ℕ) (w : CellWords) (used entries : ℕ) (f : Bool) → CellsIn t used → f ≡ numbersRange w used entries → f ≡ true → (w .child ≡ 0 → ⊥) → w .child < 65536
+child-few t w used entries f r q h z = omega (arith, child-in-use w used entries (sym q ∙ h) z)
+
+-- a leaf with entries in use
+pub leaf-numbers : (w : CellWords) (used entries : ℕ) → w .child ≡ 0 → w .first + w .count ≤ entries → numbersRange w used entries ≡ true
+leaf-numbers w used entries z h = rw (eq-eqb (w .child) 0 z, le-leb (w .first + w .count) entries h)
+
+-- with more in use they are still in range
+pub numbers-more : (w : CellWords) (used entries used′ entries′ : ℕ) → used ≤ used′ → entries ≤ entries′ → numbersRange w used entries ≡ true → numbersRange w used′ entries′ ≡ true
+numbers-more w used entries used′ entries′ u n h =
+    and-both (childRange (w .child) used′) (entryRange (w .first) (w .count) entries′)
+    (go (eqb (w .child) 0) refl)
+    (le-leb (w .first + w .count) entries′ (omega (arith, entries-in-use w used entries h)))
+  where
+    go : (b : Bool) → eqb (w .child) 0 ≡ b → (b || ltb (w .child + 3) used′) ≡ true
+    go true e = refl
+    go false e = lt-ltb (w .child + 3) used′ (omega (arith, child-in-use w used entries h (eqb-false (w .child) 0 e)))
+
 -- ---- a cell that passes
 
 module _ (w : CellWords) (i used entries : ℕ) (h : cellRange w i used entries ≡ true) where
@@ -156,8 +115,14 @@ module _ (w : CellWords) (i used entries : ℕ) (h : cellRange w i used entries 
   numbers-pass : numbers ≡ true
   numbers-pass = and-left numbers (rootRange w i) (and-right (squareRange w) (numbers && rootRange w i) parts)
 
-  pub passes-fits : SquareFits w
-  passes-fits = square-fits w (and-left (squareRange w) (numbers && rootRange w i) parts)
+  pub passes-range : squareRange w ≡ true
+  passes-range = and-left (squareRange w) (numbers && rootRange w i) parts
+
+  passes-fits : SquareFits w
+  passes-fits = square-fits w passes-range
+
+  passes-root : rootRange w i ≡ true
+  passes-root = and-right numbers (rootRange w i) (and-right (squareRange w) (numbers && rootRange w i) parts)
 
   -- its square is that of a cell, of level 0 to 16
   pub passes-cell : squareOf (cellOf w) ≡ squareIn w
@@ -175,6 +140,11 @@ module _ (w : CellWords) (i used entries : ℕ) (h : cellRange w i used entries 
 
   pub passes-entries : w .first + w .count ≤ entries
   passes-entries = entries-in-use w used entries numbers-pass
+
+pub range-more : (w : CellWords) (i used entries used′ entries′ : ℕ) → used ≤ used′ → entries ≤ entries′ → cellRange w i used entries ≡ true → cellRange w i used′ entries′ ≡ true
+unfolding cellRange
+range-more w i used entries used′ entries′ u n h =
+    rw (passes-range w i used entries h, numbers-more w used entries used′ entries′ u n (numbers-pass w i used entries h)) (passes-root w i used entries h)
 
 -- ---- a head that passes
 

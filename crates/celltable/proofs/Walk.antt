@@ -38,14 +38,16 @@ module _ (t : List ℕ) (used entries : ℕ) (c : Cursor) (px py : ℕ) (w : Cel
       met : Bad ≡ metN w used entries c px py
       met = rw (← r, k, ← q, h)
 
-  pub step-landed : (f : Bool) → s ≡ true → f ≡ numbersRange w used entries → f ≡ true → w .child ≡ 0 → Landed (leafOf (c .cell) (c .steps) w) ≡ stepN t used entries c px py
+  pub step-landed : (f : Bool) → s ≡ true → f ≡ numbersRange w used entries → f ≡ true → w .child ≡ 0
+      → Landed (leafOf (c .cell) (c .steps) w) ≡ stepN t used entries c px py
   unfolding metN
   step-landed f k q h l = met ∙ read-is
     where
       met : Landed (leafOf (c .cell) (c .steps) w) ≡ metN w used entries c px py
       met = rw (← r, k, ← q, h, eq-eqb (w .child) 0 l)
 
-  pub step-deeper : (f : Bool) (next : Cursor) → s ≡ true → f ≡ numbersRange w used entries → f ≡ true → (w .child ≡ 0 → ⊥) → next ≡ deeperN c (w .child) px py → Deeper next ≡ stepN t used entries c px py
+  pub step-deeper : (f : Bool) (next : Cursor) → s ≡ true → f ≡ numbersRange w used entries → f ≡ true → (w .child ≡ 0 → ⊥) → next ≡ deeperN c (w .child) px py
+      → Deeper next ≡ stepN t used entries c px py
   unfolding metN
   step-deeper f next k q h l e = met ∙ read-is
     where
@@ -53,22 +55,22 @@ module _ (t : List ℕ) (used entries : ℕ) (c : Cursor) (px py : ℕ) (w : Cel
       met = rw (← r, k, ← q, h, ne-eqb (w .child) 0 l, e)
 
 -- ---- the loop: what is left gives what the whole gives
+module _ (t : List ℕ) (used entries px py n : ℕ) (c : Cursor) (r : Down) (whole : Found) where
+  walk-step : (d : Down) → 0 < n → r ≡ stepN t used entries c px py → r ≡ d → walkN t used entries px py n c ≡ whole → goOn d (walkN t used entries px py (n - 1)) ≡ whole
+  unfolding walkN
+  walk-step d h p q inv =
+      let s : n ≡ suc (n - 1) = omega arith in
+      let i : walkN t used entries px py (suc (n - 1)) c ≡ whole = ap (λ (k : ℕ). walkN t used entries px py k c) (sym s) ∙ inv in
+      rw (← q, p) i
 
-walk-step : (t : List ℕ) (used entries px py n : ℕ) (c : Cursor) (r d : Down) (whole : Found) → 0 < n → r ≡ stepN t used entries c px py → r ≡ d → walkN t used entries px py n c ≡ whole → goOn d (walkN t used entries px py (n - 1)) ≡ whole
-unfolding walkN
-walk-step t used entries px py n c r d whole h p q inv =
-    let s : n ≡ suc (n - 1) = omega arith in
-    let i : walkN t used entries px py (suc (n - 1)) c ≡ whole = ap (λ (k : ℕ). walkN t used entries px py k c) (sym s) ∙ inv in
-    rw (← q, p) i
+  pub walk-deeper : (c′ : Cursor) → 0 < n → r ≡ stepN t used entries c px py → r ≡ Deeper c′ → walkN t used entries px py n c ≡ whole → walkN t used entries px py (n - 1) c′ ≡ whole
+  walk-deeper c′ h p q inv = walk-step (Deeper c′) h p q inv
 
-pub walk-deeper : (t : List ℕ) (used entries px py n : ℕ) (c c′ : Cursor) (r : Down) (whole : Found) → 0 < n → r ≡ stepN t used entries c px py → r ≡ Deeper c′ → walkN t used entries px py n c ≡ whole → walkN t used entries px py (n - 1) c′ ≡ whole
-walk-deeper t used entries px py n c c′ r whole h p q inv = walk-step t used entries px py n c r (Deeper c′) whole h p q inv
+  pub walk-landed : (l : Leaf) → 0 < n → r ≡ stepN t used entries c px py → r ≡ Landed l → walkN t used entries px py n c ≡ whole → At l ≡ whole
+  walk-landed l h p q inv = walk-step (Landed l) h p q inv
 
-pub walk-landed : (t : List ℕ) (used entries px py n : ℕ) (c : Cursor) (l : Leaf) (r : Down) (whole : Found) → 0 < n → r ≡ stepN t used entries c px py → r ≡ Landed l → walkN t used entries px py n c ≡ whole → At l ≡ whole
-walk-landed t used entries px py n c l r whole h p q inv = walk-step t used entries px py n c r (Landed l) whole h p q inv
-
-pub walk-bad : (t : List ℕ) (used entries px py n : ℕ) (c : Cursor) (r : Down) (whole : Found) → 0 < n → r ≡ stepN t used entries c px py → r ≡ Bad → walkN t used entries px py n c ≡ whole → Broken ≡ whole
-walk-bad t used entries px py n c r whole h p q inv = walk-step t used entries px py n c r Bad whole h p q inv
+  pub walk-bad : 0 < n → r ≡ stepN t used entries c px py → r ≡ Bad → walkN t used entries px py n c ≡ whole → Broken ≡ whole
+  walk-bad h p q inv = walk-step Bad h p q inv
 
 pub walk-done : (t : List ℕ) (used entries px py n : ℕ) (c : Cursor) (whole : Found) → n ≤ 0 → walkN t used entries px py n c ≡ whole → Broken ≡ whole
 unfolding walkN
@@ -135,7 +137,8 @@ going-start used h = record { in-use = h; east = omega arith; north = omega arit
 pub going-in : (c : Cursor) (used n : ℕ) → 0 < n → Going c used n → CursorIn c used
 going-in c used n h g = record { in-use = g .in-use; east = g .east; north = g .north; steps-few = omega arith }
 
-pub going-on : (t : List ℕ) (used entries px py n : ℕ) (c c′ : Cursor) (r : Down) → 0 < n → r ≡ stepN t used entries c px py → r ≡ Deeper c′ → Going c used n → Going c′ used (n - 1)
+pub going-on : (t : List ℕ) (used entries px py n : ℕ) (c c′ : Cursor) (r : Down) → 0 < n → r ≡ stepN t used entries c px py → r ≡ Deeper c′
+    → Going c used n → Going c′ used (n - 1)
 going-on t used entries px py n c c′ r h p q g =
     let f : Follows c c′ used = step-follows t used entries px py c c′ r p q in
     record { in-use = f .in-use; east = f .east (g .east); north = f .north (g .north); counted = omega (arith, f .counted, g .counted) }

@@ -102,27 +102,14 @@ pub fn put_child(cells: &mut [u32], i: usize, child: u32)
 }
 
 // ---- the check of a cell
-// Whether a side is a power of two up to 65,536.
+// Whether a side is a power of two up to 65,536: whether it divides 65,536.
 fn side_fits(s: u32) -> bool
     ensures { λ r. ⌜ r ≡ sideRange s ⌝ }
 {
-    (s == 65536)
-        | ((s == 32768)
-            | ((s == 16384)
-                | ((s == 8192)
-                    | ((s == 4096)
-                        | ((s == 2048)
-                            | ((s == 1024)
-                                | ((s == 512)
-                                    | ((s == 256)
-                                        | ((s == 128)
-                                            | ((s == 64)
-                                                | ((s == 32)
-                                                    | ((s == 16)
-                                                        | ((s == 8)
-                                                            | ((s == 4)
-                                                                | ((s == 2)
-                                                                    | (s == 1))))))))))))))))
+    if s == 0 {
+        return false;
+    }
+    65536 % s == 0
 }
 
 // Whether a cell's side is a power of two, and its low corner is on the grid of that side.

@@ -1,7 +1,5 @@
 -- `celltable::Cursor::step` meets its contract. Assumes nothing.
-use mathlib.Core.Path.{sym, _∙_}
-use native.Mathlib.Omega.{arith}
-use Rattle.celltable.proofs.Ranges.{child-in-use}
+use Rattle.celltable.proofs.Ranges.{child-few}
 use Rattle.celltable.proofs.Walk.{step-astray, step-unfit, step-landed, step-deeper}
 use borrow.Author.Needs.{needs}
 use Rattle.celltable.proofs.Cursor.step.Statement.{statement}
@@ -23,7 +21,7 @@ returns : tie.Need-returns
 returns c = search step-landed
 
 deeper-requires : tie.Need-deeper-requires
-deeper-requires c κs = (search needs, (omega (arith, child-in-use (c .before .before .before .before .before .before .read-cell .result) (c .before .before .before .before .before .before .before .before .before .args .used) (c .before .before .before .before .before .before .before .before .before .args .entries) (sym (c .before .before .before .numbers-fit .ensures) ∙ c .before .before .if2 .taken) (c .if3 .left)), search needs))
+deeper-requires c κs = (search needs, (search child-few, search needs))
 
 returns-2 : tie.Need-returns-2
 returns-2 c = search step-deeper
