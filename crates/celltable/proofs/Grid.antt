@@ -1,4 +1,4 @@
--- The cells that splitting gives are those whose squares pass: cell 0, each child, and nothing else. Assumes nothing.
+-- Cells of the grid: cell 0 and each child of one are such cells, and a square passes exactly where it is that of one. Assumes nothing.
 use Prim.Native.Nat.{ℕ, zero, suc, _+_, _*_, _-_, _/_, _%_, _^_, _≤_, _<_}
 use mathlib.Core.Path.{_≡_, refl, ap, _∙_}
 use mathlib.Core.Bool.{Bool, true, false, _&&_}

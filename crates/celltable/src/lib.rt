@@ -222,6 +222,7 @@ impl Cursor {
     }
 
     // The cell is read and tried; a leaf ends the way, another cell gives the cursor one level deeper.
+    // A cell on the square that the way expects has a side and a corner in range: only its other numbers are left to try.
     fn step(self, cells: &[u32], used: usize, entries: usize, px: u32, py: u32) -> Down
         requires { ⌜ CellsIn (now cells) used ⌝ }
         requires { ⌜ CursorIn self used ⌝ }
