@@ -1,0 +1,10 @@
+-- Laws of the table of cells; what a cell that passes says; the way down and the leaf that it finds; examples.
+pub mod Table
+pub mod Powers
+pub mod Ranges
+pub mod Grid
+pub mod Meaning
+pub mod Quarters
+pub mod Walk
+pub mod Landing
+mod Examples

@@ -1,0 +1,102 @@
+-- The way down over the code's numbers is that of document 01's cells and quarters. Assumes nothing.
+use Prim.Native.Nat.{ℕ, zero, suc, _+_, _*_, _/_, _^_, _≤_}
+use mathlib.Core.Path.{_≡_, refl, ap, _∙_}
+use mathlib.Core.Bool.{Bool, true, false, cond}
+use mathlib.Core.List.{List}
+use native.Mathlib.Omega.{arith}
+use native.Mathlib.Nat.{two-pow-succ}
+use lib.Dec.{eqb, leb}
+use borrow.Author.Tests.{eqb-false}
+use Rattle.cells.specs.Cells.{Position, at, Cell, cell, left, low, level, side, root, Quarter, alongX, alongY, child, quarterBy, quarterOf}
+use Rattle.celltable.specs.declared.CellWords.{CellWords}
+use Rattle.celltable.specs.declared.Cursor.{Cursor}
+use Rattle.celltable.specs.declared.Down.the-variants.{Deeper, Landed, Bad}
+use Rattle.celltable.specs.declared.Found.{Found}
+use Rattle.celltable.specs.declared.Found.the-variants.{At, Broken}
+use Rattle.celltable.specs.Table.{cellAt}
+use Rattle.celltable.specs.Ranges.{numbersRange, cellRange}
+use Rattle.celltable.specs.Descent.{placeOf, onSquare, leafOf, downFrom, descendIn}
+use Rattle.celltable.specs.Numbers.{halfN, deeperN, metN, goOn, walkN, startN}
+use Rattle.celltable.proofs.Grid.{Gridded, root-gridded, child-gridded, gridded-range}
+
+-- the cursor at cell i, which has to be the cell c
+abbrev pub cursorOf : (i steps : ℕ) → Cell → Cursor
+cursorOf i steps c = record { cell = i; x = left c; y = low c; side = side c; steps = steps }
+
+pub half-pow : (k : ℕ) → 2 ^ suc k / 2 ≡ 2 ^ k
+half-pow k = omega (arith, two-pow-succ k)
+
+-- ---- the numbers of a quarter
+pub part-x : (x n : ℕ) (a b : Bool) → halfN x n a .at ≡ x + alongX (quarterBy a b) * n
+part-x x n false false = omega arith
+part-x x n true false = omega arith
+part-x x n false true = omega arith
+part-x x n true true = omega arith
+
+pub part-y : (y n : ℕ) (a b : Bool) → halfN y n b .at ≡ y + alongY (quarterBy a b) * n
+part-y y n false false = omega arith
+part-y y n true false = omega arith
+part-y y n false true = omega arith
+part-y y n true true = omega arith
+
+place-is : (first x y n : ℕ) (a b : Bool) → first + halfN x n a .bit + 2 * halfN y n b .bit ≡ first + placeOf (quarterBy a b)
+place-is first x y n false false = omega arith
+place-is first x y n true false = omega arith
+place-is first x y n false true = omega arith
+place-is first x y n true true = omega arith
+
+-- one level deeper
+deeper-is : (i steps x y k first : ℕ) (p : Position) (px py : ℕ) → p ≡ at px py
+    → deeperN (cursorOf i steps (cell x y (suc k))) first px py
+    ≡ cursorOf (first + placeOf (quarterOf (cell x y (suc k)) p)) (steps + 1) (child (cell x y (suc k)) (quarterOf (cell x y (suc k)) p))
+deeper-is i steps x y k first p px py e = rw (e, half-pow k) (go (leb (x + 2 ^ k) px) (leb (y + 2 ^ k) py))
+  where
+    go : (a b : Bool)
+        → _≡_ {A = Cursor} (record { cell = first + halfN x (2 ^ k) a .bit + 2 * halfN y (2 ^ k) b .bit; x = halfN x (2 ^ k) a .at; y = halfN y (2 ^ k) b .at; side = 2 ^ k; steps = steps + 1 })
+        (cursorOf (first + placeOf (quarterBy a b)) (steps + 1) (child (cell x y (suc k)) (quarterBy a b)))
+    go a b = λ d. record { cell = place-is first x y (2 ^ k) a b d; x = part-x x (2 ^ k) a b d; y = part-y y (2 ^ k) a b d; side = 2 ^ k; steps = steps + 1 }
+
+-- ---- the way down
+module _ (t : List ℕ) (used entries px py : ℕ) where
+  -- at one cell, where the rest of the way is the same
+  one-cell : (n i steps : ℕ) (c : Cell) → Gridded c → (i ≡ 0 → c ≡ root)
+      → ((cellAt t i .child ≡ 0 → ⊥)
+      → walkN t used entries px py n (deeperN (cursorOf i steps c) (cellAt t i .child) px py)
+      ≡ downFrom t used entries (at px py) n (cellAt t i .child + placeOf (quarterOf c (at px py))) (steps + 1) (child c (quarterOf c (at px py))))
+      → walkN t used entries px py (suc n) (cursorOf i steps c) ≡ downFrom t used entries (at px py) (suc n) i steps c
+  unfolding walkN downFrom metN
+  one-cell n i steps c g o next = go (onSquare w c) (numbersRange w used entries) (eqb (w .child) 0) refl refl refl
+    where
+      w : CellWords
+      w = cellAt t i
+
+      deeper : Found
+      deeper = downFrom t used entries (at px py) n (w .child + placeOf (quarterOf c (at px py))) (steps + 1) (child c (quarterOf c (at px py)))
+
+      astray : (a : Bool) → Broken ≡ cond a Broken Broken
+      astray true = refl
+      astray false = refl
+
+      go : (a b d : Bool) → onSquare w c ≡ a → numbersRange w used entries ≡ b → eqb (w .child) 0 ≡ d
+          → goOn (cond a (cond b (cond d (Landed (leafOf i steps w)) (Deeper (deeperN (cursorOf i steps c) (w .child) px py))) Bad) Bad) (walkN t used entries px py n)
+          ≡ cond (cellRange w i used entries) (cond a (cond d (At (leafOf i steps w)) deeper) Broken) Broken
+      go true true true e f k = rw (gridded-range w c i used entries g o e, f)
+      go true true false e f k = rw (gridded-range w c i used entries g o e, f) (next (eqb-false (w .child) 0 k))
+      go true false d e f k = rw (gridded-range w c i used entries g o e, f)
+      go false b d e f k = astray (cellRange w i used entries)
+
+  walk-down : (n i steps : ℕ) (c : Cell) → n ≤ suc (level c) → Gridded c → (i ≡ 0 → c ≡ root) → walkN t used entries px py n (cursorOf i steps c) ≡ downFrom t used entries (at px py) n i steps c
+  unfolding walkN downFrom
+  walk-down zero i steps c h g o = refl
+  walk-down (suc zero) i steps c h g o = one-cell zero i steps c g o (λ s. refl)
+  walk-down (suc (suc n)) i steps (cell x y zero) h g o = absurd (omega arith)
+  walk-down (suc (suc n)) i steps (cell x y (suc k)) h g o =
+      let c : Cell = cell x y (suc k) in
+      let q : Quarter = quarterOf c (at px py) in
+      one-cell (suc n) i steps c g o
+      (λ s. ap (λ (u : Cursor). walkN t used entries px py (suc n) u) (deeper-is i steps x y k (cellAt t i .child) (at px py) px py refl)
+      ∙ walk-down (suc n) (cellAt t i .child + placeOf q) (steps + 1) (child c q) (omega arith) (child-gridded c q g) (λ z. absurd (s (omega arith))))
+
+  pub walk-is : walkN t used entries px py 17 startN ≡ descendIn t used entries px py
+  unfolding descendIn
+  walk-is = walk-down 17 0 0 root (omega arith) root-gridded (λ e. refl)

@@ -1,0 +1,25 @@
+-- `celltable::square_fits` meets its contract. Assumes nothing.
+use mathlib.Core.Path.{sym, _∙_}
+use Rattle.celltable.proofs.Ranges.{side-some}
+use borrow.Author.Needs.{needs}
+use Rattle.celltable.proofs.square_fits.Statement.{statement}
+use Rattle.celltable.proofs.square_fits.Tie as tie
+
+side-fits-requires : tie.Need-side-fits-requires
+side-fits-requires c κs = search needs
+
+rem-result : tie.Need-rem-result
+rem-result c = side-some _ (sym (c .before .before .side-fits .ensures) ∙ c .before .if1 .taken)
+
+rem-result-2 : tie.Need-rem-result-2
+rem-result-2 c = side-some _ (sym (c .before .before .before .before .side-fits .ensures) ∙ c .before .before .before .if1 .taken)
+
+returns : tie.Need-returns
+returns c = rw (sym (c .before .before .before .before .before .side-fits .ensures) ∙ c .before .before .before .before .if1 .taken)
+
+returns-2 : tie.Need-returns-2
+returns-2 c = rw (sym (c .before .side-fits .ensures) ∙ c .if1 .left)
+
+pub square-fits-spec : {M : Type 1} → statement M
+square-fits-spec =
+    tie.close (tie.spec side-fits-requires rem-result rem-result-2 returns returns-2)

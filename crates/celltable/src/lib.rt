@@ -1,0 +1,283 @@
+// The lent table of cells, eight words each: reading and writing a cell, the check of a cell and of the numbers in use, the quarters of a cell,
+// and the way down to the leaf that holds a position.
+use geometry::class::Square;
+ghost use mathlib.Core.Path.{_≡_};
+ghost use mathlib.Core.Bool.{true};
+ghost use Prim.Native.Nat.{_+_, _*_, _≤_, _<_};
+ghost use lib.ListN.{length};
+ghost use Rattle.cells.specs.Cells.{squareOf, child};
+ghost use Rattle.celltable.specs.Table.{cellAt, putCellAt, putChildAt};
+ghost use Rattle.celltable.specs.Ranges.{sideRange, squareRange, rootRange, numbersRange, cellRange, headRange, CellsIn, cellOf};
+ghost use Rattle.celltable.specs.Descent.{quarterAt, descendIn};
+ghost use Rattle.celltable.specs.Numbers.{halfN, deeperN, standsN, stepN, CursorIn};
+
+// The words of a cell that have a name. `child` is the first of its four children, or 0 for a leaf.
+pub struct CellWords {
+    pub x: u32,
+    pub y: u32,
+    pub side: u32,
+    pub child: u32,
+    pub first: u32,
+    pub count: u32,
+}
+
+// Where one half of a side begins, and whether it is the high one (1) or the low one (0).
+pub struct Half {
+    pub at: u32,
+    pub bit: u32,
+}
+
+// Where a way down stands: the number of the next cell, the square that it has to be, and the steps so far.
+pub struct Cursor {
+    pub cell: u32,
+    pub x: u32,
+    pub y: u32,
+    pub side: u32,
+    pub steps: u32,
+}
+
+// The leaf that a way down found: its number, its square, its depth, and its stream.
+pub struct Leaf {
+    pub cell: u32,
+    pub x: u32,
+    pub y: u32,
+    pub side: u32,
+    pub steps: u32,
+    pub first: u32,
+    pub count: u32,
+}
+
+// One step down: the next cursor, the leaf, or a cell that does not pass.
+pub enum Down {
+    Deeper(Cursor),
+    Landed(Leaf),
+    Bad,
+}
+
+// The end of a way down. `Broken` is document 01's 12.
+pub enum Found {
+    At(Leaf),
+    Broken,
+}
+
+// ---- the table of cells
+pub fn read_cell(cells: &[u32], i: usize) -> CellWords
+    requires { ⌜ i * 8 + 8 ≤ length (now cells) ⌝ }
+    ensures { λ w. ⌜ w ≡ cellAt (now (cells .entry)) i ⌝ }
+{
+    let at = i * 8;
+    CellWords {
+        x: cells[at],
+        y: cells[at + 1],
+        side: cells[at + 2],
+        child: cells[at + 3],
+        first: cells[at + 4],
+        count: cells[at + 5],
+    }
+}
+
+// Writes the eight words of cell i, the last two 0.
+pub fn put_cell(cells: &mut [u32], i: usize, w: CellWords)
+    requires { ⌜ i * 8 + 8 ≤ length (now cells) ⌝ }
+    ensures { λ _. ⌜ now (cells .exit) ≡ putCellAt (now (cells .entry)) i w ⌝ }
+{
+    let at = i * 8;
+    cells[at] = w.x;
+    cells[at + 1] = w.y;
+    cells[at + 2] = w.side;
+    cells[at + 3] = w.child;
+    cells[at + 4] = w.first;
+    cells[at + 5] = w.count;
+    cells[at + 6] = 0;
+    cells[at + 7] = 0;
+}
+
+// Writes the first child of cell i, and nothing else.
+pub fn put_child(cells: &mut [u32], i: usize, child: u32)
+    requires { ⌜ i * 8 + 8 ≤ length (now cells) ⌝ }
+    ensures { λ _. ⌜ now (cells .exit) ≡ putChildAt (now (cells .entry)) i child ⌝ }
+{
+    let at = i * 8;
+    cells[at + 3] = child;
+}
+
+// ---- the check of a cell
+// Whether a side is a power of two up to 65,536: whether it divides 65,536.
+fn side_fits(s: u32) -> bool
+    ensures { λ r. ⌜ r ≡ sideRange s ⌝ }
+{
+    if s == 0 {
+        return false;
+    }
+    65536 % s == 0
+}
+
+// Whether a cell's side is a power of two, and its low corner is on the grid of that side.
+fn square_fits(w: CellWords) -> bool
+    ensures { λ r. ⌜ r ≡ squareRange w ⌝ }
+{
+    if side_fits(w.side) {
+        return ((w.x % w.side == 0) & (w.x < 65536)) & ((w.y % w.side == 0) & (w.y < 65536));
+    }
+    false
+}
+
+// Whether a cell's four children, where it has some, and its entries are in use.
+fn numbers_fit(w: CellWords, used: usize, entries: usize) -> bool
+    ensures { λ r. ⌜ r ≡ numbersRange w used entries ⌝ }
+{
+    ((w.child == 0) | ((w.child as usize) + 3 < used))
+        & ((w.first as usize) + (w.count as usize) <= entries)
+}
+
+// Whether cell i, where it is cell 0, is the whole grid.
+fn root_fits(w: CellWords, i: usize) -> bool
+    ensures { λ r. ⌜ r ≡ rootRange w i ⌝ }
+{
+    if i == 0 {
+        return (w.x == 0) & ((w.y == 0) & (w.side == 65536));
+    }
+    true
+}
+
+// Whether the numbers of cell i are in range, with so many cells and entries in use.
+pub fn cell_fits(w: CellWords, i: usize, used: usize, entries: usize) -> bool
+    ensures { λ r. ⌜ r ≡ cellRange w i used entries ⌝ }
+{
+    let square = square_fits(w);
+    let numbers = numbers_fit(w, used, entries);
+    let root = root_fits(w, i);
+    square & (numbers & root)
+}
+
+// Whether the numbers in use, in the head, are in range for tables of cells and of entries of these lengths.
+pub fn head_fits(head: &[u32], cells: usize, entries: usize) -> bool
+    ensures { λ r. ⌜ r ≡ headRange (now (head .entry)) cells entries ⌝ }
+{
+    if 2 <= head.len() {
+        let n = laws::wide(head[0]);
+        let m = laws::wide(head[1]);
+        return ((1 <= n) & ((n <= cells / 8) & (n <= 4096))) & ((m <= entries / 4) & (m <= 65536));
+    }
+    false
+}
+
+// ---- the quarters of a cell
+// The low or the high half of a side.
+fn half_of(at: u32, half: u32, high: bool) -> Half
+    requires { ⌜ at + half ≤ 65536 ⌝ }
+    ensures { λ r. ⌜ r ≡ halfN at half high ⌝ }
+    ensures { λ r. ⌜ r .bit ≤ 1 ⌝ }
+{
+    if high {
+        return Half {
+            at: at + half,
+            bit: 1,
+        };
+    }
+    Half { at, bit: 0 }
+}
+
+// The square of the child at place q: low x low y, high x low y, low x high y, high x high y.
+pub fn quarter_of(w: CellWords, q: u32) -> Square
+    requires { ⌜ squareRange w ≡ true ⌝ }
+    requires { ⌜ 1 < w .side ⌝ }
+    ensures { λ r. ⌜ r ≡ squareOf (child (cellOf w) (quarterAt q)) ⌝ }
+{
+    let half = w.side / 2;
+    let h = half_of(w.x, half, q % 2 == 1);
+    let v = half_of(w.y, half, 2 <= q);
+    Square {
+        x: h.at,
+        y: v.at,
+        side: half,
+    }
+}
+
+// ---- the way down
+impl Cursor {
+    // Whether a cell is on the square that the way expects.
+    fn stands_on(self, w: CellWords) -> bool
+        ensures { λ r. ⌜ r ≡ standsN self w ⌝ }
+    {
+        (w.x == self.x) & ((w.y == self.y) & (w.side == self.side))
+    }
+
+    // One level deeper: the child that holds (px, py), of the four from `first` on.
+    fn deeper(self, first: u32, px: u32, py: u32) -> Self
+        requires { ⌜ (self .x + self .side ≤ 65536) × (self .y + self .side ≤ 65536) ⌝ }
+        requires { ⌜ (first < 65536) × (self .steps ≤ 16) ⌝ }
+        ensures { λ r. ⌜ r ≡ deeperN self first px py ⌝ }
+    {
+        let half = self.side / 2;
+        let h = half_of(self.x, half, self.x + half <= px);
+        let v = half_of(self.y, half, self.y + half <= py);
+        Cursor {
+            cell: first + h.bit + 2 * v.bit,
+            x: h.at,
+            y: v.at,
+            side: half,
+            steps: self.steps + 1,
+        }
+    }
+
+    // The cell is read and tried; a leaf ends the way, another cell gives the cursor one level deeper.
+    // A cell on the square that the way expects has a side and a corner in range: only its other numbers are left to try.
+    fn step(self, cells: &[u32], used: usize, entries: usize, px: u32, py: u32) -> Down
+        requires { ⌜ CellsIn (now cells) used ⌝ }
+        requires { ⌜ CursorIn self used ⌝ }
+        ensures { λ r. ⌜ r ≡ stepN (now (cells .entry)) used entries self px py ⌝ }
+    {
+        let w = read_cell(cells, self.cell as usize);
+        if self.stands_on(w) {
+            if numbers_fit(w, used, entries) {
+                if w.child == 0 {
+                    return Down::Landed(Leaf {
+                        cell: self.cell,
+                        x: w.x,
+                        y: w.y,
+                        side: w.side,
+                        steps: self.steps,
+                        first: w.first,
+                        count: w.count,
+                    });
+                }
+                let c = self.deeper(w.child, px, py);
+                return Down::Deeper(c);
+            }
+            return Down::Bad;
+        }
+        Down::Bad
+    }
+}
+
+// The leaf that holds (x, y), over at most 16 steps from cell 0. `used` and `entries` are the head's numbers, and the head has passed.
+pub fn descend(cells: &[u32], used: usize, entries: usize, x: u32, y: u32) -> Found
+    requires { ⌜ CellsIn (now cells) used ⌝ }
+    ensures { λ r. ⌜ r ≡ descendIn (now (cells .entry)) used entries x y ⌝ }
+{
+    let mut c = Cursor {
+        cell: 0,
+        x: 0,
+        y: 0,
+        side: 65536,
+        steps: 0,
+    };
+    let mut left: u32 = 17;
+    while 0 < left {
+        let d = c.step(cells, used, entries, x, y);
+        match d {
+            Down::Deeper(next) => {
+                c = next;
+            }
+            Down::Landed(leaf) => {
+                return Found::At(leaf);
+            }
+            Down::Bad => {
+                return Found::Broken;
+            }
+        }
+        left -= 1;
+    }
+    Found::Broken
+}
