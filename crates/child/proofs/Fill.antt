@@ -89,11 +89,11 @@ module _ (v : Env) (D : Drawing) (c : Cell) (R : Reads v D) (t₀ : List ℕ) (f
           let len : length s ≡ length (drop (free * 4) t) = rw s₁ (same-one limit (v .areas) (drop (free * 4) t) m g z w (n .pruner .length) .size) in
           let ws : List Words = wordsFrom t₀ (i + 1) (first + count - (i + 1)) in
           let now : Writing v D c (i - first) m (w ∷ ws) (allOf D c (wordsFrom t₀ first count)) limit (drop (free * 4) t₀) (drop (free * 4) t) =
-              subst (λ (u : List Words). Writing v D c (i - first) m u (allOf D c (wordsFrom t₀ first count)) limit (drop (free * 4) t₀) (drop (free * 4) t))
-              (words-step t₀ i (first + count) h ∙ ap (λ (u : Words). u ∷ ws) (sym e)) (f .writing) in
+          subst (λ (u : List Words). Writing v D c (i - first) m u (allOf D c (wordsFrom t₀ first count)) limit (drop (free * 4) t₀) (drop (free * 4) t))
+          (words-step t₀ i (first + count) h ∙ ap (λ (u : Words). u ∷ ws) (sym e)) (f .writing) in
           let next : Writing v D c (i - first + 1) n ws (allOf D c (wordsFrom t₀ first count)) limit (drop (free * 4) t₀) s =
-              writing-next v D c R (i - first) m (allOf D c (wordsFrom t₀ first count)) limit (drop (free * 4) t₀) (drop (free * 4) t) few tail-room w ws now s (n .pruner .length) g z
-              (x ∙ ap (λ (a : Square). leftClass (v .xs) (v .ys) a w) (sym r)) y s₁ n refl b hp ha in
+          writing-next v D c R (i - first) m (allOf D c (wordsFrom t₀ first count)) limit (drop (free * 4) t₀) (drop (free * 4) t) few tail-room w ws now s (n .pruner .length) g z
+          (x ∙ ap (λ (a : Square). leftClass (v .xs) (v .ys) a w) (sym r)) y s₁ n refl b hp ha in
           rw (put-tail t s (free * 4) long)
           (record {
             from = omega (arith, f .from);
@@ -118,7 +118,7 @@ module _ (v : Env) (D : Drawing) (c : Cell) (R : Reads v D) (t₀ : List ℕ) (f
       fill-end s hs =
           let s₁ : s ≡ settledPut limit (v .areas) (drop (free * 4) t) m = rw (tail-is t (free * 4)) at hs in
           let last : Writing v D c (i - first) m [] (allOf D c (wordsFrom t₀ first count)) limit (drop (free * 4) t₀) (drop (free * 4) t) =
-              subst (λ (u : List Words). Writing v D c (i - first) m u (allOf D c (wordsFrom t₀ first count)) limit (drop (free * 4) t₀) (drop (free * 4) t)) (words-none t₀ i (first + count) h) (f .writing) in
+          subst (λ (u : List Words). Writing v D c (i - first) m u (allOf D c (wordsFrom t₀ first count)) limit (drop (free * 4) t₀) (drop (free * 4) t)) (words-none t₀ i (first + count) h) (f .writing) in
           put-tail t s (free * 4) long
           ∙ (ap (λ (x : List ℕ). x ++ s) (f .kept)
           ∙ (ap (λ (x : List ℕ). take (free * 4) t₀ ++ x) (s₁ ∙ written-end v D c R (wordsFrom t₀ first count) (P .grammar) (i - first) m limit (drop (free * 4) t₀) (drop (free * 4) t) few tail-room exact last)

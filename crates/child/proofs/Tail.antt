@@ -1,7 +1,9 @@
 -- The end of a table, lent as a slice of its own. Assumes nothing.
 use mathlib.Core.Path.{_≡_, refl, sym, ap, ap₂, _∙_}
 use mathlib.Core.List.{List, [], _++_, append-nil, append-assoc}
-use Prim.Native.Nat.{ℕ, _+_, _*_, _-_, _≤_}
+use Prim.Native.Nat.{ℕ, _+_, _*_, _-_, _≤_, _<_}
+use mir.Syntax.{w64}
+use mir.Val.{Fits}
 use native.Mathlib.Omega.{arith}
 use native.Mathlib.Nat.{le-refl}
 use lib.ListN.{length, take, drop, length-append, length-drop, drop-of-length-le}
@@ -33,3 +35,10 @@ tail-written t free ws h =
     let e : free * 4 + length ws * 4 ≡ (free + length ws) * 4 = omega arith in
     sym (written-eq t free ws h ∙ (append-assoc (take (free * 4) t) (flat ws) (drop ((free + length ws) * 4) t)
     ∙ ap (λ (x : List ℕ). take (free * 4) t ++ (flat ws ++ x)) (sym (drop-drop (length ws * 4) (free * 4) t ∙ ap (λ (n : ℕ). drop n t) e))))
+
+-- the byte at which the free end begins
+pub offset-fits : (n free made : ℕ) → n * 4 < 9223372036854775808 → (free + made) * 4 ≤ n → Fits w64 (free * 4 * 4)
+offset-fits n free made h r = record { fits = omega arith }
+
+pub end-begins : (n m free made : ℕ) → m ≡ n → (free + made) * 4 ≤ n → free * 4 ≤ m
+end-begins n m free made e r = omega arith

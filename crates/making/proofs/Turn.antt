@@ -250,18 +250,17 @@ module _ (v : Env) (D : Drawing) (c : Cell) (R : Reads v D) (k : ℕ) (p : Prune
       pub standing-rows : w .q < 4294967296 → (x : Standing v D c (k + 1) p′ a′ ws whole) × (x .rows ≡ next (decode w))
       unfolding rowsIn
       standing-rows l =
-          let n = by-kind w (λ e. Passes v (s .place) e ws → Next p′ a′ e) on-open on-bar on-close (on-area l) on-line on-shortcut on-passes (λ h. clash (h .range)) passes in
-          (
-          record {
-            rows = next (decode w);
-            place = after (s .place) (decode w);
-            follows = n .0;
-            tracks = n .1;
-            few = n .2;
-            rest = passes .rest;
-            ahead = one-then D c (decode w) (rowsIn ws) (s .rows) ∙ s .ahead;
-          },
-          refl
+          let n = by-kind w (λ e. Passes v (s .place) e ws → Next p′ a′ e) on-open on-bar on-close (on-area l) on-line on-shortcut on-passes (λ h. clash (h .range)) passes in (
+            record {
+              rows = next (decode w);
+              place = after (s .place) (decode w);
+              follows = n .0;
+              tracks = n .1;
+              few = n .2;
+              rest = passes .rest;
+              ahead = one-then D c (decode w) (rowsIn ws) (s .rows) ∙ s .ahead;
+            },
+            refl,
           )
 
       pub standing-next : w .q < 4294967296 → Standing v D c (k + 1) p′ a′ ws whole

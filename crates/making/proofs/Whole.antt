@@ -35,19 +35,18 @@ allOf D c ws = onRows D c (rowsIn ws) (begun D c)
 module _ (v : Env) (D : Drawing) (c : Cell) (R : Reads v D) (ws : List Words) (h : accepts v ws ≡ true) where
   pub standing-start : (p : Pruner) (a : Waiting) → counted p ≡ ct 0 0 going [] → a ≡ resting → (x : Standing v D c 0 p a ws (allOf D c ws)) × (x .rows ≡ begun D c)
   unfolding accepts
-  standing-start p a e f =
-      (
-      record {
-        rows = begun D c;
-        place = Stream.place [] Bool.false 0 0;
-        follows = rw f (begun-follows (v .areas) D c (R .agrees) p e);
-        tracks = tt;
-        few = omega arith;
-        rest = h;
-        ahead = refl;
-      },
-      refl
-      )
+  standing-start p a e f = (
+    record {
+      rows = begun D c;
+      place = Stream.place [] Bool.false 0 0;
+      follows = rw f (begun-follows (v .areas) D c (R .agrees) p e);
+      tracks = tt;
+      few = omega arith;
+      rest = h;
+      ahead = refl;
+    },
+    refl,
+  )
 
   pub standing-begin : (p : Pruner) (a : Waiting) → counted p ≡ ct 0 0 going [] → a ≡ resting → Standing v D c 0 p a ws (allOf D c ws)
   standing-begin p a e f = standing-start p a e f .0

@@ -151,10 +151,10 @@ module _ (v : Env) (D : Drawing) (c : Cell) (R : Reads v D) (k : ℕ) (mk : Make
     writing-next nk hn q hp ha =
         let x = standing-rows v D c R k (mk .pruner) (mk .waiting) whole w ws (s .standing) (nk .pruner) (nk .waiting) hp (rw (← hf, ← hz) ha) q in
         let m : n ≡ total rowSize (outOf (stateOf (next (decode w)))) =
-            hn ∙ (sym (counted-length (nk .pruner)) ∙ (ap lengthOf (x .0 .follows .counts) ∙ (length-is (stateOf (x .0 .rows)) ∙ ap (λ (y : Making). total rowSize (outOf (stateOf y))) (x .1)))) in
+        hn ∙ (sym (counted-length (nk .pruner)) ∙ (ap lengthOf (x .0 .follows .counts) ∙ (length-is (stateOf (x .0 .rows)) ∙ ap (λ (y : Making). total rowSize (outOf (stateOf y))) (x .1)))) in
         let y : Writes limit u (next (decode w)) =
-            by-kind w (λ e. Passes v (s .standing .place) e ws → n ≡ total rowSize (outOf (stateOf (next e))) → Writes limit u (next e)) (λ e h a. on-open e a) (λ e h a. on-bar e a) (λ e h a. on-close e a) (λ e h a. on-area e a)
-            (λ e h a. on-line e h) (λ e h a. on-shortcut e) (λ e h a. on-passes e) (λ h a. clash (h .range)) (one-passes v (s .standing .place) w ws (s .standing .rest)) m in
+        by-kind w (λ e. Passes v (s .standing .place) e ws → n ≡ total rowSize (outOf (stateOf (next e))) → Writes limit u (next e)) (λ e h a. on-open e a) (λ e h a. on-bar e a) (λ e h a. on-close e a) (λ e h a. on-area e a)
+        (λ e h a. on-line e h) (λ e h a. on-shortcut e) (λ e h a. on-passes e) (λ h a. clash (h .range)) (one-passes v (s .standing .place) w ws (s .standing .rest)) m in
         record {
           standing = x .0;
           writes = subst (λ (y : Making). Writes limit u y) (sym (x .1)) y;
