@@ -7,3 +7,4 @@ pub mod Bounds
 pub mod Rows
 mod Examples
 pub mod Making
+pub mod Shorter

@@ -1,0 +1,3 @@
+-- Laws of the four children.
+pub mod Squares
+pub mod Tallies

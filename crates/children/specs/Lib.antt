@@ -1,0 +1,2 @@
+-- The four children of a cell.
+pub mod Children

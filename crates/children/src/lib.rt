@@ -1,0 +1,101 @@
+// The four children of a cell: their streams counted together before any is written, then written child by child, and their cells.
+use celltable::CellWords;
+use stream::Bounds;
+ghost use mathlib.Core.Path.{_≡_};
+ghost use mathlib.Core.Bool.{true};
+ghost use mathlib.Core.List.{[], _∷_};
+ghost use Prim.Native.Nat.{_+_, _*_, _≤_, _<_};
+ghost use lib.ListN.{length};
+ghost use Rattle.stream.specs.Table.{wordsFrom, written};
+ghost use Rattle.stream.specs.Grammar.{env, Passed};
+ghost use Rattle.celltable.specs.Ranges.{squareRange, cellOf};
+ghost use Rattle.ranges.specs.Held.{lent};
+ghost use Rattle.children.specs.Children.{tally, tallyN, rowsOfChild, wordsOfChild, entriesOfChild, fourTallies};
+
+// What a child's stream has: entries, lines, and areas, each of which has a start number.
+pub struct Tally {
+    pub entries: usize,
+    pub lines: usize,
+    pub starts: usize,
+}
+
+fn tally_of(n: u64) -> Tally
+    ensures { λ r. ⌜ r ≡ tallyN n ⌝ }
+{
+    Tally {
+        entries: (n % 65536) as usize,
+        lines: (n / 65536 % 65536) as usize,
+        starts: (n / 4294967296) as usize,
+    }
+}
+
+// The tally of child q of the cell whose words are w.
+fn count_one(
+    entries: &[u32],
+    first: usize,
+    count: usize,
+    areas: &[u32],
+    xs: &[u32],
+    ys: &[u32],
+    b: Bounds,
+    w: CellWords,
+    q: u32,
+) -> Tally
+    requires { ⌜ Passed (now entries) first count (env (now areas) (now xs) (now ys) b) ⌝ }
+    requires { ⌜ squareRange w ≡ true ⌝ }
+    requires { ⌜ 1 < w .side ⌝ }
+    ensures { λ r. ⌜ r ≡ tally (rowsOfChild (lent (now (areas .entry)) (now (xs .entry)) (now (ys .entry)) b) (cellOf w) (wordsFrom (now (entries .entry)) first count) q) ⌝ }
+{
+    let s = celltable::quarter_of(w, q);
+    let n = child::count_child(entries, first, count, areas, xs, ys, b, s);
+    tally_of(n)
+}
+
+// The tallies of all four children.
+pub fn count_four(
+    entries: &[u32],
+    first: usize,
+    count: usize,
+    areas: &[u32],
+    xs: &[u32],
+    ys: &[u32],
+    b: Bounds,
+    w: CellWords,
+) -> [Tally; 4]
+    requires { ⌜ Passed (now entries) first count (env (now areas) (now xs) (now ys) b) ⌝ }
+    requires { ⌜ squareRange w ≡ true ⌝ }
+    requires { ⌜ 1 < w .side ⌝ }
+    ensures { λ r. ⌜ r ≡ fourTallies (lent (now (areas .entry)) (now (xs .entry)) (now (ys .entry)) b) (cellOf w) (wordsFrom (now (entries .entry)) first count) ⌝ }
+{
+    let t0 = count_one(entries, first, count, areas, xs, ys, b, w, 0);
+    let t1 = count_one(entries, first, count, areas, xs, ys, b, w, 1);
+    let t2 = count_one(entries, first, count, areas, xs, ys, b, w, 2);
+    let t3 = count_one(entries, first, count, areas, xs, ys, b, w, 3);
+    [t0, t1, t2, t3]
+}
+
+// Writes the stream of child q, which has `made` entries, from entry `free` on.
+fn write_child(
+    entries: &mut [u32],
+    first: usize,
+    count: usize,
+    free: usize,
+    made: usize,
+    areas: &[u32],
+    xs: &[u32],
+    ys: &[u32],
+    b: Bounds,
+    w: CellWords,
+    q: u32,
+)
+    requires { ⌜ Passed (now entries) first count (env (now areas) (now xs) (now ys) b) ⌝ }
+    requires { ⌜ squareRange w ≡ true ⌝ }
+    requires { ⌜ 1 < w .side ⌝ }
+    requires { ⌜ first + count ≤ free ⌝ }
+    requires { ⌜ (free + made) * 4 ≤ length (now entries) ⌝ }
+    requires { ⌜ made ≡ entriesOfChild (lent (now areas) (now xs) (now ys) b) (cellOf w) (wordsFrom (now entries) first count) q ⌝ }
+    ensures { λ _. ⌜ now (entries .exit) ≡ written (now (entries .entry)) free (wordsOfChild (lent (now (areas .entry)) (now (xs .entry)) (now (ys .entry)) b) (cellOf w) (wordsFrom (now (entries .entry)) first count) q) ⌝ }
+{
+    let s = celltable::quarter_of(w, q);
+    child::write_child(entries, first, count, free, made, areas, xs, ys, b, s);
+}
