@@ -1,3 +1,4 @@
 -- Laws of the four children.
 pub mod Squares
 pub mod Tallies
+pub mod Made

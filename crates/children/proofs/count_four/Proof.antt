@@ -23,7 +23,7 @@ count-one-requires-4 c κs = search needs
 
 -- src/lib.rt:55:1
 returns : tie.Need-returns
-returns c = ?
+returns c = rw (c .count-one4 .ensures, c .before .count-one3 .ensures, c .before .before .count-one2 .ensures, c .before .before .before .count-one .ensures)
 
 pub count-four-spec : {M : Type 1} → statement M
 count-four-spec =
