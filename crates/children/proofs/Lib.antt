@@ -2,3 +2,4 @@
 pub mod Squares
 pub mod Tallies
 pub mod Made
+pub mod Filled

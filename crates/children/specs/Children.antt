@@ -8,7 +8,7 @@ use Rattle.cells.specs.Drawings.{Drawing}
 use Rattle.cells.specs.Rows.{Row, opens, bar, closes, bare, named, segment}
 use Rattle.stream.specs.declared.Words.{Words}
 use Rattle.celltable.specs.declared.CellWords.{CellWords}
-use Rattle.celltable.specs.Table.{putCellAt, putChildAt}
+use Rattle.celltable.specs.Table.{putCellAt}
 use Rattle.celltable.specs.Descent.{quarterAt}
 use Rattle.making.specs.Made.{rowsMade, wordsMade}
 use Rattle.children.specs.declared.Tally.{Tally}
@@ -62,9 +62,10 @@ module _ (D : Drawing) (c : Cell) (ws : List Words) where
   abbrev pub fourTallies : List Tally
   fourTallies = tally (rowsOfChild 0) ∷ tally (rowsOfChild 1) ∷ tally (rowsOfChild 2) ∷ tally (rowsOfChild 3) ∷ []
 
-  -- "child by child"
-  abbrev pub fourStreams : List Words
-  fourStreams = wordsOfChild 0 ++ (wordsOfChild 1 ++ (wordsOfChild 2 ++ wordsOfChild 3))
+  -- "child by child": the streams of the first n children
+  unfoldable pub streamsTo : ℕ → List Words
+  streamsTo zero = []
+  streamsTo (suc n) = streamsTo n ++ wordsOfChild n
 
   -- the words of child q, whose stream begins at entry `first`
   abbrev pub wordsOfCell : (q first : ℕ) → CellWords
@@ -75,13 +76,7 @@ module _ (D : Drawing) (c : Cell) (ws : List Words) where
   firstOfChild free zero = free
   firstOfChild free (suc q) = firstOfChild free q + entriesOfChild q
 
-  -- cell i with its first child, and the four children from cell `used` on
-  abbrev pub cellsAfter : (t : List ℕ) (i used free : ℕ) → List ℕ
-  cellsAfter t i used free =
-      putChildAt
-      (putCellAt
-      (putCellAt (putCellAt (putCellAt t used (wordsOfCell 0 (firstOfChild free 0))) (used + 1) (wordsOfCell 1 (firstOfChild free 1))) (used + 2) (wordsOfCell 2 (firstOfChild free 2)))
-      (used + 3)
-      (wordsOfCell 3 (firstOfChild free 3)))
-      i
-      used
+  -- the first n children from cell `used` on
+  unfoldable pub cellsTo : (t : List ℕ) (used free : ℕ) → ℕ → List ℕ
+  cellsTo t used free zero = t
+  cellsTo t used free (suc n) = putCellAt (cellsTo t used free n) (used + n) (wordsOfCell n (firstOfChild free n))

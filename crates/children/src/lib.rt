@@ -10,7 +10,7 @@ ghost use Rattle.stream.specs.Table.{wordsFrom, written};
 ghost use Rattle.stream.specs.Grammar.{env, Passed};
 ghost use Rattle.celltable.specs.Ranges.{squareRange, cellOf};
 ghost use Rattle.ranges.specs.Held.{lent};
-ghost use Rattle.children.specs.Children.{tally, tallyN, rowsOfChild, wordsOfChild, entriesOfChild, fourTallies};
+ghost use Rattle.children.specs.Children.{tally, tallyN, rowsOfChild, wordsOfChild, entriesOfChild, fourTallies, streamsTo};
 
 // What a child's stream has: entries, lines, and areas, each of which has a start number.
 pub struct Tally {
@@ -98,4 +98,36 @@ fn write_child(
 {
     let s = celltable::quarter_of(w, q);
     child::write_child(entries, first, count, free, made, areas, xs, ys, b, s);
+}
+
+// Writes the streams of all four children, child by child, from entry `free` on.
+pub fn write_four(
+    entries: &mut [u32],
+    first: usize,
+    count: usize,
+    free: usize,
+    areas: &[u32],
+    xs: &[u32],
+    ys: &[u32],
+    b: Bounds,
+    w: CellWords,
+    ts: [Tally; 4],
+)
+    requires { ⌜ Passed (now entries) first count (env (now areas) (now xs) (now ys) b) ⌝ }
+    requires { ⌜ squareRange w ≡ true ⌝ }
+    requires { ⌜ 1 < w .side ⌝ }
+    requires { ⌜ first + count ≤ free ⌝ }
+    requires { ⌜ ts ≡ fourTallies (lent (now areas) (now xs) (now ys) b) (cellOf w) (wordsFrom (now entries) first count) ⌝ }
+    requires { ⌜ (free + length (streamsTo (lent (now areas) (now xs) (now ys) b) (cellOf w) (wordsFrom (now entries) first count) 4)) * 4 ≤ length (now entries) ⌝ }
+    ensures { λ _. ⌜ now (entries .exit) ≡ written (now (entries .entry)) free (streamsTo (lent (now (areas .entry)) (now (xs .entry)) (now (ys .entry)) b) (cellOf w) (wordsFrom (now (entries .entry)) first count) 4) ⌝ }
+{
+    let mut at = free;
+    let mut q: u32 = 0;
+    while q < 4 {
+        let k = q as usize;
+        let t = ts[k];
+        write_child(entries, first, count, at, t.entries, areas, xs, ys, b, w, q);
+        at += t.entries;
+        q += 1;
+    }
 }

@@ -26,7 +26,7 @@ quarter-of-requires c κs = search needs
 
 -- src/lib.rt:50:9
 count-child-requires : tie.Need-count-child-requires
-count-child-requires c κs = let a = c .before .before .before .before .before  .args in let p = c .before .before .before .before .before  .pre in (p .0, (kid-square (a .w) (p .1 .0) (a .q) (c .quarter-of .result) (c .quarter-of .ensures), kid-back (a .w) (p .1 .0) (a .q) (c .quarter-of .result) (c .quarter-of .ensures)))
+count-child-requires c κs = let a = c .before .before .before .before .before .args in let p = c .before .before .before .before .before .pre in (p .0, (kid-square (a .w) (p .1 .0) (a .q) (c .quarter-of .result) (c .quarter-of .ensures), kid-back (a .w) (p .1 .0) (a .q) (c .quarter-of .result) (c .quarter-of .ensures)))
 
 -- src/lib.rt:51:5
 tally-of-requires : tie.Need-tally-of-requires
@@ -34,7 +34,7 @@ tally-of-requires c κs = search needs
 
 -- src/lib.rt:33:1
 returns : tie.Need-returns
-returns c = let a = c .before .before .before .before .before .before .before  .args in let p = c .before .before .before .before .before .before .before  .pre in let D = lent (now (a .areas)) (now (a .xs)) (now (a .ys)) (a .b) in let ws = wordsFrom (now (a .entries)) (a .first) (a .count) in c .tally-of .ensures ∙ tally-is (rowsOfChild D (cellOf (a .w)) ws (a .q)) (c .before .count-child .result) (few-rows (now (a .entries)) (now (a .areas)) (now (a .xs)) (now (a .ys)) (a .b) (a .first) (a .count) _ (p .0)) (c .before .count-child .ensures ∙ ap (λ (k : Cell). total rowSize (rowsMade D k ws)) (kid-in (a .w) (p .1 .0) (a .q) (c .before .before .quarter-of .result) (c .before .before .quarter-of .ensures)))
+returns c = let a = c .before .before .before .before .before .before .before .args in let p = c .before .before .before .before .before .before .before .pre in let D = lent (now (a .areas)) (now (a .xs)) (now (a .ys)) (a .b) in let ws = wordsFrom (now (a .entries)) (a .first) (a .count) in c .tally-of .ensures ∙ tally-is (rowsOfChild D (cellOf (a .w)) ws (a .q)) (c .before .count-child .result) (few-rows (now (a .entries)) (now (a .areas)) (now (a .xs)) (now (a .ys)) (a .b) (a .first) (a .count) _ (p .0)) (c .before .count-child .ensures ∙ ap (λ (k : Cell). total rowSize (rowsMade D k ws)) (kid-in (a .w) (p .1 .0) (a .q) (c .before .before .quarter-of .result) (c .before .before .quarter-of .ensures)))
 
 pub count-one-spec : {M : Type 1} → statement M
 count-one-spec =
