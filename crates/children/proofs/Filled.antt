@@ -17,7 +17,7 @@ use Rattle.stream.proofs.Table.{from-agree, written-nil, written-append, writte
 use Rattle.reading.specs.Words.{wordsOf}
 use Rattle.making.specs.Made.{rowsMade, wordsMade}
 use Rattle.children.specs.declared.Tally.{Tally}
-use Rattle.children.specs.Children.{tally, rowsOfChild, wordsOfChild, entriesOfChild, fourTallies, streamsTo}
+use Rattle.children.specs.Children.{tally, rowsOfChild, wordsOfChild, entriesOfChild, fourTallies, streamsTo, noTally}
 
 length-map : (x : List Row) → length (map wordsOf x) ≡ length x
 length-map [] = refl
@@ -27,18 +27,15 @@ pub length-child : (D : Drawing) (c : Cell) (ws : List Words) (q : ℕ) → leng
 unfolding wordsMade
 length-child D c ws q = length-map (rowsOfChild D c ws q)
 
-abbrev pub none : Tally
-none = record { entries = 0; lines = 0; starts = 0 }
-
 -- the tally of child q
-tally-at : (D : Drawing) (c : Cell) (ws : List Words) (ts : List Tally) (q : ℕ) → q < 4 → ts ≡ fourTallies D c ws → getD ts q none ≡ tally (rowsOfChild D c ws q)
+tally-at : (D : Drawing) (c : Cell) (ws : List Words) (ts : List Tally) (q : ℕ) → q < 4 → ts ≡ fourTallies D c ws → getD ts q noTally ≡ tally (rowsOfChild D c ws q)
 tally-at D c ws ts zero h e = rw e
 tally-at D c ws ts (suc zero) h e = rw e
 tally-at D c ws ts (suc (suc zero)) h e = rw e
 tally-at D c ws ts (suc (suc (suc zero))) h e = rw e
 tally-at D c ws ts (suc (suc (suc (suc q)))) h e = absurd (omega arith)
 
-pub entries-at : (D : Drawing) (c : Cell) (ws : List Words) (ts : List Tally) (q : ℕ) → q < 4 → ts ≡ fourTallies D c ws → getD ts q none .entries ≡ entriesOfChild D c ws q
+pub entries-at : (D : Drawing) (c : Cell) (ws : List Words) (ts : List Tally) (q : ℕ) → q < 4 → ts ≡ fourTallies D c ws → getD ts q noTally .entries ≡ entriesOfChild D c ws q
 entries-at D c ws ts q h e = ap (λ (x : Tally). x .entries) (tally-at D c ws ts q h e)
 
 -- after q children, with the next at entry `at`

@@ -3,3 +3,4 @@ pub mod Squares
 pub mod Tallies
 pub mod Made
 pub mod Filled
+pub mod Placed

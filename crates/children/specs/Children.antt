@@ -1,7 +1,7 @@
 -- Document 01, "Cells": what a split makes: four cells, "low x low y, high x low y, low x high y, high x high y", and their streams. Assumes nothing.
 use mathlib.Core.List.{List, [], _∷_, _++_}
-use Prim.Native.Nat.{ℕ, zero, suc, _+_, _*_, _/_, _%_}
-use lib.ListN.{length}
+use Prim.Native.Nat.{ℕ, zero, suc, _+_, _*_, _/_, _%_, _≤_, _<_}
+use lib.ListN.{length, getD}
 use Rattle.cells.specs.Cells.{Cell, left, low, side, child}
 use Rattle.cells.specs.Segments.{drawn, shortcut}
 use Rattle.cells.specs.Drawings.{Drawing}
@@ -43,6 +43,27 @@ tally rs = record { entries = length rs; lines = sumOf lineOne rs; starts = sumO
 abbrev pub tallyN : ℕ → Tally
 tallyN n = record { entries = n % 65536; lines = n / 65536 % 65536; starts = n / 4294967296 }
 
+-- the words of a leaf: its square, no child, its stream
+abbrev pub wordsWith : Cell → (first count : ℕ) → CellWords
+wordsWith c first count = record { x = left c; y = low c; side = side c; child = 0; first = first; count = count }
+
+abbrev pub noTally : Tally
+noTally = record { entries = 0; lines = 0; starts = 0 }
+
+-- where the stream of child n begins, by the tallies
+abbrev pub firstBy : List Tally → (free n : ℕ) → ℕ
+firstBy ts free zero = free
+firstBy ts free (suc n) = firstBy ts free n + getD ts n noTally .entries
+
+-- the first n children of cell c, from cell `used` on
+unfoldable pub cellsBy : Cell → List Tally → (t : List ℕ) (used free n : ℕ) → List ℕ
+cellsBy c ts t used free zero = t
+cellsBy c ts t used free (suc n) = putCellAt (cellsBy c ts t used free n) (used + n) (wordsWith (child c (quarterAt n)) (firstBy ts free n) (getD ts n noTally .entries))
+
+-- each has at most 4,096 entries
+pub record FewEach (ts : List Tally) : Type 0 where
+  pub few : (n : ℕ) → n < 4 → getD ts n noTally .entries ≤ 4096
+
 -- of cell c with the stream that ws say
 module _ (D : Drawing) (c : Cell) (ws : List Words) where
   -- child q
@@ -66,17 +87,3 @@ module _ (D : Drawing) (c : Cell) (ws : List Words) where
   unfoldable pub streamsTo : ℕ → List Words
   streamsTo zero = []
   streamsTo (suc n) = streamsTo n ++ wordsOfChild n
-
-  -- the words of child q, whose stream begins at entry `first`
-  abbrev pub wordsOfCell : (q first : ℕ) → CellWords
-  wordsOfCell q first = record { x = left (cellOfChild q); y = low (cellOfChild q); side = side (cellOfChild q); child = 0; first = first; count = entriesOfChild q }
-
-  -- where the stream of each child begins, with so many entries in use
-  abbrev pub firstOfChild : (free q : ℕ) → ℕ
-  firstOfChild free zero = free
-  firstOfChild free (suc q) = firstOfChild free q + entriesOfChild q
-
-  -- the first n children from cell `used` on
-  unfoldable pub cellsTo : (t : List ℕ) (used free : ℕ) → ℕ → List ℕ
-  cellsTo t used free zero = t
-  cellsTo t used free (suc n) = putCellAt (cellsTo t used free n) (used + n) (wordsOfCell n (firstOfChild free n))

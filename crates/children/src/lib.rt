@@ -10,7 +10,9 @@ ghost use Rattle.stream.specs.Table.{wordsFrom, written};
 ghost use Rattle.stream.specs.Grammar.{env, Passed};
 ghost use Rattle.celltable.specs.Ranges.{squareRange, cellOf};
 ghost use Rattle.ranges.specs.Held.{lent};
-ghost use Rattle.children.specs.Children.{tally, tallyN, rowsOfChild, wordsOfChild, entriesOfChild, fourTallies, streamsTo};
+ghost use Rattle.children.specs.Children.{tally, tallyN, rowsOfChild, wordsOfChild, entriesOfChild, fourTallies, streamsTo, wordsWith, cellsBy, FewEach};
+ghost use Rattle.cells.specs.Cells.{child};
+ghost use Rattle.celltable.specs.Descent.{quarterAt};
 
 // What a child's stream has: entries, lines, and areas, each of which has a start number.
 pub struct Tally {
@@ -128,6 +130,46 @@ pub fn write_four(
         let t = ts[k];
         write_child(entries, first, count, at, t.entries, areas, xs, ys, b, w, q);
         at += t.entries;
+        q += 1;
+    }
+}
+
+// The words of child q of the cell whose words are w; its stream begins at entry `first`.
+fn child_words(w: CellWords, q: u32, first: u32, t: Tally) -> CellWords
+    requires { ⌜ squareRange w ≡ true ⌝ }
+    requires { ⌜ 1 < w .side ⌝ }
+    requires { ⌜ t .entries ≤ 4096 ⌝ }
+    ensures { λ r. ⌜ r ≡ wordsWith (child (cellOf w) (quarterAt q)) first (t .entries) ⌝ }
+{
+    let s = celltable::quarter_of(w, q);
+    CellWords {
+        x: s.x,
+        y: s.y,
+        side: s.side,
+        child: 0,
+        first: first,
+        count: t.entries as u32,
+    }
+}
+
+// Writes the cells of all four children from cell `used` on; their streams stand child by child from entry `free` on.
+pub fn put_four(cells: &mut [u32], used: u32, free: u32, w: CellWords, ts: [Tally; 4])
+    requires { ⌜ squareRange w ≡ true ⌝ }
+    requires { ⌜ 1 < w .side ⌝ }
+    requires { ⌜ (used + 4) * 8 ≤ length (now cells) ⌝ }
+    requires { ⌜ (used ≤ 4096) × (free ≤ 65536) ⌝ }
+    requires { ⌜ FewEach ts ⌝ }
+    ensures { λ _. ⌜ now (cells .exit) ≡ cellsBy (cellOf w) ts (now (cells .entry)) used free 4 ⌝ }
+{
+    let mut at = free;
+    let mut q: u32 = 0;
+    while q < 4 {
+        let k = q as usize;
+        let t = ts[k];
+        let c = child_words(w, q, at, t);
+        let i = (used + q) as usize;
+        celltable::put_cell(cells, i, c);
+        at += t.entries as u32;
         q += 1;
     }
 }
