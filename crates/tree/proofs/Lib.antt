@@ -1,0 +1,2 @@
+-- Laws of the calls on a tree.
+pub mod Rooms

@@ -1,0 +1,2 @@
+-- The calls on a tree.
+pub mod Split

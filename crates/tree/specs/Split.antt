@@ -1,0 +1,115 @@
+-- Document 01, "Cells" and "From the state": splitting a cell of a tree in lent tables: the answer, and every table afterwards. Assumes nothing.
+use mathlib.Core.Bool.{Bool, true, false, cond, _&&_}
+use mathlib.Core.List.{List}
+use Prim.Native.Nat.{ℕ, _+_}
+use lib.Dec.{eqb, ltb, leb}
+use lib.ListN.{length, getD, set}
+use Rattle.refusals.specs.declared.Refusal.the-variants.{Argument, NoCell, AlreadySplit, Smallest, Room, Broken}
+use Rattle.stream.specs.declared.Bounds.{Bounds}
+use Rattle.stream.specs.declared.Words.{Words}
+use Rattle.stream.specs.Table.{wordsFrom, written}
+use Rattle.stream.specs.Grammar.{Env, env, bounds, usedRange, checkStream}
+use Rattle.celltable.specs.declared.CellWords.{CellWords}
+use Rattle.celltable.specs.Table.{cellAt, putChildAt}
+use Rattle.celltable.specs.Ranges.{cellRange, headRange, cellsHeld, entriesHeld, cellOf}
+use Rattle.cells.specs.Drawings.{Drawing}
+use Rattle.ranges.specs.Held.{lent}
+use Rattle.children.specs.Children.{fourTallies, streamsTo, cellsBy}
+use Rattle.tree.specs.declared.Answer.{Answer}
+use Rattle.tree.specs.declared.Answer.the-variants.{Split, Not}
+
+-- 11: "cells, entries or another output table too short for the whole result"; the lengths of the tables of cells and of entries, and how many of each are in use
+abbrev pub roomAnswer : (cells entries used free : ℕ) → List Words → Answer
+roomAnswer cells entries used free made = cond (cellsHeld (used + 4) cells) (cond (entriesHeld (free + length made) entries) (Split used) (Not Room)) (Not Room)
+
+-- the four streams, child by child
+abbrev pub madeBy : (areas xs ys : List ℕ) → Bounds → CellWords → (entries : List ℕ) → List Words
+madeBy areas xs ys b w entries = streamsTo (lent areas xs ys b) (cellOf w) (wordsFrom entries (w .first) (w .count)) 4
+
+-- ---- the tables afterwards: "Nothing lent changes" on a refusal
+abbrev pub headBy : Answer → (head : List ℕ) → (used free : ℕ) → List Words → List ℕ
+headBy (Split n) head used free made = set (set head 0 (used + 4)) 1 (free + length made)
+headBy (Not r) head used free made = head
+
+abbrev pub cellsOf : Answer → Drawing → CellWords → List Words → (cells : List ℕ) → (i used free : ℕ) → List ℕ
+cellsOf (Split n) D w ws cells i used free = putChildAt (cellsBy (cellOf w) (fourTallies D (cellOf w) ws) cells used free 4) i used
+cellsOf (Not r) D w ws cells i used free = cells
+
+abbrev pub entriesBy : Answer → (entries : List ℕ) → (free : ℕ) → List Words → List ℕ
+entriesBy (Split n) entries free made = written entries free made
+entriesBy (Not r) entries free made = entries
+
+-- the seven tables: the drawing's plan, areas, xs and ys, and the tree's head, cells and entries
+pub record Tree : Type 0 where
+  pub plan : List ℕ
+  pub areas : List ℕ
+  pub xs : List ℕ
+  pub ys : List ℕ
+  pub head : List ℕ
+  pub cells : List ℕ
+  pub entries : List ℕ
+
+abbrev pub tree : (plan areas xs ys head cells entries : List ℕ) → Tree
+tree p a x y h c e = record { plan = p; areas = a; xs = x; ys = y; head = h; cells = c; entries = e }
+
+-- "cells in use": a head too short for its two words has none
+abbrev pub cellsUsed : List ℕ → ℕ
+cellsUsed head = cond (leb 2 (length head)) (getD head 0 0) 0
+
+abbrev pub entriesUsed : List ℕ → ℕ
+entriesUsed head = getD head 1 0
+
+-- the areas and corners in use, and the rows of a cell
+abbrev pub boundsOf : List ℕ → CellWords → Bounds
+boundsOf plan w = bounds (getD plan 1 0) (getD plan 2 0) (w .y) (w .side)
+
+module _ (t : Tree) where
+  -- "cells in use from 1 to what the table holds; areas, corners and entries in use at most what their tables and limits hold"
+  abbrev pub countsRange : CellWords → Bool
+  countsRange w =
+      cond (headRange (t .head) (length (t .cells)) (length (t .entries)))
+      (cond (leb 3 (length (t .plan))) (usedRange (length (t .entries)) (entriesUsed (t .head)) (length (t .areas)) (length (t .xs)) (length (t .ys)) (boundsOf (t .plan) w)) false)
+      false
+
+  module _ (i : ℕ) where
+    abbrev pub words : CellWords
+    words = cellAt (t .cells) i
+
+    abbrev pub against : Env
+    against = env (t .areas) (t .xs) (t .ys) (boundsOf (t .plan) words)
+
+    abbrev pub drawing : Drawing
+    drawing = lent (t .areas) (t .xs) (t .ys) (boundsOf (t .plan) words)
+
+    abbrev pub stream : List Words
+    stream = wordsFrom (t .entries) (words .first) (words .count)
+
+    abbrev pub made : List Words
+    made = madeBy (t .areas) (t .xs) (t .ys) (boundsOf (t .plan) words) words (t .entries)
+
+    abbrev pub roomFor : Answer
+    roomFor = roomAnswer (length (t .cells)) (length (t .entries)) (cellsUsed (t .head)) (entriesUsed (t .head)) made
+
+    -- 12 over its stream, then 10: "cell of side 1"
+    abbrev pub leafSplit : Answer
+    leafSplit = cond (checkStream (t .entries) (words .first) (words .count) (entriesUsed (t .head)) against) (cond (eqb (words .side) 1) (Not Smallest) roomFor) (Not Broken)
+
+    -- 12 over the cell, then 9: "cell already split"; of a leaf 12 over its stream comes first
+    abbrev pub cellSplit : Answer
+    cellSplit = cond (cellRange words i (cellsUsed (t .head)) (entriesUsed (t .head))) (cond (eqb (words .child) 0) leafSplit (Not AlreadySplit)) (Not Broken)
+
+    -- 7: "a lent pair of x and y tables of unequal length"; 8: "cell number not below the cells in use"; 12 over the counts
+    abbrev pub splitAnswer : Answer
+    splitAnswer =
+        cond (eqb (length (t .xs)) (length (t .ys)))
+        (cond (ltb i (cellsUsed (t .head))) (cond (countsRange words) cellSplit (Not Broken)) (Not NoCell))
+        (Not Argument)
+
+    abbrev pub headAfter : Answer → List ℕ
+    headAfter r = headBy r (t .head) (cellsUsed (t .head)) (entriesUsed (t .head)) made
+
+    abbrev pub cellsAfter : Answer → List ℕ
+    cellsAfter r = cellsOf r drawing words stream (t .cells) i (cellsUsed (t .head)) (entriesUsed (t .head))
+
+    abbrev pub entriesAfter : Answer → List ℕ
+    entriesAfter r = entriesBy r (t .entries) (entriesUsed (t .head)) made

@@ -1,0 +1,180 @@
+// The calls on a tree in lent tables.
+use celltable::CellWords;
+use children::Tally;
+use refusals::Refusal;
+use stream::Bounds;
+ghost use mathlib.Core.Path.{_≡_};
+ghost use mathlib.Core.Bool.{true};
+ghost use Prim.Native.Nat.{_+_, _*_, _≤_, _<_};
+ghost use lib.ListN.{length, getD, set};
+ghost use Rattle.stream.specs.Table.{wordsFrom, written};
+ghost use Rattle.stream.specs.Grammar.{env, Passed};
+ghost use Rattle.celltable.specs.Table.{putChildAt};
+ghost use Rattle.celltable.specs.Ranges.{squareRange, cellOf, cellsHeld, entriesHeld};
+ghost use Rattle.ranges.specs.Held.{lent};
+ghost use Rattle.children.specs.Children.{noTally, fourTallies, streamsTo, cellsBy, FewEach};
+ghost use Rattle.tree.specs.Split.{cellsUsed, roomAnswer, madeBy, headBy, cellsOf, entriesBy};
+
+// A split's answer: the number of the first child, or why it was refused.
+pub enum Answer {
+    Split(u32),
+    Not(Refusal),
+}
+
+fn cells_used(head: &[u32]) -> u32
+    ensures { λ r. ⌜ r ≡ cellsUsed (now (head .entry)) ⌝ }
+{
+    if 2 <= head.len() {
+        return head[0];
+    }
+    0
+}
+
+fn cells_held(n: u32, len: usize) -> bool
+    ensures { λ r. ⌜ r ≡ cellsHeld n len ⌝ }
+{
+    (1 <= n) & (((n as usize) <= len / 8) & (n <= 4096))
+}
+
+fn entries_held(n: usize, len: usize) -> bool
+    ensures { λ r. ⌜ r ≡ entriesHeld n len ⌝ }
+{
+    (n <= len / 4) & (n <= 65536)
+}
+
+// The entries of all four children.
+fn entries_of(ts: [Tally; 4]) -> usize
+    requires { ⌜ FewEach ts ⌝ }
+    ensures { λ r. ⌜ r ≡ getD ts 0 noTally .entries + getD ts 1 noTally .entries + getD ts 2 noTally .entries + getD ts 3 noTally .entries ⌝ }
+{
+    let a = ts[0];
+    let b = ts[1];
+    let c = ts[2];
+    let d = ts[3];
+    a.entries + b.entries + c.entries + d.entries
+}
+
+// The numbers in use.
+fn put_head(head: &mut [u32], cells: u32, entries: u32)
+    requires { ⌜ 2 ≤ length (now head) ⌝ }
+    ensures { λ _. ⌜ now (head .exit) ≡ set (set (now (head .entry)) 0 cells) 1 entries ⌝ }
+{
+    head[0] = cells;
+    head[1] = entries;
+}
+
+// The four children from cell `used` on, and the first of them at cell i.
+fn put_cells(cells: &mut [u32], i: usize, used: u32, free: u32, w: CellWords, ts: [Tally; 4])
+    requires { ⌜ squareRange w ≡ true ⌝ }
+    requires { ⌜ 1 < w .side ⌝ }
+    requires { ⌜ (used + 4) * 8 ≤ length (now cells) ⌝ }
+    requires { ⌜ (used ≤ 4096) × (free ≤ 65536) ⌝ }
+    requires { ⌜ FewEach ts ⌝ }
+    requires { ⌜ i * 8 + 8 ≤ length (now cells) ⌝ }
+    ensures { λ _. ⌜ now (cells .exit) ≡ putChildAt (cellsBy (cellOf w) ts (now (cells .entry)) used free 4) i used ⌝ }
+{
+    children::put_four(cells, used, free, w, ts);
+    celltable::put_child(cells, i, used);
+}
+
+// Writes what a split makes. There is room for it.
+fn put_split(
+    head: &mut [u32],
+    cells: &mut [u32],
+    entries: &mut [u32],
+    areas: &[u32],
+    xs: &[u32],
+    ys: &[u32],
+    b: Bounds,
+    i: usize,
+    used: u32,
+    free: u32,
+    n: u32,
+    w: CellWords,
+    ts: [Tally; 4],
+)
+    requires { ⌜ Passed (now entries) (w .first) (w .count) (env (now areas) (now xs) (now ys) b) ⌝ }
+    requires { ⌜ squareRange w ≡ true ⌝ }
+    requires { ⌜ 1 < w .side ⌝ }
+    requires { ⌜ w .first + w .count ≤ free ⌝ }
+    requires { ⌜ ts ≡ fourTallies (lent (now areas) (now xs) (now ys) b) (cellOf w) (wordsFrom (now entries) (w .first) (w .count)) ⌝ }
+    requires { ⌜ (free + length (streamsTo (lent (now areas) (now xs) (now ys) b) (cellOf w) (wordsFrom (now entries) (w .first) (w .count)) 4)) * 4 ≤ length (now entries) ⌝ }
+    requires { ⌜ FewEach ts ⌝ }
+    requires { ⌜ (used + 4) * 8 ≤ length (now cells) ⌝ }
+    requires { ⌜ (used ≤ 4096) × (free ≤ 65536) × (n ≤ 65536) ⌝ }
+    requires { ⌜ (i * 8 + 8 ≤ length (now cells)) × (2 ≤ length (now head)) ⌝ }
+    ensures { λ _. ⌜ now (head .exit) ≡ set (set (now (head .entry)) 0 (used + 4)) 1 (free + n) ⌝ }
+    ensures { λ _. ⌜ now (cells .exit) ≡ putChildAt (cellsBy (cellOf w) ts (now (cells .entry)) used free 4) i used ⌝ }
+    ensures { λ _. ⌜ now (entries .exit) ≡ written (now (entries .entry)) free (streamsTo (lent (now (areas .entry)) (now (xs .entry)) (now (ys .entry)) b) (cellOf w) (wordsFrom (now (entries .entry)) (w .first) (w .count)) 4) ⌝ }
+{
+    let first = w.first as usize;
+    let count = w.count as usize;
+    children::write_four(
+        entries,
+        first,
+        count,
+        free as usize,
+        areas,
+        xs,
+        ys,
+        b,
+        w,
+        ts,
+    );
+    put_cells(cells, i, used, free, w, ts);
+    put_head(head, used + 4, free + n);
+}
+
+// 11, and then the split.
+fn split_in_room(
+    head: &mut [u32],
+    cells: &mut [u32],
+    entries: &mut [u32],
+    areas: &[u32],
+    xs: &[u32],
+    ys: &[u32],
+    b: Bounds,
+    i: usize,
+    used: u32,
+    free: u32,
+    w: CellWords,
+) -> Answer
+    requires { ⌜ Passed (now entries) (w .first) (w .count) (env (now areas) (now xs) (now ys) b) ⌝ }
+    requires { ⌜ squareRange w ≡ true ⌝ }
+    requires { ⌜ 1 < w .side ⌝ }
+    requires { ⌜ w .first + w .count ≤ free ⌝ }
+    requires { ⌜ (used ≤ 4096) × (free ≤ 65536) ⌝ }
+    requires { ⌜ (i < used) × (2 ≤ length (now head)) ⌝ }
+    ensures { λ r. ⌜ r ≡ roomAnswer (length (now (cells .entry))) (length (now (entries .entry))) used free (madeBy (now (areas .entry)) (now (xs .entry)) (now (ys .entry)) b w (now (entries .entry))) ⌝ }
+    ensures { λ r. ⌜ now (head .exit) ≡ headBy r (now (head .entry)) used free (madeBy (now (areas .entry)) (now (xs .entry)) (now (ys .entry)) b w (now (entries .entry))) ⌝ }
+    ensures { λ r. ⌜ now (cells .exit) ≡ cellsOf r (lent (now (areas .entry)) (now (xs .entry)) (now (ys .entry)) b) w (wordsFrom (now (entries .entry)) (w .first) (w .count)) (now (cells .entry)) i used free ⌝ }
+    ensures { λ r. ⌜ now (entries .exit) ≡ entriesBy r (now (entries .entry)) free (madeBy (now (areas .entry)) (now (xs .entry)) (now (ys .entry)) b w (now (entries .entry))) ⌝ }
+{
+    let first = w.first as usize;
+    let count = w.count as usize;
+    let ts = children::count_four(entries, first, count, areas, xs, ys, b, w);
+    let n = entries_of(ts);
+    let all = (free as usize) + n;
+    if cells_held(used + 4, cells.len()) {
+        if entries_held(all, entries.len()) {
+            put_split(
+                head,
+                cells,
+                entries,
+                areas,
+                xs,
+                ys,
+                b,
+                i,
+                used,
+                free,
+                n as u32,
+                w,
+                ts,
+            );
+            return Answer::Split(used);
+        }
+        return Answer::Not(Refusal::Room);
+    }
+    Answer::Not(Refusal::Room)
+}
