@@ -1,2 +1,3 @@
 -- Laws of the calls on a tree.
 pub mod Rooms
+pub mod Choices

@@ -18,13 +18,25 @@ use Rattle.children.specs.Children.{fourTallies, streamsTo, cellsBy}
 use Rattle.tree.specs.declared.Answer.{Answer}
 use Rattle.tree.specs.declared.Answer.the-variants.{Split, Not}
 
+-- the four streams, child by child
+abbrev pub madeBy : (areas xs ys : List ℕ) → Bounds → CellWords → (entries : List ℕ) → List Words
+madeBy areas xs ys b w entries = streamsTo (lent areas xs ys b) (cellOf w) (wordsFrom entries (w .first) (w .count)) 4
+
 -- 11: "cells, entries or another output table too short for the whole result"; the lengths of the tables of cells and of entries, and how many of each are in use
 abbrev pub roomAnswer : (cells entries used free : ℕ) → List Words → Answer
 roomAnswer cells entries used free made = cond (cellsHeld (used + 4) cells) (cond (entriesHeld (free + length made) entries) (Split used) (Not Room)) (Not Room)
 
--- the four streams, child by child
-abbrev pub madeBy : (areas xs ys : List ℕ) → Bounds → CellWords → (entries : List ℕ) → List Words
-madeBy areas xs ys b w entries = streamsTo (lent areas xs ys b) (cellOf w) (wordsFrom entries (w .first) (w .count)) 4
+-- 12 over the stream of a leaf, then 10: "cell of side 1"
+abbrev pub leafAnswer : (areas xs ys : List ℕ) → Bounds → CellWords → (entries : List ℕ) → (cells used free : ℕ) → Answer
+leafAnswer areas xs ys b w entries cells used free =
+    cond (checkStream entries (w .first) (w .count) free (env areas xs ys b))
+    (cond (eqb (w .side) 1) (Not Smallest) (roomAnswer cells (length entries) used free (madeBy areas xs ys b w entries)))
+    (Not Broken)
+
+-- 12 over cell i, then 9: "cell already split"; of a leaf 12 over its stream comes first
+abbrev pub cellAnswer : (areas xs ys : List ℕ) → Bounds → CellWords → (entries : List ℕ) → (cells i used free : ℕ) → Answer
+cellAnswer areas xs ys b w entries cells i used free =
+    cond (cellRange w i used free) (cond (eqb (w .child) 0) (leafAnswer areas xs ys b w entries cells used free) (Not AlreadySplit)) (Not Broken)
 
 -- ---- the tables afterwards: "Nothing lent changes" on a refusal
 abbrev pub headBy : Answer → (head : List ℕ) → (used free : ℕ) → List Words → List ℕ
@@ -87,16 +99,8 @@ module _ (t : Tree) where
     abbrev pub made : List Words
     made = madeBy (t .areas) (t .xs) (t .ys) (boundsOf (t .plan) words) words (t .entries)
 
-    abbrev pub roomFor : Answer
-    roomFor = roomAnswer (length (t .cells)) (length (t .entries)) (cellsUsed (t .head)) (entriesUsed (t .head)) made
-
-    -- 12 over its stream, then 10: "cell of side 1"
-    abbrev pub leafSplit : Answer
-    leafSplit = cond (checkStream (t .entries) (words .first) (words .count) (entriesUsed (t .head)) against) (cond (eqb (words .side) 1) (Not Smallest) roomFor) (Not Broken)
-
-    -- 12 over the cell, then 9: "cell already split"; of a leaf 12 over its stream comes first
     abbrev pub cellSplit : Answer
-    cellSplit = cond (cellRange words i (cellsUsed (t .head)) (entriesUsed (t .head))) (cond (eqb (words .child) 0) leafSplit (Not AlreadySplit)) (Not Broken)
+    cellSplit = cellAnswer (t .areas) (t .xs) (t .ys) (boundsOf (t .plan) words) words (t .entries) (length (t .cells)) i (cellsUsed (t .head)) (entriesUsed (t .head))
 
     -- 7: "a lent pair of x and y tables of unequal length"; 8: "cell number not below the cells in use"; 12 over the counts
     abbrev pub splitAnswer : Answer

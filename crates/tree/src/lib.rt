@@ -13,7 +13,7 @@ ghost use Rattle.celltable.specs.Table.{putChildAt};
 ghost use Rattle.celltable.specs.Ranges.{squareRange, cellOf, cellsHeld, entriesHeld};
 ghost use Rattle.ranges.specs.Held.{lent};
 ghost use Rattle.children.specs.Children.{noTally, fourTallies, streamsTo, cellsBy, FewEach};
-ghost use Rattle.tree.specs.Split.{cellsUsed, roomAnswer, madeBy, headBy, cellsOf, entriesBy};
+ghost use Rattle.tree.specs.Split.{cellsUsed, roomAnswer, leafAnswer, cellAnswer, madeBy, headBy, cellsOf, entriesBy};
 
 // A split's answer: the number of the first child, or why it was refused.
 pub enum Answer {
@@ -177,4 +177,68 @@ fn split_in_room(
         return Answer::Not(Refusal::Room);
     }
     Answer::Not(Refusal::Room)
+}
+
+// 12 over the stream of a leaf, 10, 11, and then the split.
+fn split_leaf(
+    head: &mut [u32],
+    cells: &mut [u32],
+    entries: &mut [u32],
+    areas: &[u32],
+    xs: &[u32],
+    ys: &[u32],
+    b: Bounds,
+    i: usize,
+    used: u32,
+    free: u32,
+    w: CellWords,
+) -> Answer
+    requires { ⌜ squareRange w ≡ true ⌝ }
+    requires { ⌜ w .first + w .count ≤ free ⌝ }
+    requires { ⌜ (used ≤ 4096) × (free ≤ 65536) ⌝ }
+    requires { ⌜ (i < used) × (2 ≤ length (now head)) ⌝ }
+    ensures { λ r. ⌜ r ≡ leafAnswer (now (areas .entry)) (now (xs .entry)) (now (ys .entry)) b w (now (entries .entry)) (length (now (cells .entry))) used free ⌝ }
+    ensures { λ r. ⌜ now (head .exit) ≡ headBy r (now (head .entry)) used free (madeBy (now (areas .entry)) (now (xs .entry)) (now (ys .entry)) b w (now (entries .entry))) ⌝ }
+    ensures { λ r. ⌜ now (cells .exit) ≡ cellsOf r (lent (now (areas .entry)) (now (xs .entry)) (now (ys .entry)) b) w (wordsFrom (now (entries .entry)) (w .first) (w .count)) (now (cells .entry)) i used free ⌝ }
+    ensures { λ r. ⌜ now (entries .exit) ≡ entriesBy r (now (entries .entry)) free (madeBy (now (areas .entry)) (now (xs .entry)) (now (ys .entry)) b w (now (entries .entry))) ⌝ }
+{
+    let first = w.first as usize;
+    let count = w.count as usize;
+    if stream::check_stream(entries, first, count, free as usize, areas, xs, ys, b) {
+        if w.side == 1 {
+            return Answer::Not(Refusal::Smallest);
+        }
+        return split_in_room(head, cells, entries, areas, xs, ys, b, i, used, free, w);
+    }
+    Answer::Not(Refusal::Broken)
+}
+
+// 12 over the cell, 9, and then the leaf.
+fn split_cell(
+    head: &mut [u32],
+    cells: &mut [u32],
+    entries: &mut [u32],
+    areas: &[u32],
+    xs: &[u32],
+    ys: &[u32],
+    b: Bounds,
+    i: usize,
+    used: u32,
+    free: u32,
+    w: CellWords,
+) -> Answer
+    requires { ⌜ (used ≤ 4096) × (free ≤ 65536) ⌝ }
+    requires { ⌜ (i < used) × (2 ≤ length (now head)) ⌝ }
+    ensures { λ r. ⌜ r ≡ cellAnswer (now (areas .entry)) (now (xs .entry)) (now (ys .entry)) b w (now (entries .entry)) (length (now (cells .entry))) i used free ⌝ }
+    ensures { λ r. ⌜ now (head .exit) ≡ headBy r (now (head .entry)) used free (madeBy (now (areas .entry)) (now (xs .entry)) (now (ys .entry)) b w (now (entries .entry))) ⌝ }
+    ensures { λ r. ⌜ now (cells .exit) ≡ cellsOf r (lent (now (areas .entry)) (now (xs .entry)) (now (ys .entry)) b) w (wordsFrom (now (entries .entry)) (w .first) (w .count)) (now (cells .entry)) i used free ⌝ }
+    ensures { λ r. ⌜ now (entries .exit) ≡ entriesBy r (now (entries .entry)) free (madeBy (now (areas .entry)) (now (xs .entry)) (now (ys .entry)) b w (now (entries .entry))) ⌝ }
+{
+    if celltable::cell_fits(w, i, used as usize, free as usize) {
+        if w.child == 0 {
+            return split_leaf(head, cells, entries, areas, xs, ys, b, i, used, free, w);
+        }
+        return Answer::Not(Refusal::AlreadySplit);
+    }
+    Answer::Not(Refusal::Broken)
 }
