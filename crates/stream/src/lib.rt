@@ -288,7 +288,14 @@ fn scan_all(
 
 // ---- the check
 // Whether the numbers in use are at most what tables of these lengths hold.
-pub fn used_range(entries: usize, used: usize, areas: usize, xs: usize, ys: usize, b: Bounds) -> bool
+pub fn used_range(
+    entries: usize,
+    used: usize,
+    areas: usize,
+    xs: usize,
+    ys: usize,
+    b: Bounds,
+) -> bool
     ensures { λ r. ⌜ r ≡ usedRange entries used areas xs ys b ⌝ }
 {
     ((used <= entries / 4) & (used <= 65536))

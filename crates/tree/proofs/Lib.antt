@@ -1,3 +1,4 @@
 -- Laws of the calls on a tree.
 pub mod Rooms
 pub mod Choices
+pub mod Counted

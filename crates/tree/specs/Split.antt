@@ -76,13 +76,6 @@ abbrev pub boundsOf : List ℕ → CellWords → Bounds
 boundsOf plan w = bounds (getD plan 1 0) (getD plan 2 0) (w .y) (w .side)
 
 module _ (t : Tree) where
-  -- "cells in use from 1 to what the table holds; areas, corners and entries in use at most what their tables and limits hold"
-  abbrev pub countsRange : CellWords → Bool
-  countsRange w =
-      cond (headRange (t .head) (length (t .cells)) (length (t .entries)))
-      (cond (leb 3 (length (t .plan))) (usedRange (length (t .entries)) (entriesUsed (t .head)) (length (t .areas)) (length (t .xs)) (length (t .ys)) (boundsOf (t .plan) w)) false)
-      false
-
   module _ (i : ℕ) where
     abbrev pub words : CellWords
     words = cellAt (t .cells) i
@@ -102,12 +95,18 @@ module _ (t : Tree) where
     abbrev pub cellSplit : Answer
     cellSplit = cellAnswer (t .areas) (t .xs) (t .ys) (boundsOf (t .plan) words) words (t .entries) (length (t .cells)) i (cellsUsed (t .head)) (entriesUsed (t .head))
 
-    -- 7: "a lent pair of x and y tables of unequal length"; 8: "cell number not below the cells in use"; 12 over the counts
+    -- 12 over the areas and corners in use: "areas, corners and entries in use at most what their tables and limits hold"
+    abbrev pub drawingSplit : Answer
+    drawingSplit =
+        cond (usedRange (length (t .entries)) (entriesUsed (t .head)) (length (t .areas)) (length (t .xs)) (length (t .ys)) (boundsOf (t .plan) words)) cellSplit (Not Broken)
+
+    -- 12 over the head: "cells in use from 1 to what the table holds"; a plan too short for its counts
+    abbrev pub countsSplit : Answer
+    countsSplit = cond (headRange (t .head) (length (t .cells)) (length (t .entries))) (cond (leb 3 (length (t .plan))) drawingSplit (Not Broken)) (Not Broken)
+
+    -- 7: "a lent pair of x and y tables of unequal length"; 8: "cell number not below the cells in use"
     abbrev pub splitAnswer : Answer
-    splitAnswer =
-        cond (eqb (length (t .xs)) (length (t .ys)))
-        (cond (ltb i (cellsUsed (t .head))) (cond (countsRange words) cellSplit (Not Broken)) (Not NoCell))
-        (Not Argument)
+    splitAnswer = cond (eqb (length (t .xs)) (length (t .ys))) (cond (ltb i (cellsUsed (t .head))) countsSplit (Not NoCell)) (Not Argument)
 
     abbrev pub headAfter : Answer → List ℕ
     headAfter r = headBy r (t .head) (cellsUsed (t .head)) (entriesUsed (t .head)) made

@@ -13,7 +13,7 @@ ghost use Rattle.celltable.specs.Table.{putChildAt};
 ghost use Rattle.celltable.specs.Ranges.{squareRange, cellOf, cellsHeld, entriesHeld};
 ghost use Rattle.ranges.specs.Held.{lent};
 ghost use Rattle.children.specs.Children.{noTally, fourTallies, streamsTo, cellsBy, FewEach};
-ghost use Rattle.tree.specs.Split.{cellsUsed, roomAnswer, leafAnswer, cellAnswer, madeBy, headBy, cellsOf, entriesBy};
+ghost use Rattle.tree.specs.Split.{tree, cellsUsed, entriesUsed, roomAnswer, leafAnswer, cellAnswer, madeBy, headBy, cellsOf, entriesBy, drawingSplit, headAfter, cellsAfter, entriesAfter};
 
 // A split's answer: the number of the first child, or why it was refused.
 pub enum Answer {
@@ -239,6 +239,48 @@ fn split_cell(
             return split_leaf(head, cells, entries, areas, xs, ys, b, i, used, free, w);
         }
         return Answer::Not(Refusal::AlreadySplit);
+    }
+    Answer::Not(Refusal::Broken)
+}
+
+fn wide(n: u32) -> usize
+    ensures { λ r. ⌜ r ≡ n ⌝ }
+{
+    n as usize
+}
+
+// 12 over the areas and corners in use, and then the cell. The head has passed.
+fn split_counted(
+    plan: &[u32],
+    areas: &[u32],
+    xs: &[u32],
+    ys: &[u32],
+    head: &mut [u32],
+    cells: &mut [u32],
+    entries: &mut [u32],
+    i: usize,
+    used: u32,
+    free: u32,
+) -> Answer
+    requires { ⌜ (used ≤ 4096) × (free ≤ 65536) × (used * 8 ≤ length (now cells)) ⌝ }
+    requires { ⌜ (i < used) × (2 ≤ length (now head)) ⌝ }
+    requires { ⌜ 3 ≤ length (now plan) ⌝ }
+    requires { ⌜ (used ≡ cellsUsed (now head)) × (free ≡ entriesUsed (now head)) ⌝ }
+    ensures { λ r. ⌜ r ≡ drawingSplit (tree (now (plan .entry)) (now (areas .entry)) (now (xs .entry)) (now (ys .entry)) (now (head .entry)) (now (cells .entry)) (now (entries .entry))) i ⌝ }
+    ensures { λ r. ⌜ now (head .exit) ≡ headAfter (tree (now (plan .entry)) (now (areas .entry)) (now (xs .entry)) (now (ys .entry)) (now (head .entry)) (now (cells .entry)) (now (entries .entry))) i r ⌝ }
+    ensures { λ r. ⌜ now (cells .exit) ≡ cellsAfter (tree (now (plan .entry)) (now (areas .entry)) (now (xs .entry)) (now (ys .entry)) (now (head .entry)) (now (cells .entry)) (now (entries .entry))) i r ⌝ }
+    ensures { λ r. ⌜ now (entries .exit) ≡ entriesAfter (tree (now (plan .entry)) (now (areas .entry)) (now (xs .entry)) (now (ys .entry)) (now (head .entry)) (now (cells .entry)) (now (entries .entry))) i r ⌝ }
+{
+    let w = celltable::read_cell(cells, i);
+    let b = Bounds {
+        areas: wide(plan[1]),
+        corners: wide(plan[2]),
+        low: w.y,
+        side: w.side,
+    };
+    let n = entries.len();
+    if stream::used_range(n, free as usize, areas.len(), xs.len(), ys.len(), b) {
+        return split_cell(head, cells, entries, areas, xs, ys, b, i, used, free, w);
     }
     Answer::Not(Refusal::Broken)
 }
