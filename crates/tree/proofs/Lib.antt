@@ -2,3 +2,4 @@
 pub mod Rooms
 pub mod Choices
 pub mod Counted
+pub mod Heads

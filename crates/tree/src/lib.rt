@@ -13,7 +13,7 @@ ghost use Rattle.celltable.specs.Table.{putChildAt};
 ghost use Rattle.celltable.specs.Ranges.{squareRange, cellOf, cellsHeld, entriesHeld};
 ghost use Rattle.ranges.specs.Held.{lent};
 ghost use Rattle.children.specs.Children.{noTally, fourTallies, streamsTo, cellsBy, FewEach};
-ghost use Rattle.tree.specs.Split.{tree, cellsUsed, entriesUsed, roomAnswer, leafAnswer, cellAnswer, madeBy, headBy, cellsOf, entriesBy, drawingSplit, headAfter, cellsAfter, entriesAfter};
+ghost use Rattle.tree.specs.Split.{tree, cellsUsed, entriesUsed, roomAnswer, leafAnswer, cellAnswer, madeBy, headBy, cellsOf, entriesBy, drawingSplit, countsSplit, splitAnswer, headAfter, cellsAfter, entriesAfter};
 
 // A split's answer: the number of the first child, or why it was refused.
 pub enum Answer {
@@ -283,4 +283,62 @@ fn split_counted(
         return split_cell(head, cells, entries, areas, xs, ys, b, i, used, free, w);
     }
     Answer::Not(Refusal::Broken)
+}
+
+// 12 over the head and the plan's length, and then the counts. Cell i is in use.
+fn split_headed(
+    plan: &[u32],
+    areas: &[u32],
+    xs: &[u32],
+    ys: &[u32],
+    head: &mut [u32],
+    cells: &mut [u32],
+    entries: &mut [u32],
+    i: usize,
+    used: u32,
+) -> Answer
+    requires { ⌜ i < used ⌝ }
+    requires { ⌜ used ≡ cellsUsed (now head) ⌝ }
+    ensures { λ r. ⌜ r ≡ countsSplit (tree (now (plan .entry)) (now (areas .entry)) (now (xs .entry)) (now (ys .entry)) (now (head .entry)) (now (cells .entry)) (now (entries .entry))) i ⌝ }
+    ensures { λ r. ⌜ now (head .exit) ≡ headAfter (tree (now (plan .entry)) (now (areas .entry)) (now (xs .entry)) (now (ys .entry)) (now (head .entry)) (now (cells .entry)) (now (entries .entry))) i r ⌝ }
+    ensures { λ r. ⌜ now (cells .exit) ≡ cellsAfter (tree (now (plan .entry)) (now (areas .entry)) (now (xs .entry)) (now (ys .entry)) (now (head .entry)) (now (cells .entry)) (now (entries .entry))) i r ⌝ }
+    ensures { λ r. ⌜ now (entries .exit) ≡ entriesAfter (tree (now (plan .entry)) (now (areas .entry)) (now (xs .entry)) (now (ys .entry)) (now (head .entry)) (now (cells .entry)) (now (entries .entry))) i r ⌝ }
+{
+    let n = cells.len();
+    let k = entries.len();
+    if celltable::head_fits(head, n, k) {
+        if 3 <= plan.len() {
+            let free = head[1];
+            return split_counted(plan, areas, xs, ys, head, cells, entries, i, used, free);
+        }
+        return Answer::Not(Refusal::Broken);
+    }
+    Answer::Not(Refusal::Broken)
+}
+
+// Splits cell i: four cells of half its side, each with the stream that document 01 defines. Any tables may be handed in.
+// Refusals, in this order: 7, 8, 12, 9, 10, 11. Nothing is changed on a refusal.
+pub fn split(
+    plan: &[u32],
+    areas: &[u32],
+    xs: &[u32],
+    ys: &[u32],
+    head: &mut [u32],
+    cells: &mut [u32],
+    entries: &mut [u32],
+    i: u32,
+) -> Answer
+    ensures { λ r. ⌜ r ≡ splitAnswer (tree (now (plan .entry)) (now (areas .entry)) (now (xs .entry)) (now (ys .entry)) (now (head .entry)) (now (cells .entry)) (now (entries .entry))) i ⌝ }
+    ensures { λ r. ⌜ now (head .exit) ≡ headAfter (tree (now (plan .entry)) (now (areas .entry)) (now (xs .entry)) (now (ys .entry)) (now (head .entry)) (now (cells .entry)) (now (entries .entry))) i r ⌝ }
+    ensures { λ r. ⌜ now (cells .exit) ≡ cellsAfter (tree (now (plan .entry)) (now (areas .entry)) (now (xs .entry)) (now (ys .entry)) (now (head .entry)) (now (cells .entry)) (now (entries .entry))) i r ⌝ }
+    ensures { λ r. ⌜ now (entries .exit) ≡ entriesAfter (tree (now (plan .entry)) (now (areas .entry)) (now (xs .entry)) (now (ys .entry)) (now (head .entry)) (now (cells .entry)) (now (entries .entry))) i r ⌝ }
+{
+    if xs.len() == ys.len() {
+        let used = cells_used(head);
+        if i < used {
+            return split_headed(plan, areas, xs, ys, head, cells, entries, i as usize, used);
+        }
+        return Answer::Not(Refusal::NoCell);
+    }
+    Answer::Not(Refusal::Argument)
 }
