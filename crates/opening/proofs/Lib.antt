@@ -1,0 +1,3 @@
+-- Cell 0's stream, made from the drawing in lent tables.
+pub mod Ahead
+pub mod Whole
