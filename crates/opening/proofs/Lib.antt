@@ -1,3 +1,5 @@
 -- Cell 0's stream, made from the drawing in lent tables.
 pub mod Ahead
 pub mod Whole
+pub mod Base
+pub mod Loop

@@ -117,7 +117,7 @@ module _ (D : Drawing) (areas xs ys : List ℕ) (b : Bounds) (H : Held areas xs 
 
 source-fits : (a c f : ℕ) (rs : List Record) → EachFits (sourceFrom a c f rs)
 source-fits a c f [] = tt
-source-fits a c f (Area g ∷ rs) = (record { sfits = refl }, source-fits (suc a) c f rs)
+source-fits a c f (Area g ∷ rs) = (record { sfits = omega arith }, source-fits (suc a) c f rs)
 source-fits a c f (First x y ∷ rs) = (tt, source-fits a (suc c) c rs)
 source-fits a c f (Next x y ∷ rs) = (tt, source-fits a (suc c) f rs)
 source-fits a c f (Open ∷ rs) = (tt, source-fits a c f rs)

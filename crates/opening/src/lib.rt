@@ -1,10 +1,18 @@
 // The stream of cell 0, made from the drawing in lent tables: counted, and then written.
+use geometry::class::Square;
+use stream::Bounds;
 use stream::Words;
 ghost use mathlib.Core.Path.{_≡_};
-ghost use Prim.Native.Nat.{_+_, _≤_, _<_};
+ghost use Prim.Native.Nat.{_+_, _*_, _≤_, _<_};
 ghost use lib.ListN.{length};
+ghost use Rattle.cells.specs.Cells.{squareOf, root};
+ghost use Rattle.cells.specs.Making.{rowSize};
+ghost use Rattle.pruning.specs.Weights.{total};
+ghost use Rattle.drawing.specs.Tables.{tables};
+ghost use Rattle.stream.specs.Table.{written};
 ghost use Rattle.reading.specs.Words.{words};
 ghost use Rattle.opening.specs.Numbers.{sourceAt, endN, edgeN, markN, entryN, afterN};
+ghost use Rattle.opening.specs.Opened.{rowsOpened, wordsOpened, Opened};
 
 // The areas and the corners before a record, and the first corner of the contour in progress.
 pub struct Source {
@@ -124,4 +132,42 @@ pub fn source_after(c: Source, kind: u32) -> Source
         };
     }
     c
+}
+
+// ---- the stream of cell 0
+fn root_square() -> Square
+    ensures { λ r. ⌜ r ≡ squareOf root ⌝ }
+{
+    Square {
+        x: 0,
+        y: 0,
+        side: 65536,
+    }
+}
+
+// How much cell 0's stream is, in one number: 1 for each entry, 65,536 more for a line, 4,294,967,296 more for an area.
+pub fn count_open(
+    plan: &[u32],
+    areas: &[u32],
+    xs: &[u32],
+    ys: &[u32],
+    records: usize,
+    b: Bounds,
+) -> u64
+    requires { ⌜ Opened (tables (now plan) (now areas) (now xs) (now ys)) records b ⌝ }
+    ensures { λ r. ⌜ r ≡ total rowSize (rowsOpened (tables (now (plan .entry)) (now (areas .entry)) (now (xs .entry)) (now (ys .entry)))) ⌝ }
+{
+    let s = root_square();
+    let mut m = making::begun();
+    let mut c = source_begin();
+    let mut i = 0;
+    while i < records {
+        let w = source_entry(plan, i, records, c);
+        let l = making::left_of(xs, ys, b.corners, s, w);
+        let n = making::made_after(areas, m, l, w);
+        m = n;
+        c = source_after(c, plan[i + 3]);
+        i += 1;
+    }
+    making::made_size(areas, m)
 }
