@@ -54,33 +54,45 @@ module _ (plan : List ℕ) (records : ℕ) where
   goes i a c f [] h e m n l = absurd (omega arith)
   goes i a c f (Area g ∷ rs) h e m n l =
       let z : a + 1 ≡ suc a = omega arith in
-      rw (kind-here (i + 3) (Area g) rs h, z)
-      (map wordsOf (sourceFrom (suc a) c f rs), refl,
-      record { rest = rs; kinds = kinds-behind (i + 3) (i + 1 + 3) (Area g) rs (omega arith) h; whole = omega arith; few-areas = omega arith; few-corners = omega arith; words = refl })
+      rw (kind-here (i + 3) (Area g) rs h, z) (
+        map wordsOf (sourceFrom (suc a) c f rs),
+        refl,
+        record { rest = rs; kinds = kinds-behind (i + 3) (i + 1 + 3) (Area g) rs (omega arith) h; whole = omega arith; few-areas = omega arith; few-corners = omega arith; words = refl },
+      )
   goes i a c f (First x y ∷ rs) h e m n l =
       let b : Has plan (i + 4) (spread kindW rs) = kinds-behind (i + 3) (i + 4) (First x y) rs (omega arith) h in
       let z : c + 1 ≡ suc c = omega arith in
-      rw (kind-here (i + 3) (First x y) rs h, edge-end i c c rs b (omega arith), z)
-      (map wordsOf (sourceFrom a (suc c) c rs), refl,
-      record { rest = rs; kinds = kinds-behind (i + 3) (i + 1 + 3) (First x y) rs (omega arith) h; whole = omega arith; few-areas = omega arith; few-corners = omega arith; words = refl })
+      rw (kind-here (i + 3) (First x y) rs h, edge-end i c c rs b (omega arith), z) (
+        map wordsOf (sourceFrom a (suc c) c rs),
+        refl,
+        record { rest = rs; kinds = kinds-behind (i + 3) (i + 1 + 3) (First x y) rs (omega arith) h; whole = omega arith; few-areas = omega arith; few-corners = omega arith; words = refl },
+      )
   goes i a c f (Next x y ∷ rs) h e m n l =
       let b : Has plan (i + 4) (spread kindW rs) = kinds-behind (i + 3) (i + 4) (Next x y) rs (omega arith) h in
       let z : c + 1 ≡ suc c = omega arith in
-      rw (kind-here (i + 3) (Next x y) rs h, edge-end i c f rs b (omega arith), z)
-      (map wordsOf (sourceFrom a (suc c) f rs), refl,
-      record { rest = rs; kinds = kinds-behind (i + 3) (i + 1 + 3) (Next x y) rs (omega arith) h; whole = omega arith; few-areas = omega arith; few-corners = omega arith; words = refl })
+      rw (kind-here (i + 3) (Next x y) rs h, edge-end i c f rs b (omega arith), z) (
+        map wordsOf (sourceFrom a (suc c) f rs),
+        refl,
+        record { rest = rs; kinds = kinds-behind (i + 3) (i + 1 + 3) (Next x y) rs (omega arith) h; whole = omega arith; few-areas = omega arith; few-corners = omega arith; words = refl },
+      )
   goes i a c f (Open ∷ rs) h e m n l =
-      rw (kind-here (i + 3) Open rs h)
-      (map wordsOf (sourceFrom a c f rs), refl,
-      record { rest = rs; kinds = kinds-behind (i + 3) (i + 1 + 3) Open rs (omega arith) h; whole = omega arith; few-areas = omega arith; few-corners = omega arith; words = refl })
+      rw (kind-here (i + 3) Open rs h) (
+        map wordsOf (sourceFrom a c f rs),
+        refl,
+        record { rest = rs; kinds = kinds-behind (i + 3) (i + 1 + 3) Open rs (omega arith) h; whole = omega arith; few-areas = omega arith; few-corners = omega arith; words = refl },
+      )
   goes i a c f (Bar ∷ rs) h e m n l =
-      rw (kind-here (i + 3) Bar rs h)
-      (map wordsOf (sourceFrom a c f rs), refl,
-      record { rest = rs; kinds = kinds-behind (i + 3) (i + 1 + 3) Bar rs (omega arith) h; whole = omega arith; few-areas = omega arith; few-corners = omega arith; words = refl })
+      rw (kind-here (i + 3) Bar rs h) (
+        map wordsOf (sourceFrom a c f rs),
+        refl,
+        record { rest = rs; kinds = kinds-behind (i + 3) (i + 1 + 3) Bar rs (omega arith) h; whole = omega arith; few-areas = omega arith; few-corners = omega arith; words = refl },
+      )
   goes i a c f (Close ∷ rs) h e m n l =
-      rw (kind-here (i + 3) Close rs h)
-      (map wordsOf (sourceFrom a c f rs), refl,
-      record { rest = rs; kinds = kinds-behind (i + 3) (i + 1 + 3) Close rs (omega arith) h; whole = omega arith; few-areas = omega arith; few-corners = omega arith; words = refl })
+      rw (kind-here (i + 3) Close rs h) (
+        map wordsOf (sourceFrom a c f rs),
+        refl,
+        record { rest = rs; kinds = kinds-behind (i + 3) (i + 1 + 3) Close rs (omega arith) h; whole = omega arith; few-areas = omega arith; few-corners = omega arith; words = refl },
+      )
 
   pub ahead-next : (i : ℕ) (s : Source) (ws : List Words) → Ahead i s ws → i < records
       → (ws′ : List Words) × (ws ≡ entryN plan i records s ∷ ws′) × Ahead (i + 1) (afterN s (getD plan (i + 3) 0)) ws′

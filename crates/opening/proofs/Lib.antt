@@ -3,3 +3,4 @@ pub mod Ahead
 pub mod Whole
 pub mod Base
 pub mod Loop
+pub mod Fill

@@ -171,3 +171,34 @@ pub fn count_open(
     }
     making::made_size(areas, m)
 }
+
+// Writes cell 0's stream to the table's first entries. It has `made` of them. Beyond them the table stays as it was.
+pub fn write_open(
+    entries: &mut [u32],
+    made: usize,
+    plan: &[u32],
+    areas: &[u32],
+    xs: &[u32],
+    ys: &[u32],
+    records: usize,
+    b: Bounds,
+)
+    requires { ⌜ Opened (tables (now plan) (now areas) (now xs) (now ys)) records b ⌝ }
+    requires { ⌜ made ≡ length (rowsOpened (tables (now plan) (now areas) (now xs) (now ys))) ⌝ }
+    requires { ⌜ made * 4 ≤ length (now entries) ⌝ }
+    ensures { λ _. ⌜ now (entries .exit) ≡ written (now (entries .entry)) 0 (wordsOpened (tables (now (plan .entry)) (now (areas .entry)) (now (xs .entry)) (now (ys .entry)))) ⌝ }
+{
+    let s = root_square();
+    let mut m = making::begun();
+    let mut c = source_begin();
+    let mut i = 0;
+    while i < records {
+        let w = source_entry(plan, i, records, c);
+        let l = making::left_of(xs, ys, b.corners, s, w);
+        let n = writing::write_one(entries, made, areas, m, l, w);
+        m = n;
+        c = source_after(c, plan[i + 3]);
+        i += 1;
+    }
+    writing::put_settled(entries, made, areas, m);
+}
