@@ -2,13 +2,11 @@
 use mathlib.Core.Path.{_≡_, refl, sym, ap, _∙_}
 use mathlib.Core.Bool.{true, false}
 use mathlib.Core.List.{List, [], _∷_, map}
-use Prim.Native.Nat.{ℕ, suc, _+_, _≤_, _<_}
+use Prim.Native.Nat.{ℕ, suc, _≤_, _<_}
 use native.Mathlib.Omega.{arith}
 use lib.Dec.{eqb}
 use lib.ListN.{length, length-map}
-use lib.IntN.{ℤ, pos}
-use mir.Syntax.{w32}
-use mir.Val.{SFits}
+use lib.IntN.{pos}
 use Rattle.geometry.specs.FillRules as FillRules
 use Rattle.geometry.specs.Windings.{Line, line, edgeBetween}
 use Rattle.records.specs.declared.Fields.{Fields}
@@ -19,16 +17,15 @@ use Rattle.grammar.specs.declared.Counts.{Counts}
 use Rattle.drawing.specs.Tables.{areaRow}
 use Rattle.drawing.specs.Held.{Acceptable}
 use Rattle.pruning.specs.Sides.{Kind, paint, clip, Side, end, leaf, group, flat, mapSide}
-use Rattle.cells.specs.Cells.{Cell, low, side, root}
+use Rattle.cells.specs.Cells.{Cell, root}
 use Rattle.cells.specs.Segments.{Segment, drawn}
 use Rattle.cells.specs.Drawings.{Drawing, fieldsOf, kindOf, ruleOf}
-use Rattle.cells.specs.Streams.{Item, always, area, On, whole, source, made}
-use Rattle.cells.specs.Rows.{Row, rowsOf, roleIn, OnSide, streamOf}
+use Rattle.cells.specs.Streams.{Item, On, whole, source, made}
+use Rattle.cells.specs.Rows.{rowsOf, roleIn, OnSide, streamOf}
 use Rattle.cells.proofs.Each.{each-mapped}
 use Rattle.cells.proofs.Rows as Rows
 use Rattle.stream.specs.declared.Bounds.{Bounds}
 use Rattle.stream.specs.Grammar.{env, isGood, roleFits, isWhole, accepts}
-use Rattle.reading.specs.Reading.{rowsIn}
 use Rattle.reading.specs.Words.{wordsOf, EachFits, Agrees}
 use Rattle.reading.proofs.Words.{rows-back}
 use Rattle.ranges.specs.Valid.{Valid, CornersBelow, lines, weigh}

@@ -1,8 +1,8 @@
 -- What cell 0's stream is made from, one entry at a time, as the numbers that the code holds. `Rattle.opening.proofs` says that they go as the rows do
 -- (`Rattle.plans.specs.Source`). Assumes nothing.
 use mathlib.Core.Bool.{cond}
-use mathlib.Core.List.{List}
-use Prim.Native.Nat.{ℕ, _+_}
+use mathlib.Core.List.{List, [], _∷_}
+use Prim.Native.Nat.{ℕ, zero, suc, _+_}
 use lib.Dec.{eqb, ltb}
 use lib.ListN.{getD}
 use Rattle.stream.specs.declared.Words.{Words}
@@ -38,3 +38,8 @@ abbrev pub afterN : Source → ℕ → Source
 afterN s k =
     cond (eqb k 1) (sourceAt (s .area + 1) (s .corner) (s .first))
     (cond (eqb k 2) (sourceAt (s .area) (s .corner + 1) (s .corner)) (cond (eqb k 3) (sourceAt (s .area) (s .corner + 1) (s .first)) s))
+
+-- the entries of the n records from record i on
+abbrev pub entriesN : List ℕ → (i records : ℕ) → Source → (n : ℕ) → List Words
+entriesN plan i records s zero = []
+entriesN plan i records s (suc n) = entryN plan i records s ∷ entriesN plan (i + 1) records (afterN s (getD plan (i + 3) 0)) n

@@ -10,7 +10,7 @@ use Rattle.opening.proofs.root_square.Reads as root-square-reads
 use Rattle.opening.proofs.source_after.Reads as source-after-reads
 use Rattle.opening.proofs.source_begin.Reads as source-begin-reads
 use Rattle.opening.proofs.source_entry.Reads as source-entry-reads
-use mathlib.Core.Path.{sym, ap, _∙_}
+use mathlib.Core.Path.{ap, _∙_}
 use Prim.Native.Nat.{_-_}
 use native.Mathlib.Omega.{arith}
 use denote.Ref.{now}
