@@ -50,10 +50,10 @@ module _ (t : Tables) (records : ℕ) (b : Bounds) (o : Opened t records b) wher
   records-are : records ≡ length (drawnIn t)
   records-are = o .records-used ∙ (sound (map Good (drawnIn t)) (o .used) (o .accepted .fold) .records ∙ length-map (drawnIn t) Good)
 
-  valid : Valid (drawingIn t)
+  pub valid : Valid (drawingIn t)
   valid = accepted-valid (drawnIn t) (o .used) (o .accepted)
 
-  held : Held (t .areas) (t .xs) (t .ys) b (drawingIn t)
+  pub held : Held (t .areas) (t .xs) (t .ys) b (drawingIn t)
   held = accepted-held t (drawnIn t) (o .used) (o .accepted) (o .holding) b (ap (λ (x : Bounds). x .areas) (o .bounds-used)) (ap (λ (x : Bounds). x .corners) (o .bounds-used))
 
   kinds : Has (t .plan) 3 (spread kindW (drawnIn t))

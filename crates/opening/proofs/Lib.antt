@@ -4,3 +4,5 @@ pub mod Whole
 pub mod Base
 pub mod Loop
 pub mod Fill
+pub mod Opened
+mod Examples
