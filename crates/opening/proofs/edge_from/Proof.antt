@@ -1,0 +1,20 @@
+use borrow.Author.Needs.{needs}
+use Rattle.opening.proofs.edge_from.Statement.{statement}
+use Rattle.opening.proofs.edge_from.Tie as tie
+use Rattle.opening.proofs.edge_from.Reads as reads
+use Rattle.opening.proofs.edge_from.Lts as lts
+use Rattle.opening.proofs.edge_end.Reads as edge-end-reads
+use mathlib.Core.Path.{ap}
+use Prim.Native.Nat.{ℕ}
+use Rattle.reading.specs.Words.{words}
+
+-- src/lib.rt:45:9
+edge-end-requires : tie.Need-edge-end-requires
+edge-end-requires c κs = search needs
+
+-- src/lib.rt:41:1
+returns : tie.Need-returns
+returns c = ap (λ (q : ℕ). words 5 (c .before .before .args .corner) q 0) (c .edge-end .ensures)
+
+pub edge-from-spec : {M : Type 1} → statement M
+edge-from-spec = tie.close (tie.spec edge-end-requires returns)
