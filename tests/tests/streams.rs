@@ -27,7 +27,7 @@ struct Sample {
 }
 
 impl Sample {
-    /// Words of a stream behind and before entries of no meaning, `more` of them in use.
+    /// Words of a stream between entries of no meaning, all of them in use.
     fn new(random: &mut Random, tables: Tables, words: &[u32], square: Square) -> Sample {
         let mut any_entries = |most: usize| {
             let words = ENTRY_WORDS * random.within(0..=most);
@@ -334,7 +334,7 @@ fn the_limits_of_a_stream() {
         lent.first = used;
         assert_eq!(lent.check(entries), passes);
         lent.first = used.wrapping_add(1);
-        assert_eq!(lent.check(entries), used == usize::MAX && passes);
+        assert!(!lent.check(entries));
         // Sums that wrap.
         (lent.first, lent.count) = (usize::MAX, 2);
         assert!(!lent.check(entries));
@@ -518,4 +518,72 @@ fn the_streams_of_children() {
         tally.reached(&format!("kind {kind}"), 2_000);
     }
     tally.reached("kind 7", 200);
+}
+
+/// From a drawing down to a cell of side 1, each stream made of the one before in the same table:
+/// the drawing's own in each square, which passes 12 and shows what the drawing shows.
+#[test]
+fn the_streams_on_the_way_down() {
+    let random = &mut Random::for_test(84);
+    let mut tally = Tally::default();
+    for round in 0..1_200 {
+        let records = match round % 12 {
+            0 => samples::fullest(random),
+            1 => {
+                let look = scenes::Look::fullest(random);
+                scenes::of(random, &look)
+            }
+            _ => scenes::any(random),
+        };
+        let tables = samples::tables(&records);
+        let drawing = Drawing::of(&tables);
+        let (x, y) = scenes::position(random, &tables);
+        let mut stream = stream::of_drawing(drawing);
+        let shown = stream::shown(drawing, &stream, x, y);
+        let mut entries = foreign::words(random, &stream);
+        entries.extend(vec![9; ENTRY_WORDS * 8 * MOST_RECORDS]);
+        let mut lent = Lent {
+            first: 0,
+            count: stream.len(),
+            in_use: InUse {
+                cells: 1,
+                entries: stream.len(),
+                areas: tables.plan[1] as usize,
+                corners: tables.plan[2] as usize,
+            },
+            tables: &tables,
+            square: Square::WHOLE,
+        };
+        let mut next = Some(Square::WHOLE);
+        while let Some(square) = next {
+            assert!(lent.check(&entries), "{square:?}");
+            assert_eq!(lent.read(&entries, x, y), shown, "{x}, {y} in {square:?}");
+            let made = lent.child(&mut entries, square);
+            let count = made.expect("the table has room");
+            stream = prune(drawing, &stream::in_square(drawing, &stream, square));
+            assert!(stream == tree::stream_in(drawing, square), "{square:?}");
+            let at = ENTRY_WORDS * lent.in_use.entries;
+            let words = &entries[at..at + ENTRY_WORDS * count];
+            assert!(words == stream::words(&stream), "{square:?}");
+            lent = Lent {
+                first: lent.in_use.entries,
+                count,
+                in_use: InUse {
+                    entries: lent.in_use.entries + count,
+                    ..lent.in_use
+                },
+                square,
+                ..lent
+            };
+            let mut quarters = square.quarters().into_iter().flatten();
+            next = quarters.find(|quarter| quarter.holds(x, y));
+            if square.side == 1 {
+                assert!(lent.check(&entries), "{square:?}");
+                assert_eq!(lent.read(&entries, x, y), shown, "{x}, {y}");
+                tally.note("side 1".to_string());
+            }
+        }
+    }
+    tally.print("down");
+    tally.reached("side 1", 1_200);
 }

@@ -19,7 +19,7 @@ use Rattle.celltable.specs.Ranges.{sideRange, gridRange, squareRange, cellRange
 use Rattle.celltable.proofs.Powers.{level-is, level-most}
 use Rattle.stream.specs.declared.Bounds.{Bounds}
 use Rattle.stream.specs.Table.{wordsFrom}
-use Rattle.stream.specs.Grammar.{Env, env, accepts, usedRange, runRange, checkStream, Passed}
+use Rattle.stream.specs.Grammar.{Env, env, accepts, usedRange, checkStream, Passed}
 use Rattle.stream.proofs.Laws.{used-entries}
 use Rattle.ranges.specs.Held.{lent}
 use Rattle.ranges.proofs.Streams.{words-length}
