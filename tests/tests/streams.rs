@@ -7,7 +7,7 @@ use zones_tests::drawing::{AREA_WORDS, MOST_AREAS, MOST_CORNERS, MOST_GROUPS, MO
 use zones_tests::foreign;
 use zones_tests::meaning::{Drawing, MOST_POSITION};
 use zones_tests::probe::Lent;
-use zones_tests::prune::prune;
+use zones_tests::prune::{prune, prune_and_count};
 use zones_tests::random::Random;
 use zones_tests::record::letters;
 use zones_tests::samples::{self, Tables};
@@ -455,7 +455,13 @@ fn the_streams_of_children() {
             squares.push(foreign::any_square(random));
         }
         for square in squares {
-            let child = prune(drawing, &stream::in_square(drawing, &stream, square));
+            let pruned = prune_and_count(drawing, &stream::in_square(drawing, &stream, square));
+            for (rule, used) in (12..).zip(pruned.used) {
+                if used > 0 {
+                    tally.note(format!("rule {rule}"));
+                }
+            }
+            let child = pruned.stream;
             let made = stream::words(&child);
             assert!(child.len() <= stream.len());
             // Room exactly enough, one entry too little, and more.
@@ -518,6 +524,9 @@ fn the_streams_of_children() {
         tally.reached(&format!("kind {kind}"), 2_000);
     }
     tally.reached("kind 7", 200);
+    for rule in 12..=18 {
+        tally.reached(&format!("rule {rule}"), 300);
+    }
 }
 
 /// From a drawing down to a cell of side 1, each stream made of the one before in the same table:
