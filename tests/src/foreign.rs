@@ -118,7 +118,7 @@ impl Maker<'_> {
 }
 
 /// The words of a stream, those without a name at random.
-fn words(random: &mut Random, stream: &[Entry]) -> Vec<u32> {
+pub fn words(random: &mut Random, stream: &[Entry]) -> Vec<u32> {
     let mut words = Vec::new();
     for entry in stream {
         let named = match entry {

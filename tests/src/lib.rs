@@ -12,6 +12,8 @@ pub mod lent;
 pub mod lister;
 pub mod machine;
 pub mod meaning;
+#[allow(unsafe_code)]
+pub mod probe;
 pub mod prune;
 pub mod query;
 pub mod random;

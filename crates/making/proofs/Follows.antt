@@ -109,7 +109,7 @@ module _ (areas : List ℕ) (D : Drawing) (c : Cell) (agrees : (n : ℕ) → n <
       → weighed rowSize (prune D c x e) ≡ countStep (items D) (λ e. total rowSize (entryRows e)) (weighed rowSize x) e
   step-is x e f = step-weighs rowSize row-some (items D) entryRows entry-some x e f
 
-  step-fits : (x : Pruning.State Row) (e : Entry Item) → Fit (count (items D) Row entryRows entry-some x) → Fit (count (items D) Row entryRows entry-some (prune D c x e))
+  pub step-fits : (x : Pruning.State Row) (e : Entry Item) → Fit (count (items D) Row entryRows entry-some x) → Fit (count (items D) Row entryRows entry-some (prune D c x e))
   step-fits x e f = let q = step-counts (items D) Row entryRows entry-some x e f in subst Fit (sym (q .0)) (q .1)
 
   out-length : (x : Pruning.State Row) → lengthOf (count (items D) Row entryRows entry-some x) ≡ length (outOf x)
@@ -119,7 +119,7 @@ module _ (areas : List ℕ) (D : Drawing) (c : Cell) (agrees : (n : ℕ) → n <
   bare-short always = omega arith
   bare-short (area n z gs) = omega arith
 
-  step-short : (x : Pruning.State Row) (e : Entry Item) → Fit (count (items D) Row entryRows entry-some x) → length (outOf (prune D c x e)) ≤ length (outOf x) + length (entryRows e)
+  pub step-short : (x : Pruning.State Row) (e : Entry Item) → Fit (count (items D) Row entryRows entry-some x) → length (outOf (prune D c x e)) ≤ length (outOf x) + length (entryRows e)
   step-short x e f =
       let q = step-counts (items D) Row entryRows entry-some x e f in
       omega (arith, count-grows (items D) Row entryRows entry-some bare-short (count (items D) Row entryRows entry-some x) e f, out-length x, out-length (prune D c x e), ap lengthOf (q .0))
@@ -156,7 +156,7 @@ module _ (areas : List ℕ) (D : Drawing) (c : Cell) (agrees : (n : ℕ) → n <
   settle-fits k p a (making x nothing) f = f .fit
   settle-fits k p a (making x (held n z gs)) f = step-fits x (item (roleIn D n) (area n z gs)) (f .fit)
 
-  length-segments : (gs : List Segment) → length (map segment gs) ≡ length gs
+  pub length-segments : (gs : List Segment) → length (map segment gs) ≡ length gs
   length-segments [] = refl
   length-segments (g ∷ gs) = ap suc (length-segments gs)
 

@@ -7,3 +7,4 @@ pub mod Standing
 pub mod Turn
 pub mod Lent
 pub mod Whole
+pub mod Shorter

@@ -53,7 +53,7 @@ run-in first count used h m = rw (le-leb count used (omega arith), le-leb first 
 both-tests : (a b c : Bool) → a ≡ true → b ≡ true → c ≡ true → cond a (cond b c false) false ≡ true
 both-tests a b c p q r = rw (p, q) r
 
-words-length : (t : List ℕ) (i n : ℕ) → length (wordsFrom t i n) ≡ n
+pub words-length : (t : List ℕ) (i n : ℕ) → length (wordsFrom t i n) ≡ n
 unfolding wordsFrom
 words-length t i zero = refl
 words-length t i (suc n) = ap suc (words-length t (i + 1) n)

@@ -1,0 +1,2 @@
+-- What the tests of the calls say.
+mod Laws

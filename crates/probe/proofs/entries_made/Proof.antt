@@ -1,0 +1,20 @@
+-- `probe::entries_made` meets its contract. Assumes nothing.
+use native.Mathlib.Omega.{arith}
+use denote.Ref.{now}
+use Rattle.probe.proofs.Laws.{square-in, square-cell, made-count}
+use Rattle.probe.proofs.entries_made.Statement.{statement}
+use Rattle.probe.proofs.entries_made.Tie as tie
+
+count-child-requires : tie.Need-count-child-requires
+count-child-requires c κs = let p = c .before .before .before .before .pre in (p .0, (square-in _ (p .1), square-cell _ (p .1)))
+
+returns : tie.Need-returns
+returns c =
+    let a = c .before .before .before .before .before .args in
+    let p = c .before .before .before .before .before .pre in (
+      made-count (now (a .entries)) (a .first) (a .count) (now (a .areas)) (now (a .xs)) (now (a .ys)) (a .b) (a .s) (c .count-child .result) (p .0) (c .count-child .ensures),
+      omega arith,
+    )
+
+pub entries-made-spec : {M : Type 1} → statement M
+entries-made-spec = tie.close (tie.spec count-child-requires returns)

@@ -1,0 +1,26 @@
+-- `probe::probe_read` meets its contract. Assumes nothing.
+use mathlib.Core.Path.{sym, _∙_}
+use borrow.Author.Needs.{needs}
+use Rattle.stream.proofs.Passed.{passed}
+use Rattle.probe.proofs.Laws.{position-in}
+use Rattle.probe.proofs.probe_read.Statement.{statement}
+use Rattle.probe.proofs.probe_read.Tie as tie
+
+check-stream-requires : tie.Need-check-stream-requires
+check-stream-requires c κs = search needs
+
+read-stream-requires : tie.Need-read-stream-requires
+read-stream-requires c κs = (passed _ _ _ _ _ (sym (c .before .before .check-stream .ensures) ∙ c .before .if1 .taken), position-in _ _ (c .if2 .taken))
+
+returns : tie.Need-returns
+returns c = rw (sym (c .before .before .before .check-stream .ensures) ∙ c .before .before .if1 .taken, c .before .if2 .taken) (c .read-stream .ensures)
+
+returns-2 : tie.Need-returns-2
+returns-2 c = rw (sym (c .before .before .check-stream .ensures) ∙ c .before .if1 .taken, c .if2 .left)
+
+returns-3 : tie.Need-returns-3
+returns-3 c = rw (sym (c .before .check-stream .ensures) ∙ c .if1 .left)
+
+pub probe-read-spec : {M : Type 1} → statement M
+probe-read-spec =
+    tie.close (tie.spec check-stream-requires read-stream-requires returns returns-2 returns-3)

@@ -1,0 +1,2 @@
+-- What the calls for the tests answer.
+pub mod Answers

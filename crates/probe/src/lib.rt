@@ -1,0 +1,183 @@
+// Calls for the tests only, exported for C: the check of a lent stream, its reading at a position, and the making of a child's stream, so that the
+// tests can run them before a call for makers reaches them. No maker builds them in. Any tables and numbers may be handed in; a slice passes as a
+// pointer and then its length.
+use celltable::CellWords;
+use geometry::class::Square;
+use stream::Bounds;
+ghost use mathlib.Core.Path.{_≡_};
+ghost use mathlib.Core.Bool.{true, cond};
+ghost use Prim.Native.Nat.{_<_};
+ghost use lib.ListN.{length};
+ghost use Rattle.stream.specs.Grammar.{env, bounds, checkStream, Passed};
+ghost use Rattle.probe.specs.Answers.{readAnswer, square, squareFits, childRows, childRoom, answerBy, tableBy, childFits};
+
+// 1 if the count entries from first on are a stream of the cell with this low row and this side, else 0.
+#[no_mangle]
+pub extern "C" fn probe_check(
+    entries: &[u32],
+    first: usize,
+    count: usize,
+    used: usize,
+    areas: &[u32],
+    xs: &[u32],
+    ys: &[u32],
+    areas_used: usize,
+    corners_used: usize,
+    low: u32,
+    side: u32,
+) -> u32
+    ensures { λ r. ⌜ r ≡ cond (checkStream (now (entries .entry)) first count used (env (now (areas .entry)) (now (xs .entry)) (now (ys .entry)) (bounds «areas_used» «corners_used» low side))) 1 0 ⌝ }
+{
+    let b = Bounds {
+        areas: areas_used,
+        corners: corners_used,
+        low: low,
+        side: side,
+    };
+    let passes = stream::check_stream(entries, first, count, used, areas, xs, ys, b);
+    if passes {
+        return 1;
+    }
+    0
+}
+
+// The shown set at (x, y) of the stream, if it passes the check and (x, y) is a position; else 0.
+#[no_mangle]
+pub extern "C" fn probe_read(
+    entries: &[u32],
+    first: usize,
+    count: usize,
+    used: usize,
+    areas: &[u32],
+    xs: &[u32],
+    ys: &[u32],
+    areas_used: usize,
+    corners_used: usize,
+    low: u32,
+    side: u32,
+    x: u32,
+    y: u32,
+) -> u64
+    ensures { λ r. ⌜ r ≡ readAnswer (now (entries .entry)) first count used (env (now (areas .entry)) (now (xs .entry)) (now (ys .entry)) (bounds «areas_used» «corners_used» low side)) x y ⌝ }
+{
+    let b = Bounds {
+        areas: areas_used,
+        corners: corners_used,
+        low: low,
+        side: side,
+    };
+    let passes = stream::check_stream(entries, first, count, used, areas, xs, ys, b);
+    if passes {
+        if (x <= 65535) & (y <= 65535) {
+            return reading::read_stream(entries, first, count, areas, xs, ys, b, x, y);
+        }
+        return 0;
+    }
+    0
+}
+
+// ---- the making of a child's stream
+// Whether this is the square of a cell: its side a power of two up to 65,536, its corner on the grid of that side, all of it below 65,536.
+fn square_fits(s: Square) -> bool
+    ensures { λ r. ⌜ r ≡ squareFits s ⌝ }
+{
+    // a leaf that is not the first cell, with an empty stream: the square alone is left to try
+    let w = CellWords {
+        x: s.x,
+        y: s.y,
+        side: s.side,
+        child: 0,
+        first: 0,
+        count: 0,
+    };
+    celltable::cell_fits(w, 1, 2, 0)
+}
+
+// How many entries the child's stream has.
+fn entries_made(
+    entries: &[u32],
+    first: usize,
+    count: usize,
+    areas: &[u32],
+    xs: &[u32],
+    ys: &[u32],
+    b: Bounds,
+    s: Square,
+) -> usize
+    requires { ⌜ Passed (now entries) first count (env (now areas) (now xs) (now ys) b) ⌝ }
+    requires { ⌜ squareFits s ≡ true ⌝ }
+    ensures { λ r. ⌜ r ≡ length (childRows (now (entries .entry)) first count (env (now (areas .entry)) (now (xs .entry)) (now (ys .entry)) b) s) ⌝ }
+    ensures { λ r. ⌜ r < 65536 ⌝ }
+{
+    let size = child::count_child(entries, first, count, areas, xs, ys, b, s);
+    (size % 65536) as usize
+}
+
+// Writes the child's stream behind the entries in use, if it fits there: the number of its entries and 1 more, or 0.
+fn write_if_room(
+    entries: &mut [u32],
+    first: usize,
+    count: usize,
+    used: usize,
+    areas: &[u32],
+    xs: &[u32],
+    ys: &[u32],
+    b: Bounds,
+    s: Square,
+) -> u64
+    requires { ⌜ checkStream (now entries) first count used (env (now areas) (now xs) (now ys) b) ≡ true ⌝ }
+    requires { ⌜ squareFits s ≡ true ⌝ }
+    ensures { λ r. ⌜ r ≡ answerBy (childRoom (now (entries .entry)) first count used (env (now (areas .entry)) (now (xs .entry)) (now (ys .entry)) b) s) (now (entries .entry)) first count (env (now (areas .entry)) (now (xs .entry)) (now (ys .entry)) b) s ⌝ }
+    ensures { λ r. ⌜ now (entries .exit) ≡ tableBy (childRoom (now (entries .entry)) first count used (env (now (areas .entry)) (now (xs .entry)) (now (ys .entry)) b) s) (now (entries .entry)) first count used (env (now (areas .entry)) (now (xs .entry)) (now (ys .entry)) b) s ⌝ }
+{
+    let n = entries_made(entries, first, count, areas, xs, ys, b, s);
+    if used + n <= entries.len() / 4 {
+        child::write_child(entries, first, count, used, n, areas, xs, ys, b, s);
+        return (n as u64) + 1;
+    }
+    0
+}
+
+// The stream of the square (x, y, half), made of the stream that is handed in and written behind the `used` entries in use: the number of its
+// entries and 1 more. 0, and nothing changed, if the stream does not pass the check, the square is not that of a cell, or the entries do not fit.
+#[no_mangle]
+pub extern "C" fn probe_child(
+    entries: &mut [u32],
+    first: usize,
+    count: usize,
+    used: usize,
+    areas: &[u32],
+    xs: &[u32],
+    ys: &[u32],
+    areas_used: usize,
+    corners_used: usize,
+    low: u32,
+    side: u32,
+    x: u32,
+    y: u32,
+    half: u32,
+) -> u64
+    ensures { λ r. ⌜ r ≡ answerBy (childFits (now (entries .entry)) first count used (env (now (areas .entry)) (now (xs .entry)) (now (ys .entry)) (bounds «areas_used» «corners_used» low side)) (square x y half)) (now (entries .entry)) first count (env (now (areas .entry)) (now (xs .entry)) (now (ys .entry)) (bounds «areas_used» «corners_used» low side)) (square x y half) ⌝ }
+    ensures { λ r. ⌜ now (entries .exit) ≡ tableBy (childFits (now (entries .entry)) first count used (env (now (areas .entry)) (now (xs .entry)) (now (ys .entry)) (bounds «areas_used» «corners_used» low side)) (square x y half)) (now (entries .entry)) first count used (env (now (areas .entry)) (now (xs .entry)) (now (ys .entry)) (bounds «areas_used» «corners_used» low side)) (square x y half) ⌝ }
+{
+    let b = Bounds {
+        areas: areas_used,
+        corners: corners_used,
+        low: low,
+        side: side,
+    };
+    let s = Square {
+        x: x,
+        y: y,
+        side: half,
+    };
+    let passes = stream::check_stream(entries, first, count, used, areas, xs, ys, b);
+    if passes {
+        let fits = square_fits(s);
+        if fits {
+            return write_if_room(entries, first, count, used, areas, xs, ys, b, s);
+        }
+        return 0;
+    }
+    0
+}
