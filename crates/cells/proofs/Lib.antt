@@ -7,4 +7,3 @@ pub mod Bounds
 pub mod Rows
 mod Examples
 pub mod Making
-pub mod Shorter

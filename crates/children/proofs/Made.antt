@@ -11,7 +11,7 @@ use Rattle.stream.specs.Grammar.{env, Passed}
 use Rattle.ranges.specs.Held.{lent}
 use Rattle.making.specs.Made.{rowsMade}
 use Rattle.making.proofs.Lent.{lent-reads}
-use Rattle.making.proofs.Whole.{made-short}
+use Rattle.making.proofs.Shorter.{made-shorter}
 
 length-from : (t : List ℕ) (i n : ℕ) → length (wordsFrom t i n) ≡ n
 unfolding wordsFrom
@@ -20,4 +20,4 @@ length-from t i (suc n) = ap suc (length-from t (i + 1) n)
 
 pub few-rows : (t areas xs ys : List ℕ) (b : Bounds) (first count : ℕ) (c : Cell) → Passed t first count (env areas xs ys b) → length (rowsMade (lent areas xs ys b) c (wordsFrom t first count)) ≤ 4096
 few-rows t areas xs ys b first count c p =
-    omega (arith, made-short (env areas xs ys b) (lent areas xs ys b) c (lent-reads areas xs ys b) (wordsFrom t first count) (p .grammar), length-from t first count, p .few)
+    omega (arith, made-shorter (env areas xs ys b) (lent areas xs ys b) c (lent-reads areas xs ys b) (wordsFrom t first count) (p .grammar), length-from t first count, p .few)

@@ -2,10 +2,9 @@
 use mathlib.Core.Path.{_≡_, refl, sym, ap, _∙_}
 use mathlib.Core.Bool as Bool
 use mathlib.Core.Bool.{true}
-use mathlib.Core.List.{List, [], _∷_}
-use Prim.Native.Nat.{ℕ, suc, _≤_}
+use mathlib.Core.List.{List, []}
+use Prim.Native.Nat.{ℕ}
 use native.Mathlib.Omega.{arith}
-use lib.ListN.{length}
 use Rattle.pruning.specs.Pruner as Pruning
 use Rattle.pruning.specs.Pruner.{st, going}
 use Rattle.pruning.specs.Counters.{ct, lengthOf}
@@ -16,14 +15,12 @@ use Rattle.cells.specs.Drawings.{Drawing}
 use Rattle.cells.specs.Rows.{Row, decode, entriesOf, streamOf, roleIn}
 use Rattle.cells.specs.Making.{Making, settle, onRows, begun, madeRows, rowSize}
 use Rattle.cells.proofs.Making.{rows-made}
-use Rattle.cells.proofs.Shorter.{made-shorter}
-use Rattle.stream.specs.Entry as Entries
 use Rattle.stream.specs.declared.Words.{Words}
 use Rattle.stream.specs.Grammar as Stream
 use Rattle.stream.specs.Grammar.{Env, accepts}
 use Rattle.pruner.specs.declared.Pruner.{Pruner}
 use Rattle.pruner.specs.Numbers.{counted}
-use Rattle.reading.specs.Reading.{rowFor, rowsIn}
+use Rattle.reading.specs.Reading.{rowsIn}
 use Rattle.making.specs.declared.Waiting.{Waiting}
 use Rattle.making.specs.Made.{rowsMade}
 use Rattle.making.specs.Numbers.{resting, settledN}
@@ -69,22 +66,3 @@ module _ (v : Env) (D : Drawing) (c : Cell) (R : Reads v D) (ws : List Words) (h
       where
         length-is : (x : Pruning.State Row) → lengthOf (weighed rowSize x) ≡ total rowSize (outOf x)
         length-is (st out b w fs) = refl
-
-  -- what is made has no more entries
-  length-in : (es : List Words) → length (rowsIn es) ≤ length es
-  unfolding rowsIn
-  length-in [] = omega arith
-  length-in (w ∷ es) = go (Entries.decode w) (length-in es)
-    where
-      go : (e : Entries.Entry) → length (rowsIn es) ≤ length es → length (rowFor e (rowsIn es)) ≤ suc (length es)
-      go Entries.opens h = omega arith
-      go Entries.bar h = omega arith
-      go Entries.closes h = omega arith
-      go (Entries.area n q) h = omega arith
-      go (Entries.line a b) h = omega arith
-      go (Entries.shortcut z a b) h = omega arith
-      go Entries.passes h = omega arith
-      go Entries.bad h = omega arith
-
-  pub made-short : length (rowsMade D c ws) ≤ length ws
-  made-short = omega (arith, ap length rows-all, made-shorter D c (rowsIn ws), length-in ws)
