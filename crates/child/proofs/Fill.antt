@@ -23,13 +23,13 @@ use Rattle.reading.specs.Words.{wordsOf}
 use Rattle.making.specs.declared.Maker.{Maker}
 use Rattle.making.specs.Made.{rowsMade, wordsMade}
 use Rattle.making.specs.Numbers.{resting, leftSign, leftClass, waitingN, prunedN}
-use Rattle.making.proofs.Standing.{Reads, Standing}
+use Rattle.making.proofs.Standing.{Reads}
 use Rattle.making.proofs.Whole.{allOf, standing-start}
 use Rattle.writing.specs.Numbers.{settledPut, onePut}
 use Rattle.writing.proofs.Same.{same-refl, same-one}
 use Rattle.writing.proofs.Written.{Writes}
 use Rattle.writing.proofs.Turn.{Writing, writing-next}
-use Rattle.writing.proofs.Whole.{written-end, size-end}
+use Rattle.writing.proofs.Whole.{written-end}
 use Rattle.child.proofs.Loop.{Looping}
 use Rattle.child.proofs.Tail.{tail-is, put-tail, put-front, put-back, put-size, tail-written}
 

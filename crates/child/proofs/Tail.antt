@@ -1,13 +1,13 @@
 -- The end of a table, lent as a slice of its own. Assumes nothing.
-use mathlib.Core.Path.{_≡_, refl, sym, ap, ap₂, _∙_}
-use mathlib.Core.List.{List, [], _++_, append-nil, append-assoc}
+use mathlib.Core.Path.{_≡_, sym, ap, _∙_}
+use mathlib.Core.List.{List, _++_, append-nil, append-assoc}
 use Prim.Native.Nat.{ℕ, _+_, _*_, _-_, _≤_, _<_}
 use mir.Syntax.{w64}
 use mir.Val.{Fits}
 use native.Mathlib.Omega.{arith}
 use native.Mathlib.Nat.{le-refl}
-use lib.ListN.{length, take, drop, length-append, length-drop, drop-of-length-le}
-use lib.Seq.{take-all, take-append-seam, drop-append-seam, take-append-le, length-take-le, take-take, drop-drop, drop-length}
+use lib.ListN.{length, take, drop, length-append, length-drop}
+use lib.Seq.{take-all, drop-append-seam, take-append-le, length-take-le, take-take, drop-drop, drop-length}
 use borrow.Rule.Slice.PartMut.{putMid, post-is}
 use Rattle.stream.specs.declared.Words.{Words}
 use Rattle.stream.specs.Table.{flat, written}

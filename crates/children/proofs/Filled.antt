@@ -1,12 +1,12 @@
 -- The loop that writes the streams of the four children. Assumes nothing.
 use mathlib.Core.Path.{_≡_, refl, sym, ap, subst, _∙_}
 use mathlib.Core.Bool as Bool
-use mathlib.Core.List.{List, [], _∷_, _++_, map}
+use mathlib.Core.List.{List, [], _∷_, map}
 use Prim.Native.Nat.{ℕ, zero, suc, _+_, _*_, _-_, _≤_, _<_}
 use native.Mathlib.Omega.{arith}
 use native.Mathlib.Nat.{add-zero, le-refl}
 use native.Mathlib.Numerals.{add-one}
-use lib.ListN.{length, getD, take, length-append}
+use lib.ListN.{length, getD, length-append}
 use Rattle.cells.specs.Cells.{Cell}
 use Rattle.cells.specs.Drawings.{Drawing}
 use Rattle.cells.specs.Rows.{Row}
@@ -15,7 +15,7 @@ use Rattle.stream.specs.Table.{wordsFrom, written}
 use Rattle.stream.specs.Grammar.{Env, accepts, Passed}
 use Rattle.stream.proofs.Table.{from-agree, written-nil, written-append, written-keeps, length-written}
 use Rattle.reading.specs.Words.{wordsOf}
-use Rattle.making.specs.Made.{rowsMade, wordsMade}
+use Rattle.making.specs.Made.{wordsMade}
 use Rattle.children.specs.declared.Tally.{Tally}
 use Rattle.children.specs.Children.{tally, rowsOfChild, wordsOfChild, entriesOfChild, fourTallies, streamsTo, noTally}
 

@@ -1,14 +1,13 @@
 -- The tally of a stream, from one number. Assumes nothing.
-use mathlib.Core.Path.{_≡_, refl, sym, ap, _∙_}
+use mathlib.Core.Path.{_≡_, refl}
 use mathlib.Core.List.{List, [], _∷_}
-use Prim.Native.Nat.{ℕ, _+_, _*_, _/_, _%_, _≤_, _<_}
+use Prim.Native.Nat.{ℕ, _+_, _*_, _/_, _%_, _≤_}
 use native.Mathlib.Omega.{arith}
 use lib.ListN.{length}
 use Rattle.pruning.specs.Weights.{total}
 use Rattle.cells.specs.Segments.{drawn, shortcut}
 use Rattle.cells.specs.Rows.{Row, opens, bar, closes, bare, named, segment}
 use Rattle.cells.specs.Making.{rowSize}
-use Rattle.children.specs.declared.Tally.{Tally}
 use Rattle.children.specs.Children.{lineOne, areaOne, sumOf, tally, tallyN}
 
 row-is : (r : Row) → (rowSize r ≡ 1 + 65536 * lineOne r + 4294967296 * areaOne r) × (lineOne r ≤ 1)

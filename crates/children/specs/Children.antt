@@ -1,6 +1,6 @@
 -- Document 01, "Cells": what a split makes: four cells, "low x low y, high x low y, low x high y, high x high y", and their streams. Assumes nothing.
 use mathlib.Core.List.{List, [], _∷_, _++_}
-use Prim.Native.Nat.{ℕ, zero, suc, _+_, _*_, _/_, _%_, _≤_, _<_}
+use Prim.Native.Nat.{ℕ, zero, suc, _+_, _/_, _%_, _≤_, _<_}
 use lib.ListN.{length, getD}
 use Rattle.cells.specs.Cells.{Cell, left, low, side, child}
 use Rattle.cells.specs.Segments.{drawn, shortcut}

@@ -1,37 +1,37 @@
 -- The numbers go as the rows do: one entry more. Assumes nothing.
-use mathlib.Core.Path.{_≡_, refl, sym, ap, ap₂, subst, _∙_}
+use mathlib.Core.Path.{_≡_, refl, sym, ap, subst, _∙_}
 use mathlib.Core.Bool.{Bool, true, false, cond, _&&_, _||_}
 use mathlib.Core.List.{List, [], _∷_, _++_, map, append-nil}
-use Prim.Native.Nat.{ℕ, zero, suc, _+_, _*_, _≤_, _<_, min, max}
+use Prim.Native.Nat.{ℕ, suc, _+_, _*_, _≤_, _<_, min, max}
 use native.Mathlib.Omega.{arith}
 use lib.Dec.{eqb, leb}
 use lib.ListN.{length, getD, length-append}
-use lib.IntN.{ℤ, pos, _+ℤ_, natAbs}
-use borrow.Author.Tests.{eq-eqb, ne-eqb}
+use lib.IntN.{ℤ, natAbs}
+use borrow.Author.Tests.{ne-eqb}
 use Rattle.laws.proofs.Differences.{abs-add}
 use Rattle.geometry.specs.Classes.{cut, verdict}
 use Rattle.geometry.specs.declared.class.Class as Classes
 use Rattle.geometry.specs.declared.class.Class.the-variants.{Dropped, Start, Shortcut, Kept}
-use Rattle.pruning.specs.Sides.{Kind, paint, clip, Entry, item, push, activate, pop}
+use Rattle.pruning.specs.Sides.{Kind, paint, clip, Entry, item}
 use Rattle.pruning.specs.Items.{fails, passes, other}
 use Rattle.pruning.specs.Pruner as Pruning
 use Rattle.pruning.specs.Pruner.{st, going}
-use Rattle.pruning.specs.Counters.{Count, ct, lengthOf, countStep}
+use Rattle.pruning.specs.Counters.{ct, lengthOf, countStep}
 use Rattle.pruning.specs.Effects.{outOf}
-use Rattle.pruning.specs.Weights.{total, weighed, sized, sizedItems, sizeOf}
+use Rattle.pruning.specs.Weights.{total, weighed}
 use Rattle.pruning.proofs.Counters.{Fit, count, step-counts, count-grows}
-use Rattle.pruning.proofs.Weights.{total-append, step-weighs, sized-step}
+use Rattle.pruning.proofs.Weights.{step-weighs, sized-step}
 use Rattle.cells.specs.Cells.{Cell, low, side}
 use Rattle.cells.specs.Segments.{Segment, drawn, shortcut, signOf, classIn, keptBy, startBy}
 use Rattle.cells.specs.Drawings.{Drawing, passesBy, isOpaque}
 use Rattle.cells.specs.Streams.{Item, always, area, items, classOf, passing}
 use Rattle.cells.specs.Rows.{Row, opens, bar, closes, bare, named, segment, itemRows, entryRows, roleIn}
-use Rattle.cells.specs.Making.{Waiting, nothing, held, Making, making, prune, settle, addTo, onRow, begun, rowSize}
+use Rattle.cells.specs.Making.{Waiting, nothing, held, Making, making, prune, settle, addTo, begun, rowSize}
 use Rattle.cells.proofs.Making.{entry-some}
 use Rattle.pruner.specs.declared.Pruner.{Pruner}
 use Rattle.pruner.specs.Numbers as Numbers
 use Rattle.pruner.specs.Numbers.{counted}
-use Rattle.reading.specs.Reading.{roleAt, passAt, opaqueAt}
+use Rattle.reading.specs.Reading.{opaqueAt}
 use Rattle.reading.specs.Words.{Agrees}
 use Rattle.making.specs.declared.Waiting as Declared
 use Rattle.making.specs.Numbers.{waiting, resting, withClass, withLeft, classN, settledN}

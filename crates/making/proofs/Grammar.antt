@@ -1,6 +1,6 @@
 -- A stream that passes the check fits the grammar of streams: its entries are the stream of its tree. Assumes nothing.
 use mathlib.Core.Path.{_≡_, refl, sym, _∙_}
-use mathlib.Core.Bool.{Bool, true, false, cond, not, _&&_}
+use mathlib.Core.Bool.{Bool, true, false, cond, not}
 use mathlib.Core.List.{List, [], _∷_}
 use Prim.Native.Nat.{ℕ, _+_, _*_, _<_}
 use lib.Dec.{eqb, ltb}
@@ -12,13 +12,12 @@ use Rattle.geometry.specs.Windings as Windings
 use borrow.Author.Tests.{eqb-true}
 use Rattle.laws.proofs.Booleans.{clash, and-both}
 use Rattle.groups.specs.Sides.{isPaint, onLeft, onRight}
-use Rattle.records.specs.declared.Fields.{Fields}
 use Rattle.records.specs.declared.Record.the-variants.{Area}
 use Rattle.records.specs.declared.Decoded.the-variants.{Good, Bad}
 use Rattle.refusals.specs.declared.Refusal.the-variants.{Field}
-use Rattle.records.specs.Record.{ranged, inRange}
+use Rattle.records.specs.Record.{inRange}
 use Rattle.drawing.specs.Tables.{fieldsAt, areaRow}
-use Rattle.pruning.specs.Sides.{Kind, paint, clip, Entry, item, push, activate, pop, flat}
+use Rattle.pruning.specs.Sides.{Kind, paint, clip, Entry, flat}
 use Rattle.pruning.specs.Grammar as Sides
 use Rattle.pruning.specs.Grammar.{sameKind, tree}
 use Rattle.pruning.proofs.Grammar.{fits-flat}
@@ -26,13 +25,12 @@ use Rattle.stream.specs.declared.Words.{Words}
 use Rattle.stream.specs.Entry as Entries
 use Rattle.stream.specs.Entry.{area, line, shortcut, bad, startRange}
 use Rattle.stream.specs.Grammar as Stream
-use Rattle.stream.specs.Grammar.{Env, Place, Course, at, isGood, off, areaMet, recordFits, roleFits, fits, limit, after, next, met, course, begin, isWhole, accepts}
-use Rattle.cells.specs.Drawings.{kindOf}
+use Rattle.stream.specs.Grammar.{Env, Place, at, isGood, off, areaMet, recordFits, roleFits, fits, limit, after, course, isWhole, accepts}
 use Rattle.cells.specs.Streams.{Item}
 use Rattle.cells.specs.Segments as Segments
 use Rattle.cells.specs.Segments.{Segment, drawn}
 use Rattle.cells.specs.Rows as Rows
-use Rattle.cells.specs.Rows.{Row, Decoded, dec, entriesOf, decodeRow, decode}
+use Rattle.cells.specs.Rows.{Decoded, dec, entriesOf, decodeRow, decode}
 use Rattle.reading.specs.Reading.{rowFor, rowsIn, roleAt}
 use Rattle.reading.proofs.Laws.{both, area-below}
 use Rattle.ranges.proofs.Groups.{opens, kindBy, kindOn, Nested, nested-open, nested-right, nested-outer, fits-end, fits-open, fits-bar, fits-close}
@@ -88,8 +86,8 @@ module _ (v : Env) (role : ℕ → Kind) (same : (n : ℕ) → n < v .used .area
   abbrev Fits : Place → Decoded → Type 0
   Fits p d = Sides.fits (entriesOf d) (kindOn (p .groups)) (opens (p .groups)) ≡ true
 
-  by-open : (p : Place) (q : ℕ) (d : Decoded) → Fits (after p Entries.opens) d → Fits p (decodeRow role Rows.opens d)
-  by-open p q (dec gs es) h = fits-open es (p .groups) h
+  by-open : (p : Place) (d : Decoded) → Fits (after p Entries.opens) d → Fits p (decodeRow role Rows.opens d)
+  by-open p (dec gs es) h = fits-open es (p .groups) h
 
   by-bar : (p : Place) (d : Decoded) → onLeft (p .groups) ≡ true → Fits (after p Entries.bar) d → Fits p (decodeRow role Rows.bar d)
   by-bar p (dec gs es) f h = fits-bar es (p .groups) f h
@@ -112,7 +110,7 @@ module _ (v : Env) (role : ℕ → Kind) (same : (n : ℕ) → n < v .used .area
   by-segment p g (dec gs es) h = h
 
   one-fits : (e : Entries.Entry) (p : Place) (ws : List Words) → Nested (p .groups) → Passes v p e ws → (Nested (after p e .groups) → Fits (after p e) (decode role (rowsIn ws))) → Fits p (decode role (rowFor e (rowsIn ws)))
-  one-fits Entries.opens p ws n h ih = by-open p 0 (decode role (rowsIn ws)) (ih (nested-open (p .groups) n))
+  one-fits Entries.opens p ws n h ih = by-open p (decode role (rowsIn ws)) (ih (nested-open (p .groups) n))
   one-fits Entries.bar p ws n h ih = by-bar p (decode role (rowsIn ws)) (h .fit) (ih (nested-right (p .groups) n))
   one-fits Entries.closes p ws n h ih = by-close p (decode role (rowsIn ws)) n (h .fit) (ih (nested-outer (p .groups) n))
   one-fits (area k q) p ws n h ih = by-area p k (toZ w32 q) (decode role (rowsIn ws)) (area-below (v .areas) (v .used .areas) k (both (isGood (areaMet v k)) (startRange q) (h .range) .0)) (h .fit) (ih n)

@@ -1,9 +1,8 @@
 -- What the range of an entry says of its line, its shortcut or its area. Assumes nothing.
-use mathlib.Core.Path.{_≡_, refl, sym, ap, _∙_}
-use mathlib.Core.Bool.{Bool, true, false, cond}
+use mathlib.Core.Path.{_≡_}
+use mathlib.Core.Bool.{true}
 use mathlib.Core.List.{List}
 use Prim.Native.Nat.{ℕ}
-use lib.Dec.{eqb}
 use Rattle.stream.specs.declared.Words.{Words}
 use Rattle.stream.specs.Entry.{signRange}
 use Rattle.stream.specs.Grammar.{lineRange}

@@ -1,17 +1,17 @@
 -- Lent tables say of their areas and corners what the drawing of lent tables says. Assumes nothing.
 use mathlib.Core.Path.{_≡_, refl, sym, ap, _∙_}
-use mathlib.Core.List.{List, [], _∷_}
-use Prim.Native.Nat.{ℕ, zero, suc, _+_, _*_, _<_}
+use mathlib.Core.List.{List}
+use Prim.Native.Nat.{ℕ, zero, suc, _+_, _<_}
 use native.Mathlib.Omega.{arith}
 use native.Mathlib.Nat.{zero-add}
 use lib.Dec.{eqb}
-use lib.ListN.{length, getD, take}
+use lib.ListN.{length, take}
 use lib.Seq.{getD-take}
 use Rattle.geometry.specs.FillRules as FillRules
 use Rattle.geometry.specs.Windings.{edgeBetween}
 use Rattle.records.specs.declared.Fields.{Fields}
 use Rattle.drawing.specs.Tables.{fieldsAt}
-use Rattle.cells.specs.Drawings.{Drawing, noFields, fieldsOf, kindOf, ruleOf}
+use Rattle.cells.specs.Drawings.{fieldsOf, kindOf, ruleOf}
 use Rattle.stream.specs.declared.Bounds.{Bounds}
 use Rattle.stream.specs.Grammar.{env}
 use Rattle.reading.specs.Words.{Agrees}

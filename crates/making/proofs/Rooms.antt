@@ -1,15 +1,14 @@
 -- The numbers of a pruner after an area has settled are still far from their ends. Assumes nothing.
-use mathlib.Core.Path.{_≡_, refl, sym, ap, _∙_}
+use mathlib.Core.Path.{_≡_, sym, ap, _∙_}
 use mathlib.Core.Bool.{Bool, true, false, cond}
 use mathlib.Core.List.{List}
-use Prim.Native.Nat.{ℕ, _+_, _^_, _≤_, _<_}
+use Prim.Native.Nat.{ℕ, _^_, _≤_, _<_}
 use native.Mathlib.Omega.{arith}
 use lib.IntN.{ℤ, natAbs}
 use borrow.Author.Tests.{ne-eqb}
 use mir.Syntax.{w64}
 use mir.Val.{toZ, ofZ}
-use Rattle.pruning.specs.Sides.{Kind, item}
-use Rattle.pruning.specs.Items.{Class}
+use Rattle.pruning.specs.Sides.{item}
 use Rattle.pruning.specs.Counters.{Count, countStep}
 use Rattle.pruning.specs.Weights.{sized, sizedItems, sizeOf}
 use Rattle.pruner.specs.declared.Pruner.{Pruner}

@@ -1,27 +1,21 @@
 -- Where a making stands in a stream that passes the check: the numbers follow the rows, the frames are the open groups, and what is left leads to
 -- the whole. Assumes nothing.
-use mathlib.Core.Path.{_≡_, refl, sym, ap, subst, _∙_}
-use mathlib.Core.Bool.{Bool, true, false, cond, _&&_}
+use mathlib.Core.Path.{_≡_, refl, sym, subst}
+use mathlib.Core.Bool.{Bool, true, false, cond}
 use mathlib.Core.List.{List, [], _∷_}
-use Prim.Native.Nat.{ℕ, zero, suc, _+_, _*_, _^_, _≤_, _<_}
-use native.Mathlib.Omega.{arith}
-use lib.Dec.{eqb, ltb}
+use Prim.Native.Nat.{ℕ, _≤_, _<_}
+use lib.Dec.{eqb}
 use lib.ListN.{length}
-use lib.IntN.{ℤ, natAbs}
-use mir.Syntax.{w32}
-use mir.Val.{toZ}
-use borrow.Author.Tests.{eqb-true, ltb-true}
+use borrow.Author.Tests.{eqb-true}
 use Rattle.laws.proofs.Booleans.{clash}
-use Rattle.geometry.specs.Windings as Windings
 use Rattle.geometry.specs.Windings.{edgeBetween}
 use Rattle.groups.specs.Sides.{Frame, paintLeft, paintRight, clipLeft, clipRight, isPaint, onLeft, onRight, opening, toRight, toOuter}
-use Rattle.pruning.specs.Sides.{Kind, paint, clip, Entry, item, push, activate, pop}
+use Rattle.pruning.specs.Sides.{paint, clip, Entry, item, push, activate, pop}
 use Rattle.pruning.specs.Pruner as Pruning
 use Rattle.pruning.specs.Counters.{Count, countStep}
-use Rattle.pruning.specs.Effects.{outOf}
 use Rattle.pruning.specs.Weights.{total, weighed}
 use Rattle.pruning.proofs.Counters.{Fit, count}
-use Rattle.pruning.proofs.Bounded.{Tracks, tracks-length, tracks-item, tracks-push, tracks-activate, tracks-pop}
+use Rattle.pruning.proofs.Bounded.{Tracks, tracks-item, tracks-push, tracks-activate, tracks-pop}
 use Rattle.pruning.proofs.Weights.{step-weighs}
 use Rattle.cells.specs.Cells.{Cell}
 use Rattle.cells.specs.Drawings.{Drawing}
@@ -32,13 +26,13 @@ use Rattle.cells.proofs.Making.{entry-some}
 use Rattle.stream.specs.declared.Words.{Words}
 use Rattle.stream.specs.Entry as Entries
 use Rattle.stream.specs.Entry.{decode}
-use Rattle.stream.specs.Grammar.{Env, Place, at, after, course, isWhole}
+use Rattle.stream.specs.Grammar.{Env, Place, at, course, isWhole}
 use Rattle.pruner.specs.declared.Pruner.{Pruner}
 use Rattle.reading.specs.Reading.{rowFor, rowsIn}
 use Rattle.reading.specs.Words.{Agrees}
 use Rattle.ranges.proofs.Groups.{opens}
 use Rattle.making.specs.declared.Waiting.{Waiting}
-use Rattle.making.proofs.Follows.{stateOf, waitingOf, row-some, Follows}
+use Rattle.making.proofs.Follows.{stateOf, row-some, Follows}
 
 -- the tables say of their areas and corners what the drawing says
 pub record Reads (v : Env) (D : Drawing) : Type 0 where

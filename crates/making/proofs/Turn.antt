@@ -1,12 +1,11 @@
 -- One entry more of a stream that passes the check: what the code asks holds, and the making stands one entry further. Assumes nothing.
-use mathlib.Core.Path.{_≡_, refl, sym, ap, subst, _∙_}
-use mathlib.Core.Bool.{Bool, true, false, cond, _&&_}
+use mathlib.Core.Path.{_≡_, refl, sym, ap, _∙_}
+use mathlib.Core.Bool.{true}
 use mathlib.Core.List.{List, [], _∷_, map}
-use Prim.Native.Nat.{ℕ, zero, suc, _+_, _*_, _^_, _≤_, _<_}
+use Prim.Native.Nat.{ℕ, suc, _+_, _*_, _≤_, _<_}
 use native.Mathlib.Omega.{arith}
-use lib.Dec.{eqb, ltb, leb}
-use lib.ListN.{length, take, length-append, take-append-drop, drop}
-use lib.IntN.{ℤ, pos, natAbs}
+use lib.ListN.{length, take, take-append-drop, drop}
+use lib.IntN.{natAbs}
 use mir.Syntax.{w32}
 use mir.Val.{toZ}
 use borrow.Author.Tests.{ltb-true}
@@ -15,7 +14,6 @@ use Rattle.geometry.specs.Edges.{sign}
 use Rattle.geometry.specs.Windings as Windings
 use Rattle.geometry.specs.Windings.{edgeBetween}
 use Rattle.geometry.specs.Classes.{edgeClass}
-use Rattle.geometry.specs.declared.edge.Edge.{Edge}
 use Rattle.groups.specs.Sides.{Frame, paintLeft, paintRight, clipLeft, clipRight, toRight, toOuter}
 use Rattle.pruning.specs.Sides.{clip, Entry, item, push, activate, pop}
 use Rattle.pruning.specs.Items as Items
@@ -37,7 +35,7 @@ use Rattle.cells.specs.Making.{Waiting, nothing, held, Making, making, prune, s
 use Rattle.stream.specs.declared.Words.{Words}
 use Rattle.stream.specs.Entry as Entries
 use Rattle.stream.specs.Entry.{decode, startRange, signRange}
-use Rattle.stream.specs.Grammar.{Env, Place, at, after, inRange, isGood, areaMet, lineRange, course, isWhole, Ready}
+use Rattle.stream.specs.Grammar.{Env, at, after, inRange, isGood, areaMet}
 use Rattle.pruner.specs.declared.Pruner.{Pruner}
 use Rattle.pruner.specs.Numbers.{counted, baseOf, skipIn}
 use Rattle.pruner.proofs.Near.{counted-length, counted-base, counted-skip, counted-depth}
@@ -46,7 +44,7 @@ use Rattle.reading.proofs.Laws.{both, area-below, start-small, shortcut-small, 
 use Rattle.cells.proofs.Bounds.{sign-abs}
 use Rattle.ranges.proofs.Groups.{opens, opens-length}
 use Rattle.making.specs.declared.Waiting as Declared
-use Rattle.making.specs.Numbers.{leftSign, leftClass, leftRange, waiting, resting, withLeft, waitingN, settledN, movedN, prunedN, Room, Inside}
+use Rattle.making.specs.Numbers.{leftSign, leftClass, leftRange, waiting, resting, withLeft, waitingN, settledN, prunedN, Room, Inside}
 use Rattle.cells.proofs.Making.{entry-some}
 use Rattle.making.proofs.Follows.{stateOf, waitingOf, waitingFor, rowsFor, WaitsIn, row-some, Follows, total-most, settle-fits, mark-follows, area-follows, segment-follows}
 use Rattle.making.proofs.Grammar.{Passes, one-passes}

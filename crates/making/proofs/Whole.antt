@@ -1,5 +1,5 @@
 -- A making from its begin to its end: what a stream that passes the check gives is the stream that document 01 defines. Assumes nothing.
-use mathlib.Core.Path.{_≡_, refl, sym, ap, _∙_}
+use mathlib.Core.Path.{_≡_, refl, ap, _∙_}
 use mathlib.Core.Bool as Bool
 use mathlib.Core.Bool.{true}
 use mathlib.Core.List.{List, []}
@@ -12,8 +12,8 @@ use Rattle.pruning.specs.Effects.{outOf}
 use Rattle.pruning.specs.Weights.{total, weighed}
 use Rattle.cells.specs.Cells.{Cell}
 use Rattle.cells.specs.Drawings.{Drawing}
-use Rattle.cells.specs.Rows.{Row, decode, entriesOf, streamOf, roleIn}
-use Rattle.cells.specs.Making.{Making, settle, onRows, begun, madeRows, rowSize}
+use Rattle.cells.specs.Rows.{Row, streamOf, roleIn}
+use Rattle.cells.specs.Making.{Making, settle, onRows, begun, rowSize}
 use Rattle.cells.proofs.Making.{rows-made}
 use Rattle.stream.specs.declared.Words.{Words}
 use Rattle.stream.specs.Grammar as Stream

@@ -1,25 +1,24 @@
 -- The frames of an array, and the moves by numbers as the moves of the pruner's counters. Assumes nothing.
-use mathlib.Core.Path.{_≡_, refl, ap, ap₂, sym, _∙_}
+use mathlib.Core.Path.{_≡_, refl, ap, ap₂, _∙_}
 use mathlib.Core.Bool.{Bool, true, false, cond}
 use mathlib.Core.List.{List, [], _∷_, map}
 use Prim.Native.Nat.{ℕ, zero, suc, _+_, _-_, _<_, _≤_}
 use native.Mathlib.Omega.{arith}
 use native.Mathlib.Nat.{not-suc-le-zero}
 use native.Mathlib.Numerals.{add-one}
-use lib.Dec.{eqb, leb}
+use lib.Dec.{eqb}
 use lib.ListN.{length, getD, set}
 use lib.Seq.{getD-set-same, getD-set-other}
-use borrow.Author.Tests.{eq-eqb, ne-eqb}
-use Rattle.pruning.specs.Sides.{Kind, paint, clip, item, push, activate, pop}
-use Rattle.pruning.specs.Items as Items
+use borrow.Author.Tests.{ne-eqb}
+use Rattle.pruning.specs.Sides.{item, push, activate, pop}
 use Rattle.pruning.specs.Items.{fails, passes, other}
 use Rattle.pruning.specs.Pruner as Pruning
-use Rattle.pruning.specs.Pruner.{Place, left, right, through, dead, Skip, going, shut}
-use Rattle.pruning.specs.Counters.{Count, ct, countStep, countItem, countLeft, countRight, countKeepLeft, countKeepRight}
+use Rattle.pruning.specs.Pruner.{left, right, through, dead, going, shut}
+use Rattle.pruning.specs.Counters.{ct, countStep, countKeepLeft, countKeepRight}
 use Rattle.pruning.specs.Weights.{sized, sizedItems, sizeOf}
 use Rattle.pruner.specs.declared.Frame.{Frame}
 use Rattle.pruner.specs.declared.Pruner.{Pruner}
-use Rattle.pruner.specs.Numbers.{modeOf, skipOf, frameOf, noFrame, framesOf, counted, classOf, kindOf, inPlace, itemN, openN, barN, closeN}
+use Rattle.pruner.specs.Numbers.{skipOf, frameOf, noFrame, framesOf, counted, classOf, kindOf, inPlace, itemN, openN, barN, closeN}
 
 -- ---- frames
 

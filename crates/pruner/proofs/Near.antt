@@ -1,14 +1,13 @@
 -- How far an item moves the pruner's numbers. Assumes nothing.
-use mathlib.Core.Path.{_≡_, refl, sym, ap, _∙_}
-use mathlib.Core.List.{List, [], _∷_}
+use mathlib.Core.Path.{_≡_, refl, ap}
+use mathlib.Core.List.{List}
 use Prim.Native.Nat.{ℕ, zero, suc, _+_, _≤_}
 use native.Mathlib.Omega.{arith}
 use lib.ListN.{length}
 use Rattle.pruning.specs.Sides.{Kind, paint, clip, item}
 use Rattle.pruning.specs.Items as Items
 use Rattle.pruning.specs.Items.{fails, passes, other}
-use Rattle.pruning.specs.Pruner as Pruning
-use Rattle.pruning.specs.Pruner.{Skip, going, shut}
+use Rattle.pruning.specs.Pruner.{going, shut}
 use Rattle.pruning.specs.Counters.{Count, ct, lengthOf, countStep}
 use Rattle.pruning.specs.Weights.{sized, sizedItems, sizeOf}
 use Rattle.pruning.proofs.Bounded.{frames}

@@ -1,8 +1,8 @@
 -- The one-pass pruner (`Rattle.pruning.specs.Counters`) as the numbers that the code holds. `Rattle.pruner.proofs.Laws` says that it is the same. Assumes nothing.
-use mathlib.Core.Bool.{Bool, true, false, cond}
+use mathlib.Core.Bool.{Bool, cond}
 use mathlib.Core.List.{List, [], _∷_}
-use Prim.Native.Nat.{ℕ, zero, suc, _+_, _-_}
-use lib.Dec.{eqb, leb}
+use Prim.Native.Nat.{ℕ, zero, suc, _+_}
+use lib.Dec.{eqb}
 use lib.ListN.{getD}
 use Rattle.pruning.specs.Sides.{Kind, paint, clip}
 use Rattle.pruning.specs.Items as Items

@@ -1,22 +1,20 @@
 -- The counters by weights go in step with the pruner. Assumes nothing.
-use mathlib.Core.Path.{_≡_, refl, ap, ap₂, sym, _∙_}
+use mathlib.Core.Path.{_≡_, refl, ap, sym, _∙_}
 use mathlib.Core.Bool.{Bool, true, false}
 use mathlib.Core.List.{List, [], _∷_, _++_, map}
 use Prim.Native.Nat.{ℕ, suc, zero, _+_, _<_, _≤_}
 use native.Mathlib.Omega.{arith}
 use native.Mathlib.Nat.{not-suc-le-zero}
 use lib.Dec.{eqb}
-use lib.ListN.{length, take, drop, length-append, length-drop, take-append-drop}
+use lib.ListN.{length, take, drop, length-drop, take-append-drop}
 use lib.Seq.{take-take, take-length, take-append-le, length-take-le}
 use borrow.Author.Tests.{eq-eqb, ne-eqb, eqb-true, eqb-false}
-use Rattle.pruning.specs.Sides.{Kind, paint, clip, Entry, item, push, activate, pop, Side, flat}
+use Rattle.pruning.specs.Sides.{Kind, paint, clip, Entry, item, push, activate, pop}
 use Rattle.pruning.specs.Items.{Items, Class, fails, passes, other}
-use Rattle.pruning.specs.Normal.{normal}
-use Rattle.pruning.specs.Pruner.{left, right, through, dead, Frame, frame, Skip, going, shut, State, st, step, run, addItem, keepLeft, keepRight, endLeft, endRight, rows}
-use Rattle.pruning.specs.Counters.{Count, ct, lengthOf, countItem, countKeepLeft, countLeft, countKeepRight, countRight, countStep, counts}
+use Rattle.pruning.specs.Pruner.{left, right, through, dead, Frame, frame, Skip, going, shut, State, st, step, addItem, keepLeft, keepRight, endLeft, endRight}
+use Rattle.pruning.specs.Counters.{Count, ct, countItem, countKeepLeft, countLeft, countKeepRight, countRight, countStep}
 use Rattle.pruning.specs.Weights.{total, before, frameAt, weighed, Sized, sized, sizedItems, sizeOf}
-use Rattle.pruning.proofs.Pruner.{stream-normal}
-use Rattle.pruning.proofs.Counters.{Chain, Fit, count, step-counts}
+use Rattle.pruning.proofs.Counters.{Chain, Fit, count}
 
 module _ {Row : Type 0} (weight : Row → ℕ) where
   pub total-append : (x y : List Row) → total weight (x ++ y) ≡ total weight x + total weight y

@@ -2,7 +2,7 @@
 use mathlib.Core.List.{List, [], _∷_, map}
 use Prim.Native.Nat.{ℕ, _+_}
 use lib.ListN.{take}
-use Rattle.pruning.specs.Sides.{Kind, paint, clip, Entry, item, push, activate, pop}
+use Rattle.pruning.specs.Sides.{Entry, item, push, activate, pop}
 use Rattle.pruning.specs.Items.{Class, passes, Items}
 use Rattle.pruning.specs.Pruner.{Frame, frame, State, st}
 use Rattle.pruning.specs.Counters.{Count, ct}

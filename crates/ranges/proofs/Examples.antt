@@ -6,7 +6,6 @@ use Prim.Native.Nat.{ℕ, zero, suc, _≤_, _<_}
 use native.Mathlib.Omega.{arith}
 use lib.ListN.{length, getD}
 use Rattle.geometry.specs.Windings.{contour}
-use Rattle.records.specs.declared.Fields.{Fields}
 use Rattle.records.specs.declared.Record.the-variants.{Area}
 use Rattle.records.specs.declared.Decoded.the-variants.{Good}
 use Rattle.records.specs.Record.{areaRange, cornerRange}

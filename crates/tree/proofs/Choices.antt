@@ -1,5 +1,5 @@
 -- A test that came out one way. Assumes nothing.
-use mathlib.Core.Path.{_≡_, refl, sym, ap}
+use mathlib.Core.Path.{_≡_, sym, ap}
 use mathlib.Core.Bool.{Bool, true, false, cond}
 
 pub pick-true : {A : Type 0} (q : Bool) (x y : A) → q ≡ true → x ≡ cond q x y

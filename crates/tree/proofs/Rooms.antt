@@ -1,8 +1,8 @@
 -- The room that a split asks for. Assumes nothing.
-use mathlib.Core.Path.{_≡_, refl, sym, ap, _∙_}
-use mathlib.Core.Bool.{Bool, true, false, _&&_}
+use mathlib.Core.Path.{_≡_}
+use mathlib.Core.Bool.{true, false, _&&_}
 use mathlib.Core.List.{List}
-use Prim.Native.Nat.{ℕ, _+_, _*_, _/_, _≤_, _<_}
+use Prim.Native.Nat.{ℕ, _+_, _*_, _/_, _≤_}
 use native.Mathlib.Omega.{arith}
 use lib.Dec.{leb}
 use lib.ListN.{length, getD, length-append}
@@ -20,7 +20,7 @@ use Rattle.refusals.specs.declared.Refusal.the-variants.{Room}
 use Rattle.tree.specs.declared.Answer.the-variants.{Split, Not}
 use Rattle.tree.specs.Split.{roomAnswer}
 use Rattle.children.specs.declared.Tally.{Tally}
-use Rattle.children.specs.Children.{noTally, cellOfChild, rowsOfChild, wordsOfChild, entriesOfChild, fourTallies, streamsTo, FewEach}
+use Rattle.children.specs.Children.{noTally, cellOfChild, wordsOfChild, entriesOfChild, fourTallies, streamsTo, FewEach}
 use Rattle.children.proofs.Filled.{length-child, entries-at}
 use Rattle.children.proofs.Made.{few-rows}
 

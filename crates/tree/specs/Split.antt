@@ -1,5 +1,5 @@
 -- Document 01, "Cells" and "From the state": splitting a cell of a tree in lent tables: the answer, and every table afterwards. Assumes nothing.
-use mathlib.Core.Bool.{Bool, true, false, cond, _&&_}
+use mathlib.Core.Bool.{cond}
 use mathlib.Core.List.{List}
 use Prim.Native.Nat.{ℕ, _+_}
 use lib.Dec.{eqb, ltb, leb}

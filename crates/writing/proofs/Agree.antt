@@ -1,17 +1,17 @@
 -- Rows that stand in a table below a limit. Assumes nothing.
-use mathlib.Core.Path.{_≡_, refl, sym, ap, ap₂, subst, _∙_}
+use mathlib.Core.Path.{_≡_, refl, sym, ap₂, subst, _∙_}
 use mathlib.Core.Bool.{Bool, true, false, cond}
 use mathlib.Core.List.{List, [], _∷_, _++_, map}
 use Prim.Native.Nat.{ℕ, zero, suc, _+_, _*_, _-_, _≤_, _<_}
 use native.Mathlib.Omega.{arith}
-use native.Mathlib.Nat.{add-zero, zero-add}
+use native.Mathlib.Nat.{add-zero}
 use lib.Dec.{ltb}
-use lib.ListN.{length, getD, take, drop, set, length-set, take-append-drop}
-use lib.Seq.{getD-set-other, drop-set-lt, take-length, take-suc, drop-drop}
-use borrow.Author.Tests.{lt-ltb, ltb-true, ltb-false}
+use lib.ListN.{length, getD, take, drop, set}
+use lib.Seq.{getD-set-other, drop-set-lt}
+use borrow.Author.Tests.{lt-ltb, ltb-true}
 use Rattle.stream.specs.declared.Words.{Words}
-use Rattle.stream.specs.Table.{wordsAt, wordsFrom, putAt, flat, written}
-use Rattle.stream.proofs.Table.{put-same, length-put, written-eq}
+use Rattle.stream.specs.Table.{wordsAt, wordsFrom, putAt}
+use Rattle.stream.proofs.Table.{put-same, length-put}
 use Rattle.cells.specs.Rows.{Row}
 use Rattle.reading.specs.Words.{wordsOf}
 use Rattle.writing.specs.Numbers.{putBelow}

@@ -1,5 +1,5 @@
 -- A delimiter by a pruner's numbers and by those of its count. Assumes nothing.
-use mathlib.Core.Path.{_≡_, refl}
+use mathlib.Core.Path.{_≡_}
 use mathlib.Core.List.{List}
 use Prim.Native.Nat.{ℕ}
 use Rattle.pruning.specs.Counters.{Count}

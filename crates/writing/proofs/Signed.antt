@@ -1,10 +1,10 @@
 -- A signed number that is small, as a word of 32 bits. Assumes nothing.
 use mathlib.Core.Path.{_≡_, refl, sym, ap, subst, _∙_}
-use mathlib.Core.Bool.{Bool, true, false}
+use mathlib.Core.Bool.{true, false}
 use Prim.Native.Nat.{ℕ, suc, _-_, _≤_, _<_}
 use native.Mathlib.Omega.{arith}
 use native.Mathlib.Nat.{not-suc-le-zero}
-use lib.Dec.{T, ltb}
+use lib.Dec.{T}
 use lib.IntN.{ℤ, pos, negsuc, _+ℤ_, natAbs}
 use lib.Signed.{ltZ, nonNeg}
 use mir.Syntax.{w32, w64}

@@ -1,6 +1,6 @@
 -- One entry more of a stream that passes the check is written. Assumes nothing.
 use mathlib.Core.Path.{_≡_, refl, sym, ap, subst, _∙_}
-use mathlib.Core.Bool.{Bool, true, false, cond, _&&_}
+use mathlib.Core.Bool.{cond}
 use mathlib.Core.List.{List, [], _∷_}
 use Prim.Native.Nat.{ℕ, suc, _+_, _*_, _≤_, _<_}
 use native.Mathlib.Omega.{arith}
@@ -17,7 +17,6 @@ use Rattle.geometry.specs.Windings.{edgeBetween}
 use Rattle.geometry.specs.Classes.{edgeClass}
 use Rattle.geometry.specs.declared.class.Class.{Class}
 use Rattle.geometry.specs.declared.class.Class.the-variants.{Kept}
-use Rattle.geometry.specs.declared.class.Square.{Square}
 use Rattle.pruning.specs.Sides.{clip, item, push, activate, pop}
 use Rattle.pruning.specs.Pruner as Pruning
 use Rattle.pruning.specs.Pruner.{st, going, shut}
@@ -31,7 +30,7 @@ use Rattle.cells.specs.Drawings.{Drawing}
 use Rattle.cells.specs.Streams.{always}
 use Rattle.cells.specs.Rows as Rows
 use Rattle.cells.specs.Rows.{Row}
-use Rattle.cells.specs.Making.{nothing, held, Making, making, prune, settle, addTo, onRows, rowSize}
+use Rattle.cells.specs.Making.{nothing, Making, making, prune, settle, addTo, onRows, rowSize}
 use Rattle.stream.specs.declared.Words.{Words}
 use Rattle.stream.specs.Entry as Entries
 use Rattle.stream.specs.Entry.{decode}
@@ -43,11 +42,11 @@ use Rattle.reading.specs.Words.{words, wordsOf}
 use Rattle.reading.proofs.Laws.{line-used}
 use Rattle.making.specs.declared.Maker.{Maker}
 use Rattle.making.specs.Numbers.{leftSign, leftClass, waitingN, settledN, prunedN}
-use Rattle.making.proofs.Follows.{stateOf, waitingOf, settle-counts, settle-fits, settle-short, kept-size}
+use Rattle.making.proofs.Follows.{stateOf, settle-counts, settle-fits, settle-short, kept-size}
 use Rattle.making.proofs.Grammar.{Passes, one-passes}
 use Rattle.making.proofs.Standing.{Reads, Standing, by-kind}
 use Rattle.making.proofs.Turn.{standing-rows}
-use Rattle.writing.specs.Numbers.{putBelow, placeOf, segmentPut, settledPut, markOn, onePut}
+use Rattle.writing.specs.Numbers.{putBelow, placeOf, segmentPut, settledPut, onePut}
 use Rattle.writing.proofs.Agree.{Agree}
 use Rattle.writing.proofs.Same.{Same, same-then, same-settled, same-one}
 use Rattle.writing.proofs.Places.{Moves, open-moves, bar-moves, close-moves}

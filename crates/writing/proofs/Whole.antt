@@ -1,10 +1,9 @@
 -- A table whose front is what was made: as a whole. Assumes nothing.
 use mathlib.Core.Path.{_≡_, refl, sym, ap, ap₂, subst, _∙_}
 use mathlib.Core.Bool.{true}
-use mathlib.Core.List.{List, [], _∷_, _++_, map, append-assoc}
+use mathlib.Core.List.{List, [], _∷_, _++_, map}
 use Prim.Native.Nat.{ℕ, zero, suc, _+_, _*_, _-_, _≤_, _<_}
 use native.Mathlib.Omega.{arith}
-use native.Mathlib.Nat.{zero-add}
 use lib.ListN.{length, getD, take, drop, take-append-drop}
 use lib.Seq.{drop-cons}
 use Rattle.pruning.specs.Effects.{outOf}
@@ -13,9 +12,8 @@ use Rattle.cells.specs.Drawings.{Drawing}
 use Rattle.cells.specs.Rows.{Row}
 use Rattle.cells.specs.Making.{Making, settle}
 use Rattle.stream.specs.declared.Words.{Words}
-use Rattle.stream.specs.Table.{wordsAt, wordsFrom, flat, written}
+use Rattle.stream.specs.Table.{wordsFrom, flat}
 use Rattle.stream.specs.Grammar.{Env, accepts}
-use Rattle.stream.proofs.Table.{written-eq}
 use Rattle.reading.specs.Reading.{rowsIn}
 use Rattle.reading.specs.Words.{wordsOf}
 use Rattle.making.specs.declared.Maker.{Maker}

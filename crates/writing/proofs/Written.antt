@@ -1,8 +1,8 @@
 -- What is written stands in the table as the rows do: one entry more. Assumes nothing.
-use mathlib.Core.Path.{_≡_, refl, sym, ap, ap₂, subst, _∙_}
+use mathlib.Core.Path.{_≡_, refl, sym, ap, subst, _∙_}
 use mathlib.Core.Bool.{Bool, true, false, cond}
 use mathlib.Core.List.{List, [], _∷_, _++_, map, append-nil}
-use Prim.Native.Nat.{ℕ, zero, suc, _+_, _*_, _≤_, _<_}
+use Prim.Native.Nat.{ℕ, suc, _+_, _*_, _≤_, _<_}
 use native.Mathlib.Omega.{arith}
 use native.Mathlib.Nat.{zero-add}
 use lib.Dec.{eqb, ltb}
@@ -11,12 +11,11 @@ use lib.Seq.{length-take-le}
 use lib.IntN.{ℤ, _+ℤ_}
 use mir.Syntax.{w32}
 use mir.Val.{ofZ}
-use borrow.Author.Tests.{lt-ltb, le-ltb, ne-eqb, eq-eqb}
+use borrow.Author.Tests.{lt-ltb, le-ltb, ne-eqb}
 use Rattle.laws.proofs.Booleans.{clash}
 use Rattle.geometry.specs.declared.class.Class.{Class}
 use Rattle.geometry.specs.declared.class.Class.the-variants.{Dropped, Start, Shortcut, Kept}
-use Rattle.pruning.specs.Sides.{Kind, paint, clip, Entry, item, push, activate, pop}
-use Rattle.pruning.specs.Items as Items
+use Rattle.pruning.specs.Sides.{paint, clip, item}
 use Rattle.pruning.specs.Items.{fails, passes, other}
 use Rattle.pruning.specs.Pruner as Pruning
 use Rattle.pruning.specs.Pruner.{Frame, going, shut, st, addItem}
@@ -28,21 +27,20 @@ use Rattle.pruning.proofs.Weights.{total-append}
 use Rattle.cells.specs.Cells.{Cell}
 use Rattle.cells.specs.Segments.{Segment, shortcut, signOf, classIn, keptBy, startBy}
 use Rattle.cells.specs.Drawings.{Drawing}
-use Rattle.cells.specs.Streams.{Item, always, area, items}
-use Rattle.cells.specs.Rows.{Row, opens, bar, closes, bare, named, segment, itemRows, entryRows, roleIn}
+use Rattle.cells.specs.Streams.{always, area, items}
+use Rattle.cells.specs.Rows.{Row, bare, named, segment, itemRows, entryRows}
 use Rattle.cells.specs.Making.{Waiting, nothing, held, Making, making, prune, settle, addTo, rowSize}
 use Rattle.cells.proofs.Making.{entry-some}
 use Rattle.stream.specs.declared.Words.{Words}
 use Rattle.pruner.specs.declared.Pruner.{Pruner}
-use Rattle.pruner.specs.Numbers as Numbers
 use Rattle.pruner.specs.Numbers.{counted, baseOf, skipIn}
 use Rattle.pruner.proofs.Near.{counted-length, counted-base, counted-skip}
 use Rattle.reading.specs.Words.{words, wordsOf, Agrees}
 use Rattle.making.specs.declared.Maker.{Maker}
-use Rattle.making.specs.Numbers.{classN, settledN}
+use Rattle.making.specs.Numbers.{classN}
 use Rattle.making.proofs.Follows.{stateOf, waitingOf, waitingFor, Follows, class-is}
 use Rattle.making.proofs.Turn.{before-most}
-use Rattle.writing.specs.Numbers.{putBelow, placeOf, keptPut, segmentPut, settledPut, markOn}
+use Rattle.writing.specs.Numbers.{putBelow, placeOf, keptPut, segmentPut, settledPut}
 use Rattle.writing.proofs.Agree.{Agree, agree-append, agree-take, agree-behind, agree-before, agree-more, below-here}
 use Rattle.writing.proofs.Places.{place-is, Moves, adds, cuts}
 

@@ -1,6 +1,6 @@
 -- The words that a making writes, one entry at a time, as the numbers that the code holds; only below a limit, which is the length of what is made.
 -- `Rattle.writing.proofs` says that they are the rows (`Rattle.cells.specs.Making`). Assumes nothing.
-use mathlib.Core.Bool.{Bool, cond}
+use mathlib.Core.Bool.{cond}
 use mathlib.Core.List.{List}
 use Prim.Native.Nat.{ℕ, _+_, _*_, _%_}
 use lib.Dec.{eqb, ltb}
@@ -16,7 +16,6 @@ use Rattle.pruner.specs.Numbers.{counted, baseOf, skipIn}
 use Rattle.stream.specs.declared.Words.{Words}
 use Rattle.stream.specs.Table.{putAt}
 use Rattle.reading.specs.Words.{words}
-use Rattle.making.specs.declared.Waiting.{Waiting}
 use Rattle.making.specs.declared.Maker.{Maker}
 use Rattle.making.specs.Numbers.{classN, settledN}
 

@@ -1,14 +1,8 @@
+-- `child::count_child` meets its contract. Assumes nothing.
 use Rattle.child.proofs.count_child.Statement.{statement}
 use Rattle.child.proofs.count_child.Tie as tie
-use Rattle.child.proofs.count_child.Reads as reads
-use Rattle.child.proofs.count_child.Lts as lts
-use Rattle.making.proofs.begun.Reads as begun-reads
-use Rattle.making.proofs.left_of.Reads as left-of-reads
-use Rattle.making.proofs.made_after.Reads as made-after-reads
-use Rattle.making.proofs.made_size.Reads as made-size-reads
-use Rattle.stream.proofs.read_entry.Reads as read-entry-reads
-use mathlib.Core.Path.{_≡_, sym, ap, _∙_, refl}
-use Prim.Native.Nat.{_+_, _-_}
+use mathlib.Core.Path.{_∙_}
+use Prim.Native.Nat.{_-_}
 use native.Mathlib.Omega.{arith}
 use denote.Ref.{now}
 use borrow.Author.Needs.{needs}
@@ -24,47 +18,36 @@ Inv-loop entries first count areas xs ys b s end m₀ i₀ m i = Looping (env ar
 abbrev μ-loop : tie.MeasureT-loop
 μ-loop entries first count areas xs ys b s end m₀ i₀ m i = end - i
 
--- src/lib.rt:32:15
 add-end : tie.Need-add-end Inv-loop μ-loop
 add-end c = search (needs, c .before .before .before .before .pre .0 .within)
 
--- src/lib.rt:33:9
 begun-requires : tie.Need-begun-requires Inv-loop μ-loop
 begun-requires c κs = search needs
 
--- src/lib.rt:35:5
 loop-holds : tie.Need-loop-holds Inv-loop μ-loop
 loop-holds c = let a = c .before .before .before .before .before .args in let p = c .before .before .before .before .before .pre in let R = lent-reads (now (a .areas)) (now (a .xs)) (now (a .ys)) (a .b) in let v = env (now (a .areas)) (now (a .xs)) (now (a .ys)) (a .b) in let D = lent (now (a .areas)) (now (a .xs)) (now (a .ys)) (a .b) in loop-begin v D (cellIn (a .s)) R (now (a .entries)) (a .first) (a .count) (p .0) (c .begun .result) (c .begun .ensures .0) (c .begun .ensures .1)
 
--- src/lib.rt:36:13
 read-entry-requires : tie.Need-read-entry-requires Inv-loop μ-loop
 read-entry-requires c κs = omega (arith, c .before .before .before .before .before .before .before .pre .0 .within, c .loop-test .taken)
 
--- src/lib.rt:37:13
 left-of-requires : tie.Need-left-of-requires Inv-loop μ-loop
 left-of-requires c κs = let a = c .before .before .before .before .before .before .before .before .args in let p = c .before .before .before .before .before .before .before .before .pre in let R = lent-reads (now (a .areas)) (now (a .xs)) (now (a .ys)) (a .b) in let v = env (now (a .areas)) (now (a .xs)) (now (a .ys)) (a .b) in let D = lent (now (a .areas)) (now (a .xs)) (now (a .ys)) (a .b) in rw (c .read-entry .ensures) ((p .0 .ready .xs, p .0 .ready .ys), (loop-left v D (cellIn (a .s)) R (now (a .entries)) (a .first) (a .count) (p .0) (c .before .before .loop .i) (c .before .before .loop .m) (c .before .before .loop .inv) (c .before .loop-test .taken), p .1 .0))
 
--- src/lib.rt:38:13
 made-after-requires : tie.Need-made-after-requires Inv-loop μ-loop
 made-after-requires c κs = let a = c .before .before .before .before .before .before .before .before .before .args in let p = c .before .before .before .before .before .before .before .before .before .pre in let R = lent-reads (now (a .areas)) (now (a .xs)) (now (a .ys)) (a .b) in let v = env (now (a .areas)) (now (a .xs)) (now (a .ys)) (a .b) in let D = lent (now (a .areas)) (now (a .xs)) (now (a .ys)) (a .b) in rw (c .left-of .ensures .0, c .before .read-entry .ensures) (loop-asks v D (cellIn (a .s)) R (now (a .entries)) (a .first) (a .count) (p .0) (c .before .before .before .loop .i) (c .before .before .before .loop .m) (c .before .before .before .loop .inv) (c .before .before .loop-test .taken), loop-sign v D (cellIn (a .s)) R (now (a .entries)) (a .first) (a .count) (p .0) (c .before .before .before .loop .i) (c .before .before .before .loop .m) (c .before .before .before .loop .inv) (c .before .before .loop-test .taken))
 
--- src/lib.rt:40:9
 add-i : tie.Need-add-i Inv-loop μ-loop
 add-i c = record { fits = omega (arith, add-end (c .before .before .before .before .before .before) .fits, c .before .before .before .loop-test .taken) }
 
--- src/lib.rt:35:5
 loop-less : tie.Need-loop-less Inv-loop μ-loop
 loop-less c = search needs
 
--- src/lib.rt:35:5
 loop-again : tie.Need-loop-again Inv-loop μ-loop
 loop-again c = let a = c .before .before .before .before .before .before .before .before .before .before .args in let p = c .before .before .before .before .before .before .before .before .before .before .pre in let R = lent-reads (now (a .areas)) (now (a .xs)) (now (a .ys)) (a .b) in let v = env (now (a .areas)) (now (a .xs)) (now (a .ys)) (a .b) in let D = lent (now (a .areas)) (now (a .xs)) (now (a .ys)) (a .b) in loop-turn v D (cellIn (a .s)) R (now (a .entries)) (a .first) (a .count) (p .0) (c .before .before .before .before .loop .i) (c .before .before .before .before .loop .m) (c .before .before .before .before .loop .inv) (c .before .before .before .loop-test .taken) (c .made-after .result) (c .before .before .read-entry .result) (a .s) (c .before .left-of .result .class) (c .before .left-of .result .sign) (c .before .before .read-entry .ensures) (search needs) (p .1 .1) (c .before .left-of .ensures .1) (c .before .left-of .ensures .0) (c .made-after .ensures .0) (c .made-after .ensures .1)
 
--- src/lib.rt:42:5
 made-size-requires : tie.Need-made-size-requires Inv-loop μ-loop
 made-size-requires c κs = let a = c .before .before .before .before .before .before .before .args in let p = c .before .before .before .before .before .before .before .pre in let R = lent-reads (now (a .areas)) (now (a .xs)) (now (a .ys)) (a .b) in let v = env (now (a .areas)) (now (a .xs)) (now (a .ys)) (a .b) in let D = lent (now (a .areas)) (now (a .xs)) (now (a .ys)) (a .b) in (end-inside v D (cellIn (a .s)) R (now (a .entries)) (a .first) (a .count) (p .0) (c .before .loop .i) (c .before .loop .m) (c .before .loop .inv) (c .loop-test .left), end-room v D (cellIn (a .s)) R (now (a .entries)) (a .first) (a .count) (p .0) (c .before .loop .i) (c .before .loop .m) (c .before .loop .inv) (c .loop-test .left))
 
--- src/lib.rt:17:1
 returns : tie.Need-returns Inv-loop μ-loop
 returns c = let a = c .before .before .before .before .before .before .before .before .args in let p = c .before .before .before .before .before .before .before .before .pre in let R = lent-reads (now (a .areas)) (now (a .xs)) (now (a .ys)) (a .b) in let v = env (now (a .areas)) (now (a .xs)) (now (a .ys)) (a .b) in let D = lent (now (a .areas)) (now (a .xs)) (now (a .ys)) (a .b) in c .made-size .ensures ∙ end-size v D (cellIn (a .s)) R (now (a .entries)) (a .first) (a .count) (p .0) (c .before .before .loop .i) (c .before .before .loop .m) (c .before .before .loop .inv) (c .before .loop-test .left)
 

@@ -1,14 +1,8 @@
+-- `child::write_child` meets its contract. Assumes nothing.
 use Rattle.child.proofs.write_child.Statement.{statement}
 use Rattle.child.proofs.write_child.Tie as tie
-use Rattle.child.proofs.write_child.Reads as reads
-use Rattle.child.proofs.write_child.Lts as lts
-use Rattle.making.proofs.begun.Reads as begun-reads
-use Rattle.making.proofs.left_of.Reads as left-of-reads
-use Rattle.stream.proofs.read_entry.Reads as read-entry-reads
-use Rattle.writing.proofs.put_settled.Reads as put-settled-reads
-use Rattle.writing.proofs.write_one.Reads as write-one-reads
-use mathlib.Core.Path.{_≡_, sym, ap, _∙_, refl}
-use Prim.Native.Nat.{_+_, _-_, _*_}
+use mathlib.Core.Path.{_∙_}
+use Prim.Native.Nat.{_-_}
 use native.Mathlib.Omega.{arith}
 use denote.Ref.{now}
 use borrow.Author.Needs.{needs}
@@ -27,87 +21,66 @@ Inv-loop entries₀ first count free made areas xs ys b s end base m₀ i₀ ent
 abbrev μ-loop : tie.MeasureT-loop
 μ-loop entries₀ first count free made areas xs ys b s end base m₀ i₀ entries m i = end - i
 
--- src/lib.rt:66:15
 add-end : tie.Need-add-end Inv-loop μ-loop
 add-end c = search (needs, c .before .before .before .before .pre .0 .within)
 
--- src/lib.rt:67:16
 mul-base : tie.Need-mul-base Inv-loop μ-loop
 mul-base c = search needs
 
--- src/lib.rt:68:9
 begun-requires : tie.Need-begun-requires Inv-loop μ-loop
 begun-requires c κs = search needs
 
--- src/lib.rt:70:5
 loop-holds : tie.Need-loop-holds Inv-loop μ-loop
 loop-holds c = let a = c .before .before .before .before .before .args in let p = c .before .before .before .before .before .pre in let R = lent-reads (now (a .areas)) (now (a .xs)) (now (a .ys)) (a .b) in let v = env (now (a .areas)) (now (a .xs)) (now (a .ys)) (a .b) in let D = lent (now (a .areas)) (now (a .xs)) (now (a .ys)) (a .b) in fill-begin v D (cellIn (a .s)) R (now (a .entries)) (a .first) (a .count) (a .free) (a .made) (p .0) (p .1 .1 .1 .0) (p .1 .1 .1 .1 .0) (c .begun .result) (c .begun .ensures .0) (c .begun .ensures .1)
 
--- src/lib.rt:71:13
 read-entry-requires : tie.Need-read-entry-requires Inv-loop μ-loop
 read-entry-requires c κs = omega (arith, c .before .before .before .before .before .before .before .before .pre .0 .within, c .before .loop-test .taken, c .before .before .loop .inv .size)
 
--- src/lib.rt:72:13
 left-of-requires : tie.Need-left-of-requires Inv-loop μ-loop
 left-of-requires c κs = let a = c .before .before .before .before .before .before .before .before .before .args in let p = c .before .before .before .before .before .before .before .before .before .pre in let R = lent-reads (now (a .areas)) (now (a .xs)) (now (a .ys)) (a .b) in let v = env (now (a .areas)) (now (a .xs)) (now (a .ys)) (a .b) in let D = lent (now (a .areas)) (now (a .xs)) (now (a .ys)) (a .b) in rw (c .read-entry .ensures ∙ entry-is v D (cellIn (a .s)) R (now (a .entries)) (a .first) (a .count) (a .free) (a .made) (p .0) (p .1 .1 .1 .0) (p .1 .1 .1 .1 .0) (c .before .before .before .loop .i) (c .before .before .before .loop .m) (c .before .before .before .loop .entries) (c .before .before .before .loop .inv) (c .before .before .loop-test .taken)) ((p .0 .ready .xs, p .0 .ready .ys), (loop-left v D (cellIn (a .s)) R (now (a .entries)) (a .first) (a .count) (p .0) (c .before .before .before .loop .i) (c .before .before .before .loop .m) (looping v D (cellIn (a .s)) R (now (a .entries)) (a .first) (a .count) (a .free) (a .made) (p .0) (p .1 .1 .1 .0) (p .1 .1 .1 .1 .0) (c .before .before .before .loop .i) (c .before .before .before .loop .m) (c .before .before .before .loop .entries) (c .before .before .before .loop .inv)) (c .before .before .loop-test .taken), p .1 .0))
 
--- src/lib.rt:73:36
 mul-write-one : tie.Need-mul-write-one Inv-loop μ-loop
 mul-write-one c = let a = c .before .before .before .before .before .before .before .before .before .before .args in offset-fits (length (now (a .entries))) (a .free) (a .made) (c .before .before .before .before .before .before .before .before .before .before .good .0 .1) (c .before .before .before .before .before .before .before .before .before .before .pre .1 .1 .1 .1 .0)
 
--- src/lib.rt:73:36
 sub-write-one : tie.Need-sub-write-one Inv-loop μ-loop
 sub-write-one c = let a = c .before .before .before .before .before .before .before .before .before .before .args in end-begins (length (now (a .entries))) (length (c .before .before .before .before .loop .entries)) (a .free) (a .made) (c .before .before .before .before .loop .inv .size) (c .before .before .before .before .before .before .before .before .before .before .pre .1 .1 .1 .1 .0)
 
--- src/lib.rt:73:36
 part-write-one-start : tie.Need-part-write-one-start Inv-loop μ-loop
 part-write-one-start c = let a = c .before .before .before .before .before .before .before .before .before .before .args in end-begins (length (now (a .entries))) (length (c .before .before .before .before .loop .entries)) (a .free) (a .made) (c .before .before .before .before .loop .inv .size) (c .before .before .before .before .before .before .before .before .before .before .pre .1 .1 .1 .1 .0)
 
--- src/lib.rt:73:36
 part-write-one-end : tie.Need-part-write-one-end Inv-loop μ-loop
 part-write-one-end c = search needs
 
--- src/lib.rt:73:13
 write-one-requires : tie.Need-write-one-requires Inv-loop μ-loop
 write-one-requires c κs = let a = c .before .before .before .before .before .before .before .before .before .before .before .args in let p = c .before .before .before .before .before .before .before .before .before .before .before .pre in let R = lent-reads (now (a .areas)) (now (a .xs)) (now (a .ys)) (a .b) in let v = env (now (a .areas)) (now (a .xs)) (now (a .ys)) (a .b) in let D = lent (now (a .areas)) (now (a .xs)) (now (a .ys)) (a .b) in (part-room v D (cellIn (a .s)) R (now (a .entries)) (a .first) (a .count) (a .free) (a .made) (p .0) (p .1 .1 .1 .0) (p .1 .1 .1 .1 .0) (c .before .before .before .before .before .loop .i) (c .before .before .before .before .before .loop .m) (c .before .before .before .before .before .loop .entries) (c .before .before .before .before .before .loop .inv), rw (c .before .left-of .ensures .0, c .before .before .read-entry .ensures ∙ entry-is v D (cellIn (a .s)) R (now (a .entries)) (a .first) (a .count) (a .free) (a .made) (p .0) (p .1 .1 .1 .0) (p .1 .1 .1 .1 .0) (c .before .before .before .before .before .loop .i) (c .before .before .before .before .before .loop .m) (c .before .before .before .before .before .loop .entries) (c .before .before .before .before .before .loop .inv) (c .before .before .before .before .loop-test .taken)) (loop-asks v D (cellIn (a .s)) R (now (a .entries)) (a .first) (a .count) (p .0) (c .before .before .before .before .before .loop .i) (c .before .before .before .before .before .loop .m) (looping v D (cellIn (a .s)) R (now (a .entries)) (a .first) (a .count) (a .free) (a .made) (p .0) (p .1 .1 .1 .0) (p .1 .1 .1 .1 .0) (c .before .before .before .before .before .loop .i) (c .before .before .before .before .before .loop .m) (c .before .before .before .before .before .loop .entries) (c .before .before .before .before .before .loop .inv)) (c .before .before .before .before .loop-test .taken), loop-sign v D (cellIn (a .s)) R (now (a .entries)) (a .first) (a .count) (p .0) (c .before .before .before .before .before .loop .i) (c .before .before .before .before .before .loop .m) (looping v D (cellIn (a .s)) R (now (a .entries)) (a .first) (a .count) (a .free) (a .made) (p .0) (p .1 .1 .1 .0) (p .1 .1 .1 .1 .0) (c .before .before .before .before .before .loop .i) (c .before .before .before .before .before .loop .m) (c .before .before .before .before .before .loop .entries) (c .before .before .before .before .before .loop .inv)) (c .before .before .before .before .loop-test .taken)))
 
--- src/lib.rt:75:9
 add-i : tie.Need-add-i Inv-loop μ-loop
 add-i c = record { fits = omega (arith, add-end (c .before .before .before .before .before .before .before .before .before .before) .fits, c .before .before .before .before .before .before .before .loop-test .taken) }
 
--- src/lib.rt:70:5
 loop-less : tie.Need-loop-less Inv-loop μ-loop
 loop-less c = search needs
 
--- src/lib.rt:70:5
 loop-again : tie.Need-loop-again Inv-loop μ-loop
 loop-again c = let a = c .before .before .before .before .before .before .before .before .before .before .before .before .before .before .args in let p = c .before .before .before .before .before .before .before .before .before .before .before .before .before .before .pre in let R = lent-reads (now (a .areas)) (now (a .xs)) (now (a .ys)) (a .b) in let v = env (now (a .areas)) (now (a .xs)) (now (a .ys)) (a .b) in let D = lent (now (a .areas)) (now (a .xs)) (now (a .ys)) (a .b) in fill-turn v D (cellIn (a .s)) R (now (a .entries)) (a .first) (a .count) (a .free) (a .made) (p .0) (p .1 .1 .1 .0) (p .1 .1 .1 .1 .0) (c .before .before .before .before .before .before .before .before .loop .i) (c .before .before .before .before .before .before .before .before .loop .m) (c .before .before .before .before .before .before .before .before .loop .entries) (c .before .before .before .before .before .before .before .before .loop .inv) (c .before .before .before .before .before .before .before .loop-test .taken) (c .before .before .write-one .result) (c .before .before .before .before .before .read-entry .result) (a .s) (c .before .before .before .before .left-of .result .class) (c .before .before .before .before .left-of .result .sign) _ (c .before .before .before .before .before .read-entry .ensures ∙ entry-is v D (cellIn (a .s)) R (now (a .entries)) (a .first) (a .count) (a .free) (a .made) (p .0) (p .1 .1 .1 .0) (p .1 .1 .1 .1 .0) (c .before .before .before .before .before .before .before .before .loop .i) (c .before .before .before .before .before .before .before .before .loop .m) (c .before .before .before .before .before .before .before .before .loop .entries) (c .before .before .before .before .before .before .before .before .loop .inv) (c .before .before .before .before .before .before .before .loop-test .taken)) (c .before .before .before .before .before .read-entry .ok .1 .1 .1 .1 .0 .1) (p .1 .1 .0) (c .before .before .before .before .left-of .ensures .1) (c .before .before .before .before .left-of .ensures .0) (c .before .before .write-one .ensures .0 .0) (c .before .before .write-one .ensures .0 .1) (c .before .before .write-one .ensures .1)
 
--- src/lib.rt:77:26
 mul-put-settled : tie.Need-mul-put-settled Inv-loop μ-loop
 mul-put-settled c = let a = c .before .before .before .before .before .before .before .args in offset-fits (length (now (a .entries))) (a .free) (a .made) (c .before .before .before .before .before .before .before .good .0 .1) (c .before .before .before .before .before .before .before .pre .1 .1 .1 .1 .0)
 
--- src/lib.rt:77:26
 sub-put-settled : tie.Need-sub-put-settled Inv-loop μ-loop
 sub-put-settled c = let a = c .before .before .before .before .before .before .before .args in end-begins (length (now (a .entries))) (length (c .before .loop .entries)) (a .free) (a .made) (c .before .loop .inv .size) (c .before .before .before .before .before .before .before .pre .1 .1 .1 .1 .0)
 
--- src/lib.rt:77:26
 part-put-settled-start : tie.Need-part-put-settled-start Inv-loop μ-loop
 part-put-settled-start c = let a = c .before .before .before .before .before .before .before .args in end-begins (length (now (a .entries))) (length (c .before .loop .entries)) (a .free) (a .made) (c .before .loop .inv .size) (c .before .before .before .before .before .before .before .pre .1 .1 .1 .1 .0)
 
--- src/lib.rt:77:26
 part-put-settled-end : tie.Need-part-put-settled-end Inv-loop μ-loop
 part-put-settled-end c = search needs
 
--- src/lib.rt:77:5
 put-settled-requires : tie.Need-put-settled-requires Inv-loop μ-loop
 put-settled-requires c κs = let a = c .before .before .before .before .before .before .before .before .args in let p = c .before .before .before .before .before .before .before .before .pre in let R = lent-reads (now (a .areas)) (now (a .xs)) (now (a .ys)) (a .b) in let v = env (now (a .areas)) (now (a .xs)) (now (a .ys)) (a .b) in let D = lent (now (a .areas)) (now (a .xs)) (now (a .ys)) (a .b) in (part-room v D (cellIn (a .s)) R (now (a .entries)) (a .first) (a .count) (a .free) (a .made) (p .0) (p .1 .1 .1 .0) (p .1 .1 .1 .1 .0) (c .before .before .loop .i) (c .before .before .loop .m) (c .before .before .loop .entries) (c .before .before .loop .inv), end-inside v D (cellIn (a .s)) R (now (a .entries)) (a .first) (a .count) (p .0) (c .before .before .loop .i) (c .before .before .loop .m) (looping v D (cellIn (a .s)) R (now (a .entries)) (a .first) (a .count) (a .free) (a .made) (p .0) (p .1 .1 .1 .0) (p .1 .1 .1 .1 .0) (c .before .before .loop .i) (c .before .before .loop .m) (c .before .before .loop .entries) (c .before .before .loop .inv)) (c .before .loop-test .left))
 
--- src/lib.rt:46:1
 same-length : tie.Need-same-length Inv-loop μ-loop
 same-length c = search needs
 
--- src/lib.rt:46:1
 returns : tie.Need-returns Inv-loop μ-loop
 returns c = let a = c .before .before .before .before .before .before .before .before .before .before .before .args in let p = c .before .before .before .before .before .before .before .before .before .before .before .pre in let R = lent-reads (now (a .areas)) (now (a .xs)) (now (a .ys)) (a .b) in let v = env (now (a .areas)) (now (a .xs)) (now (a .ys)) (a .b) in let D = lent (now (a .areas)) (now (a .xs)) (now (a .ys)) (a .b) in fill-end v D (cellIn (a .s)) R (now (a .entries)) (a .first) (a .count) (a .free) (a .made) (p .0) (p .1 .1 .1 .0) (p .1 .1 .1 .1 .0) (c .before .before .before .before .before .loop .i) (c .before .before .before .before .before .loop .m) (c .before .before .before .before .before .loop .entries) (c .before .before .before .before .before .loop .inv) (c .before .before .before .before .loop-test .left) (p .1 .1 .1 .1 .1) _ (c .before .before .put-settled .ensures)
 

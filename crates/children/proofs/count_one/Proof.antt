@@ -1,12 +1,8 @@
+-- `children::count_one` meets its contract. Assumes nothing.
 use borrow.Author.Needs.{needs}
 use Rattle.children.proofs.count_one.Statement.{statement}
 use Rattle.children.proofs.count_one.Tie as tie
-use Rattle.children.proofs.count_one.Reads as reads
-use Rattle.children.proofs.count_one.Lts as lts
-use Rattle.celltable.proofs.quarter_of.Reads as quarter-of-reads
-use Rattle.child.proofs.count_child.Reads as count-child-reads
-use Rattle.children.proofs.tally_of.Reads as tally-of-reads
-use mathlib.Core.Path.{_≡_, ap, _∙_}
+use mathlib.Core.Path.{ap, _∙_}
 use denote.Ref.{now}
 use Rattle.pruning.specs.Weights.{total}
 use Rattle.cells.specs.Cells.{Cell}
@@ -20,19 +16,15 @@ use Rattle.children.proofs.Squares.{kid-square, kid-in, kid-back}
 use Rattle.children.proofs.Tallies.{tally-is}
 use Rattle.children.proofs.Made.{few-rows}
 
--- src/lib.rt:49:9
 quarter-of-requires : tie.Need-quarter-of-requires
 quarter-of-requires c κs = search needs
 
--- src/lib.rt:50:9
 count-child-requires : tie.Need-count-child-requires
 count-child-requires c κs = let a = c .before .before .before .before .before .args in let p = c .before .before .before .before .before .pre in (p .0, (kid-square (a .w) (p .1 .0) (a .q) (c .quarter-of .result) (c .quarter-of .ensures), kid-back (a .w) (p .1 .0) (a .q) (c .quarter-of .result) (c .quarter-of .ensures)))
 
--- src/lib.rt:51:5
 tally-of-requires : tie.Need-tally-of-requires
 tally-of-requires c κs = search needs
 
--- src/lib.rt:33:1
 returns : tie.Need-returns
 returns c = let a = c .before .before .before .before .before .before .before .args in let p = c .before .before .before .before .before .before .before .pre in let D = lent (now (a .areas)) (now (a .xs)) (now (a .ys)) (a .b) in let ws = wordsFrom (now (a .entries)) (a .first) (a .count) in c .tally-of .ensures ∙ tally-is (rowsOfChild D (cellOf (a .w)) ws (a .q)) (c .before .count-child .result) (few-rows (now (a .entries)) (now (a .areas)) (now (a .xs)) (now (a .ys)) (a .b) (a .first) (a .count) _ (p .0)) (c .before .count-child .ensures ∙ ap (λ (k : Cell). total rowSize (rowsMade D k ws)) (kid-in (a .w) (p .1 .0) (a .q) (c .before .before .quarter-of .result) (c .before .before .quarter-of .ensures)))
 

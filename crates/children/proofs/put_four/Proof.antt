@@ -1,14 +1,9 @@
+-- `children::put_four` meets its contract. Assumes nothing.
 use Rattle.children.proofs.put_four.Statement.{statement}
 use Rattle.children.proofs.put_four.Tie as tie
-use Rattle.children.proofs.put_four.Reads as reads
-use Rattle.children.proofs.put_four.Lts as lts
-use Rattle.celltable.proofs.put_cell.Reads as put-cell-reads
-use Rattle.children.proofs.child_words.Reads as child-words-reads
-use mathlib.Core.Path.{_≡_, sym, ap, _∙_, refl}
-use Prim.Native.Nat.{_+_, _-_, _*_}
+use Prim.Native.Nat.{_-_}
 use native.Mathlib.Omega.{arith}
 use denote.Ref.{now}
-use lib.ListN.{length}
 use borrow.Author.Needs.{needs}
 use Rattle.celltable.specs.Ranges.{cellOf}
 use Rattle.children.proofs.Placed.{Placed, placed-begin, placed-turn, placed-end}
@@ -19,63 +14,48 @@ Inv-loop cells₀ used free w ts at₀ q₀ cells at q = Placed (cellOf w) ts ce
 abbrev μ-loop : tie.MeasureT-loop
 μ-loop cells₀ used free w ts at₀ q₀ cells at q = 4 - q
 
--- src/lib.rt:166:5
 loop-holds : tie.Need-loop-holds Inv-loop μ-loop
 loop-holds c = let a = c .before .args in let p = c .before .pre in placed-begin (cellOf (a .w)) (a .t5) (now (a .cells)) (a .used) (a .free) (p .1 .1 .1 .1)
 
--- src/lib.rt:167:17
 cast-k : tie.Need-cast-k Inv-loop μ-loop
 cast-k c = search needs
 
--- src/lib.rt:168:17
 mul-t : tie.Need-mul-t Inv-loop μ-loop
 mul-t c = search needs
 
--- src/lib.rt:168:17
 array-copy-out-t : tie.Need-array-copy-out-t Inv-loop μ-loop
 array-copy-out-t c = search needs
 
--- src/lib.rt:169:13
 child-words-requires : tie.Need-child-words-requires Inv-loop μ-loop
 child-words-requires c κs = let a = c .before .before .before .before .args in let p = c .before .before .before .before .pre in (p .0, (p .1 .0, p .1 .1 .1 .1 .few (c .before .before .loop .q) (c .before .loop-test .taken)))
 
--- src/lib.rt:170:18
 add-i : tie.Need-add-i Inv-loop μ-loop
 add-i c = record { fits = omega (arith, c .before .before .before .before .before .pre .1 .1 .1 .0 .0, c .before .before .loop-test .taken) }
 
--- src/lib.rt:170:17
 cast-i : tie.Need-cast-i Inv-loop μ-loop
 cast-i c = search needs
 
--- src/lib.rt:171:9
 put-cell-requires : tie.Need-put-cell-requires Inv-loop μ-loop
 put-cell-requires c κs = let a = c .before .before .before .before .before .before .args in let p = c .before .before .before .before .before .before .pre in omega (arith, p .1 .1 .0, c .before .before .before .before .loop .inv .size, c .before .before .before .loop-test .taken)
 
--- src/lib.rt:172:15
 cast-at : tie.Need-cast-at Inv-loop μ-loop
 cast-at c = record { fits = omega (arith, c .before .before .before .before .before .before .before .before .before .before .pre .1 .1 .1 .1 .few (c .before .before .before .before .before .before .before .before .loop .q) (c .before .before .before .before .before .before .before .loop-test .taken)) }
 
--- src/lib.rt:172:9
 add-at : tie.Need-add-at Inv-loop μ-loop
 add-at c = record { fits = omega (arith, c .before .before .before .before .before .before .before .before .before .before .pre .1 .1 .1 .1 .few (c .before .before .before .before .before .before .before .before .loop .q) (c .before .before .before .before .before .before .before .loop-test .taken), c .before .before .before .before .before .before .before .before .loop .inv .small, c .before .before .before .before .before .before .before .before .loop .inv .low, c .before .before .before .before .before .before .before .before .before .before .pre .1 .1 .1 .0 .1) }
 
--- src/lib.rt:173:9
 add-q : tie.Need-add-q Inv-loop μ-loop
 add-q c = search needs
 
--- src/lib.rt:166:5
 loop-less : tie.Need-loop-less Inv-loop μ-loop
 loop-less c = search needs
 
--- src/lib.rt:166:5
 loop-again : tie.Need-loop-again Inv-loop μ-loop
 loop-again c = let a = c .before .before .before .before .before .before .before .before .before .before .args in let p = c .before .before .before .before .before .before .before .before .before .before .pre in placed-turn (cellOf (a .w)) (a .t5) (now (a .cells)) (a .used) (a .free) (p .1 .1 .1 .1) (c .before .before .before .before .before .before .before .before .loop .q) (c .before .before .before .before .before .before .before .before .loop .at) (c .before .before .before .before .before .before .before .before .loop .cells) (c .before .before .before .before .before .before .before .before .loop .inv) (c .before .before .before .before .before .before .before .loop-test .taken) (c .before .before .before .before .before .child-words .result) _ (c .before .before .before .before .before .child-words .ensures) (c .before .before .before .put-cell .ensures)
 
--- src/lib.rt:156:1
 same-length : tie.Need-same-length Inv-loop μ-loop
 same-length c = c .before .loop .inv .size
 
--- src/lib.rt:156:1
 returns : tie.Need-returns Inv-loop μ-loop
 returns c = let a = c .before .before .before .args in let p = c .before .before .before .pre in placed-end (cellOf (a .w)) (a .t5) (now (a .cells)) (a .used) (a .free) (p .1 .1 .1 .1) (c .before .loop .q) (c .before .loop .at) (c .before .loop .cells) (c .before .loop .inv) (c .loop-test .left)
 

@@ -1,67 +1,51 @@
+-- `making::class_of` meets its contract. Assumes nothing.
 use borrow.Author.Needs.{needs}
 use Rattle.making.proofs.class_of.Statement.{statement}
 use Rattle.making.proofs.class_of.Tie as tie
-use Rattle.making.proofs.class_of.Reads as reads
-use Rattle.making.proofs.class_of.Lts as lts
-use Rattle.reading.proofs.area_passes.Reads as area-passes-reads
 use Rattle.laws.proofs.Tests.{tests}
 use denote.Ref.{now}
 use mathlib.Core.Bool.{true, false}
 use Rattle.making.proofs.Rooms.{passes-same}
 
--- src/lib.rt:174:19
 cast-at : tie.Need-cast-at
 cast-at c = search needs
 
--- src/lib.rt:174:18
 mul-at : tie.Need-mul-at
 mul-at c = search needs
 
--- src/lib.rt:175:40
 cast-area-passes : tie.Need-cast-area-passes
 cast-area-passes c = search needs
 
--- src/lib.rt:175:12
 area-passes-requires : tie.Need-area-passes-requires
 area-passes-requires c κs = search needs
 
--- src/lib.rt:176:16
 mul-if3 : tie.Need-mul-if3
 mul-if3 c = search needs
 
--- src/lib.rt:176:16
 shared-slice-read-if3 : tie.Need-shared-slice-read-if3
 shared-slice-read-if3 c = search needs
 
--- src/lib.rt:177:26
 add-if4 : tie.Need-add-if4
 add-if4 c = search needs
 
--- src/lib.rt:177:20
 mul-if4 : tie.Need-mul-if4
 mul-if4 c = search needs
 
--- src/lib.rt:177:20
 shared-slice-read-if4 : tie.Need-shared-slice-read-if4
 shared-slice-read-if4 c = search needs
 
--- src/lib.rt:178:21
 returns : tie.Need-returns
 returns c = let a = c .before .before .before .before .before .before .before .before .before .before .before .before .args in let p = c .before .before .before .before .before .before .before .before .before .before .before .before .pre in search (tests, passes-same (now (a .areas)) (a .a .number) (a .a .start) _ true (p .0) (c .before .before .before .before .before .area-passes .ensures) (c .before .before .before .before .if2 .taken))
 
--- src/lib.rt:180:17
 returns-2 : tie.Need-returns-2
 returns-2 c = let a = c .before .before .before .before .before .before .before .before .before .before .before .before .args in let p = c .before .before .before .before .before .before .before .before .before .before .before .before .pre in search (tests, passes-same (now (a .areas)) (a .a .number) (a .a .start) _ true (p .0) (c .before .before .before .before .before .area-passes .ensures) (c .before .before .before .before .if2 .taken))
 
--- src/lib.rt:182:13
 returns-3 : tie.Need-returns-3
 returns-3 c = let a = c .before .before .before .before .before .before .before .before .before .before .args in let p = c .before .before .before .before .before .before .before .before .before .before .pre in search (tests, passes-same (now (a .areas)) (a .a .number) (a .a .start) _ true (p .0) (c .before .before .before .area-passes .ensures) (c .before .before .if2 .taken))
 
--- src/lib.rt:184:9
 returns-4 : tie.Need-returns-4
 returns-4 c = let a = c .before .before .before .before .before .before .before .before .args in let p = c .before .before .before .before .before .before .before .before .pre in search (tests, passes-same (now (a .areas)) (a .a .number) (a .a .start) _ false (p .0) (c .before .area-passes .ensures) (c .if2 .left))
 
--- src/lib.rt:168:1
 returns-5 : tie.Need-returns-5
 returns-5 c = search tests
 

@@ -1,31 +1,23 @@
+-- `making::left_of` meets its contract. Assumes nothing.
 use Rattle.making.proofs.left_of.Statement.{statement}
 use Rattle.making.proofs.left_of.Tie as tie
-use Rattle.making.proofs.left_of.Reads as reads
-use Rattle.making.proofs.left_of.Lts as lts
-use Rattle.making.proofs.line_left.Reads as line-left-reads
-use Rattle.making.proofs.shortcut_left.Reads as shortcut-left-reads
 use Rattle.laws.proofs.Tests.{tests}
 use denote.Ref.{now}
 use Rattle.reading.proofs.Laws.{line-below, line-ends}
 use Rattle.making.proofs.Laws.{range-line, range-shortcut}
 
--- src/lib.rt:62:9
 line-left-requires : tie.Need-line-left-requires
 line-left-requires c κs = let a = c .before .before .before .before .args in let p = c .before .before .before .before .pre in let h = range-line (now (a .xs)) (now (a .ys)) (a .corners) (a .w) (c .if1 .taken) (p .1 .0) in (line-below (now (a .xs)) (now (a .ys)) (a .corners) (a .w .p) (a .w .q) h (p .0), (line-ends (now (a .xs)) (now (a .ys)) (a .corners) (a .w .p) (a .w .q) h, p .1 .1))
 
--- src/lib.rt:62:9
 returns : tie.Need-returns
 returns c = rw (c .before .if1 .taken) (c .line-left .ensures)
 
--- src/lib.rt:65:9
 shortcut-left-requires : tie.Need-shortcut-left-requires
 shortcut-left-requires c κs = let a = c .before .before .before .before .before .before .args in let p = c .before .before .before .before .before .before .pre in (range-shortcut (now (a .xs)) (now (a .ys)) (a .corners) (a .w) (c .if2 .taken) (p .1 .0), p .1 .1)
 
--- src/lib.rt:65:9
 returns-2 : tie.Need-returns-2
 returns-2 c = rw (c .before .if2 .taken) (c .shortcut-left .ensures)
 
--- src/lib.rt:55:1
 returns-3 : tie.Need-returns-3
 returns-3 c = (search tests, search tests)
 

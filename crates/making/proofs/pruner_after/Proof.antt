@@ -1,33 +1,25 @@
+-- `making::pruner_after` meets its contract. Assumes nothing.
 use borrow.Author.Needs.{needs}
 use Rattle.making.proofs.pruner_after.Statement.{statement}
 use Rattle.making.proofs.pruner_after.Tie as tie
-use Rattle.making.proofs.pruner_after.Reads as reads
-use Rattle.making.proofs.pruner_after.Lts as lts
-use Rattle.making.proofs.moved.Reads as moved-reads
-use Rattle.making.proofs.settled.Reads as settled-reads
 use Rattle.laws.proofs.Tests.{tests}
 use denote.Ref.{now}
 use Rattle.making.proofs.Rooms.{room-after}
 use Rattle.making.proofs.Rooms.{pruned-by}
 use Rattle.pruner.specs.Numbers.{counted}
 
--- src/lib.rt:226:9
 returns : tie.Need-returns
 returns c = search tests
 
--- src/lib.rt:229:9
 returns-2 : tie.Need-returns-2
 returns-2 c = search tests
 
--- src/lib.rt:231:9
 settled-requires : tie.Need-settled-requires
 settled-requires c κs = search needs
 
--- src/lib.rt:232:5
 moved-requires : tie.Need-moved-requires
 moved-requires c κs = let a = c .before .before .before .before .args in let p = c .before .before .before .before .pre in room-after (now (a .areas)) (a .p) (c .settled .result) (a .a) (a .kind) (c .settled .ensures) (p .1)
 
--- src/lib.rt:220:1
 returns-3 : tie.Need-returns-3
 returns-3 c = let a = c .before .before .before .before .before .args in pruned-by (now (a .areas)) (counted (a .p)) (a .a) (a .kind) (counted (c .before .settled .result)) (counted (c .moved .result)) (c .before .before .before .if1 .left) (c .before .before .if2 .left) (c .moved .ensures) (c .before .settled .ensures)
 

@@ -1,44 +1,32 @@
+-- `making::waiting_after` meets its contract. Assumes nothing.
 use borrow.Author.Needs.{needs}
 use Rattle.making.proofs.waiting_after.Statement.{statement}
 use Rattle.making.proofs.waiting_after.Tie as tie
-use Rattle.making.proofs.waiting_after.Reads as reads
-use Rattle.making.proofs.waiting_after.Lts as lts
-use Rattle.making.proofs.named.Reads as named-reads
-use Rattle.making.proofs.rest.Reads as rest-reads
-use Rattle.making.proofs.with_left.Reads as with-left-reads
 use Rattle.laws.proofs.Tests.{tests}
 use Rattle.reading.proofs.Laws.{small-back}
 use native.Mathlib.Omega.{arith}
 
--- src/lib.rt:154:9
 named-requires : tie.Need-named-requires
 named-requires c κs = c .before .before .pre .1 (c .if1 .taken)
 
--- src/lib.rt:154:9
 returns : tie.Need-returns
 returns c = rw (c .before .if1 .taken) (c .named .ensures)
 
--- src/lib.rt:158:9
 with-left-requires : tie.Need-with-left-requires
 with-left-requires c κs = search needs
 
--- src/lib.rt:158:9
 returns-2 : tie.Need-returns-2
 returns-2 c = rw (c .before .before .if2 .taken) (rw (small-back (c .before .before .before .before .before .before .args .l .sign) (omega (arith, c .before .before .before .before .before .before .pre .0 .1))) at (c .with-left .ensures))
 
--- src/lib.rt:161:9
 with-left-requires-2 : tie.Need-with-left-requires-2
 with-left-requires-2 c κs = search needs
 
--- src/lib.rt:161:9
 returns-3 : tie.Need-returns-3
 returns-3 c = rw (c .before .before .if3 .taken) (rw (small-back (c .before .before .before .before .before .before .before .before .args .l .sign) (omega (arith, c .before .before .before .before .before .before .before .before .pre .0 .1))) at (c .with-left2 .ensures))
 
--- src/lib.rt:163:5
 rest-requires : tie.Need-rest-requires
 rest-requires c κs = search needs
 
--- src/lib.rt:148:1
 returns-4 : tie.Need-returns-4
 returns-4 c = search tests
 

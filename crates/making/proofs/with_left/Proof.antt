@@ -1,66 +1,50 @@
+-- `making::with_left` meets its contract. Assumes nothing.
 use borrow.Author.Needs.{needs}
 use Rattle.making.proofs.with_left.Statement.{statement}
 use Rattle.making.proofs.with_left.Tie as tie
 use Rattle.making.proofs.with_left.Reads as reads
-use Rattle.making.proofs.with_left.Lts as lts
-use Rattle.making.proofs.grown.Reads as grown-reads
 use Rattle.laws.proofs.Signed.{reads, fits-as}
 use Rattle.reading.proofs.Laws.{sum-is, sum-fits}
-use mathlib.Core.Path.{refl}
 
--- src/lib.rt:126:17
 enum-told : tie.Need-enum-told
 enum-told c = search needs
 
--- src/lib.rt:126:17
 returns : tie.Need-returns
 returns c = search needs
 
--- src/lib.rt:132:28
 enum-told-2 : tie.Need-enum-told-2
 enum-told-2 c = search needs
 
--- src/lib.rt:132:28
 add-t5 : tie.Need-add-t5
 add-t5 c = let a = c .before .before .before .before .before .args in let p = c .before .before .before .before .before .pre in fits-as (sum-is (a .a .start) (a .sign) (p .0) (p .1)) (sum-fits (a .a .start) (a .sign) (p .0) (p .1))
 
--- src/lib.rt:129:17
 returns-2 : tie.Need-returns-2
 returns-2 c = let a = c .before .before .before .before .before .args in let p = c .before .before .before .before .before .pre in rw (c .before .before .before .before .if1 .taken, c .before .before .enum-told2 .given .1, reads (sum-is (a .a .start) (a .sign) (p .0) (p .1)) (sum-fits (a .a .start) (a .sign) (p .0) (p .1)))
 
--- src/lib.rt:137:33
 enum-told-3 : tie.Need-enum-told-3
 enum-told-3 c = search needs
 
--- src/lib.rt:137:33
 add-grown : tie.Need-add-grown
 add-grown c = search needs
 
--- src/lib.rt:137:17
 grown-requires : tie.Need-grown-requires
 grown-requires c κs = search needs
 
--- src/lib.rt:137:17
 returns-3 : tie.Need-returns-3
 returns-3 c = rw (c .before .before .before .before .if1 .taken, c .before .before .enum-told3 .given .1) (c .grown .ensures)
 
--- src/lib.rt:140:33
 enum-told-4 : tie.Need-enum-told-4
 enum-told-4 c = search needs
 
--- src/lib.rt:140:33
 add-grown-2 : tie.Need-add-grown-2
 add-grown-2 c = search needs
 
--- src/lib.rt:140:17
 grown-requires-2 : tie.Need-grown-requires-2
 grown-requires-2 c κs = search needs
 
--- src/lib.rt:140:17
 returns-4 : tie.Need-returns-4
 returns-4 c = rw (c .before .before .before .before .if1 .taken, c .before .before .enum-told4 .given .1) (c .grown2 .ensures)
 
--- src/lib.rt:119:1
 returns-5 : tie.Need-returns-5
 returns-5 c = search needs
 

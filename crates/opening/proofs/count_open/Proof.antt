@@ -1,3 +1,4 @@
+-- `opening::count_open` meets its contract. Assumes nothing.
 use Rattle.opening.proofs.count_open.Statement.{statement}
 use Rattle.opening.proofs.count_open.Tie as tie
 use Rattle.opening.proofs.count_open.Reads as reads
@@ -29,67 +30,51 @@ Inv-loop plan areas xs ys records b s m₀ c₀ i₀ m c i = Looping (env areas 
 abbrev μ-loop : tie.MeasureT-loop
 μ-loop plan areas xs ys records b s m₀ c₀ i₀ m c i = records - i
 
--- src/lib.rt:160:9
 root-square-requires : tie.Need-root-square-requires Inv-loop μ-loop
 root-square-requires c κs = search needs
 
--- src/lib.rt:161:9
 begun-requires : tie.Need-begun-requires Inv-loop μ-loop
 begun-requires c κs = search needs
 
--- src/lib.rt:162:9
 source-begin-requires : tie.Need-source-begin-requires Inv-loop μ-loop
 source-begin-requires c κs = search needs
 
--- src/lib.rt:164:5
 loop-holds : tie.Need-loop-holds Inv-loop μ-loop
 loop-holds c = let a = c .before .before .before .before .before .before .before .args in let t = tables (now (a .plan)) (now (a .areas)) (now (a .xs)) (now (a .ys)) in let v = env (t .areas) (t .xs) (t .ys) (a .b) in let B = base t (a .records) (a .b) (c .before .before .before .before .before .before .before .pre) in loop-begin v (drawingIn t) (t .plan) (a .records) (wordsIn t) B (c .source-begin .result) (c .before .begun .result) (c .source-begin .ensures) (c .before .begun .ensures .0) (c .before .begun .ensures .1)
 
--- src/lib.rt:165:13
 source-entry-requires : tie.Need-source-entry-requires Inv-loop μ-loop
 source-entry-requires c κs = let a = c .before .before .before .before .before .before .before .before .before .args in let t = tables (now (a .plan)) (now (a .areas)) (now (a .xs)) (now (a .ys)) in let v = env (t .areas) (t .xs) (t .ys) (a .b) in let B = base t (a .records) (a .b) (c .before .before .before .before .before .before .before .before .before .pre) in (B .long, c .loop-test .taken, source-few (t .plan) (a .records) (c .before .loop .i) (c .before .loop .c) (c .before .loop .inv .ws) (c .before .loop .inv .ahead) .1)
 
--- src/lib.rt:166:13
 left-of-requires : tie.Need-left-of-requires Inv-loop μ-loop
 left-of-requires c κs = let a = c .before .before .before .before .before .before .before .before .before .before .args in let t = tables (now (a .plan)) (now (a .areas)) (now (a .xs)) (now (a .ys)) in let v = env (t .areas) (t .xs) (t .ys) (a .b) in let B = base t (a .records) (a .b) (c .before .before .before .before .before .before .before .before .before .before .pre) in ((B .ready .xs, B .ready .ys), (rw (c .source-entry .ensures) (loop-left v (drawingIn t) (t .plan) (a .records) (wordsIn t) B (c .before .before .loop .i) (c .before .before .loop .c) (c .before .before .loop .m) (c .before .before .loop .inv) (c .before .loop-test .taken)), rw (c .before .before .before .before .before .root-square .ensures) root-in))
 
--- src/lib.rt:167:13
 made-after-requires : tie.Need-made-after-requires Inv-loop μ-loop
 made-after-requires c κs = let a = c .before .before .before .before .before .before .before .before .before .before .before .args in let t = tables (now (a .plan)) (now (a .areas)) (now (a .xs)) (now (a .ys)) in let v = env (t .areas) (t .xs) (t .ys) (a .b) in let B = base t (a .records) (a .b) (c .before .before .before .before .before .before .before .before .before .before .before .pre) in rw (c .left-of .ensures .0, c .before .source-entry .ensures) (loop-asks v (drawingIn t) (t .plan) (a .records) (wordsIn t) B (c .before .before .before .loop .i) (c .before .before .before .loop .c) (c .before .before .before .loop .m) (c .before .before .before .loop .inv) (c .before .before .loop-test .taken), loop-sign v (drawingIn t) (t .plan) (a .records) (wordsIn t) B (c .before .before .before .loop .i) (c .before .before .before .loop .c) (c .before .before .before .loop .m) (c .before .before .before .loop .inv) (c .before .before .loop-test .taken))
 
--- src/lib.rt:169:34
 add-source-after : tie.Need-add-source-after Inv-loop μ-loop
 add-source-after c = let a = c .before .before .before .before .before .before .before .before .before .before .before .before .args in let t = tables (now (a .plan)) (now (a .areas)) (now (a .xs)) (now (a .ys)) in let v = env (t .areas) (t .xs) (t .ys) (a .b) in let B = base t (a .records) (a .b) (c .before .before .before .before .before .before .before .before .before .before .before .before .pre) in record { fits = omega (arith, B .few, c .before .before .before .loop-test .taken) }
 
--- src/lib.rt:169:29
 mul-source-after : tie.Need-mul-source-after Inv-loop μ-loop
 mul-source-after c = let a = c .before .before .before .before .before .before .before .before .before .before .before .before .args in let t = tables (now (a .plan)) (now (a .areas)) (now (a .xs)) (now (a .ys)) in let v = env (t .areas) (t .xs) (t .ys) (a .b) in let B = base t (a .records) (a .b) (c .before .before .before .before .before .before .before .before .before .before .before .before .pre) in record { fits = omega (arith, B .few, c .before .before .before .loop-test .taken) }
 
--- src/lib.rt:169:29
 shared-slice-read-source-after : tie.Need-shared-slice-read-source-after Inv-loop μ-loop
 shared-slice-read-source-after c = let a = c .before .before .before .before .before .before .before .before .before .before .before .before .before .args in let t = tables (now (a .plan)) (now (a .areas)) (now (a .xs)) (now (a .ys)) in let v = env (t .areas) (t .xs) (t .ys) (a .b) in let B = base t (a .records) (a .b) (c .before .before .before .before .before .before .before .before .before .before .before .before .before .pre) in omega (arith, B .long, c .before .before .before .before .loop-test .taken)
 
--- src/lib.rt:169:9
 source-after-requires : tie.Need-source-after-requires Inv-loop μ-loop
 source-after-requires c κs = let a = c .before .before .before .before .before .before .before .before .before .before .before .before .before .args in let t = tables (now (a .plan)) (now (a .areas)) (now (a .xs)) (now (a .ys)) in let v = env (t .areas) (t .xs) (t .ys) (a .b) in let B = base t (a .records) (a .b) (c .before .before .before .before .before .before .before .before .before .before .before .before .before .pre) in source-few (t .plan) (a .records) (c .before .before .before .before .before .loop .i) (c .before .before .before .before .before .loop .c) (c .before .before .before .before .before .loop .inv .ws) (c .before .before .before .before .before .loop .inv .ahead)
 
--- src/lib.rt:170:9
 add-i : tie.Need-add-i Inv-loop μ-loop
 add-i c = let a = c .before .before .before .before .before .before .before .before .before .before .before .before .before .before .args in let t = tables (now (a .plan)) (now (a .areas)) (now (a .xs)) (now (a .ys)) in let v = env (t .areas) (t .xs) (t .ys) (a .b) in let B = base t (a .records) (a .b) (c .before .before .before .before .before .before .before .before .before .before .before .before .before .before .pre) in record { fits = omega (arith, B .few, c .before .before .before .before .before .loop-test .taken) }
 
--- src/lib.rt:164:5
 loop-less : tie.Need-loop-less Inv-loop μ-loop
 loop-less c = search needs
 
--- src/lib.rt:164:5
 loop-again : tie.Need-loop-again Inv-loop μ-loop
 loop-again c = let a = c .before .before .before .before .before .before .before .before .before .before .before .before .before .before .args in let t = tables (now (a .plan)) (now (a .areas)) (now (a .xs)) (now (a .ys)) in let v = env (t .areas) (t .xs) (t .ys) (a .b) in let B = base t (a .records) (a .b) (c .before .before .before .before .before .before .before .before .before .before .before .before .before .before .pre) in loop-turn v (drawingIn t) (t .plan) (a .records) (wordsIn t) B (c .before .before .before .before .before .before .loop .i) (c .before .before .before .before .before .before .loop .c) (c .before .before .before .before .before .before .loop .m) (c .before .before .before .before .before .before .loop .inv) (c .before .before .before .before .before .loop-test .taken) (c .before .before .made-after .result) (c .before .before .before .before .source-entry .result) (c .before .before .before .before .before .before .before .before .before .root-square .result) (c .before .before .before .left-of .result .class) (c .before .before .before .left-of .result .sign) (c .source-after .result) (c .before .before .before .before .source-entry .ensures) (c .before .before .before .before .source-entry .ok .1 .1 .1 .1 .0 .1) (c .before .before .before .before .before .before .before .before .before .root-square .ensures) (c .before .before .before .left-of .ensures .1) (c .before .before .before .left-of .ensures .0) (c .before .before .made-after .ensures .0) (c .before .before .made-after .ensures .1) (c .source-after .ensures)
 
--- src/lib.rt:172:5
 made-size-requires : tie.Need-made-size-requires Inv-loop μ-loop
 made-size-requires c κs = let a = c .before .before .before .before .before .before .before .before .before .args in let t = tables (now (a .plan)) (now (a .areas)) (now (a .xs)) (now (a .ys)) in let v = env (t .areas) (t .xs) (t .ys) (a .b) in let B = base t (a .records) (a .b) (c .before .before .before .before .before .before .before .before .before .pre) in (end-inside v (drawingIn t) (t .plan) (a .records) (wordsIn t) B (c .before .loop .i) (c .before .loop .c) (c .before .loop .m) (c .before .loop .inv) (c .loop-test .left), end-room v (drawingIn t) (t .plan) (a .records) (wordsIn t) B (c .before .loop .i) (c .before .loop .c) (c .before .loop .m) (c .before .loop .inv) (c .loop-test .left))
 
--- src/lib.rt:149:1
 returns : tie.Need-returns Inv-loop μ-loop
 returns c = let a = c .before .before .before .before .before .before .before .before .before .before .args in let t = tables (now (a .plan)) (now (a .areas)) (now (a .xs)) (now (a .ys)) in let v = env (t .areas) (t .xs) (t .ys) (a .b) in let B = base t (a .records) (a .b) (c .before .before .before .before .before .before .before .before .before .before .pre) in c .made-size .ensures ∙ (end-size v (drawingIn t) (t .plan) (a .records) (wordsIn t) B (c .before .before .loop .i) (c .before .before .loop .c) (c .before .before .loop .m) (c .before .before .loop .inv) (c .before .loop-test .left) ∙ ap (total rowSize) (base-made t (a .records) (a .b) (c .before .before .before .before .before .before .before .before .before .before .pre)))
 

@@ -1,3 +1,4 @@
+-- `opening::delimiter` meets its contract. Assumes nothing.
 use borrow.Author.Needs.{needs}
 use Rattle.opening.proofs.delimiter.Statement.{statement}
 use Rattle.opening.proofs.delimiter.Tie as tie
@@ -6,27 +7,21 @@ use Rattle.opening.proofs.delimiter.Lts as lts
 use Rattle.opening.proofs.mark.Reads as mark-reads
 use Rattle.laws.proofs.Tests.{tests}
 
--- src/lib.rt:69:9
 mark-requires : tie.Need-mark-requires
 mark-requires c κs = search needs
 
--- src/lib.rt:69:9
 returns : tie.Need-returns
 returns c = rw (c .mark .ensures) (search tests)
 
--- src/lib.rt:72:9
 mark-requires-2 : tie.Need-mark-requires-2
 mark-requires-2 c κs = search needs
 
--- src/lib.rt:72:9
 returns-2 : tie.Need-returns-2
 returns-2 c = rw (c .mark2 .ensures) (search tests)
 
--- src/lib.rt:74:5
 mark-requires-3 : tie.Need-mark-requires-3
 mark-requires-3 c κs = search needs
 
--- src/lib.rt:65:1
 returns-3 : tie.Need-returns-3
 returns-3 c = rw (c .mark3 .ensures) (search tests)
 

@@ -1,3 +1,4 @@
+-- `opening::edge_end` meets its contract. Assumes nothing.
 use borrow.Author.Needs.{needs}
 use Rattle.opening.proofs.edge_end.Statement.{statement}
 use Rattle.opening.proofs.edge_end.Tie as tie
@@ -5,35 +6,27 @@ use Rattle.opening.proofs.edge_end.Reads as reads
 use Rattle.opening.proofs.edge_end.Lts as lts
 use Rattle.laws.proofs.Tests.{tests}
 
--- src/lib.rt:32:8
 add-if1 : tie.Need-add-if1
 add-if1 c = search needs
 
--- src/lib.rt:33:17
 add-if2 : tie.Need-add-if2
 add-if2 c = search needs
 
--- src/lib.rt:33:12
 mul-if2 : tie.Need-mul-if2
 mul-if2 c = search needs
 
--- src/lib.rt:33:12
 shared-slice-read-if2 : tie.Need-shared-slice-read-if2
 shared-slice-read-if2 c = search needs
 
--- src/lib.rt:34:20
 add-result : tie.Need-add-result
 add-result c = search needs
 
--- src/lib.rt:34:13
 returns : tie.Need-returns
 returns c = search tests
 
--- src/lib.rt:36:9
 returns-2 : tie.Need-returns-2
 returns-2 c = search tests
 
--- src/lib.rt:28:1
 returns-3 : tie.Need-returns-3
 returns-3 c = search tests
 

@@ -1,3 +1,4 @@
+-- `opening::edge_from` meets its contract. Assumes nothing.
 use borrow.Author.Needs.{needs}
 use Rattle.opening.proofs.edge_from.Statement.{statement}
 use Rattle.opening.proofs.edge_from.Tie as tie
@@ -8,11 +9,9 @@ use mathlib.Core.Path.{ap}
 use Prim.Native.Nat.{ℕ}
 use Rattle.reading.specs.Words.{words}
 
--- src/lib.rt:45:9
 edge-end-requires : tie.Need-edge-end-requires
 edge-end-requires c κs = search needs
 
--- src/lib.rt:41:1
 returns : tie.Need-returns
 returns c = ap (λ (q : ℕ). words 5 (c .before .before .args .corner) q 0) (c .edge-end .ensures)
 

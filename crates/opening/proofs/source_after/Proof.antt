@@ -1,3 +1,4 @@
+-- `opening::source_after` meets its contract. Assumes nothing.
 use borrow.Author.Needs.{needs}
 use Rattle.opening.proofs.source_after.Statement.{statement}
 use Rattle.opening.proofs.source_after.Tie as tie
@@ -5,31 +6,24 @@ use Rattle.opening.proofs.source_after.Reads as reads
 use Rattle.opening.proofs.source_after.Lts as lts
 use Rattle.laws.proofs.Tests.{tests}
 
--- src/lib.rt:107:19
 add-t4 : tie.Need-add-t4
 add-t4 c = search needs
 
--- src/lib.rt:106:9
 returns : tie.Need-returns
 returns c = search tests
 
--- src/lib.rt:115:21
 add-t5 : tie.Need-add-t5
 add-t5 c = search needs
 
--- src/lib.rt:113:9
 returns-2 : tie.Need-returns-2
 returns-2 c = search tests
 
--- src/lib.rt:122:21
 add-t6 : tie.Need-add-t6
 add-t6 c = search needs
 
--- src/lib.rt:120:9
 returns-3 : tie.Need-returns-3
 returns-3 c = search tests
 
--- src/lib.rt:101:1
 returns-4 : tie.Need-returns-4
 returns-4 c = search tests
 

@@ -1,37 +1,27 @@
+-- `pruner::after_bar` meets its contract. Assumes nothing.
 use borrow.Author.Needs.{needs}
 use Rattle.pruner.proofs.after_bar.Statement.{statement}
 use Rattle.pruner.proofs.after_bar.Tie as tie
-use Rattle.pruner.proofs.after_bar.Reads as reads
-use Rattle.pruner.proofs.after_bar.Lts as lts
-use Rattle.pruner.proofs.at_bar.Reads as at-bar-reads
-use Rattle.pruner.proofs.frame_at.Reads as frame-at-reads
-use Rattle.laws.proofs.Tests.{tests}
 use Rattle.pruner.proofs.Laws.{bar-is, bar-none, bar-deep, frames-some}
-use mathlib.Core.Path.{_∙_, sym, ap}
+use mathlib.Core.Path.{_∙_}
 use native.Mathlib.Omega.{arith}
 use Prim.Native.Nat.{_-_}
 
--- src/lib.rt:189:13
 returns : tie.Need-returns
 returns c = bar-none _ (search needs) (search needs)
 
--- src/lib.rt:191:17
 sub-d : tie.Need-sub-d
 sub-d c = search needs
 
--- src/lib.rt:192:13
 frame-at-requires : tie.Need-frame-at-requires
 frame-at-requires c κs = search needs
 
--- src/lib.rt:193:9
 at-bar-requires : tie.Need-at-bar-requires
 at-bar-requires c κs = search needs
 
--- src/lib.rt:193:9
 returns-2 : tie.Need-returns-2
 returns-2 c = c .at-bar .ensures ∙ bar-is (c .before .before .before .before .before .before .before .args .p) (c .before .before .before .before .before .before .before .args .p .depth - 1) (c .before .frame-at .result) (search needs) (rw (c .before .frame-at .ensures) (frames-some (c .before .before .before .before .before .before .before .args .p .frames) (c .before .before .before .before .before .before .before .args .p .depth) (omega (arith, c .before .before .before .if2 .left))))
 
--- src/lib.rt:182:1
 returns-3 : tie.Need-returns-3
 returns-3 c = bar-deep _ (search needs)
 

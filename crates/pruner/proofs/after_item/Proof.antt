@@ -1,55 +1,40 @@
+-- `pruner::after_item` meets its contract. Assumes nothing.
 use borrow.Author.Needs.{needs}
 use Rattle.pruner.proofs.after_item.Statement.{statement}
 use Rattle.pruner.proofs.after_item.Tie as tie
-use Rattle.pruner.proofs.after_item.Reads as reads
-use Rattle.pruner.proofs.after_item.Lts as lts
-use Rattle.pruner.proofs.unframed.Reads as unframed-reads
 use Rattle.laws.proofs.Tests.{tests}
-use Rattle.pruner.proofs.Laws.{item-is}
-use mathlib.Core.Path.{_∙_, sym, ap}
 use Rattle.pruner.proofs.Laws.{item-by}
 
--- src/lib.rt:97:13
 returns : tie.Need-returns
 returns c = item-by (c .before .before .before .args .p) (c .before .before .before .args .paint) (c .before .before .before .args .class) (c .before .before .before .args .size) _ (search tests)
 
--- src/lib.rt:101:45
 add-unframed : tie.Need-add-unframed
 add-unframed c = search needs
 
--- src/lib.rt:101:17
 unframed-requires : tie.Need-unframed-requires
 unframed-requires c κs = search needs
 
--- src/lib.rt:101:17
 returns-2 : tie.Need-returns-2
 returns-2 c = item-by (c .before .before .before .before .before .before .before .args .p) (c .before .before .before .before .before .before .before .args .paint) (c .before .before .before .before .before .before .before .args .class) (c .before .before .before .before .before .before .before .args .size) _ (search (tests, c .before .before .if4 .taken))
 
--- src/lib.rt:103:41
 add-unframed-2 : tie.Need-add-unframed-2
 add-unframed-2 c = search needs
 
--- src/lib.rt:103:13
 unframed-requires-2 : tie.Need-unframed-requires-2
 unframed-requires-2 c κs = search needs
 
--- src/lib.rt:103:13
 returns-3 : tie.Need-returns-3
 returns-3 c = item-by (c .before .before .before .before .before .before .before .args .p) (c .before .before .before .before .before .before .before .args .paint) (c .before .before .before .before .before .before .before .args .class) (c .before .before .before .before .before .before .before .args .size) _ (search (tests, c .before .before .if4 .left))
 
--- src/lib.rt:105:37
 add-unframed-3 : tie.Need-add-unframed-3
 add-unframed-3 c = search needs
 
--- src/lib.rt:105:9
 unframed-requires-3 : tie.Need-unframed-requires-3
 unframed-requires-3 c κs = search needs
 
--- src/lib.rt:105:9
 returns-4 : tie.Need-returns-4
 returns-4 c = item-by (c .before .before .before .before .before .before .args .p) (c .before .before .before .before .before .before .args .paint) (c .before .before .before .before .before .before .args .class) (c .before .before .before .before .before .before .args .size) _ (search tests)
 
--- src/lib.rt:90:1
 returns-5 : tie.Need-returns-5
 returns-5 c = item-by (c .before .before .args .p) (c .before .before .args .paint) (c .before .before .args .class) (c .before .before .args .size) _ (search tests)
 

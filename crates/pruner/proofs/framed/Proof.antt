@@ -1,26 +1,19 @@
+-- `pruner::framed` meets its contract. Assumes nothing.
 use borrow.Author.Needs.{needs}
 use Rattle.pruner.proofs.framed.Statement.{statement}
 use Rattle.pruner.proofs.framed.Tie as tie
-use Rattle.pruner.proofs.framed.Reads as reads
-use Rattle.pruner.proofs.framed.Lts as lts
 use Rattle.pruner.specs.Numbers.{counted}
 use Rattle.pruner.proofs.Laws.{set-top-of-eight}
-use mathlib.Core.Path.{ap}
-use Rattle.pruning.specs.Counters.{ct}
 
--- src/lib.rt:63:5
 mul-frames : tie.Need-mul-frames
 mul-frames c = search needs
 
--- src/lib.rt:63:5
 array-set-from-frames : tie.Need-array-set-from-frames
 array-set-from-frames c = search needs
 
--- src/lib.rt:68:16
 add-t8 : tie.Need-add-t8
 add-t8 c = search needs
 
--- src/lib.rt:58:1
 returns : tie.Need-returns
 unfolding counted
 returns c = rw (set-top-of-eight _ (c .before .args .p .frames) (c .before .args .f) (c .before .args .d) (c .before .good .0 .1 .1 .1 .1 .1 .1 .0 .1 .0 .1) (search needs))

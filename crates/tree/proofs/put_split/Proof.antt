@@ -1,54 +1,39 @@
+-- `tree::put_split` meets its contract. Assumes nothing.
 use borrow.Author.Needs.{needs}
 use Rattle.tree.proofs.put_split.Statement.{statement}
 use Rattle.tree.proofs.put_split.Tie as tie
-use Rattle.tree.proofs.put_split.Reads as reads
-use Rattle.tree.proofs.put_split.Lts as lts
-use Rattle.children.proofs.write_four.Reads as write-four-reads
-use Rattle.tree.proofs.put_cells.Reads as put-cells-reads
-use Rattle.tree.proofs.put_head.Reads as put-head-reads
 use native.Mathlib.Omega.{arith}
 
--- src/lib.rt:110:17
 cast-first : tie.Need-cast-first
 cast-first c = search needs
 
--- src/lib.rt:111:17
 cast-count : tie.Need-cast-count
 cast-count c = search needs
 
--- src/lib.rt:112:5
 write-four-requires : tie.Need-write-four-requires
 write-four-requires c κs = let p = c .before .before .before .before .before .before .before .before .before .pre in (p .0, (p .1 .0, (p .1 .1 .0, (p .1 .1 .1 .0, (p .1 .1 .1 .1 .0, p .1 .1 .1 .1 .1 .0)))))
 
--- src/lib.rt:113:5
 put-cells-requires : tie.Need-put-cells-requires
 put-cells-requires c κs = let p = c .before .before .before .before .before .before .before .before .before .before .before .before .before .pre in (p .1 .0, (p .1 .1 .0, (p .1 .1 .1 .1 .1 .1 .1 .0, ((p .1 .1 .1 .1 .1 .1 .1 .1 .0 .0, p .1 .1 .1 .1 .1 .1 .1 .1 .0 .1), (p .1 .1 .1 .1 .1 .1 .0, p .1 .1 .1 .1 .1 .1 .1 .1 .1 .0)))))
 
--- src/lib.rt:114:20
 add-put-head : tie.Need-add-put-head
 add-put-head c = record { fits = omega (arith, c .before .before .before .before .before .before .before .before .before .before .before .before .before .before .before .before .before .pre .1 .1 .1 .1 .1 .1 .1 .1 .0 .0) }
 
--- src/lib.rt:114:30
 add-put-head-2 : tie.Need-add-put-head-2
 add-put-head-2 c = record { fits = omega (arith, c .before .before .before .before .before .before .before .before .before .before .before .before .before .before .before .before .before .pre .1 .1 .1 .1 .1 .1 .1 .1 .0 .1, c .before .before .before .before .before .before .before .before .before .before .before .before .before .before .before .before .before .pre .1 .1 .1 .1 .1 .1 .1 .1 .0 .2) }
 
--- src/lib.rt:114:5
 put-head-requires : tie.Need-put-head-requires
 put-head-requires c κs = c .before .before .before .before .before .before .before .before .before .before .before .before .before .before .before .before .before .pre .1 .1 .1 .1 .1 .1 .1 .1 .1 .1
 
--- src/lib.rt:81:1
 same-length : tie.Need-same-length
 same-length c = search needs
 
--- src/lib.rt:81:1
 same-length-2 : tie.Need-same-length-2
 same-length-2 c = search needs
 
--- src/lib.rt:81:1
 same-length-3 : tie.Need-same-length-3
 same-length-3 c = search needs
 
--- src/lib.rt:81:1
 returns : tie.Need-returns
 returns c = (c .before .before .put-head .ensures, (c .before .before .before .before .before .before .put-cells .ensures, c .before .before .before .before .before .before .before .before .before .before .write-four .ensures))
 

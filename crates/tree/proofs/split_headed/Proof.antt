@@ -1,11 +1,8 @@
+-- `tree::split_headed` meets its contract. Assumes nothing.
 use borrow.Author.Needs.{needs}
 use Rattle.tree.proofs.split_headed.Statement.{statement}
 use Rattle.tree.proofs.split_headed.Tie as tie
-use Rattle.tree.proofs.split_headed.Reads as reads
-use Rattle.tree.proofs.split_headed.Lts as lts
-use Rattle.celltable.proofs.head_fits.Reads as head-fits-reads
-use Rattle.tree.proofs.split_counted.Reads as split-counted-reads
-use mathlib.Core.Path.{_≡_, sym, ap, _∙_, refl}
+use mathlib.Core.Path.{sym, _∙_, refl}
 use mathlib.Core.Bool.{cond}
 use native.Mathlib.Omega.{arith}
 use denote.Ref.{now}
@@ -19,47 +16,36 @@ use Rattle.tree.specs.Split.{tree, drawingSplit}
 use Rattle.tree.proofs.Choices.{pick-true, pick-false}
 use Rattle.tree.proofs.Heads.{head-passes}
 
--- src/lib.rt:309:8
 head-fits-requires : tie.Need-head-fits-requires
 head-fits-requires c κs = search needs
 
--- src/lib.rt:311:24
 slice-read-free : tie.Need-slice-read-free
 slice-read-free c = let a = c .before .before .before .before .before .before .before .before .before .before .before .before .args in let p = c .before .before .before .before .before .before .before .before .before .before .before .before .pre in let T = tree (now (a .plan)) (now (a .areas)) (now (a .xs)) (now (a .ys)) (now (a .head)) (now (a .cells)) (now (a .entries)) in head-passes (now (a .head)) (now (a .cells)) (length (now (a .entries))) (sym (c .before .before .before .head-fits .ensures) ∙ c .before .before .if1 .taken) .0
 
--- src/lib.rt:312:13
 split-counted-requires : tie.Need-split-counted-requires
 split-counted-requires c κs = let a = c .before .before .before .before .before .before .before .before .before .before .before .before .before .before .before .args in let p = c .before .before .before .before .before .before .before .before .before .before .before .before .before .before .before .pre in let T = tree (now (a .plan)) (now (a .areas)) (now (a .xs)) (now (a .ys)) (now (a .head)) (now (a .cells)) (now (a .entries)) in let h = head-passes (now (a .head)) (now (a .cells)) (length (now (a .entries))) (sym (c .before .before .before .before .before .before .head-fits .ensures) ∙ c .before .before .before .before .before .if1 .taken) in ((omega (arith, h .1, p .1), h .3, omega (arith, h .2, p .1)), ((p .0, h .0), (c .before .before .before .before .if2 .taken, (p .1, refl))))
 
--- src/lib.rt:312:13
 same-length : tie.Need-same-length
 same-length c = search needs
 
--- src/lib.rt:312:13
 same-length-2 : tie.Need-same-length-2
 same-length-2 c = search needs
 
--- src/lib.rt:312:13
 same-length-3 : tie.Need-same-length-3
 same-length-3 c = search needs
 
--- src/lib.rt:312:13
 returns : tie.Need-returns
 returns c = let a = c .before .before .before .before .before .before .before .before .before .before .before .before .before .before .before .before .before .before .before .before .before .before .args in let p = c .before .before .before .before .before .before .before .before .before .before .before .before .before .before .before .before .before .before .before .before .before .before .pre in let T = tree (now (a .plan)) (now (a .areas)) (now (a .xs)) (now (a .ys)) (now (a .head)) (now (a .cells)) (now (a .entries)) in let e = c .before .before .before .before .before .before .split-counted .ensures in (e .0 ∙ (pick-true (leb 3 (length (now (a .plan)))) (drawingSplit T (a .i)) (Not Broken) (le-leb 3 (length (now (a .plan))) (c .before .before .before .before .before .before .before .before .before .before .before .if2 .taken)) ∙ pick-true (headRange (now (a .head)) (length (now (a .cells))) (length (now (a .entries)))) (cond (leb 3 (length (now (a .plan)))) (drawingSplit T (a .i)) (Not Broken)) (Not Broken) (sym (c .before .before .before .before .before .before .before .before .before .before .before .before .before .head-fits .ensures) ∙ c .before .before .before .before .before .before .before .before .before .before .before .before .if1 .taken)), e .1)
 
--- src/lib.rt:314:9
 same-length-4 : tie.Need-same-length-4
 same-length-4 c = search needs
 
--- src/lib.rt:314:9
 returns-2 : tie.Need-returns-2
 returns-2 c = let a = c .before .before .before .before .before .before .before .before .before .before .before .args in let p = c .before .before .before .before .before .before .before .before .before .before .before .pre in let T = tree (now (a .plan)) (now (a .areas)) (now (a .xs)) (now (a .ys)) (now (a .head)) (now (a .cells)) (now (a .entries)) in (pick-false (leb 3 (length (now (a .plan)))) (drawingSplit T (a .i)) (Not Broken) (lt-leb 3 (length (now (a .plan))) (c .if2 .left)) ∙ pick-true (headRange (now (a .head)) (length (now (a .cells))) (length (now (a .entries)))) (cond (leb 3 (length (now (a .plan)))) (drawingSplit T (a .i)) (Not Broken)) (Not Broken) (sym (c .before .before .head-fits .ensures) ∙ c .before .if1 .taken), (refl, (refl, refl)))
 
--- src/lib.rt:289:1
 same-length-5 : tie.Need-same-length-5
 same-length-5 c = search needs
 
--- src/lib.rt:289:1
 returns-3 : tie.Need-returns-3
 returns-3 c = let a = c .before .before .before .before .before .before .before .before .before .before .args in let p = c .before .before .before .before .before .before .before .before .before .before .pre in let T = tree (now (a .plan)) (now (a .areas)) (now (a .xs)) (now (a .ys)) (now (a .head)) (now (a .cells)) (now (a .entries)) in (pick-false (headRange (now (a .head)) (length (now (a .cells))) (length (now (a .entries)))) (cond (leb 3 (length (now (a .plan)))) (drawingSplit T (a .i)) (Not Broken)) (Not Broken) (sym (c .before .head-fits .ensures) ∙ c .if1 .left), (refl, (refl, refl)))
 

@@ -1,15 +1,9 @@
+-- `tree::split_in_room` meets its contract. Assumes nothing.
 use borrow.Author.Needs.{needs}
 use Rattle.tree.proofs.split_in_room.Statement.{statement}
 use Rattle.tree.proofs.split_in_room.Tie as tie
-use Rattle.tree.proofs.split_in_room.Reads as reads
-use Rattle.tree.proofs.split_in_room.Lts as lts
-use Rattle.children.proofs.count_four.Reads as count-four-reads
-use Rattle.tree.proofs.cells_held.Reads as cells-held-reads
-use Rattle.tree.proofs.entries_held.Reads as entries-held-reads
-use Rattle.tree.proofs.entries_of.Reads as entries-of-reads
-use Rattle.tree.proofs.put_split.Reads as put-split-reads
-use mathlib.Core.Path.{_≡_, sym, ap, _∙_, refl}
-use Prim.Native.Nat.{_+_, _*_}
+use mathlib.Core.Path.{sym, _∙_, refl}
+use Prim.Native.Nat.{_+_}
 use native.Mathlib.Omega.{arith}
 use denote.Ref.{now}
 use lib.ListN.{length}
@@ -19,75 +13,57 @@ use Rattle.celltable.specs.Ranges.{cellOf}
 use Rattle.tree.specs.Split.{madeBy}
 use Rattle.tree.proofs.Rooms.{few-each, sum-is, cells-room, entries-room, has-room, no-entries, no-cells}
 
--- src/lib.rt:142:17
 cast-first : tie.Need-cast-first
 cast-first c = search needs
 
--- src/lib.rt:143:17
 cast-count : tie.Need-cast-count
 cast-count c = search needs
 
--- src/lib.rt:144:9
 count-four-requires : tie.Need-count-four-requires
 count-four-requires c κs = search needs
 
--- src/lib.rt:145:9
 entries-of-requires : tie.Need-entries-of-requires
 entries-of-requires c κs = let a = c .before .before .before .before .before .before .before .before .before .before .args in let p = c .before .before .before .before .before .before .before .before .before .before .pre in let D = lent (now (a .areas)) (now (a .xs)) (now (a .ys)) (a .b) in let ws = wordsFrom (now (a .entries)) (a .w .first) (a .w .count) in let K = cellOf (a .w) in few-each (now (a .entries)) (now (a .areas)) (now (a .xs)) (now (a .ys)) (a .b) (a .w .first) (a .w .count) K (c .count-four .result) (p .0) (c .count-four .ensures)
 
--- src/lib.rt:146:15
 add-all : tie.Need-add-all
 add-all c = let a = c .before .before .before .before .before .before .before .before .before .before .before .args in let p = c .before .before .before .before .before .before .before .before .before .before .before .pre in let D = lent (now (a .areas)) (now (a .xs)) (now (a .ys)) (a .b) in let ws = wordsFrom (now (a .entries)) (a .w .first) (a .w .count) in let K = cellOf (a .w) in let f = few-each (now (a .entries)) (now (a .areas)) (now (a .xs)) (now (a .ys)) (a .b) (a .w .first) (a .w .count) K (c .before .count-four .result) (p .0) (c .before .count-four .ensures) in record { fits = omega (arith, p .1 .1 .1 .1 .0 .1, c .entries-of .ensures, f .few 0 (omega arith), f .few 1 (omega arith), f .few 2 (omega arith), f .few 3 (omega arith)) }
 
--- src/lib.rt:147:19
 add-cells-held : tie.Need-add-cells-held
 add-cells-held c = search needs
 
--- src/lib.rt:147:8
 cells-held-requires : tie.Need-cells-held-requires
 cells-held-requires c κs = search needs
 
--- src/lib.rt:148:12
 entries-held-requires : tie.Need-entries-held-requires
 entries-held-requires c κs = search needs
 
--- src/lib.rt:149:78
 cast-put-split : tie.Need-cast-put-split
 cast-put-split c = let a = c .before .before .before .before .before .before .before .before .before .before .before .before .before .before .before .before .before .before .args in let p = c .before .before .before .before .before .before .before .before .before .before .before .before .before .before .before .before .before .before .pre in let D = lent (now (a .areas)) (now (a .xs)) (now (a .ys)) (a .b) in let ws = wordsFrom (now (a .entries)) (a .w .first) (a .w .count) in let K = cellOf (a .w) in record { fits = omega (arith, entries-room (a .free + c .before .before .before .before .before .before .before .entries-of .result) (length (now (a .entries))) (sym (c .before .before .before .before .entries-held .ensures) ∙ c .before .before .before .if2 .taken) .1) }
 
--- src/lib.rt:149:13
 put-split-requires : tie.Need-put-split-requires
 put-split-requires c κs = let a = c .before .before .before .before .before .before .before .before .before .before .before .before .before .before .before .before .before .before .args in let p = c .before .before .before .before .before .before .before .before .before .before .before .before .before .before .before .before .before .before .pre in let D = lent (now (a .areas)) (now (a .xs)) (now (a .ys)) (a .b) in let ws = wordsFrom (now (a .entries)) (a .w .first) (a .w .count) in let K = cellOf (a .w) in let n = sum-is D K ws (c .before .before .before .before .before .before .before .before .count-four .result) (c .before .before .before .before .before .before .before .entries-of .result) (c .before .before .before .before .before .before .before .before .count-four .ensures) (c .before .before .before .before .before .before .before .entries-of .ensures) in let e = entries-room (a .free + c .before .before .before .before .before .before .before .entries-of .result) (length (now (a .entries))) (sym (c .before .before .before .before .entries-held .ensures) ∙ c .before .before .before .if2 .taken) in let k = cells-room (a .used + 4) (length (now (a .cells))) (sym (c .before .before .before .before .before .before .cells-held .ensures) ∙ c .before .before .before .before .before .if1 .taken) in (p .0, (p .1 .0, (p .1 .1 .0, (p .1 .1 .1 .0, (c .before .before .before .before .before .before .before .before .count-four .ensures, (omega (arith, e .0, n), (few-each (now (a .entries)) (now (a .areas)) (now (a .xs)) (now (a .ys)) (a .b) (a .w .first) (a .w .count) K (c .before .before .before .before .before .before .before .before .count-four .result) (p .0) (c .before .before .before .before .before .before .before .before .count-four .ensures), (k .0, ((p .1 .1 .1 .1 .0 .0, p .1 .1 .1 .1 .0 .1, omega (arith, e .1)), (omega (arith, k .0, p .1 .1 .1 .1 .1 .0), p .1 .1 .1 .1 .1 .1))))))))))
 
--- src/lib.rt:150:13
 same-length : tie.Need-same-length
 same-length c = search needs
 
--- src/lib.rt:150:13
 same-length-2 : tie.Need-same-length-2
 same-length-2 c = search needs
 
--- src/lib.rt:150:13
 same-length-3 : tie.Need-same-length-3
 same-length-3 c = search needs
 
--- src/lib.rt:150:13
 returns : tie.Need-returns
 returns c = let a = c .before .before .before .before .before .before .before .before .before .before .before .before .before .before .before .before .before .before .before .before .before .before .before .before .before .args in let p = c .before .before .before .before .before .before .before .before .before .before .before .before .before .before .before .before .before .before .before .before .before .before .before .before .before .pre in let D = lent (now (a .areas)) (now (a .xs)) (now (a .ys)) (a .b) in let ws = wordsFrom (now (a .entries)) (a .w .first) (a .w .count) in let K = cellOf (a .w) in let n = sum-is D K ws (c .before .before .before .before .before .before .before .before .before .before .before .before .before .before .before .count-four .result) (c .before .before .before .before .before .before .before .before .before .before .before .before .before .before .entries-of .result) (c .before .before .before .before .before .before .before .before .before .before .before .before .before .before .before .count-four .ensures) (c .before .before .before .before .before .before .before .before .before .before .before .before .before .before .entries-of .ensures) in let s = c .before .before .before .before .before .before .put-split .ensures in (has-room (length (now (a .cells))) (length (now (a .entries))) (a .used) (a .free) (c .before .before .before .before .before .before .before .before .before .before .before .before .before .before .entries-of .result) (madeBy (now (a .areas)) (now (a .xs)) (now (a .ys)) (a .b) (a .w) (now (a .entries))) (sym (c .before .before .before .before .before .before .before .before .before .before .before .before .before .cells-held .ensures) ∙ c .before .before .before .before .before .before .before .before .before .before .before .before .if1 .taken) (sym (c .before .before .before .before .before .before .before .before .before .before .before .entries-held .ensures) ∙ c .before .before .before .before .before .before .before .before .before .before .if2 .taken) n, (rw (← n) (s .0), (rw (← c .before .before .before .before .before .before .before .before .before .before .before .before .before .before .before .count-four .ensures) (s .1 .0), s .1 .1)))
 
--- src/lib.rt:152:9
 same-length-4 : tie.Need-same-length-4
 same-length-4 c = search needs
 
--- src/lib.rt:152:9
 returns-2 : tie.Need-returns-2
 returns-2 c = let a = c .before .before .before .before .before .before .before .before .before .before .before .before .before .before .before .args in let p = c .before .before .before .before .before .before .before .before .before .before .before .before .before .before .before .pre in let D = lent (now (a .areas)) (now (a .xs)) (now (a .ys)) (a .b) in let ws = wordsFrom (now (a .entries)) (a .w .first) (a .w .count) in let K = cellOf (a .w) in (no-entries (length (now (a .cells))) (length (now (a .entries))) (a .used) (a .free) (c .before .before .before .before .entries-of .result) (madeBy (now (a .areas)) (now (a .xs)) (now (a .ys)) (a .b) (a .w) (now (a .entries))) (sym (c .before .before .before .cells-held .ensures) ∙ c .before .before .if1 .taken) (sym (c .before .entries-held .ensures) ∙ c .if2 .left) (sum-is D K ws (c .before .before .before .before .before .count-four .result) (c .before .before .before .before .entries-of .result) (c .before .before .before .before .before .count-four .ensures) (c .before .before .before .before .entries-of .ensures)), (refl, (refl, refl)))
 
--- src/lib.rt:118:1
 same-length-5 : tie.Need-same-length-5
 same-length-5 c = search needs
 
--- src/lib.rt:118:1
 returns-3 : tie.Need-returns-3
 returns-3 c = let a = c .before .before .before .before .before .before .before .before .before .before .before .before .before .args in let p = c .before .before .before .before .before .before .before .before .before .before .before .before .before .pre in let D = lent (now (a .areas)) (now (a .xs)) (now (a .ys)) (a .b) in let ws = wordsFrom (now (a .entries)) (a .w .first) (a .w .count) in let K = cellOf (a .w) in (no-cells (length (now (a .cells))) (length (now (a .entries))) (a .used) (a .free) (madeBy (now (a .areas)) (now (a .xs)) (now (a .ys)) (a .b) (a .w) (now (a .entries))) (sym (c .before .cells-held .ensures) ∙ c .if1 .left), (refl, (refl, refl)))
 

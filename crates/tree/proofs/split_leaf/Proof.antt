@@ -1,11 +1,8 @@
+-- `tree::split_leaf` meets its contract. Assumes nothing.
 use borrow.Author.Needs.{needs}
 use Rattle.tree.proofs.split_leaf.Statement.{statement}
 use Rattle.tree.proofs.split_leaf.Tie as tie
-use Rattle.tree.proofs.split_leaf.Reads as reads
-use Rattle.tree.proofs.split_leaf.Lts as lts
-use Rattle.stream.proofs.check_stream.Reads as check-stream-reads
-use Rattle.tree.proofs.split_in_room.Reads as split-in-room-reads
-use mathlib.Core.Path.{_≡_, sym, ap, _∙_, refl}
+use mathlib.Core.Path.{sym, _∙_, refl}
 use mathlib.Core.Bool.{cond}
 use native.Mathlib.Omega.{arith}
 use denote.Ref.{now}
@@ -20,51 +17,39 @@ use Rattle.tree.specs.declared.Answer.the-variants.{Not}
 use Rattle.tree.specs.Split.{madeBy, roomAnswer}
 use Rattle.tree.proofs.Choices.{pick-true, pick-false}
 
--- src/lib.rt:205:17
 cast-first : tie.Need-cast-first
 cast-first c = search needs
 
--- src/lib.rt:206:17
 cast-count : tie.Need-cast-count
 cast-count c = search needs
 
--- src/lib.rt:207:8
 check-stream-requires : tie.Need-check-stream-requires
 check-stream-requires c κs = search needs
 
--- src/lib.rt:209:13
 same-length : tie.Need-same-length
 same-length c = search needs
 
--- src/lib.rt:209:13
 returns : tie.Need-returns
 returns c = let a = c .before .before .before .before .before .before .before .before .before .before .before .before .before .args in let p = c .before .before .before .before .before .before .before .before .before .before .before .before .before .pre in (pick-true (eqb (a .w .side) 1) (Not Smallest) (roomAnswer (length (now (a .cells))) (length (now (a .entries))) (a .used) (a .free) (madeBy (now (a .areas)) (now (a .xs)) (now (a .ys)) (a .b) (a .w) (now (a .entries)))) (eq-eqb (a .w .side) 1 (c .if2 .taken)) ∙ pick-true (checkStream (now (a .entries)) (a .w .first) (a .w .count) (a .free) (env (now (a .areas)) (now (a .xs)) (now (a .ys)) (a .b))) (cond (eqb (a .w .side) 1) (Not Smallest) (roomAnswer (length (now (a .cells))) (length (now (a .entries))) (a .used) (a .free) (madeBy (now (a .areas)) (now (a .xs)) (now (a .ys)) (a .b) (a .w) (now (a .entries))))) (Not Broken) (sym (c .before .before .before .check-stream .ensures) ∙ c .before .before .if1 .taken), (refl, (refl, refl)))
 
--- src/lib.rt:211:9
 split-in-room-requires : tie.Need-split-in-room-requires
 split-in-room-requires c κs = let a = c .before .before .before .before .before .before .before .before .before .before .before .before .before .before .before .before .args in let p = c .before .before .before .before .before .before .before .before .before .before .before .before .before .before .before .before .pre in (passed (now (a .entries)) (a .w .first) (a .w .count) (a .free) (env (now (a .areas)) (now (a .xs)) (now (a .ys)) (a .b)) (sym (c .before .before .before .before .before .before .check-stream .ensures) ∙ c .before .before .before .before .before .if1 .taken), (p .0, (omega (arith, square-fits (a .w) (p .0) .some-side, c .before .before .before .if2 .left), (p .1 .0, (p .1 .1 .0, p .1 .1 .1)))))
 
--- src/lib.rt:211:9
 same-length-2 : tie.Need-same-length-2
 same-length-2 c = search needs
 
--- src/lib.rt:211:9
 same-length-3 : tie.Need-same-length-3
 same-length-3 c = search needs
 
--- src/lib.rt:211:9
 same-length-4 : tie.Need-same-length-4
 same-length-4 c = search needs
 
--- src/lib.rt:211:9
 returns-2 : tie.Need-returns-2
 returns-2 c = let a = c .before .before .before .before .before .before .before .before .before .before .before .before .before .before .before .before .before .before .before .before .before .before .before .args in let p = c .before .before .before .before .before .before .before .before .before .before .before .before .before .before .before .before .before .before .before .before .before .before .before .pre in let e = c .before .before .before .before .before .before .split-in-room .ensures in (e .0 ∙ (pick-false (eqb (a .w .side) 1) (Not Smallest) (roomAnswer (length (now (a .cells))) (length (now (a .entries))) (a .used) (a .free) (madeBy (now (a .areas)) (now (a .xs)) (now (a .ys)) (a .b) (a .w) (now (a .entries)))) (ne-eqb (a .w .side) 1 (c .before .before .before .before .before .before .before .before .before .before .if2 .left)) ∙ pick-true (checkStream (now (a .entries)) (a .w .first) (a .w .count) (a .free) (env (now (a .areas)) (now (a .xs)) (now (a .ys)) (a .b))) (cond (eqb (a .w .side) 1) (Not Smallest) (roomAnswer (length (now (a .cells))) (length (now (a .entries))) (a .used) (a .free) (madeBy (now (a .areas)) (now (a .xs)) (now (a .ys)) (a .b) (a .w) (now (a .entries))))) (Not Broken) (sym (c .before .before .before .before .before .before .before .before .before .before .before .before .before .check-stream .ensures) ∙ c .before .before .before .before .before .before .before .before .before .before .before .before .if1 .taken)), e .1)
 
--- src/lib.rt:183:1
 same-length-5 : tie.Need-same-length-5
 same-length-5 c = search needs
 
--- src/lib.rt:183:1
 returns-3 : tie.Need-returns-3
 returns-3 c = let a = c .before .before .before .before .before .before .before .before .before .before .before .args in let p = c .before .before .before .before .before .before .before .before .before .before .before .pre in (pick-false (checkStream (now (a .entries)) (a .w .first) (a .w .count) (a .free) (env (now (a .areas)) (now (a .xs)) (now (a .ys)) (a .b))) (cond (eqb (a .w .side) 1) (Not Smallest) (roomAnswer (length (now (a .cells))) (length (now (a .entries))) (a .used) (a .free) (madeBy (now (a .areas)) (now (a .xs)) (now (a .ys)) (a .b) (a .w) (now (a .entries))))) (Not Broken) (sym (c .before .check-stream .ensures) ∙ c .if1 .left), (refl, (refl, refl)))
 

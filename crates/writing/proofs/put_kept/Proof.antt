@@ -1,30 +1,22 @@
+-- `writing::put_kept` meets its contract. Assumes nothing.
 use borrow.Author.Needs.{needs}
 use Rattle.writing.proofs.put_kept.Statement.{statement}
 use Rattle.writing.proofs.put_kept.Tie as tie
-use Rattle.writing.proofs.put_kept.Reads as reads
-use Rattle.writing.proofs.put_kept.Lts as lts
-use Rattle.writing.proofs.put_below.Reads as put-below-reads
-use Rattle.writing.proofs.word_of.Reads as word-of-reads
 use Rattle.reading.proofs.Laws.{small-back}
 use native.Mathlib.Omega.{arith}
 
--- src/lib.rt:52:25
 enum-known-k : tie.Need-enum-known-k
 enum-known-k c = search needs
 
--- src/lib.rt:53:17
 word-of-requires : tie.Need-word-of-requires
 word-of-requires c κs = rw (small-back (c .before .before .before .before .before .args .l .sign) (omega (arith, c .before .before .before .before .before .pre .1))) (omega (arith, c .before .before .before .before .before .pre .1))
 
--- src/lib.rt:54:13
 put-below-requires : tie.Need-put-below-requires
 put-below-requires c κs = search needs
 
--- src/lib.rt:57:23
 enum-told : tie.Need-enum-told
 enum-told c = search needs
 
--- src/lib.rt:57:13
 put-below-requires-2 : tie.Need-put-below-requires-2
 put-below-requires-2 c κs = search needs
 
@@ -34,27 +26,21 @@ enum-told-2 c = search needs
 enum-told-3 : tie.Need-enum-told-3
 enum-told-3 c = search needs
 
--- src/lib.rt:45:1
 same-length : tie.Need-same-length
 same-length c = search needs
 
--- src/lib.rt:45:1
 returns : tie.Need-returns
 returns c = rw (c .before .before .before .before .before .before .before .k .given .1) (rw (c .before .before .before .before .word-of .ensures, small-back (c .before .before .before .before .before .before .before .before .before .before .args .l .sign) (omega (arith, c .before .before .before .before .before .before .before .before .before .before .pre .1))) at (c .before .before .put-below .ensures))
 
--- src/lib.rt:45:1
 same-length-2 : tie.Need-same-length-2
 same-length-2 c = search needs
 
--- src/lib.rt:45:1
 returns-2 : tie.Need-returns-2
 returns-2 c = rw (c .before .before .before .before .enum-told .given .1) (c .before .before .put-below2 .ensures)
 
--- src/lib.rt:45:1
 returns-3 : tie.Need-returns-3
 returns-3 c = search needs
 
--- src/lib.rt:45:1
 returns-4 : tie.Need-returns-4
 returns-4 c = search needs
 

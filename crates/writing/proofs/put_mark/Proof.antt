@@ -1,47 +1,34 @@
+-- `writing::put_mark` meets its contract. Assumes nothing.
 use borrow.Author.Needs.{needs}
 use Rattle.writing.proofs.put_mark.Statement.{statement}
 use Rattle.writing.proofs.put_mark.Tie as tie
-use Rattle.writing.proofs.put_mark.Reads as reads
-use Rattle.writing.proofs.put_mark.Lts as lts
-use Rattle.writing.proofs.place_of.Reads as place-of-reads
-use Rattle.writing.proofs.put_bare.Reads as put-bare-reads
-use Rattle.writing.proofs.put_below.Reads as put-below-reads
 use Rattle.laws.proofs.Tests.{tests}
-use borrow.Author.Tests.{eq-eqb, ne-eqb, lt-ltb}
+use borrow.Author.Tests.{ne-eqb, lt-ltb}
 
--- src/lib.rt:150:13
 put-bare-requires : tie.Need-put-bare-requires
 put-bare-requires c κs = search needs
 
--- src/lib.rt:152:9
 same-length : tie.Need-same-length
 same-length c = search needs
 
--- src/lib.rt:152:9
 returns : tie.Need-returns
 returns c = search tests
 
--- src/lib.rt:152:9
 returns-2 : tie.Need-returns-2
 returns-2 c = search tests
 
--- src/lib.rt:155:13
 place-of-requires : tie.Need-place-of-requires
 place-of-requires c κs = search needs
 
--- src/lib.rt:156:9
 put-below-requires : tie.Need-put-below-requires
 put-below-requires c κs = search needs
 
--- src/lib.rt:144:1
 same-length-2 : tie.Need-same-length-2
 same-length-2 c = search needs
 
--- src/lib.rt:144:1
 returns-3 : tie.Need-returns-3
 returns-3 c = simp (ne-eqb _ 7 (c .before .before .before .before .before .before .before .if1 .left), lt-ltb _ _ (c .before .before .before .before .before .if3 .taken)) (rw (c .before .before .before .before .place-of .ensures) at (c .before .before .put-below .ensures))
 
--- src/lib.rt:144:1
 returns-4 : tie.Need-returns-4
 returns-4 c = search tests
 

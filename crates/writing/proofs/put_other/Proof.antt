@@ -1,11 +1,7 @@
+-- `writing::put_other` meets its contract. Assumes nothing.
 use borrow.Author.Needs.{needs}
 use Rattle.writing.proofs.put_other.Statement.{statement}
 use Rattle.writing.proofs.put_other.Tie as tie
-use Rattle.writing.proofs.put_other.Reads as reads
-use Rattle.writing.proofs.put_other.Lts as lts
-use Rattle.making.proofs.settled.Reads as settled-reads
-use Rattle.writing.proofs.put_mark.Reads as put-mark-reads
-use Rattle.writing.proofs.put_settled.Reads as put-settled-reads
 use mathlib.Core.Path.{_∙_}
 use Rattle.writing.proofs.Marks.{mark-is}
 use denote.Ref.{now}
@@ -13,23 +9,18 @@ use Rattle.pruner.specs.Numbers.{counted}
 use Rattle.making.specs.Numbers.{settledN}
 use Rattle.writing.specs.Numbers.{settledPut}
 
--- src/lib.rt:170:9
 settled-requires : tie.Need-settled-requires
 settled-requires c κs = search needs
 
--- src/lib.rt:171:5
 put-settled-requires : tie.Need-put-settled-requires
 put-settled-requires c κs = search needs
 
--- src/lib.rt:172:5
 put-mark-requires : tie.Need-put-mark-requires
 put-mark-requires c κs = search needs
 
--- src/lib.rt:162:1
 same-length : tie.Need-same-length
 same-length c = search needs
 
--- src/lib.rt:162:1
 returns : tie.Need-returns
 returns c = let a = c .before .before .before .before .before .before .before .before .before .before .before .before .before .args in (rw (c .before .before .before .before .before .before .put-settled .ensures) at (c .before .before .put-mark .ensures)) ∙ mark-is (a .limit) (settledPut (a .limit) (now (a .areas)) (now (a .out)) (a .m)) (c .before .before .before .before .before .before .before .before .settled .result) (a .made) (a .kind) (settledN (now (a .areas)) (counted (a .m .pruner)) (a .m .waiting)) (c .before .before .before .before .before .before .before .before .settled .ensures)
 

@@ -1,34 +1,25 @@
+-- `writing::put_settled` meets its contract. Assumes nothing.
 use borrow.Author.Needs.{needs}
 use Rattle.writing.proofs.put_settled.Statement.{statement}
 use Rattle.writing.proofs.put_settled.Tie as tie
-use Rattle.writing.proofs.put_settled.Reads as reads
-use Rattle.writing.proofs.put_settled.Lts as lts
-use Rattle.making.proofs.class_of.Reads as class-of-reads
-use Rattle.writing.proofs.put_class.Reads as put-class-reads
 use Rattle.laws.proofs.Tests.{tests}
-use borrow.Author.Tests.{eq-eqb, ne-eqb, lt-ltb}
+use borrow.Author.Tests.{eq-eqb}
 
--- src/lib.rt:137:17
 class-of-requires : tie.Need-class-of-requires
 class-of-requires c κs = (c .before .before .before .before .before .before .before .pre .1 .small, c .before .before .before .before .before .before .before .pre .1 .inside (c .before .before .if1 .taken))
 
--- src/lib.rt:138:13
 put-class-requires : tie.Need-put-class-requires
 put-class-requires c κs = (c .before .before .before .before .before .before .before .before .before .pre .0, (c .before .before .before .before .before .before .before .before .before .pre .1 .small, c .before .before .before .before .before .before .before .before .before .pre .1 .inside (c .before .before .before .before .if1 .taken)))
 
--- src/lib.rt:128:1
 same-length : tie.Need-same-length
 same-length c = search needs
 
--- src/lib.rt:128:1
 returns : tie.Need-returns
 returns c = simp (c .before .before .before .before .before .before .before .if1 .taken, eq-eqb _ 0 (c .before .before .before .before .before .if2 .taken)) (rw (c .before .before .before .before .class-of .ensures) at (c .before .before .put-class .ensures))
 
--- src/lib.rt:128:1
 returns-2 : tie.Need-returns-2
 returns-2 c = search (tests, c .before .before .if1 .taken)
 
--- src/lib.rt:128:1
 returns-3 : tie.Need-returns-3
 returns-3 c = search (tests, c .if1 .left)
 

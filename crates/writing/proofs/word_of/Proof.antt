@@ -1,26 +1,20 @@
+-- `writing::word_of` meets its contract. Assumes nothing.
 use Rattle.writing.proofs.word_of.Statement.{statement}
 use Rattle.writing.proofs.word_of.Tie as tie
-use Rattle.writing.proofs.word_of.Reads as reads
-use Rattle.writing.proofs.word_of.Lts as lts
 use Rattle.writing.proofs.Signed.{cast-up, down-fits, cast-down}
 
--- src/lib.rt:24:17
 add-result : tie.Need-add-result
 add-result c = down-fits (c .before .args .z) (c .before .pre) (c .if1 .taken)
 
--- src/lib.rt:24:16
 cast-result : tie.Need-cast-result
 cast-result c = cast-down (c .before .args .z) (c .before .pre) (c .if1 .taken) .0
 
--- src/lib.rt:24:9
 returns : tie.Need-returns
 returns c = cast-down (c .before .args .z) (c .before .pre) (c .if1 .taken) .1
 
--- src/lib.rt:26:5
 cast-result-2 : tie.Need-cast-result-2
 cast-result-2 c = cast-up (c .before .args .z) (c .before .pre) (c .if1 .left) .0
 
--- src/lib.rt:19:1
 returns-2 : tie.Need-returns-2
 returns-2 c = cast-up (c .before .args .z) (c .before .pre) (c .if1 .left) .1
 
