@@ -12,7 +12,8 @@ use Rattle.celltable.specs.declared.CellWords.{CellWords}
 use Rattle.ranges.specs.Held.{lent}
 use Rattle.tree.specs.declared.Answer.{Answer}
 use Rattle.tree.specs.declared.Answer.the-variants.{Not}
-use Rattle.tree.specs.Split.{Tree, cellsUsed, entriesUsed, boundsOf, words, cellAnswer, madeBy, headBy, cellsOf, entriesBy, cellSplit, drawingSplit, headAfter, cellsAfter, entriesAfter}
+use Rattle.tree.specs.Tables.{Tree, cellsUsed, entriesUsed, boundsOf}
+use Rattle.tree.specs.Split.{words, cellAnswer, madeBy, headBy, cellsOf, entriesBy, cellSplit, drawingSplit, headAfter, cellsAfter, entriesAfter}
 use Rattle.tree.proofs.Choices.{pick-true, pick-false}
 
 module _ (t : Tree) (i used free : ℕ) (w : CellWords) (b : Bounds) (ew : w ≡ words t i) (eb : b ≡ boundsOf (t .plan) w) (eu : used ≡ cellsUsed (t .head)) (ef : free ≡ entriesUsed (t .head)) where

@@ -1,2 +1,3 @@
 -- The calls on a tree.
+pub mod Tables
 pub mod Split

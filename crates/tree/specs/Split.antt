@@ -15,6 +15,7 @@ use Rattle.celltable.specs.Ranges.{cellRange, headRange, cellsHeld, entriesHeld
 use Rattle.cells.specs.Drawings.{Drawing}
 use Rattle.ranges.specs.Held.{lent}
 use Rattle.children.specs.Children.{fourTallies, streamsTo, cellsBy}
+use Rattle.tree.specs.Tables.{Tree, cellsUsed, entriesUsed, boundsOf}
 use Rattle.tree.specs.declared.Answer.{Answer}
 use Rattle.tree.specs.declared.Answer.the-variants.{Split, Not}
 
@@ -50,30 +51,6 @@ cellsOf (Not r) D w ws cells i used free = cells
 abbrev pub entriesBy : Answer → (entries : List ℕ) → (free : ℕ) → List Words → List ℕ
 entriesBy (Split n) entries free made = written entries free made
 entriesBy (Not r) entries free made = entries
-
--- the seven tables: the drawing's plan, areas, xs and ys, and the tree's head, cells and entries
-pub record Tree : Type 0 where
-  pub plan : List ℕ
-  pub areas : List ℕ
-  pub xs : List ℕ
-  pub ys : List ℕ
-  pub head : List ℕ
-  pub cells : List ℕ
-  pub entries : List ℕ
-
-abbrev pub tree : (plan areas xs ys head cells entries : List ℕ) → Tree
-tree p a x y h c e = record { plan = p; areas = a; xs = x; ys = y; head = h; cells = c; entries = e }
-
--- "cells in use": a head too short for its two words has none
-abbrev pub cellsUsed : List ℕ → ℕ
-cellsUsed head = cond (leb 2 (length head)) (getD head 0 0) 0
-
-abbrev pub entriesUsed : List ℕ → ℕ
-entriesUsed head = getD head 1 0
-
--- the areas and corners in use, and the rows of a cell
-abbrev pub boundsOf : List ℕ → CellWords → Bounds
-boundsOf plan w = bounds (getD plan 1 0) (getD plan 2 0) (w .y) (w .side)
 
 module _ (t : Tree) where
   module _ (i : ℕ) where

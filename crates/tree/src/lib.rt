@@ -13,7 +13,8 @@ ghost use Rattle.celltable.specs.Table.{putChildAt};
 ghost use Rattle.celltable.specs.Ranges.{squareRange, cellOf, cellsHeld, entriesHeld};
 ghost use Rattle.ranges.specs.Held.{lent};
 ghost use Rattle.children.specs.Children.{noTally, fourTallies, streamsTo, cellsBy, FewEach};
-ghost use Rattle.tree.specs.Split.{tree, cellsUsed, entriesUsed, roomAnswer, leafAnswer, cellAnswer, madeBy, headBy, cellsOf, entriesBy, drawingSplit, countsSplit, splitAnswer, headAfter, cellsAfter, entriesAfter};
+ghost use Rattle.tree.specs.Tables.{tree, cellsUsed, entriesUsed};
+ghost use Rattle.tree.specs.Split.{roomAnswer, leafAnswer, cellAnswer, madeBy, headBy, cellsOf, entriesBy, drawingSplit, countsSplit, splitAnswer, headAfter, cellsAfter, entriesAfter};
 
 // A split's answer: the number of the first child, or why it was refused.
 pub enum Answer {
@@ -21,7 +22,7 @@ pub enum Answer {
     Not(Refusal),
 }
 
-fn cells_used(head: &[u32]) -> u32
+pub fn cells_used(head: &[u32]) -> u32
     ensures { λ r. ⌜ r ≡ cellsUsed (now (head .entry)) ⌝ }
 {
     if 2 <= head.len() {
@@ -36,7 +37,7 @@ fn cells_held(n: u32, len: usize) -> bool
     (1 <= n) & (((n as usize) <= len / 8) & (n <= 4096))
 }
 
-fn entries_held(n: usize, len: usize) -> bool
+pub fn entries_held(n: usize, len: usize) -> bool
     ensures { λ r. ⌜ r ≡ entriesHeld n len ⌝ }
 {
     (n <= len / 4) & (n <= 65536)
@@ -126,7 +127,7 @@ fn put_split(
 }
 
 // 11, and then the split.
-fn split_in_room(
+pub fn split_in_room(
     head: &mut [u32],
     cells: &mut [u32],
     entries: &mut [u32],

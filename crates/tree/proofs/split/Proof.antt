@@ -11,7 +11,8 @@ use lib.ListN.{length}
 use borrow.Author.Tests.{eq-eqb, ne-eqb, lt-ltb, le-ltb}
 use Rattle.refusals.specs.declared.Refusal.the-variants.{NoCell, Argument}
 use Rattle.tree.specs.declared.Answer.the-variants.{Not}
-use Rattle.tree.specs.Split.{tree, cellsUsed, countsSplit}
+use Rattle.tree.specs.Tables.{tree, cellsUsed}
+use Rattle.tree.specs.Split.{countsSplit}
 use Rattle.tree.proofs.Choices.{pick-true, pick-false}
 
 cells-used-requires : tie.Need-cells-used-requires

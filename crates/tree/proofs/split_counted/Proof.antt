@@ -5,7 +5,7 @@ use Rattle.tree.proofs.split_counted.Tie as tie
 use mathlib.Core.Path.{_≡_, sym, _∙_, refl}
 use denote.Ref.{now}
 use Rattle.stream.specs.Grammar.{bounds}
-use Rattle.tree.specs.Split.{tree, boundsOf}
+use Rattle.tree.specs.Tables.{tree, boundsOf}
 use Rattle.tree.proofs.Counted.{counted-no, counted-yes, counted-head, counted-cells, counted-entries}
 
 read-cell-requires : tie.Need-read-cell-requires

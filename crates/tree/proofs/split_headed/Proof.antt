@@ -12,7 +12,8 @@ use borrow.Author.Tests.{le-leb, lt-leb}
 use Rattle.refusals.specs.declared.Refusal.the-variants.{Broken}
 use Rattle.celltable.specs.Ranges.{headRange}
 use Rattle.tree.specs.declared.Answer.the-variants.{Not}
-use Rattle.tree.specs.Split.{tree, drawingSplit}
+use Rattle.tree.specs.Tables.{tree}
+use Rattle.tree.specs.Split.{drawingSplit}
 use Rattle.tree.proofs.Choices.{pick-true, pick-false}
 use Rattle.tree.proofs.Heads.{head-passes}
 
