@@ -1,0 +1,3 @@
+-- Laws of finding a leaf.
+pub mod Lines
+pub mod Counts
