@@ -1,14 +1,17 @@
 // Finding the leaf that holds a position.
+use celltable::Found;
+use celltable::Leaf;
 use refusals::Refusal;
 use stream::Bounds;
 ghost use mathlib.Core.Path.{_≡_};
 ghost use mathlib.Core.Bool.{cond};
 ghost use Prim.Native.Nat.{_+_, _*_, _≤_, _<_};
 ghost use lib.Dec.{eqb};
-ghost use lib.ListN.{length};
+ghost use lib.ListN.{length, getD};
 ghost use Rattle.stream.specs.Table.{wordsFrom};
+ghost use Rattle.stream.specs.Grammar.{env, bounds, checkStream};
 ghost use Rattle.tree.specs.Tables.{tree, countsIn};
-ghost use Rattle.leaf.specs.Leaf.{linesIn};
+ghost use Rattle.leaf.specs.Leaf.{linesIn, leafIn};
 
 // A leaf as it is reported: its number, low corner, side, depth, and how many entries and lines it has.
 pub struct FoundLeaf {
@@ -83,4 +86,61 @@ pub fn lines_in(entries: &[u32], first: usize, count: usize) -> u32
         i += 1;
     }
     n
+}
+
+// 12 over the stream of a leaf.
+fn leaf_passes(
+    plan: &[u32],
+    areas: &[u32],
+    xs: &[u32],
+    ys: &[u32],
+    entries: &[u32],
+    free: usize,
+    l: Leaf,
+) -> bool
+    requires { ⌜ 3 ≤ length (now plan) ⌝ }
+    ensures { λ r. ⌜ r ≡ checkStream (now (entries .entry)) (l .first) (l .count) free (env (now (areas .entry)) (now (xs .entry)) (now (ys .entry)) (bounds (getD (now (plan .entry)) 1 0) (getD (now (plan .entry)) 2 0) (l .y) (l .side))) ⌝ }
+{
+    let first = l.first as usize;
+    let count = l.count as usize;
+    let b = Bounds {
+        areas: laws::wide(plan[1]),
+        corners: laws::wide(plan[2]),
+        low: l.y,
+        side: l.side,
+    };
+    stream::check_stream(entries, first, count, free, areas, xs, ys, b)
+}
+
+// The leaf that holds (x, y). 12 over the numbers in use, the cells on the way, and the leaf's stream.
+pub fn leaf_at(
+    plan: &[u32],
+    areas: &[u32],
+    xs: &[u32],
+    ys: &[u32],
+    head: &[u32],
+    cells: &[u32],
+    entries: &[u32],
+    x: u32,
+    y: u32,
+) -> Found
+    ensures { λ r. ⌜ r ≡ leafIn (tree (now (plan .entry)) (now (areas .entry)) (now (xs .entry)) (now (ys .entry)) (now (head .entry)) (now (cells .entry)) (now (entries .entry))) x y ⌝ }
+{
+    if counts_fit(plan, areas, xs, ys, head, cells, entries) {
+        let used = laws::wide(head[0]);
+        let free = laws::wide(head[1]);
+        let f = celltable::descend(cells, used, free, x, y);
+        match f {
+            Found::At(l) => {
+                if leaf_passes(plan, areas, xs, ys, entries, free, l) {
+                    return Found::At(l);
+                }
+                return Found::Broken;
+            }
+            Found::Broken => {
+                return Found::Broken;
+            }
+        }
+    }
+    Found::Broken
 }
