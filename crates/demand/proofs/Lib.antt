@@ -1,0 +1,2 @@
+-- Demand 3 and its proof.
+pub mod History
