@@ -1,3 +1,5 @@
 -- Demand 3 and its proof.
 pub mod History
 pub mod Made
+pub mod Paints
+pub mod Sound
