@@ -1,0 +1,2 @@
+-- Laws of what is read from a tree at a position.
+pub mod Painted

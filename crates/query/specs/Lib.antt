@@ -1,0 +1,1 @@
+-- What is read from a tree at a position.

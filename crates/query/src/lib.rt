@@ -1,0 +1,1 @@
+// The calls that answer from a tree at one position.
