@@ -3,3 +3,5 @@ pub mod History
 pub mod Made
 pub mod Paints
 pub mod Sound
+pub mod Passing
+pub mod Splits

@@ -7,9 +7,6 @@ use Prim.Native.Nat.{ℕ, _+_, _≤_, _<_}
 use lib.ListN.{length, getD}
 use Rattle.paint.specs.Areas.{paintAt, materialOf}
 use Rattle.paint.specs.Colours.{colourOf}
-use Rattle.grammar.specs.declared.Counts.{Counts}
-use Rattle.grammar.specs.declared.Verdict.the-variants.{Accepted}
-use Rattle.drawing.specs.Tables as Tables
 use Rattle.pruning.specs.Sides.{paint, flat}
 use Rattle.cells.specs.Cells.{Position, at, Cell, Holds}
 use Rattle.cells.specs.Drawings.{Drawing}
@@ -17,20 +14,18 @@ use Rattle.cells.specs.Streams.{Each, Winds, source, made, shownIn}
 use Rattle.cells.specs.Rows.{rowsOf, Decoded, entriesOf, decode, roleIn}
 use Rattle.cells.proofs.Streams.{made-shown, source-shown, made-winds}
 use Rattle.cells.proofs.Rows.{decode-rows, made-on-side}
-use Rattle.stream.specs.declared.Bounds.{Bounds}
-use Rattle.stream.specs.declared.Words.{Words}
-use Rattle.stream.specs.Table.{wordsFrom}
+use Rattle.stream.specs.Grammar.{bounds}
 use Rattle.reading.specs.Reading.{setAt}
 use Rattle.ranges.specs.Valid.{Valid}
 use Rattle.ranges.specs.Held.{Held}
 use Rattle.ranges.proofs.Reading.{valid-words-read}
 use Rattle.celltable.specs.Table.{cellAt}
 use Rattle.celltable.proofs.Grid.{SaysCell, on-square}
-use Rattle.tree.specs.Tables.{Tree, cellsUsed, entriesUsed, boundsOf, countsIn}
+use Rattle.tree.specs.Tables.{Tree, cellsUsed, entriesUsed, countsIn}
 use Rattle.tree.specs.Split.{stream}
 use Rattle.demand.specs.History.{Node, cellIn, firstIn, Leaf}
 use Rattle.demand.specs.NoTree.{setShown}
-use Rattle.demand.specs.Stands.{drawingTables, drawingOf, wordsOfCell, LeafStands, Stands}
+use Rattle.demand.specs.Stands.{drawingOf, wordsOfCell, LeafStands, Stands}
 use Rattle.demand.proofs.History.{Grown}
 use Rattle.demand.proofs.Made.{words-say, words-stream}
 use Rattle.demand.proofs.Paints.{material-held, colour-held}
@@ -38,7 +33,7 @@ use Rattle.demand.proofs.Paints.{material-held, colour-held}
 -- the drawing of a tree was accepted, and its tables hold it
 pub record Drawn (t : Tree) : Type 0 where
   pub valid : Valid (drawingOf t)
-  pub held : (low side : ℕ) → Held (t .areas) (t .xs) (t .ys) (record { areas = getD (t .plan) 1 0; corners = getD (t .plan) 2 0; low = low; side = side }) (drawingOf t)
+  pub held : (low side : ℕ) → Held (t .areas) (t .xs) (t .ys) (bounds (getD (t .plan) 1 0) (getD (t .plan) 2 0) low side) (drawingOf t)
   pub pair : length (t .xs) ≡ length (t .ys)
 
 pub record Sound (t : Tree) (H : List Node) : Type 0 where
