@@ -5,3 +5,4 @@ pub mod Paints
 pub mod Sound
 pub mod Passing
 pub mod Splits
+pub mod Outcomes
