@@ -6,3 +6,4 @@ pub mod Sound
 pub mod Passing
 pub mod Splits
 pub mod Outcomes
+pub mod Opened
