@@ -1,3 +1,9 @@
 -- Demand 3 and its proof.
 pub mod History
 pub mod Made
+pub mod Paints
+pub mod Sound
+pub mod Passing
+pub mod Splits
+pub mod Outcomes
+pub mod Opened
