@@ -5,6 +5,8 @@ use Rattle.grammar.specs.declared.Verdict.{Verdict}
 use Rattle.grammar.specs.declared.Verdict.the-variants.{Accepted, Refused}
 use Rattle.drawing.specs.declared.Written.{Written}
 use Rattle.drawing.specs.declared.Written.the-variants.{Bytes, Not}
+use Rattle.newtree.specs.declared.Answer as newtree-answer
+use Rattle.newtree.specs.declared.Answer.the-variants as newtree
 use Rattle.tree.specs.declared.Answer as tree-answer
 use Rattle.tree.specs.declared.Answer.the-variants as tree
 
@@ -20,6 +22,11 @@ readNumber (Refused r p) = packed (numberOf r) p
 abbrev pub writeNumber : Written → ℕ
 writeNumber (Bytes n) = packed 0 n
 writeNumber (Not r) = packed (numberOf r) 0
+
+-- opening: how many entries
+abbrev pub openNumber : newtree-answer.Answer → ℕ
+openNumber (newtree.Opened entries) = packed 0 entries
+openNumber (newtree.Not r) = packed (numberOf r) 0
 
 -- splitting: the number of the first child
 abbrev pub splitNumber : tree-answer.Answer → ℕ

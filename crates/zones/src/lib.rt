@@ -13,7 +13,8 @@ ghost use Rattle.reader.specs.Reading.{recordsIn, readAnswer, leftBy};
 ghost use Rattle.drawing.specs.Tables.{tables, drawnIn, writeAnswer, outAfter};
 ghost use Rattle.tree.specs.Tables.{tree};
 ghost use Rattle.tree.specs.Split.{splitAnswer, headAfter, cellsAfter, entriesAfter};
-ghost use Rattle.zones.specs.Answers.{packed, readNumber, writeNumber, readLow, writeLow, splitNumber};
+ghost use Rattle.newtree.specs.Open.{openAnswer, headOpened, cellsOpened, entriesOpened};
+ghost use Rattle.zones.specs.Answers.{packed, readNumber, writeNumber, readLow, writeLow, openNumber, splitNumber};
 
 // The refusal's number, or 0, and what goes with it.
 fn pack(number: u32, low: usize) -> u64
@@ -51,6 +52,15 @@ fn pack_written(w: Written) -> u64
     match w {
         Written::Bytes(n) => pack(0, n),
         Written::Not(r) => refused(r),
+    }
+}
+
+fn pack_open(a: newtree::Answer) -> u64
+    ensures { λ r. ⌜ r ≡ openNumber a ⌝ }
+{
+    match a {
+        newtree::Answer::Opened(entries) => pack(0, entries as usize),
+        newtree::Answer::Not(r) => refused(r),
     }
 }
 
@@ -98,6 +108,27 @@ pub extern "C" fn zones_write(
 {
     let w = drawing::write(plan, areas, xs, ys, out);
     pack_written(w)
+}
+
+// Opens a tree over a drawing: cell 0 alone. The result is the number of its entries.
+// Refusals, in this order: 7 (tables of x and y of unequal length), 12 (no drawing in the tables), 11. Nothing is changed on a refusal.
+#[no_mangle]
+pub extern "C" fn zones_open(
+    plan: &[u32],
+    areas: &[u32],
+    xs: &[u32],
+    ys: &[u32],
+    head: &mut [u32],
+    cells: &mut [u32],
+    entries: &mut [u32],
+) -> u64
+    ensures { λ r. ⌜ r ≡ openNumber (openAnswer (tree (now (plan .entry)) (now (areas .entry)) (now (xs .entry)) (now (ys .entry)) (now (head .entry)) (now (cells .entry)) (now (entries .entry)))) ⌝ }
+    ensures { λ r. ⌜ now (head .exit) ≡ headOpened (tree (now (plan .entry)) (now (areas .entry)) (now (xs .entry)) (now (ys .entry)) (now (head .entry)) (now (cells .entry)) (now (entries .entry))) (openAnswer (tree (now (plan .entry)) (now (areas .entry)) (now (xs .entry)) (now (ys .entry)) (now (head .entry)) (now (cells .entry)) (now (entries .entry)))) ⌝ }
+    ensures { λ r. ⌜ now (cells .exit) ≡ cellsOpened (tree (now (plan .entry)) (now (areas .entry)) (now (xs .entry)) (now (ys .entry)) (now (head .entry)) (now (cells .entry)) (now (entries .entry))) (openAnswer (tree (now (plan .entry)) (now (areas .entry)) (now (xs .entry)) (now (ys .entry)) (now (head .entry)) (now (cells .entry)) (now (entries .entry)))) ⌝ }
+    ensures { λ r. ⌜ now (entries .exit) ≡ entriesOpened (tree (now (plan .entry)) (now (areas .entry)) (now (xs .entry)) (now (ys .entry)) (now (head .entry)) (now (cells .entry)) (now (entries .entry))) (openAnswer (tree (now (plan .entry)) (now (areas .entry)) (now (xs .entry)) (now (ys .entry)) (now (head .entry)) (now (cells .entry)) (now (entries .entry)))) ⌝ }
+{
+    let a = newtree::open(plan, areas, xs, ys, head, cells, entries);
+    pack_open(a)
 }
 
 // Splits a cell of a tree. The result is the number of its first child.
