@@ -2,9 +2,12 @@
 
 use std::hint::black_box;
 
-use crate::drawing;
-use crate::lent::{Lent, LentTables};
+use crate::drawing::{self, Refusal};
+use crate::expect;
+use crate::lent::{Lent, LentTables, LentTree};
+use crate::meaning::Drawing;
 use crate::samples::{self, Tables};
+use crate::tree::{self, TreeMut};
 use crate::zones::{self, Answer};
 
 /// Reads by both into copies of the same tables.
@@ -102,4 +105,62 @@ pub fn write(drawing: &LentTables, before: &Lent<u8>) -> (Answer, Lent<u8>) {
         }
     }
     (answer, by_library)
+}
+
+// ---- the calls on a tree ----
+
+fn answer(result: Result<u32, Refusal>) -> Answer {
+    match result {
+        Ok(low) => Answer::Accepted(low),
+        Err(Refusal { number, place }) => Answer::Refused { number, place },
+    }
+}
+
+/// One call on copies of the same tables: the answers are equal, the drawing and all guards are as
+/// they were, and every word of the tree is the same.
+fn on_tree(
+    drawing: &LentTables,
+    before: &LentTree,
+    library: impl FnOnce(Drawing, &mut TreeMut) -> Answer,
+    second: impl FnOnce(Drawing, &mut TreeMut) -> Answer,
+) -> (Answer, LentTree) {
+    let mut given = drawing.clone();
+    let mut by_library = before.clone();
+    let mut by_second = before.clone();
+    black_box((&mut given, &mut by_library));
+    let answer = library(given.drawing(), &mut by_library.lend());
+    black_box((&mut given, &mut by_library));
+    let second = second(drawing.drawing(), &mut by_second.lend());
+    assert_eq!(answer, second, "library, second; {drawing:?} {before:?}");
+    assert!(given == *drawing, "drawing changed: {drawing:?} {before:?}");
+    assert!(
+        by_library.guards_as_in(before),
+        "guards changed: {drawing:?} {before:?}"
+    );
+    assert!(
+        by_library == by_second,
+        "tables differ: {drawing:?} {before:?}"
+    );
+    (answer, by_library)
+}
+
+/// Splits by both. A refusal changes nothing; a split changes its own words only.
+pub fn split(drawing: &LentTables, before: &LentTree, cell: u32) -> (Answer, LentTree) {
+    let (answer, after) = on_tree(
+        drawing,
+        before,
+        |drawing, tree| zones::split(drawing, tree, cell),
+        |drawing, tree| answer(tree::split(drawing, tree, cell)),
+    );
+    match answer {
+        Answer::Refused { place, .. } => {
+            assert_eq!(place, 0);
+            assert!(after == *before, "written on a refusal: {before:?}");
+        }
+        Answer::Accepted(child) => {
+            assert_eq!(child, before.head.table()[0]);
+            expect::split_words(&before.tables(), &after.tables(), cell);
+        }
+    }
+    (answer, after)
 }

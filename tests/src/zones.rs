@@ -1,5 +1,8 @@
 //! The library under test: its C functions, and safe functions on slices over them.
 
+use crate::meaning::Drawing;
+use crate::tree::TreeMut;
+
 /// What a call answers: its result, or the refusal's number and place.
 #[derive(Clone, Copy, PartialEq, Eq, Debug)]
 pub enum Answer {
@@ -44,6 +47,24 @@ extern "C" {
         out: *mut u8,
         out_len: usize,
     ) -> u64;
+
+    fn zones_split(
+        plan: *const u32,
+        plan_len: usize,
+        areas: *const u32,
+        areas_len: usize,
+        xs: *const u32,
+        xs_len: usize,
+        ys: *const u32,
+        ys_len: usize,
+        head: *mut u32,
+        head_len: usize,
+        cells: *mut u32,
+        cells_len: usize,
+        entries: *mut u32,
+        entries_len: usize,
+        cell: u32,
+    ) -> u64;
 }
 
 /// Reads records into the drawing's tables; accepted: how many records.
@@ -86,6 +107,30 @@ pub fn write(plan: &[u32], areas: &[u32], xs: &[u32], ys: &[u32], out: &mut [u8]
             ys.len(),
             out.as_mut_ptr(),
             out.len(),
+        )
+    })
+}
+
+/// Splits a cell; accepted: the number of its first child.
+pub fn split(drawing: Drawing, tree: &mut TreeMut, cell: u32) -> Answer {
+    // Each pointer comes with the length of its own slice.
+    Answer::from_number(unsafe {
+        zones_split(
+            drawing.plan.as_ptr(),
+            drawing.plan.len(),
+            drawing.areas.as_ptr(),
+            drawing.areas.len(),
+            drawing.xs.as_ptr(),
+            drawing.xs.len(),
+            drawing.ys.as_ptr(),
+            drawing.ys.len(),
+            tree.head.as_mut_ptr(),
+            tree.head.len(),
+            tree.cells.as_mut_ptr(),
+            tree.cells.len(),
+            tree.entries.as_mut_ptr(),
+            tree.entries.len(),
+            cell,
         )
     })
 }
