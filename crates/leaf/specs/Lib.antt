@@ -1,0 +1,2 @@
+-- Finding the leaf that holds a position.
+pub mod Leaf
