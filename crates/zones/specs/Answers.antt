@@ -5,6 +5,8 @@ use Rattle.grammar.specs.declared.Verdict.{Verdict}
 use Rattle.grammar.specs.declared.Verdict.the-variants.{Accepted, Refused}
 use Rattle.drawing.specs.declared.Written.{Written}
 use Rattle.drawing.specs.declared.Written.the-variants.{Bytes, Not}
+use Rattle.tree.specs.declared.Answer as tree-answer
+use Rattle.tree.specs.declared.Answer.the-variants as tree
 
 abbrev pub packed : (number low : ℕ) → ℕ
 packed number low = number * 4294967296 + low
@@ -18,6 +20,11 @@ readNumber (Refused r p) = packed (numberOf r) p
 abbrev pub writeNumber : Written → ℕ
 writeNumber (Bytes n) = packed 0 n
 writeNumber (Not r) = packed (numberOf r) 0
+
+-- splitting: the number of the first child
+abbrev pub splitNumber : tree-answer.Answer → ℕ
+splitNumber (tree.Split child) = packed 0 child
+splitNumber (tree.Not r) = packed (numberOf r) 0
 
 -- the low halves
 abbrev pub readLow : Verdict → ℕ

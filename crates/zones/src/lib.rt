@@ -4,12 +4,16 @@
 // half is the result.
 use drawing::Written;
 use grammar::Verdict;
+use refusals::Refusal;
 ghost use mathlib.Core.Path.{_≡_};
 ghost use Prim.Native.Nat.{_≤_};
+ghost use Rattle.refusals.specs.Refusals.{numberOf};
 ghost use Rattle.reader.specs.Words.{planWords, areaWords, xWords, yWords, fileOf};
 ghost use Rattle.reader.specs.Reading.{recordsIn, readAnswer, leftBy};
 ghost use Rattle.drawing.specs.Tables.{tables, drawnIn, writeAnswer, outAfter};
-ghost use Rattle.zones.specs.Answers.{packed, readNumber, writeNumber, readLow, writeLow};
+ghost use Rattle.tree.specs.Tables.{tree};
+ghost use Rattle.tree.specs.Split.{splitAnswer, headAfter, cellsAfter, entriesAfter};
+ghost use Rattle.zones.specs.Answers.{packed, readNumber, writeNumber, readLow, writeLow, splitNumber};
 
 // The refusal's number, or 0, and what goes with it.
 fn pack(number: u32, low: usize) -> u64
@@ -17,6 +21,14 @@ fn pack(number: u32, low: usize) -> u64
     ensures { λ r. ⌜ r ≡ packed number low ⌝ }
 {
     (number as u64) * 4294967296 + (low as u64)
+}
+
+// A refusal from the state, or one that is never about a place.
+fn refused(r: Refusal) -> u64
+    ensures { λ n. ⌜ n ≡ packed (numberOf r) 0 ⌝ }
+{
+    let n = refusals::number(r);
+    pack(n, 0)
 }
 
 fn pack_read(v: Verdict) -> u64
@@ -38,10 +50,16 @@ fn pack_written(w: Written) -> u64
 {
     match w {
         Written::Bytes(n) => pack(0, n),
-        Written::Not(r) => {
-            let n = refusals::number(r);
-            pack(n, 0)
-        }
+        Written::Not(r) => refused(r),
+    }
+}
+
+fn pack_split(a: tree::Answer) -> u64
+    ensures { λ r. ⌜ r ≡ splitNumber a ⌝ }
+{
+    match a {
+        tree::Answer::Split(child) => pack(0, child as usize),
+        tree::Answer::Not(r) => refused(r),
     }
 }
 
@@ -80,4 +98,26 @@ pub extern "C" fn zones_write(
 {
     let w = drawing::write(plan, areas, xs, ys, out);
     pack_written(w)
+}
+
+// Splits a cell of a tree. The result is the number of its first child.
+// Refusals, in this order: 7 (tables of x and y of unequal length), 8, 12, 9, 10, 11. Nothing is changed on a refusal.
+#[no_mangle]
+pub extern "C" fn zones_split(
+    plan: &[u32],
+    areas: &[u32],
+    xs: &[u32],
+    ys: &[u32],
+    head: &mut [u32],
+    cells: &mut [u32],
+    entries: &mut [u32],
+    cell: u32,
+) -> u64
+    ensures { λ r. ⌜ r ≡ splitNumber (splitAnswer (tree (now (plan .entry)) (now (areas .entry)) (now (xs .entry)) (now (ys .entry)) (now (head .entry)) (now (cells .entry)) (now (entries .entry))) cell) ⌝ }
+    ensures { λ r. ⌜ now (head .exit) ≡ headAfter (tree (now (plan .entry)) (now (areas .entry)) (now (xs .entry)) (now (ys .entry)) (now (head .entry)) (now (cells .entry)) (now (entries .entry))) cell (splitAnswer (tree (now (plan .entry)) (now (areas .entry)) (now (xs .entry)) (now (ys .entry)) (now (head .entry)) (now (cells .entry)) (now (entries .entry))) cell) ⌝ }
+    ensures { λ r. ⌜ now (cells .exit) ≡ cellsAfter (tree (now (plan .entry)) (now (areas .entry)) (now (xs .entry)) (now (ys .entry)) (now (head .entry)) (now (cells .entry)) (now (entries .entry))) cell (splitAnswer (tree (now (plan .entry)) (now (areas .entry)) (now (xs .entry)) (now (ys .entry)) (now (head .entry)) (now (cells .entry)) (now (entries .entry))) cell) ⌝ }
+    ensures { λ r. ⌜ now (entries .exit) ≡ entriesAfter (tree (now (plan .entry)) (now (areas .entry)) (now (xs .entry)) (now (ys .entry)) (now (head .entry)) (now (cells .entry)) (now (entries .entry))) cell (splitAnswer (tree (now (plan .entry)) (now (areas .entry)) (now (xs .entry)) (now (ys .entry)) (now (head .entry)) (now (cells .entry)) (now (entries .entry))) cell) ⌝ }
+{
+    let a = tree::split(plan, areas, xs, ys, head, cells, entries, cell);
+    pack_split(a)
 }

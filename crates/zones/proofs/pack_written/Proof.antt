@@ -13,26 +13,14 @@ pack-requires c κs = let h = rw (c .before .w .given .1) at (c .before .before 
 enum-known-w-2 : tie.Need-enum-known-w-2
 enum-known-w-2 c = search needs
 
-number-requires : tie.Need-number-requires
-number-requires c κs = search needs
-
-pack-requires-2 : tie.Need-pack-requires-2
-pack-requires-2 c κs = search needs
+refused-requires : tie.Need-refused-requires
+refused-requires c κs = search needs
 
 returns : tie.Need-returns
 returns c = rw (c .before .before .w .given .1) (c .pack .ensures)
 
 returns-2 : tie.Need-returns-2
-returns-2 c = rw (c .before .before .before .w2 .given .1, ← c .before .number .ensures) (c .pack2 .ensures)
+returns-2 c = rw (c .before .before .w2 .given .1) (c .refused .ensures)
 
 pub pack-written-spec : {M : Type 1} → statement M
-pack-written-spec =
-    tie.close
-    (tie.spec
-    enum-known-w
-    pack-requires
-    enum-known-w-2
-    number-requires
-    pack-requires-2
-    returns
-    returns-2)
+pack-written-spec = tie.close (tie.spec enum-known-w pack-requires enum-known-w-2 refused-requires returns returns-2)

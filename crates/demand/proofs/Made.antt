@@ -1,0 +1,111 @@
+-- A stream is made with the areas and corners of a drawing and nothing else of it: so a split, which has them from lent tables that hold the drawing,
+-- makes of a cell's stream the streams of its quarters that are made from the drawing. Assumes nothing.
+use mathlib.Core.Path.{_≡_, refl, sym, ap, _∙_, fun-ext}
+use mathlib.Core.Bool.{Bool, cond}
+use mathlib.Core.List.{List, [], _∷_, _++_, map}
+use Prim.Native.Nat.{ℕ, _≤_}
+use native.Mathlib.Omega.{arith}
+use lib.ListN.{length, getD}
+use lib.IntN.{ℤ, natAbs}
+use mir.Syntax.{w32}
+use mir.Val.{SFits}
+use Rattle.laws.proofs.Differences.{mag-abs}
+use Rattle.records.specs.declared.Fields.{Fields}
+use Rattle.pruning.specs.Sides.{Kind, paint, clip, Side, Entry, item, push, activate, pop, flat, mapSide}
+use Rattle.pruning.specs.Items.{Class, fails, passes, other, Items}
+use Rattle.pruning.specs.Order.{pruned}
+use Rattle.cells.specs.Cells.{Cell, Quarter, child}
+use Rattle.cells.specs.Segments.{Segment, drawn, shortcut, keptIn, startIn}
+use Rattle.cells.specs.Drawings.{Drawing, noFields, fieldsOf, passesBy, isOpaque}
+use Rattle.cells.specs.Streams.{Item, always, area, Each, SignsIn, Small, passing, classOf, items, within, source, made}
+use Rattle.cells.specs.Rows.{Row, segment, rowsOf, roleIn, streamOf}
+use Rattle.cells.proofs.Streams.{child-made}
+use Rattle.cells.proofs.Bounds.{made-small}
+use Rattle.cells.proofs.Rows as Rows
+use Rattle.stream.specs.declared.Bounds.{Bounds}
+use Rattle.stream.specs.declared.Words.{Words}
+use Rattle.reading.specs.Reading.{rowsIn}
+use Rattle.reading.specs.Words.{wordsOf, EachFits}
+use Rattle.reading.proofs.Words.{rows-back}
+use Rattle.ranges.specs.Valid.{Valid}
+use Rattle.ranges.specs.Held.{Held, lent}
+use Rattle.making.specs.Made.{rowsMade, wordsMade}
+use Rattle.demand.specs.Stands.{wordsOfCell}
+
+-- ---- two drawings with the same areas and corners
+module _ (E D : Drawing) (f : E .fields ≡ D .fields) (x : E .xs ≡ D .xs) (y : E .ys ≡ D .ys) where
+  same-fields : (n : ℕ) → fieldsOf E n ≡ fieldsOf D n
+  same-fields n = ap (λ (l : List Fields). getD l n noFields) f
+
+  same-passes : (n : ℕ) (z : ℤ) → passesBy E n z ≡ passesBy D n z
+  same-passes n z = rw (same-fields n)
+
+  same-opaque : (n : ℕ) → isOpaque E n ≡ isOpaque D n
+  same-opaque n = rw (same-fields n)
+
+  same-passing : (k : Kind) (n : ℕ) → passing E k n ≡ passing D k n
+  same-passing paint n = rw (same-opaque n)
+  same-passing clip n = refl
+
+  abbrev same-class : (k : Kind) (a : Item) → classOf E k a ≡ classOf D k a
+  same-class k always = refl
+  same-class k (area n z []) = λ d. cond (same-passes n z d) (same-passing k n d) fails
+  same-class k (area n z (g ∷ gs)) = refl
+
+  abbrev same-items : items E ≡ items D
+  same-items = λ d. record { Item = Item; class = λ k a. same-class k a d; bare = always; bare-passes = refl }
+
+  same-within-at : (c : Cell) (a : Item) → within E c a ≡ within D c a
+  same-within-at c always = refl
+  same-within-at c (area n z gs) = λ d. area n (startIn (x d) (y d) c z gs) (keptIn (x d) (y d) c gs)
+
+  same-within : (c : Cell) → within E c ≡ within D c
+  same-within c = fun-ext (same-within-at c)
+
+  pub same-made : (c : Cell) (s : Side Item) → made E c s ≡ made D c s
+  same-made c s = λ d. pruned (same-items d) (mapSide (same-within c d) s)
+
+  pub same-role : roleIn E ≡ roleIn D
+  same-role = fun-ext (λ n. rw (same-fields n))
+
+-- ---- the words of a cell's stream say the stream
+small-fits : (z : ℤ) (m : ℕ) → natAbs z ≤ m → m ≤ 2048 → SFits w32 z
+small-fits z m h k = record { sfits = mag-abs z (omega arith) }
+
+fits-append : (x y : List Row) → EachFits x → EachFits y → EachFits (x ++ y)
+fits-append [] y h g = g
+fits-append (w ∷ x) y h g = (h .0, fits-append x y (h .1) g)
+
+fits-segments : (xs ys : List ℕ) (gs : List Segment) → SignsIn xs ys gs → EachFits (map segment gs)
+fits-segments xs ys [] s = tt
+fits-segments xs ys (drawn l ∷ gs) s = (tt, fits-segments xs ys gs (s .1))
+fits-segments xs ys (shortcut z lo hi ∷ gs) s = (small-fits z 1 (s .0) (omega arith), fits-segments xs ys gs (s .1))
+
+fits-rows : (D : Drawing) (es : List (Entry Item)) → Each (Small D 2048) es → EachFits (rowsOf es)
+fits-rows D [] h = tt
+fits-rows D (item k always ∷ es) h = (tt, fits-rows D es (h .1))
+fits-rows D (item k (area n z gs) ∷ es) h =
+    (small-fits z 2048 (omega (arith, h .0 .0)) (omega arith), fits-append (map segment gs) (rowsOf es) (fits-segments (D .xs) (D .ys) gs (h .0 .1)) (fits-rows D es (h .1)))
+fits-rows D (push ∷ es) h = (tt, fits-rows D es h)
+fits-rows D (activate ∷ es) h = (tt, fits-rows D es h)
+fits-rows D (pop ∷ es) h = (tt, fits-rows D es h)
+
+module _ (D : Drawing) (ok : Valid D) where
+  pub words-say : (c : Cell) → rowsIn (wordsOfCell D c) ≡ rowsOf (flat paint (made D c (source D)))
+  words-say c = rows-back (rowsOf (flat paint (made D c (source D)))) (fits-rows D (flat paint (made D c (source D))) (made-small D 2048 (ok .few-each) c))
+
+  pub words-stream : (c : Cell) → streamOf (roleIn D) (rowsIn (wordsOfCell D c)) ≡ made D c (source D)
+  words-stream c = ap (streamOf (roleIn D)) (words-say c) ∙ Rows.rows-back (roleIn D) (made D c (source D)) (Rows.made-on-side D (ok .roles) c)
+
+  -- a split of a cell's stream
+  module _ (areas xs ys : List ℕ) (b : Bounds) (H : Held areas xs ys b D) where
+    stream-lent : (c : Cell) → streamOf (roleIn (lent areas xs ys b)) (rowsIn (wordsOfCell D c)) ≡ made D c (source D)
+    stream-lent c =
+        ap (λ r. streamOf r (rowsIn (wordsOfCell D c))) (same-role (lent areas xs ys b) D (H .fields-same) (H .xs-same) (H .ys-same)) ∙ words-stream c
+
+    pub split-made : (c : Cell) (q : Quarter) → wordsMade (lent areas xs ys b) (child c q) (wordsOfCell D c) ≡ wordsOfCell D (child c q)
+    unfolding wordsMade rowsMade
+    split-made c q =
+        ap (λ (s : Side Item). map wordsOf (rowsOf (flat paint s)))
+        (ap (made (lent areas xs ys b) (child c q)) (stream-lent c)
+        ∙ (same-made (lent areas xs ys b) D (H .fields-same) (H .xs-same) (H .ys-same) (child c q) (made D c (source D)) ∙ child-made D c q (source D)))

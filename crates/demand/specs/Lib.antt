@@ -1,0 +1,4 @@
+-- Demand 3: the history of splits, what is claimed of the tables and of each answer, and the list of calls.
+pub mod History
+pub mod NoTree
+pub mod Stands

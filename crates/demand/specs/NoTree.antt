@@ -1,0 +1,31 @@
+-- Document 01, "The list of demand 3": "'with no tree' is by the same section over the whole drawing, pixels and logs too". Assumes nothing.
+use mathlib.Core.List.{List, [], _∷_}
+use Prim.Native.Nat.{ℕ}
+use Rattle.paint.specs.Sets.{setOf}
+use Rattle.paint.specs.Areas.{materialOf}
+use Rattle.paint.specs.Colours.{colourOf}
+use Rattle.paint.specs.Pixels.{pixelOf}
+use Rattle.paint.specs.declared.area.Paint.{Paint}
+use Rattle.paint.specs.declared.colour.Colour.{Colour}
+use Rattle.cells.specs.Cells.{Position, at}
+use Rattle.cells.specs.Drawings.{Drawing, fieldsOf, shownAt}
+
+module _ (D : Drawing) where
+  -- alpha, colour and material of area n
+  abbrev pub paintOf : ℕ → Paint
+  paintOf n =
+      record { alpha = fieldsOf D n .alpha; red = fieldsOf D n .red; green = fieldsOf D n .green; blue = fieldsOf D n .blue; material = fieldsOf D n .material }
+
+  -- "The shown set is the passing paint areas that every group around them shows, front to back, up to and including the first with alpha 255."
+  abbrev pub setShown : Position → ℕ
+  setShown p = setOf (shownAt D p)
+
+  abbrev pub materialShown : Position → ℕ
+  materialShown p = materialOf paintOf (setShown p)
+
+  abbrev pub colourShown : Position → Colour
+  colourShown p = colourOf paintOf (setShown p)
+
+  -- "A pixel is 16 by 16 units."
+  abbrev pub pixelShown : (row pixel : ℕ) → Colour
+  pixelShown row pixel = pixelOf (λ x y. colourShown (at x y)) row pixel

@@ -1,0 +1,56 @@
+-- Document 01, "The list of demand 3": what is claimed of a tree in its tables, whose cells are those of a history. Assumes nothing.
+use mathlib.Core.Path.{_≡_}
+use mathlib.Core.Bool.{true}
+use mathlib.Core.List.{List, map}
+use Prim.Native.Nat.{ℕ, _<_}
+use lib.ListN.{length}
+use Rattle.paint.specs.Areas.{paintAt, materialOf}
+use Rattle.paint.specs.Colours.{colourOf}
+use Rattle.drawing.specs.Tables.{Tables, tables}
+use Rattle.pruning.specs.Sides.{paint, flat}
+use Rattle.cells.specs.Cells.{Position, at, Cell, Holds}
+use Rattle.cells.specs.Drawings.{Drawing, shownAt}
+use Rattle.cells.specs.Streams.{Each, Winds, source, made, shownIn}
+use Rattle.cells.specs.Rows.{rowsOf, entriesOf, decode, streamOf, roleIn}
+use Rattle.stream.specs.declared.Words.{Words}
+use Rattle.reading.specs.Reading.{rowsIn, setAt}
+use Rattle.reading.specs.Words.{wordsOf}
+use Rattle.celltable.specs.Table.{cellAt}
+use Rattle.celltable.specs.Descent.{onSquare}
+use Rattle.opening.specs.Opened.{drawingIn}
+use Rattle.tree.specs.Tables.{Tree, cellsUsed}
+use Rattle.tree.specs.Split.{stream}
+use Rattle.demand.specs.History.{Node, cellIn, firstIn, Leaf, Tiled}
+use Rattle.demand.specs.NoTree.{setShown, materialShown, colourShown}
+
+-- the drawing of a tree
+abbrev pub drawingTables : Tree → Tables
+drawingTables t = tables (t .plan) (t .areas) (t .xs) (t .ys)
+
+abbrev pub drawingOf : Tree → Drawing
+drawingOf t = drawingIn (drawingTables t)
+
+-- the words of a cell's stream, made straight from a drawing
+abbrev pub wordsOfCell : Drawing → Cell → List Words
+wordsOfCell D c = map wordsOf (rowsOf (flat paint (made D c (source D))))
+
+-- ws are the words of the stream of a leaf c
+pub record LeafStands (t : Tree) (c : Cell) (ws : List Words) : Type 0 where
+  -- "An area's winding in it at (x, y) is its start number, plus the sign of each of its shortcuts with row y, plus +1 or −1 for each of its kept
+  -- lines that counts there": of each area entry, at each position of the leaf, the winding in the whole drawing
+  pub windings : Each (Winds (drawingOf t) c) (entriesOf (decode (roleIn (drawingOf t)) (rowsIn ws)))
+  -- "'Read there' is by 'Winding and meaning' over the leaf's stream with these windings, 'passes' being a clip area that passes"
+  pub meaning : (p : Position) → Holds c p → shownIn (drawingOf t) p (streamOf (roleIn (drawingOf t)) (rowsIn ws)) ≡ shownAt (drawingOf t) p
+  -- the shown set, the material and the colour that one pass over the words in the tables gives
+  pub set : (x y : ℕ) → Holds c (at x y) → setAt (t .areas) (t .xs) (t .ys) x y ws ≡ setShown (drawingOf t) (at x y)
+  pub material : (x y : ℕ) → Holds c (at x y) → materialOf (paintAt (t .areas)) (setAt (t .areas) (t .xs) (t .ys) x y ws) ≡ materialShown (drawingOf t) (at x y)
+  pub colour : (x y : ℕ) → Holds c (at x y) → colourOf (paintAt (t .areas)) (setAt (t .areas) (t .xs) (t .ys) x y ws) ≡ colourShown (drawingOf t) (at x y)
+
+pub record Stands (t : Tree) (H : List Node) : Type 0 where
+  -- the cells in use, their squares and their children are the history's
+  pub in-use : cellsUsed (t .head) ≡ length H
+  pub squares : (i : ℕ) → i < length H → onSquare (cellAt (t .cells) i) (cellIn H i) ≡ true
+  pub children : (i : ℕ) → i < length H → cellAt (t .cells) i .child ≡ firstIn H i
+  -- whose leaves tile the grid
+  pub tiled : Tiled H
+  pub leaves : (i : ℕ) → Leaf H i → LeafStands t (cellIn H i) (stream t i)

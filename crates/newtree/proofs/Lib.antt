@@ -1,0 +1,4 @@
+-- Laws of opening a tree.
+pub mod Rooms
+pub mod Answers
+pub mod Accepted

@@ -1,0 +1,2 @@
+-- Opening a tree.
+pub mod Open

@@ -1,0 +1,2 @@
+-- The tables of a tree after a split.
+pub mod After
