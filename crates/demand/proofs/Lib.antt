@@ -8,3 +8,4 @@ pub mod Splits
 pub mod Outcomes
 pub mod Opened
 pub mod Finding
+pub mod Readings
