@@ -7,3 +7,5 @@ pub mod Passing
 pub mod Splits
 pub mod Outcomes
 pub mod Opened
+pub mod Finding
+pub mod Readings
