@@ -41,7 +41,7 @@ first-rest (suc n) (z ∷ l) (suc i) h = first-rest n l i (le-of-suc-le-suc h)
 
 -- ---- n numbers with zeros behind them
 
-length-filled : (n : ℕ) (l : List ℤ) → length (filled n l) ≡ n
+pub length-filled : (n : ℕ) (l : List ℤ) → length (filled n l) ≡ n
 unfolding filled
 length-filled zero l = refl
 length-filled (suc n) [] = ap suc (length-filled n [])

@@ -2,7 +2,7 @@
 use mathlib.Core.Path.{_≡_, refl, sym, ap, subst, _∙_}
 use mathlib.Core.Bool.{Bool, true, false, cond}
 use mathlib.Core.List.{List, [], _∷_, _++_, map, append-nil, append-assoc}
-use Prim.Native.Nat.{ℕ, zero, suc, _+_, _*_, _/_, _≤_, _<_}
+use Prim.Native.Nat.{ℕ, _+_, _*_, _/_, _≤_, _<_}
 use native.Mathlib.Omega.{arith}
 use lib.Dec.{ltb}
 use lib.ListN.{length, getD, set, take, drop, length-append, length-set, take-append-drop, List·getD-append}
@@ -20,9 +20,8 @@ use Rattle.cells.specs.Cells.{Cell}
 use Rattle.cells.specs.Segments.{Segment, drawn, shortcut}
 use Rattle.cells.specs.Drawings.{Drawing}
 use Rattle.cells.specs.Streams.{always, area, items, classOf}
-use Rattle.cells.specs.Rows as Rows
 use Rattle.cells.specs.Rows.{Row, opens, bar, closes, bare, named, segment, entryRows, roleIn}
-use Rattle.cells.specs.Making.{Waiting, nothing, held, Making, making, prune, settle, addTo, onRows, rowSize}
+use Rattle.cells.specs.Making.{nothing, held, Making, making, prune, settle, addTo, onRows, rowSize}
 use Rattle.stream.specs.Entry as Entries
 use Rattle.reading.specs.Reading.{rowFor}
 use Rattle.making.proofs.Follows.{stateOf, waitingOf, waitingFor}
@@ -98,18 +97,27 @@ module _ (D : Drawing) (c : Cell) where
   settle-front (making (st out b going fs) (held n z gs)) = item-front (roleIn D n) (classOf D (roleIn D n) (area n z gs)) n z gs out b fs
   settle-front (making (st out b (shut s) fs) (held n z gs)) = front-of (startsOf out) (z ∷ [])
 
-  bare-front : (x : Pruning.State Row) → Front (startsOf (outOf (prune D c x (item clip always)))) (startsOf (outOf x))
+  pub bare-front : (x : Pruning.State Row) → Front (startsOf (outOf (prune D c x (item clip always)))) (startsOf (outOf x))
   bare-front (st out b going fs) = front-mark bare (take b out) out refl (front-take b out)
   bare-front (st out b (shut s) fs) = front-same out
+
+  pub open-front : (x : Pruning.State Row) → Front (startsOf (outOf (prune D c x push))) (startsOf (outOf x))
+  open-front x = front-moves (outOf x) (outOf (prune D c x push)) opens refl (open-moves D c x)
+
+  pub bar-front : (x : Pruning.State Row) → Front (startsOf (outOf (prune D c x activate))) (startsOf (outOf x))
+  bar-front x = front-moves (outOf x) (outOf (prune D c x activate)) bar refl (bar-moves D c x)
+
+  pub close-front : (x : Pruning.State Row) → Front (startsOf (outOf (prune D c x pop))) (startsOf (outOf x))
+  close-front x = front-moves (outOf x) (outOf (prune D c x pop)) closes refl (close-moves D c x)
 
   same-front : (g : Segment) (m : Making) → Front (startsOf (outOf (stateOf (addTo D c g m)))) (withNext m)
   same-front g (making x nothing) = front-of (startsOf (outOf x)) (pos 0 ∷ [])
   same-front g (making x (held n z gs)) = front-of (startsOf (outOf x)) (z ∷ [])
 
   pub turn-front : (e : Entries.Entry) (m : Making) → Front (startsOf (outOf (stateOf (onRows D c (rowFor e []) m)))) (withNext m)
-  turn-front Entries.opens m = front-then (front-moves (outOf (settle D c m)) _ opens refl (open-moves D c (settle D c m))) (settle-front m)
-  turn-front Entries.bar m = front-then (front-moves (outOf (settle D c m)) _ bar refl (bar-moves D c (settle D c m))) (settle-front m)
-  turn-front Entries.closes m = front-then (front-moves (outOf (settle D c m)) _ closes refl (close-moves D c (settle D c m))) (settle-front m)
+  turn-front Entries.opens m = front-then (open-front (settle D c m)) (settle-front m)
+  turn-front Entries.bar m = front-then (bar-front (settle D c m)) (settle-front m)
+  turn-front Entries.closes m = front-then (close-front (settle D c m)) (settle-front m)
   turn-front (Entries.area n q) m = settle-front m
   turn-front (Entries.line a b) m = same-front _ m
   turn-front (Entries.shortcut s a b) m = same-front _ m

@@ -1,7 +1,7 @@
 -- The loop over a parent's stream with the start numbers. Assumes nothing.
 use mathlib.Core.Path.{_≡_, refl, sym, ap, ap₂, subst, _∙_}
 use mathlib.Core.List.{List, [], _∷_}
-use Prim.Native.Nat.{ℕ, _+_, _-_, _/_, _≤_, _<_}
+use Prim.Native.Nat.{ℕ, _+_, _-_, _≤_, _<_}
 use native.Mathlib.Omega.{arith}
 use native.Mathlib.Nat.{not-suc-le-zero}
 use lib.ListN.{length}
@@ -33,8 +33,7 @@ use Rattle.making.proofs.Follows.{stateOf, waitingOf, waitingFor, settle-short}
 use Rattle.making.proofs.Standing.{Reads, Standing}
 use Rattle.making.proofs.Turn.{standing-rows}
 use Rattle.making.proofs.Whole.{allOf, standing-start, rows-all}
-use Rattle.child.specs.Starts.{startsOf, startsIn, filled}
-use Rattle.child.specs.declared.Starts.{Starts}
+use Rattle.child.specs.Starts.{startsOf, startsIn}
 use Rattle.child.specs.Numbers.{starts, areasIn, putStart, firstOf}
 use Rattle.child.proofs.Loop.{Looping}
 use Rattle.child.proofs.Fronts.{Stands, stands-front, stands-more, put-length, areas-is, withNext, settle-front, turn-front}

@@ -3,6 +3,7 @@ use geometry::class::Square;
 use making::Maker;
 use stream::Bounds;
 ghost use mathlib.Core.Path.{_≡_};
+ghost use mathlib.Core.List.{[]};
 ghost use Prim.Native.Nat.{_+_, _*_, _≤_, _<_};
 ghost use lib.ListN.{length};
 ghost use lib.IntN.{natAbs};
@@ -26,7 +27,7 @@ pub struct Starts {
 
 // No area, and zeros.
 fn none() -> Starts
-    ensures { λ r. ⌜ length (r .at) ≡ 64 ⌝ }
+    ensures { λ r. ⌜ r ≡ startsIn [] ⌝ }
 {
     Starts {
         count: 0,
@@ -103,12 +104,12 @@ pub fn count_child(
         m = n;
         i += 1;
     }
-    let y = noted(z, m);
+    let last = noted(z, m);
     let size = making::made_size(areas, m);
-    let x = ended(y, (size / 4294967296) as usize);
+    let made = ended(last, (size / 4294967296) as usize);
     Count {
         size: size,
-        starts: x,
+        starts: made,
     }
 }
 

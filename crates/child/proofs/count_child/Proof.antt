@@ -2,8 +2,10 @@
 use Rattle.child.proofs.count_child.Statement.{statement}
 use Rattle.child.proofs.count_child.Tie as tie
 use mathlib.Core.Path.{ap, _∙_}
+use mathlib.Core.List.{[]}
 use Prim.Native.Nat.{_-_}
 use native.Mathlib.Omega.{arith}
+use lib.ListN.{length}
 use denote.Ref.{now}
 use borrow.Author.Needs.{needs}
 use Rattle.stream.specs.Grammar.{env}
@@ -12,6 +14,7 @@ use Rattle.making.specs.Made.{cellIn}
 use Rattle.making.proofs.Lent.{lent-reads}
 use Rattle.child.specs.declared.Starts.{Starts}
 use Rattle.child.proofs.Loop.{loop-left, loop-sign, loop-asks, end-inside, end-room, end-size}
+use Rattle.child.proofs.Clear.{length-filled}
 use Rattle.child.proofs.Noting.{Counting, counting-begin, looping, counting-turn, counting-end}
 
 abbrev Inv-loop : tie.InvT-loop
@@ -30,7 +33,7 @@ none-requires : tie.Need-none-requires Inv-loop μ-loop
 none-requires c κs = search needs
 
 loop-holds : tie.Need-loop-holds Inv-loop μ-loop
-loop-holds c = let a = c .before .before .before .before .before .before .args in let p = c .before .before .before .before .before .before .pre in let R = lent-reads (now (a .areas)) (now (a .xs)) (now (a .ys)) (a .b) in let v = env (now (a .areas)) (now (a .xs)) (now (a .ys)) (a .b) in let D = lent (now (a .areas)) (now (a .xs)) (now (a .ys)) (a .b) in counting-begin v D (cellIn (a .s)) R (now (a .entries)) (a .first) (a .count) (p .0) (c .before .begun .result) (c .none .result .at) (c .before .begun .ensures .0) (c .before .begun .ensures .1) (c .none .ensures)
+loop-holds c = let a = c .before .before .before .before .before .before .args in let p = c .before .before .before .before .before .before .pre in let R = lent-reads (now (a .areas)) (now (a .xs)) (now (a .ys)) (a .b) in let v = env (now (a .areas)) (now (a .xs)) (now (a .ys)) (a .b) in let D = lent (now (a .areas)) (now (a .xs)) (now (a .ys)) (a .b) in counting-begin v D (cellIn (a .s)) R (now (a .entries)) (a .first) (a .count) (p .0) (c .before .begun .result) (c .none .result .at) (c .before .begun .ensures .0) (c .before .begun .ensures .1) (ap (λ (x : Starts). length (x .at)) (c .none .ensures) ∙ length-filled 64 [])
 
 read-entry-requires : tie.Need-read-entry-requires Inv-loop μ-loop
 read-entry-requires c κs = omega (arith, c .before .before .before .before .before .before .before .before .pre .0 .within, c .loop-test .taken)
