@@ -24,5 +24,6 @@ pub mod stream;
 pub mod tally;
 pub mod tree;
 pub mod tree_damage;
+pub mod words;
 #[allow(unsafe_code)]
 pub mod zones;

@@ -1,3 +1,11 @@
 -- Demand 3 and its proof.
 pub mod History
 pub mod Made
+pub mod Paints
+pub mod Sound
+pub mod Passing
+pub mod Splits
+pub mod Outcomes
+pub mod Opened
+pub mod Finding
+pub mod Readings

@@ -2,3 +2,4 @@
 pub mod History
 pub mod NoTree
 pub mod Stands
+pub mod Opened

@@ -6,7 +6,6 @@ use Prim.Native.Nat.{ℕ, _<_}
 use lib.ListN.{length}
 use Rattle.paint.specs.Areas.{paintAt, materialOf}
 use Rattle.paint.specs.Colours.{colourOf}
-use Rattle.drawing.specs.Tables.{Tables, tables}
 use Rattle.pruning.specs.Sides.{paint, flat}
 use Rattle.cells.specs.Cells.{Position, at, Cell, Holds}
 use Rattle.cells.specs.Drawings.{Drawing, shownAt}
@@ -20,13 +19,11 @@ use Rattle.celltable.specs.Descent.{onSquare}
 use Rattle.opening.specs.Opened.{drawingIn}
 use Rattle.tree.specs.Tables.{Tree, cellsUsed}
 use Rattle.tree.specs.Split.{stream}
+use Rattle.newtree.specs.Open.{drawingTables}
 use Rattle.demand.specs.History.{Node, cellIn, firstIn, Leaf, Tiled}
 use Rattle.demand.specs.NoTree.{setShown, materialShown, colourShown}
 
 -- the drawing of a tree
-abbrev pub drawingTables : Tree → Tables
-drawingTables t = tables (t .plan) (t .areas) (t .xs) (t .ys)
-
 abbrev pub drawingOf : Tree → Drawing
 drawingOf t = drawingIn (drawingTables t)
 

@@ -73,3 +73,7 @@ counts-fit t h = go (headFits t) (leb 3 (length (t .plan))) refl refl h
 -- the cells that the code reads, by the head's first word
 pub counts-cells : (t : Tree) (used : ℕ) → countsIn t ≡ true → used ≡ getD (t .head) 0 0 → CellsIn (t .cells) used
 counts-cells t used h e = subst (λ (n : ℕ). CellsIn (t .cells) n) (sym (e ∙ counts-fit t h .cells-are)) (counts-fit t h .cells-fit)
+
+-- a test that the code made
+pub told : (q r b : Bool) → q ≡ r → q ≡ b → r ≡ b
+told q r b e f = sym e ∙ f

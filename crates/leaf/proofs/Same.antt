@@ -1,13 +1,13 @@
 -- A leaf that is found from one position is found from each position of its square. Assumes nothing.
-use mathlib.Core.Path.{_≡_, refl, sym, subst, _∙_}
+use mathlib.Core.Path.{_≡_, refl, sym, subst}
 use mathlib.Core.Bool.{Bool, true, false, cond}
 use mathlib.Core.List.{List}
-use Prim.Native.Nat.{ℕ, zero, suc, _+_, _*_, _^_}
+use Prim.Native.Nat.{ℕ, zero, suc, _+_, _^_}
 use native.Mathlib.Omega.{arith}
 use lib.Dec.{eqb, leb}
-use borrow.Author.Tests.{leb-true, leb-false, le-leb, lt-leb}
+use borrow.Author.Tests.{le-leb, lt-leb}
 use Rattle.geometry.specs.Classes.{Inside}
-use Rattle.cells.specs.Cells.{Position, at, col, row, Cell, cell, left, low, side, root, Holds, Quarter, child, quarterBy, quarterOf}
+use Rattle.cells.specs.Cells.{Position, at, col, row, Cell, cell, side, root, Holds, Quarter, child, quarterBy, quarterOf}
 use Rattle.cells.proofs.Cells.{holds-up}
 use Rattle.celltable.specs.declared.CellWords.{CellWords}
 use Rattle.celltable.specs.declared.Leaf.{Leaf}
@@ -16,7 +16,7 @@ use Rattle.celltable.specs.declared.Found.the-variants.{At, Broken}
 use Rattle.celltable.specs.Table.{cellAt}
 use Rattle.celltable.specs.Ranges.{cellRange}
 use Rattle.celltable.specs.Descent.{placeOf, onSquare, leafOf, downFrom, descendIn}
-use Rattle.celltable.proofs.Grid.{SaysCell, says-cell}
+use Rattle.celltable.proofs.Grid.{says-cell}
 use Rattle.tree.specs.Tables.{Tree, cellsUsed, entriesUsed}
 use Rattle.leaf.specs.Leaf.{leafIn}
 use Rattle.leaf.proofs.Landing.{leaf-landed, leaf-met}

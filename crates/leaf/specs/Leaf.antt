@@ -14,6 +14,7 @@ use Rattle.celltable.specs.declared.Found.{Found}
 use Rattle.celltable.specs.declared.Found.the-variants.{At, Broken}
 use Rattle.celltable.specs.Descent.{descendIn}
 use Rattle.tree.specs.Tables.{Tree, cellsUsed, entriesUsed, countsIn}
+use Rattle.leaf.specs.declared.FoundLeaf.{FoundLeaf}
 use Rattle.leaf.specs.declared.Answer.{Answer}
 use Rattle.leaf.specs.declared.Answer.the-variants as Answers
 
@@ -25,6 +26,11 @@ positionRange x y = ltb x 65536 && ltb y 65536
 abbrev pub linesIn : List Words → ℕ
 linesIn [] = 0
 linesIn (w ∷ ws) = cond (eqb (w .kind) 5) (1 + linesIn ws) (linesIn ws)
+
+-- "finding a leaf reports as many steps as the leaf's depth, at most 16": its number, low corner, side, steps, entries and lines
+abbrev pub reportOf : (entries : List ℕ) → Leaf → FoundLeaf
+reportOf entries l =
+    record { cell = l .cell; x = l .x; y = l .y; side = l .side; steps = l .steps; entries = l .count; lines = linesIn (wordsFrom entries (l .first) (l .count)) }
 
 module _ (t : Tree) where
   -- the areas and corners in use, and the leaf's rows
@@ -44,11 +50,9 @@ module _ (t : Tree) where
   unfoldable pub leafIn : (x y : ℕ) → Found
   leafIn x y = cond (countsIn t) (streamFound (descendIn (t .cells) (cellsUsed (t .head)) (entriesUsed (t .head)) x y)) Broken
 
-  -- "finding a leaf reports as many steps as the leaf's depth, at most 16": its number, low corner, side, steps, entries and lines
+  -- the leaf as it is reported, or 12
   abbrev pub foundBy : Found → Answer
-  foundBy (At l) =
-      Answers.Found
-      (record { cell = l .cell; x = l .x; y = l .y; side = l .side; steps = l .steps; entries = l .count; lines = linesIn (leafStream l) })
+  foundBy (At l) = Answers.Found (reportOf (t .entries) l)
   foundBy Broken = Answers.Not Refusals.Broken
 
   -- 7: "a lent pair of x and y tables of unequal length (tried before all other checks ...); position ... out of range"; then 12

@@ -5,13 +5,13 @@ use refusals::Refusal;
 use stream::Bounds;
 ghost use mathlib.Core.Path.{_≡_};
 ghost use mathlib.Core.Bool.{cond};
-ghost use Prim.Native.Nat.{_+_, _*_, _≤_, _<_};
+ghost use Prim.Native.Nat.{_+_, _*_, _≤_};
 ghost use lib.Dec.{eqb};
 ghost use lib.ListN.{length, getD};
 ghost use Rattle.stream.specs.Table.{wordsFrom};
 ghost use Rattle.stream.specs.Grammar.{env, bounds, checkStream};
 ghost use Rattle.tree.specs.Tables.{tree, countsIn};
-ghost use Rattle.leaf.specs.Leaf.{linesIn, leafIn};
+ghost use Rattle.leaf.specs.Leaf.{linesIn, leafIn, reportOf, foundBy, findAnswer};
 
 // A leaf as it is reported: its number, low corner, side, depth, and how many entries and lines it has.
 pub struct FoundLeaf {
@@ -143,4 +143,73 @@ pub fn leaf_at(
         }
     }
     Found::Broken
+}
+
+// A leaf that is found, as it is reported.
+fn report(entries: &[u32], l: Leaf) -> FoundLeaf
+    requires { ⌜ (l .first + l .count) * 4 ≤ length (now entries) ⌝ }
+    requires { ⌜ l .count ≤ 4096 ⌝ }
+    ensures { λ r. ⌜ r ≡ reportOf (now (entries .entry)) l ⌝ }
+{
+    let first = l.first as usize;
+    let count = l.count as usize;
+    let lines = lines_in(entries, first, count);
+    FoundLeaf {
+        cell: l.cell,
+        x: l.x,
+        y: l.y,
+        side: l.side,
+        steps: l.steps,
+        entries: l.count,
+        lines,
+    }
+}
+
+// The leaf, or 12.
+fn find_within(
+    plan: &[u32],
+    areas: &[u32],
+    xs: &[u32],
+    ys: &[u32],
+    head: &[u32],
+    cells: &[u32],
+    entries: &[u32],
+    x: u32,
+    y: u32,
+) -> Answer
+    ensures { λ r. ⌜ r ≡ foundBy (tree (now (plan .entry)) (now (areas .entry)) (now (xs .entry)) (now (ys .entry)) (now (head .entry)) (now (cells .entry)) (now (entries .entry))) (leafIn (tree (now (plan .entry)) (now (areas .entry)) (now (xs .entry)) (now (ys .entry)) (now (head .entry)) (now (cells .entry)) (now (entries .entry))) x y) ⌝ }
+{
+    let f = leaf_at(plan, areas, xs, ys, head, cells, entries, x, y);
+    match f {
+        Found::At(l) => {
+            let r = report(entries, l);
+            return Answer::Found(r);
+        }
+        Found::Broken => {
+            return Answer::Not(Refusal::Broken);
+        }
+    }
+}
+
+// Finds the leaf that holds (x, y). Any tables may be handed in. Refusals, in this order: 7, 12.
+pub fn find_leaf(
+    plan: &[u32],
+    areas: &[u32],
+    xs: &[u32],
+    ys: &[u32],
+    head: &[u32],
+    cells: &[u32],
+    entries: &[u32],
+    x: u32,
+    y: u32,
+) -> Answer
+    ensures { λ r. ⌜ r ≡ findAnswer (tree (now (plan .entry)) (now (areas .entry)) (now (xs .entry)) (now (ys .entry)) (now (head .entry)) (now (cells .entry)) (now (entries .entry))) x y ⌝ }
+{
+    if xs.len() == ys.len() {
+        if (x < 65536) & (y < 65536) {
+            return find_within(plan, areas, xs, ys, head, cells, entries, x, y);
+        }
+        return Answer::Not(Refusal::Argument);
+    }
+    Answer::Not(Refusal::Argument)
 }

@@ -1,2 +1,3 @@
 -- Laws of what is read from a tree at a position.
 pub mod Painted
+pub mod Known

@@ -1,34 +1,33 @@
 -- A set that is read from a stream that passes names areas in use alone, with all their fields in range. Assumes nothing.
-use mathlib.Core.Path.{_≡_, refl, sym, ap, subst, _∙_}
+use mathlib.Core.Path.{_≡_, refl, sym, subst, _∙_}
 use mathlib.Core.Bool.{Bool, true, false, cond, _&&_, _||_}
 use mathlib.Core.List.{List, [], _∷_}
 use Prim.Native.Nat.{ℕ, zero, suc, pred, _+_, _*_, _≤_, _<_}
 use native.Mathlib.Omega.{arith}
 use native.Mathlib.Nat.{add-zero}
 use lib.Dec.{eqb, ltb, leb}
-use lib.IntN.{ℤ, _+ℤ_}
-use lib.ListN.{length, getD}
+use lib.IntN.{ℤ}
+use lib.ListN.{getD}
 use borrow.Author.Tests.{eqb-true, leb-true}
 use Rattle.laws.proofs.Booleans.{clash}
 use Rattle.paint.specs.Sets.{has, withArea}
 use Rattle.paint.specs.Areas.{PaintIn, Painted, paintAt}
 use Rattle.paint.proofs.Sets.{has-with, has-none}
 use Rattle.pruning.specs.Sides.{Kind, paint, clip}
-use Rattle.pruning.specs.Registers.{P, S, SA, Code, Registers, reg, halted, outOf, onItem, onPush, onActivate, onPop}
+use Rattle.pruning.specs.Registers.{P, S, SA, Registers, reg, halted, outOf, onItem, onPush, onActivate, onPop}
 use Rattle.records.specs.declared.Fields.{Fields}
 use Rattle.records.specs.declared.Record.the-variants.{Area}
 use Rattle.records.specs.declared.Decoded.the-variants.{Good, Bad}
-use Rattle.records.specs.Record.{areaRange, paintRange, clipRange, ranged}
+use Rattle.records.specs.Record.{areaRange, paintRange, clipRange}
 use Rattle.refusals.specs.declared.Refusal.the-variants.{Field}
 use Rattle.drawing.specs.Tables.{fieldsAt, areaRow}
 use Rattle.cells.specs.Cells.{at}
 use Rattle.cells.specs.Segments.{Segment, addsAt}
 use Rattle.cells.specs.Rows.{Row, opens, bar, closes, bare, named, segment, State, state, settled, waits, settle, addTo, onRow, onRows, readRows}
-use Rattle.stream.specs.declared.Words.{Words}
 use Rattle.stream.specs.Entry.{Entry, decode}
 use Rattle.stream.specs.Entry as Entry
 use Rattle.stream.specs.Table.{wordsAt, wordsFrom}
-use Rattle.stream.specs.Grammar.{Env, env, isGood, inRange, Passed}
+use Rattle.stream.specs.Grammar.{Env, isGood, inRange, Passed}
 use Rattle.stream.proofs.Passed.{in-range}
 use Rattle.reading.specs.Reading.{rowFor, rowsIn, roleAt, passAt, opaqueAt, setAt}
 use Rattle.reading.proofs.Laws.{both, area-below}

@@ -1,0 +1,81 @@
+-- A leaf that is found: what is read there, and which positions it serves. Assumes nothing.
+use mathlib.Core.Path.{_≡_, refl, sym, ap, _∙_}
+use mathlib.Core.Bool.{Bool, true, false, cond}
+use Prim.Native.Nat.{ℕ, _+_, _-_, _≤_, _<_}
+use native.Mathlib.Omega.{arith}
+use lib.Dec.{ltb, leb}
+use lib.ListN.{length}
+use borrow.Author.Tests.{leb-true, ltb-true}
+use Rattle.laws.proofs.Booleans.{clash}
+use Rattle.refusals.specs.declared.Refusal.the-variants as Refusals
+use Rattle.cells.specs.Cells.{at}
+use Rattle.stream.specs.Grammar.{env, Passed}
+use Rattle.celltable.specs.declared.Leaf.{Leaf}
+use Rattle.celltable.specs.declared.Found.{Found}
+use Rattle.celltable.specs.declared.Found.the-variants.{At, Broken}
+use Rattle.reading.specs.Reading.{setAt}
+use Rattle.tree.specs.Tables.{Tree}
+use Rattle.tree.proofs.Choices.{pick-true, pick-false}
+use Rattle.leaf.specs.Leaf.{leafStream, leafBounds, leafIn}
+use Rattle.leaf.proofs.Counts.{counts-fit}
+use Rattle.leaf.proofs.Landing.{leaf-landed, leaf-passed}
+use Rattle.leaf.proofs.Same.{LeafHolds, leaf-same}
+use Rattle.query.specs.declared.Answer.the-variants as Answers
+use Rattle.query.specs.Spots.{isFound, spotOf, setBy, known, setIn, spotIn}
+use Rattle.query.specs.Numbers.{between, inSquare, LeafIn, LastIn}
+
+-- ---- the square of a leaf
+
+is-in : (low side v : ℕ) → between low side v ≡ true → (low ≤ v) × (v < low + side)
+is-in low side v h = go (leb low v) (ltb (v - low) side) refl refl h
+  where
+    go : (a b : Bool) → leb low v ≡ a → ltb (v - low) side ≡ b → cond a b false ≡ true → (low ≤ v) × (v < low + side)
+    go true true p q t = let l = leb-true low v p in let m = ltb-true (v - low) side q in (omega arith, omega arith)
+    go true false p q t = clash t
+    go false b p q t = clash t
+
+inside-holds : (l : Leaf) (x y : ℕ) → inSquare l x y ≡ true → LeafHolds l (at x y)
+inside-holds l x y h = go (between (l .x) (l .side) x) (between (l .y) (l .side) y) refl refl h
+  where
+    go : (a b : Bool) → between (l .x) (l .side) x ≡ a → between (l .y) (l .side) y ≡ b → cond a b false ≡ true → LeafHolds l (at x y)
+    go true true p q t = let m = is-in (l .x) (l .side) x p in let n = is-in (l .y) (l .side) y q in record { west = m .0; east = m .1; south = n .0; north = n .1 }
+    go true false p q t = clash t
+    go false b p q t = clash t
+
+module _ (t : Tree) where
+  -- a leaf that was found is found from each position of its square
+  pub leaf-again : (l : Leaf) (x y : ℕ) → LeafIn t l → inSquare l x y ≡ true → At l ≡ leafIn t x y
+  leaf-again l x y k h = sym (leaf-same t (k .x) (k .y) x y l (inside-holds l x y h) (k .found))
+
+  module _ (x y : ℕ) where
+    pub last-in : (f : Found) → f ≡ leafIn t x y → LastIn t f
+    last-in (At l) e = record { x = x; y = y; found = sym e }
+    last-in Broken e = tt
+
+    module _ (l : Leaf) (e : leafIn t x y ≡ At l) where
+      pub leaf-plan : 3 ≤ length (t .plan)
+      leaf-plan = counts-fit t (leaf-landed t x y l e .counts) .plan-long
+
+      pub leaf-stream : Passed (t .entries) (l .first) (l .count) (env (t .areas) (t .xs) (t .ys) (leafBounds t l))
+      leaf-stream = leaf-passed t x y l e
+
+      pub leaf-known : known t x y ≡ true
+      unfolding known
+      leaf-known = ap isFound e
+
+      pub leaf-set : setAt (t .areas) (t .xs) (t .ys) x y (leafStream t l) ≡ setIn t x y
+      unfolding setIn
+      leaf-set = sym (ap (setBy t x y) e)
+
+    pub broken-known : leafIn t x y ≡ Broken → known t x y ≡ false
+    unfolding known
+    broken-known e = ap isFound e
+
+    -- ---- the answer at a position
+    pub spot-known : (l : Leaf) → leafIn t x y ≡ At l → Answers.At (spotOf (t .areas) (setAt (t .areas) (t .xs) (t .ys) x y (leafStream t l))) ≡ spotIn t x y
+    spot-known l e =
+        ap (λ (s : ℕ). Answers.At (spotOf (t .areas) s)) (leaf-set l e)
+        ∙ pick-true (known t x y) (Answers.At (spotOf (t .areas) (setIn t x y))) (Answers.Not Refusals.Broken) (leaf-known l e)
+
+    pub spot-broken : leafIn t x y ≡ Broken → Answers.Not Refusals.Broken ≡ spotIn t x y
+    spot-broken e = pick-false (known t x y) (Answers.At (spotOf (t .areas) (setIn t x y))) (Answers.Not Refusals.Broken) (broken-known e)
