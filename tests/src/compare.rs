@@ -2,12 +2,14 @@
 
 use std::hint::black_box;
 
+use crate::class::WHOLE_SIDE;
 use crate::drawing::{self, Refusal};
 use crate::expect;
 use crate::lent::{Lent, LentTables, LentTree};
 use crate::meaning::Drawing;
 use crate::samples::{self, Tables};
-use crate::tree::{self, TreeMut};
+use crate::stream::ENTRY_WORDS;
+use crate::tree::{self, TreeMut, CELL_WORDS, HEAD_WORDS};
 use crate::zones::{self, Answer};
 
 /// Reads by both into copies of the same tables.
@@ -142,6 +144,31 @@ fn on_tree(
         "tables differ: {drawing:?} {before:?}"
     );
     (answer, by_library)
+}
+
+/// Opens by both. A refusal changes nothing; what is behind the new tree stays.
+pub fn open(drawing: &LentTables, before: &LentTree) -> (Answer, LentTree) {
+    let (answer, after) = on_tree(drawing, before, zones::open, |drawing, tree| {
+        let opened = tree::open(drawing, tree);
+        answer(opened.map(|()| tree.head[1]))
+    });
+    match answer {
+        Answer::Refused { place, .. } => {
+            assert_eq!(place, 0);
+            assert!(after == *before, "written on a refusal: {before:?}");
+        }
+        Answer::Accepted(entries) => {
+            let (now, then) = (after.view(), before.view());
+            assert_eq!(now.head[..HEAD_WORDS], [1, entries]);
+            assert_eq!(now.head[HEAD_WORDS..], then.head[HEAD_WORDS..]);
+            let cell = [0, 0, WHOLE_SIDE, 0, 0, entries, 0, 0];
+            assert_eq!(now.cells[..CELL_WORDS], cell);
+            assert_eq!(now.cells[CELL_WORDS..], then.cells[CELL_WORDS..]);
+            let behind = ENTRY_WORDS * entries as usize;
+            assert_eq!(now.entries[behind..], then.entries[behind..]);
+        }
+    }
+    (answer, after)
 }
 
 /// Splits by both. A refusal changes nothing; a split changes its own words only.

@@ -48,6 +48,23 @@ extern "C" {
         out_len: usize,
     ) -> u64;
 
+    fn zones_open(
+        plan: *const u32,
+        plan_len: usize,
+        areas: *const u32,
+        areas_len: usize,
+        xs: *const u32,
+        xs_len: usize,
+        ys: *const u32,
+        ys_len: usize,
+        head: *mut u32,
+        head_len: usize,
+        cells: *mut u32,
+        cells_len: usize,
+        entries: *mut u32,
+        entries_len: usize,
+    ) -> u64;
+
     fn zones_split(
         plan: *const u32,
         plan_len: usize,
@@ -107,6 +124,29 @@ pub fn write(plan: &[u32], areas: &[u32], xs: &[u32], ys: &[u32], out: &mut [u8]
             ys.len(),
             out.as_mut_ptr(),
             out.len(),
+        )
+    })
+}
+
+/// Opens a tree; accepted: how many entries.
+pub fn open(drawing: Drawing, tree: &mut TreeMut) -> Answer {
+    // Each pointer comes with the length of its own slice.
+    Answer::from_number(unsafe {
+        zones_open(
+            drawing.plan.as_ptr(),
+            drawing.plan.len(),
+            drawing.areas.as_ptr(),
+            drawing.areas.len(),
+            drawing.xs.as_ptr(),
+            drawing.xs.len(),
+            drawing.ys.as_ptr(),
+            drawing.ys.len(),
+            tree.head.as_mut_ptr(),
+            tree.head.len(),
+            tree.cells.as_mut_ptr(),
+            tree.cells.len(),
+            tree.entries.as_mut_ptr(),
+            tree.entries.len(),
         )
     })
 }

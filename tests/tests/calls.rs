@@ -3,6 +3,7 @@
 
 use zones_tests::class::Square;
 use zones_tests::compare;
+use zones_tests::damage::{damage_tables, DAMAGES};
 use zones_tests::drawing::{AREA_WORDS, MOST_AREAS, MOST_CORNERS};
 use zones_tests::foreign;
 use zones_tests::lent::{LentTables, LentTree};
@@ -73,6 +74,13 @@ impl Sample {
         }
     }
 
+    fn open(&mut self, tally: &mut Tally) -> Answer {
+        let (answer, after) = compare::open(&self.drawing, &self.tree);
+        note(tally, "open", answer);
+        self.tree = after;
+        answer
+    }
+
     fn split(&mut self, tally: &mut Tally, cell: u32) -> Answer {
         let (answer, after) = compare::split(&self.drawing, &self.tree, cell);
         note(tally, "split", answer);
@@ -82,6 +90,10 @@ impl Sample {
 
     /// One call; what it changed stays.
     fn call(&mut self, random: &mut Random, tally: &mut Tally) {
+        if random.one_in(20) {
+            self.open(tally);
+            return;
+        }
         let cell = self.pick_cell(random);
         self.split(tally, cell);
     }
@@ -94,6 +106,8 @@ impl Sample {
             self.split(tally, cell);
             self.tree = before.clone();
         }
+        self.open(tally);
+        self.tree = before;
     }
 }
 
@@ -133,9 +147,8 @@ fn lists_of_calls_on_random_drawings() {
             tree: LentTree::blank(random, cells, entries),
             tables,
         };
-        let opened = tree::open(sample.drawing.drawing(), &mut sample.tree.lend());
-        if opened.is_err() {
-            tally.note("open 11".to_string());
+        if let Answer::Refused { number, .. } = sample.open(&mut tally) {
+            assert_eq!(number, 11);
             continue;
         }
         for _ in 0..random.within(1..=10) {
@@ -202,6 +215,33 @@ fn cells_and_entries_up_to_their_limits() {
 
 // ---- damaged tables ----
 
+#[test]
+fn opening_of_damaged_drawings() {
+    let random = &mut Random::for_test(96);
+    let mut tally = Tally::default();
+    for _ in 0..8_000 {
+        let records = match random.below(4) {
+            0 => scenes::any(random),
+            1 => samples::drawing(random, true),
+            _ => samples::drawing(random, false),
+        };
+        let mut drawing = LentTables::longer(random, samples::tables(&records));
+        if random.one_in(2) {
+            let damage = random.pick(&DAMAGES);
+            damage_tables(random, &mut drawing, damage);
+        }
+        let (cells, entries) = any_room(random);
+        let entries = entries + random.pick(&[0, 0, 5_000]);
+        let tree = LentTree::blank(random, cells, entries);
+        let (answer, _) = compare::open(&drawing, &tree);
+        note(&mut tally, "open", answer);
+    }
+    tally.print("opening");
+    for what in ["accepted", "7", "11", "12"] {
+        tally.reached(&format!("open {what}"), 100);
+    }
+}
+
 /// A drawing and a tree that was opened and split a few times.
 fn grown(random: &mut Random) -> (Tables, TreeTables) {
     let tables = scenes::tables(random);
@@ -237,6 +277,9 @@ fn calls_on_damaged_tables() {
     all.print("damaged");
     for what in ["accepted", "7", "8", "9", "11", "12"] {
         all.reached(&format!("split {what}"), 50);
+    }
+    for what in ["accepted", "7", "11", "12"] {
+        all.reached(&format!("open {what}"), 50);
     }
 }
 
