@@ -4,6 +4,7 @@ use mathlib.Core.Bool.{Bool, true, false, cond}
 use mathlib.Core.List.{List}
 use Prim.Native.Nat.{ℕ, zero, suc, _+_, _*_, _^_, _≤_, _<_}
 use native.Mathlib.Omega.{arith}
+use native.Mathlib.Nat.{one-le-pow, two-pow-succ}
 use lib.Dec.{eqb, ltb, leb}
 use lib.ListN.{length}
 use borrow.Author.Tests.{eqb-true, eqb-false, ltb-true, eq-eqb}
@@ -33,6 +34,11 @@ pub data Outcome (t : Tree) (H : List Node) (i : ℕ) : Answer → Type 0 where
   accepted : (n : ℕ) → n ≡ length H → Leaf H i → 0 < level (cellIn H i) → Sound (splitTree t i) (splitAt H i) → Outcome t H i (Split n)
   refused : (r : Refusal) → (r ≡ Broken → ⊥) → Outcome t H i (Not r)
 
+-- of a leaf of a side over 1: only 11 is left
+pub data Roomed (t : Tree) (H : List Node) (i : ℕ) : Answer → Type 0 where
+  fits : (n : ℕ) → n ≡ length H → Sound (splitTree t i) (splitAt H i) → Roomed t H i (Split n)
+  short : Roomed t H i (Not Room)
+
 -- refusals have numbers of their own
 pub other : (r : Refusal) → (numberOf r ≡ 12 → ⊥) → r ≡ Broken → ⊥
 other r f e = f (ap numberOf e)
@@ -43,6 +49,10 @@ chosen b x y e = ap (λ (c : Bool). cond c x y) e
 wide : (c : Cell) → (side c ≡ 1 → ⊥) → 0 < level c
 wide (cell x y zero) f = absurd (f refl)
 wide (cell x y (suc k)) f = omega arith
+
+pub wide-side : (c : Cell) → 0 < level c → side c ≡ 1 → ⊥
+wide-side (cell x y zero) h e = omega arith
+wide-side (cell x y (suc k)) h e = omega (arith, two-pow-succ k, one-le-pow k 2 (omega arith))
 
 module _ (t : Tree) (H : List Node) (i : ℕ) (s : Sound t H) where
   abbrev used : ℕ
@@ -97,23 +107,34 @@ module _ (t : Tree) (H : List Node) (i : ℕ) (s : Sound t H) where
             }
 
         roomed : (a b : Bool) → cellsHeld (used + 4) (length (t .cells)) ≡ a → entriesHeld (free + length (made t i)) (length (t .entries)) ≡ b
-            → Outcome t H i (cond a (cond b (Split used) (Not Room)) (Not Room))
+            → Roomed t H i (cond a (cond b (Split used) (Not Room)) (Not Room))
         roomed true true p q =
             let e : splitAnswer t i ≡ Split used = able-answer t i able ∙ (λ d. cond (p d) (cond (q d) (Split used) (Not Room)) (Not Room)) in
-            accepted used (s .in-use) l large (split-sound t H i used s e l large)
-        roomed true false p q = refused Room (other Room (λ e. omega arith))
-        roomed false b p q = refused Room (other Room (λ e. omega arith))
+            fits used (s .in-use) (split-sound t H i used s e l large)
+        roomed true false p q = short
+        roomed false b p q = short
+
+        room-out : Roomed t H i room
+        room-out = roomed (cellsHeld (used + 4) (length (t .cells))) (entriesHeld (free + length (made t i)) (length (t .entries))) refl refl
+
+        roomed-out : {r : Answer} → Roomed t H i r → Outcome t H i r
+        roomed-out (fits n e o) = accepted n e l large o
+        roomed-out short = refused Room (other Room (λ e. omega arith))
 
       sized-out : (b : Bool) → eqb (words t i .side) 1 ≡ b → Outcome t H i (cond b (Not Smallest) room)
       sized-out true e = refused Smallest (other Smallest (λ z. omega arith))
-      sized-out false e =
-          roomed (eqb-false (words t i .side) 1 e) (cellsHeld (used + 4) (length (t .cells))) (entriesHeld (free + length (made t i)) (length (t .entries))) refl refl
+      sized-out false e = let f = eqb-false (words t i .side) 1 e in roomed-out f (room-out f)
 
     celled-out : (b : Bool) → eqb (words t i .child) 0 ≡ b → Outcome t H i (cond b leafed (Not AlreadySplit))
     celled-out true e =
         let l : Leaf H i = record { in-use = h; undivided = sym (s .firsts i h) ∙ eqb-true (words t i .child) 0 e } in
         subst (Outcome t H i) (sym (leaf-sized l)) (sized-out l (eqb (words t i .side) 1) refl)
     celled-out false e = refused AlreadySplit (other AlreadySplit (λ z. omega arith))
+
+  pub leaf-roomed : Leaf H i → 0 < level (cellIn H i) → Roomed t H i (splitAnswer t i)
+  leaf-roomed l k =
+      let f : words t i .side ≡ 1 → ⊥ = λ e. wide-side (cellIn H i) k (sym (s .squares i (l .in-use) .same-side) ∙ e) in
+      subst (Roomed t H i) (sym (able-answer t i (able (l .in-use) l f))) (room-out (l .in-use) l f)
 
   numbered : (b : Bool) → ltb i used ≡ b → Outcome t H i (cond b (countsSplit t i) (Not NoCell))
   numbered true e =
