@@ -68,13 +68,14 @@ fn ended(s: Starts, count: usize) -> Starts
     }
 }
 
-// ---- how much the child's stream is
-// `size`: 1 for each entry, 65,536 more for a line, 4,294,967,296 more for an area.
+// ---- the child's stream
+// `size`: 1 for each entry, 65,536 more for a line, 4,294,967,296 more for an area. `starts`: the start numbers of its areas.
 pub struct Count {
     pub size: u64,
     pub starts: Starts,
 }
 
+// How much the child's stream is, in one pass over its parent's.
 pub fn count_child(
     entries: &[u32],
     first: usize,
