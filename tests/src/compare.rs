@@ -2,8 +2,8 @@
 
 use std::hint::black_box;
 
-use crate::class::WHOLE_SIDE;
-use crate::drawing::{self, Refusal};
+use crate::class::{Square, WHOLE_SIDE};
+use crate::drawing::{self, refusal, Refusal};
 use crate::expect;
 use crate::lent::{Lent, LentTables, LentTree};
 use crate::meaning::Drawing;
@@ -190,4 +190,49 @@ pub fn split(drawing: &LentTables, before: &LentTree, cell: u32) -> (Answer, Len
         }
     }
     (answer, after)
+}
+
+/// Words that a leaf found is written to: cell, x, y, side, steps, entries, lines.
+pub const LEAF_WORDS: usize = 7;
+
+/// Finds a leaf by both, for an output with other words in it.
+pub fn find_leaf(
+    drawing: &LentTables,
+    before: &LentTree,
+    (x, y): (u32, u32),
+    blank: &Lent<u32>,
+) -> (Answer, Lent<u32>) {
+    let mut out = blank.clone();
+    let mut by_second = blank.clone();
+    let (answer, after) = on_tree(
+        drawing,
+        before,
+        |drawing, tree| {
+            black_box(&mut out);
+            let answer = zones::find_leaf(drawing, tree.view(), x, y, out.table_mut());
+            black_box(&mut out);
+            answer
+        },
+        |drawing, tree| {
+            let found = tree::find_leaf(drawing, tree.view(), x, y);
+            // "another output table too short for the whole result"
+            let written = found.and_then(|leaf| {
+                let Square { x, y, side } = leaf.square;
+                let (entries, lines) = (leaf.entries(), leaf.lines());
+                let words = [leaf.cell, x, y, side, leaf.steps, entries, lines];
+                let room = by_second.table_mut().get_mut(..LEAF_WORDS);
+                room.ok_or(refusal(11, 0))?.copy_from_slice(&words);
+                Ok(leaf.cell)
+            });
+            answer(written)
+        },
+    );
+    assert!(after == *before, "tree changed: {before:?}");
+    assert!(out.guards_as_in(blank), "guards changed: {before:?}");
+    assert!(out == by_second, "words differ: {out:?} {by_second:?}");
+    if let Answer::Refused { place, .. } = answer {
+        assert_eq!(place, 0);
+        assert!(out == *blank, "written on a refusal: {before:?}");
+    }
+    (answer, out)
 }

@@ -6,7 +6,7 @@ use zones_tests::compare;
 use zones_tests::damage::{damage_tables, DAMAGES};
 use zones_tests::drawing::{AREA_WORDS, MOST_AREAS, MOST_CORNERS};
 use zones_tests::foreign;
-use zones_tests::lent::{LentTables, LentTree};
+use zones_tests::lent::{lent_words, LentTables, LentTree};
 use zones_tests::meaning::Drawing;
 use zones_tests::random::Random;
 use zones_tests::samples::{self, Tables};
@@ -88,14 +88,31 @@ impl Sample {
         answer
     }
 
+    /// Finds a leaf at a position, now and then at none, with room for its words or too little.
+    fn find(&mut self, random: &mut Random, tally: &mut Tally) {
+        let (mut x, mut y) = position(random, &self.tables);
+        match random.below(40) {
+            0 => x = random.pick(&[65_536, 65_537, u32::MAX]),
+            1 => y = random.pick(&[65_536, 131_071, u32::MAX]),
+            _ => {}
+        }
+        let words = random.pick(&[7, 7, 7, 8, 10, 6, 5, 0]);
+        let words: Vec<u32> = (0..words).map(|_| random.word()).collect();
+        let blank = lent_words(random, &words);
+        let (answer, _) = compare::find_leaf(&self.drawing, &self.tree, (x, y), &blank);
+        note(tally, "find", answer);
+    }
+
     /// One call; what it changed stays.
     fn call(&mut self, random: &mut Random, tally: &mut Tally) {
-        if random.one_in(20) {
-            self.open(tally);
-            return;
+        match random.below(20) {
+            0 => _ = self.open(tally),
+            1..8 => self.find(random, tally),
+            _ => {
+                let cell = self.pick_cell(random);
+                self.split(tally, cell);
+            }
         }
-        let cell = self.pick_cell(random);
-        self.split(tally, cell);
     }
 
     /// Each call on tables that may be damaged, all on the same ones but for what they change.
@@ -105,6 +122,7 @@ impl Sample {
             let cell = self.pick_cell(random);
             self.split(tally, cell);
             self.tree = before.clone();
+            self.find(random, tally);
         }
         self.open(tally);
         self.tree = before;
@@ -151,7 +169,7 @@ fn lists_of_calls_on_random_drawings() {
             assert_eq!(number, 11);
             continue;
         }
-        for _ in 0..random.within(1..=10) {
+        for _ in 0..random.within(1..=16) {
             sample.call(random, &mut tally);
         }
         // Down to side 1 at one position.
@@ -172,6 +190,9 @@ fn lists_of_calls_on_random_drawings() {
         tally.reached(what, 500);
     }
     tally.reached("split 10", 30);
+    for what in ["find accepted", "find 7", "find 11"] {
+        tally.reached(what, 500);
+    }
 }
 
 /// Numbers in use near what any table may hold.
@@ -280,6 +301,7 @@ fn calls_on_damaged_tables() {
     }
     for what in ["accepted", "7", "11", "12"] {
         all.reached(&format!("open {what}"), 50);
+        all.reached(&format!("find {what}"), 50);
     }
 }
 
@@ -521,6 +543,9 @@ fn calls_on_trees_written_by_others() {
     tally.print("others");
     for what in ["accepted", "8", "9", "11", "12"] {
         tally.reached(&format!("split {what}"), 100);
+    }
+    for what in ["accepted", "11", "12"] {
+        tally.reached(&format!("find {what}"), 100);
     }
 }
 
