@@ -1,0 +1,3 @@
+-- Laws of the lines that the lister prints.
+pub mod Order
+pub mod Listing
