@@ -1,6 +1,7 @@
 -- Document 01, "Spots to try": the lines that the leaf lister prints of a tree of depth 4 at most. Assumes nothing.
+use mathlib.Core.Path.{_≡_}
 use mathlib.Core.Bool.{cond, _&&_}
-use mathlib.Core.List.{List, [], _∷_}
+use mathlib.Core.List.{List, [], _∷_, _++_}
 use Prim.Native.Nat.{ℕ, zero, suc, _+_, _*_, _/_, _%_, _≤_}
 use lib.Dec.{eqb}
 use lib.ListN.{getD, set}
@@ -76,3 +77,7 @@ putAt t i l = set (set (set (set (set t (i * 5) (l .cell)) (i * 5 + 1) (l .key))
 -- the table with ls from line i on
 unfoldable pub written : List ℕ → ℕ → List Line → List ℕ
 written t i ls = sets t (i * 5) (flat ls)
+
+-- a line is one of a list
+abbrev pub Among : Line → List Line → Type 0
+Among l ls = (before : List Line) × (after : List Line) × (ls ≡ before ++ l ∷ after)
