@@ -2,12 +2,14 @@
 
 use std::hint::black_box;
 
-use crate::drawing::{self, Refusal};
+use crate::class::{Square, WHOLE_SIDE};
+use crate::drawing::{self, refusal, Refusal};
 use crate::expect;
 use crate::lent::{Lent, LentTables, LentTree};
 use crate::meaning::Drawing;
 use crate::samples::{self, Tables};
-use crate::tree::{self, TreeMut};
+use crate::stream::ENTRY_WORDS;
+use crate::tree::{self, TreeMut, CELL_WORDS, HEAD_WORDS};
 use crate::zones::{self, Answer};
 
 /// Reads by both into copies of the same tables.
@@ -144,6 +146,31 @@ fn on_tree(
     (answer, by_library)
 }
 
+/// Opens by both. A refusal changes nothing; what is behind the new tree stays.
+pub fn open(drawing: &LentTables, before: &LentTree) -> (Answer, LentTree) {
+    let (answer, after) = on_tree(drawing, before, zones::open, |drawing, tree| {
+        let opened = tree::open(drawing, tree);
+        answer(opened.map(|()| tree.head[1]))
+    });
+    match answer {
+        Answer::Refused { place, .. } => {
+            assert_eq!(place, 0);
+            assert!(after == *before, "written on a refusal: {before:?}");
+        }
+        Answer::Accepted(entries) => {
+            let (now, then) = (after.view(), before.view());
+            assert_eq!(now.head[..HEAD_WORDS], [1, entries]);
+            assert_eq!(now.head[HEAD_WORDS..], then.head[HEAD_WORDS..]);
+            let cell = [0, 0, WHOLE_SIDE, 0, 0, entries, 0, 0];
+            assert_eq!(now.cells[..CELL_WORDS], cell);
+            assert_eq!(now.cells[CELL_WORDS..], then.cells[CELL_WORDS..]);
+            let behind = ENTRY_WORDS * entries as usize;
+            assert_eq!(now.entries[behind..], then.entries[behind..]);
+        }
+    }
+    (answer, after)
+}
+
 /// Splits by both. A refusal changes nothing; a split changes its own words only.
 pub fn split(drawing: &LentTables, before: &LentTree, cell: u32) -> (Answer, LentTree) {
     let (answer, after) = on_tree(
@@ -163,4 +190,49 @@ pub fn split(drawing: &LentTables, before: &LentTree, cell: u32) -> (Answer, Len
         }
     }
     (answer, after)
+}
+
+/// Words that a leaf found is written to: cell, x, y, side, steps, entries, lines.
+pub const LEAF_WORDS: usize = 7;
+
+/// Finds a leaf by both, for an output with other words in it.
+pub fn find_leaf(
+    drawing: &LentTables,
+    before: &LentTree,
+    (x, y): (u32, u32),
+    blank: &Lent<u32>,
+) -> (Answer, Lent<u32>) {
+    let mut out = blank.clone();
+    let mut by_second = blank.clone();
+    let (answer, after) = on_tree(
+        drawing,
+        before,
+        |drawing, tree| {
+            black_box(&mut out);
+            let answer = zones::find_leaf(drawing, tree.view(), x, y, out.table_mut());
+            black_box(&mut out);
+            answer
+        },
+        |drawing, tree| {
+            let found = tree::find_leaf(drawing, tree.view(), x, y);
+            // "another output table too short for the whole result"
+            let written = found.and_then(|leaf| {
+                let Square { x, y, side } = leaf.square;
+                let (entries, lines) = (leaf.entries(), leaf.lines());
+                let words = [leaf.cell, x, y, side, leaf.steps, entries, lines];
+                let room = by_second.table_mut().get_mut(..LEAF_WORDS);
+                room.ok_or(refusal(11, 0))?.copy_from_slice(&words);
+                Ok(leaf.cell)
+            });
+            answer(written)
+        },
+    );
+    assert!(after == *before, "tree changed: {before:?}");
+    assert!(out.guards_as_in(blank), "guards changed: {before:?}");
+    assert!(out == by_second, "words differ: {out:?} {by_second:?}");
+    if let Answer::Refused { place, .. } = answer {
+        assert_eq!(place, 0);
+        assert!(out == *blank, "written on a refusal: {before:?}");
+    }
+    (answer, out)
 }

@@ -69,7 +69,7 @@ pub fn any_bytes(random: &mut Random, len: usize) -> Vec<u8> {
     (0..len).map(|_| random.byte()).collect()
 }
 
-fn lent_words(random: &mut Random, words: &[u32]) -> Lent<u32> {
+pub fn lent_words(random: &mut Random, words: &[u32]) -> Lent<u32> {
     let (before, after) = (random.within(1..=9), random.within(1..=9));
     Lent::new(before, words, after, || any_word(random))
 }

@@ -3,9 +3,10 @@
 
 use zones_tests::class::Square;
 use zones_tests::compare;
+use zones_tests::damage::{damage_tables, DAMAGES};
 use zones_tests::drawing::{AREA_WORDS, MOST_AREAS, MOST_CORNERS};
 use zones_tests::foreign;
-use zones_tests::lent::{LentTables, LentTree};
+use zones_tests::lent::{lent_words, LentTables, LentTree};
 use zones_tests::meaning::Drawing;
 use zones_tests::random::Random;
 use zones_tests::samples::{self, Tables};
@@ -73,6 +74,13 @@ impl Sample {
         }
     }
 
+    fn open(&mut self, tally: &mut Tally) -> Answer {
+        let (answer, after) = compare::open(&self.drawing, &self.tree);
+        note(tally, "open", answer);
+        self.tree = after;
+        answer
+    }
+
     fn split(&mut self, tally: &mut Tally, cell: u32) -> Answer {
         let (answer, after) = compare::split(&self.drawing, &self.tree, cell);
         note(tally, "split", answer);
@@ -80,10 +88,31 @@ impl Sample {
         answer
     }
 
+    /// Finds a leaf at a position, now and then at none, with room for its words or too little.
+    fn find(&mut self, random: &mut Random, tally: &mut Tally) {
+        let (mut x, mut y) = position(random, &self.tables);
+        match random.below(40) {
+            0 => x = random.pick(&[65_536, 65_537, u32::MAX]),
+            1 => y = random.pick(&[65_536, 131_071, u32::MAX]),
+            _ => {}
+        }
+        let words = random.pick(&[7, 7, 7, 8, 10, 6, 5, 0]);
+        let words: Vec<u32> = (0..words).map(|_| random.word()).collect();
+        let blank = lent_words(random, &words);
+        let (answer, _) = compare::find_leaf(&self.drawing, &self.tree, (x, y), &blank);
+        note(tally, "find", answer);
+    }
+
     /// One call; what it changed stays.
     fn call(&mut self, random: &mut Random, tally: &mut Tally) {
-        let cell = self.pick_cell(random);
-        self.split(tally, cell);
+        match random.below(20) {
+            0 => _ = self.open(tally),
+            1..8 => self.find(random, tally),
+            _ => {
+                let cell = self.pick_cell(random);
+                self.split(tally, cell);
+            }
+        }
     }
 
     /// Each call on tables that may be damaged, all on the same ones but for what they change.
@@ -93,7 +122,10 @@ impl Sample {
             let cell = self.pick_cell(random);
             self.split(tally, cell);
             self.tree = before.clone();
+            self.find(random, tally);
         }
+        self.open(tally);
+        self.tree = before;
     }
 }
 
@@ -133,12 +165,11 @@ fn lists_of_calls_on_random_drawings() {
             tree: LentTree::blank(random, cells, entries),
             tables,
         };
-        let opened = tree::open(sample.drawing.drawing(), &mut sample.tree.lend());
-        if opened.is_err() {
-            tally.note("open 11".to_string());
+        if let Answer::Refused { number, .. } = sample.open(&mut tally) {
+            assert_eq!(number, 11);
             continue;
         }
-        for _ in 0..random.within(1..=10) {
+        for _ in 0..random.within(1..=16) {
             sample.call(random, &mut tally);
         }
         // Down to side 1 at one position.
@@ -159,6 +190,9 @@ fn lists_of_calls_on_random_drawings() {
         tally.reached(what, 500);
     }
     tally.reached("split 10", 30);
+    for what in ["find accepted", "find 7", "find 11"] {
+        tally.reached(what, 500);
+    }
 }
 
 /// Numbers in use near what any table may hold.
@@ -202,6 +236,33 @@ fn cells_and_entries_up_to_their_limits() {
 
 // ---- damaged tables ----
 
+#[test]
+fn opening_of_damaged_drawings() {
+    let random = &mut Random::for_test(96);
+    let mut tally = Tally::default();
+    for _ in 0..8_000 {
+        let records = match random.below(4) {
+            0 => scenes::any(random),
+            1 => samples::drawing(random, true),
+            _ => samples::drawing(random, false),
+        };
+        let mut drawing = LentTables::longer(random, samples::tables(&records));
+        if random.one_in(2) {
+            let damage = random.pick(&DAMAGES);
+            damage_tables(random, &mut drawing, damage);
+        }
+        let (cells, entries) = any_room(random);
+        let entries = entries + random.pick(&[0, 0, 5_000]);
+        let tree = LentTree::blank(random, cells, entries);
+        let (answer, _) = compare::open(&drawing, &tree);
+        note(&mut tally, "open", answer);
+    }
+    tally.print("opening");
+    for what in ["accepted", "7", "11", "12"] {
+        tally.reached(&format!("open {what}"), 100);
+    }
+}
+
 /// A drawing and a tree that was opened and split a few times.
 fn grown(random: &mut Random) -> (Tables, TreeTables) {
     let tables = scenes::tables(random);
@@ -237,6 +298,10 @@ fn calls_on_damaged_tables() {
     all.print("damaged");
     for what in ["accepted", "7", "8", "9", "11", "12"] {
         all.reached(&format!("split {what}"), 50);
+    }
+    for what in ["accepted", "7", "11", "12"] {
+        all.reached(&format!("open {what}"), 50);
+        all.reached(&format!("find {what}"), 50);
     }
 }
 
@@ -478,6 +543,9 @@ fn calls_on_trees_written_by_others() {
     tally.print("others");
     for what in ["accepted", "8", "9", "11", "12"] {
         tally.reached(&format!("split {what}"), 100);
+    }
+    for what in ["accepted", "11", "12"] {
+        tally.reached(&format!("find {what}"), 100);
     }
 }
 

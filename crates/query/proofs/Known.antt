@@ -1,5 +1,5 @@
 -- A leaf that is found: what is read there, and which positions it serves. Assumes nothing.
-use mathlib.Core.Path.{_≡_, refl, sym, ap, _∙_}
+use mathlib.Core.Path.{_≡_, refl, sym, ap, ap₂, _∙_}
 use mathlib.Core.Bool.{Bool, true, false, cond}
 use Prim.Native.Nat.{ℕ, _+_, _-_, _≤_, _<_}
 use native.Mathlib.Omega.{arith}
@@ -9,6 +9,7 @@ use borrow.Author.Tests.{leb-true, ltb-true}
 use Rattle.laws.proofs.Booleans.{clash}
 use Rattle.refusals.specs.declared.Refusal.the-variants as Refusals
 use Rattle.cells.specs.Cells.{at}
+use Rattle.paint.specs.Areas.{Painted}
 use Rattle.stream.specs.Grammar.{env, Passed}
 use Rattle.celltable.specs.declared.Leaf.{Leaf}
 use Rattle.celltable.specs.declared.Found.{Found}
@@ -21,8 +22,12 @@ use Rattle.leaf.proofs.Counts.{counts-fit}
 use Rattle.leaf.proofs.Landing.{leaf-landed, leaf-passed}
 use Rattle.leaf.proofs.Same.{LeafHolds, leaf-same}
 use Rattle.query.specs.declared.Answer.the-variants as Answers
+use Rattle.query.specs.declared.Shown.{Shown}
+use Rattle.query.specs.declared.Shown.the-variants.{Set}
+use Rattle.query.specs.declared.Shown.the-variants as Seen
 use Rattle.query.specs.Spots.{isFound, spotOf, setBy, known, setIn, spotIn}
-use Rattle.query.specs.Numbers.{between, inSquare, LeafIn, LastIn}
+use Rattle.query.specs.Numbers.{between, inSquare, LeafIn, LastIn, shownIn}
+use Rattle.query.proofs.Painted.{set-painted, none-painted}
 
 -- ---- the square of a leaf
 
@@ -79,3 +84,41 @@ module _ (t : Tree) where
 
     pub spot-broken : leafIn t x y ≡ Broken → Answers.Not Refusals.Broken ≡ spotIn t x y
     spot-broken e = pick-false (known t x y) (Answers.At (spotOf (t .areas) (setIn t x y))) (Answers.Not Refusals.Broken) (broken-known e)
+
+    -- ---- the shown set with the leaf
+    pub shown-known : (l : Leaf) (s : ℕ) → leafIn t x y ≡ At l → s ≡ setAt (t .areas) (t .xs) (t .ys) x y (leafStream t l) → Set s (At l) ≡ shownIn t x y
+    shown-known l s e g =
+        ap₂ Set (g ∙ leaf-set l e) (sym e)
+        ∙ pick-true (known t x y) (Set (setIn t x y) (leafIn t x y)) Seen.Broken (leaf-known l e)
+
+    pub shown-broken : leafIn t x y ≡ Broken → Seen.Broken ≡ shownIn t x y
+    shown-broken e = pick-false (known t x y) (Set (setIn t x y) (leafIn t x y)) Seen.Broken (broken-known e)
+
+    -- what a shown set, or 12, says
+    pub record Known (s : ℕ) (f : Found) : Type 0 where
+      pub is-known : known t x y ≡ true
+      pub is-set : s ≡ setIn t x y
+      pub is-leaf : LastIn t f
+
+    pub known-set : (r : Shown) (s : ℕ) (f : Found) → r ≡ shownIn t x y → r ≡ Set s f → Known s f
+    known-set r s f e g = go (known t x y) refl (sym e ∙ g)
+      where
+        go : (b : Bool) → known t x y ≡ b → cond b (Set (setIn t x y) (leafIn t x y)) Seen.Broken ≡ Set s f → Known s f
+        go true k h = record { is-known = k; is-set = cc; is-leaf = last-in f cc }
+        go false k h = absurd (let z : _≡_ {A = ℕ} 0 1 = cc in omega arith)
+
+    pub unknown-set : (r : Shown) → r ≡ shownIn t x y → r ≡ Seen.Broken → known t x y ≡ false
+    unknown-set r e g = go (known t x y) refl (sym e ∙ g)
+      where
+        go : (b : Bool) → known t x y ≡ b → cond b (Set (setIn t x y) (leafIn t x y)) Seen.Broken ≡ Seen.Broken → b ≡ false
+        go true k h = absurd (let z : _≡_ {A = ℕ} 0 1 = cc in omega arith)
+        go false k h = refl
+
+    -- ---- each area of the set has a row in range
+    pub in-painted : Painted (t .areas) (setIn t x y)
+    unfolding setIn
+    in-painted = go (leafIn t x y) refl
+      where
+        go : (f : Found) → leafIn t x y ≡ f → Painted (t .areas) (setBy t x y f)
+        go (At l) e = set-painted (t .entries) (l .first) (l .count) (env (t .areas) (t .xs) (t .ys) (leafBounds t l)) x y (leaf-stream l e)
+        go Broken e = none-painted (t .areas)

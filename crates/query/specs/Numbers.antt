@@ -1,4 +1,4 @@
--- The last leaf that was found, which serves the next position where that lies in its square. Assumes nothing.
+-- What a run of positions keeps: the leaf that was found last, which serves the next position where that lies in its square. Assumes nothing.
 use mathlib.Core.Path.{_≡_}
 use mathlib.Core.Bool.{Bool, false, cond}
 use Prim.Native.Nat.{ℕ, _-_}
@@ -8,6 +8,10 @@ use Rattle.celltable.specs.declared.Found.{Found}
 use Rattle.celltable.specs.declared.Found.the-variants.{At, Broken}
 use Rattle.tree.specs.Tables.{Tree}
 use Rattle.leaf.specs.Leaf.{leafIn}
+use Rattle.query.specs.declared.Shown.{Shown}
+use Rattle.query.specs.declared.Shown.the-variants.{Set}
+use Rattle.query.specs.declared.Shown.the-variants as Seen
+use Rattle.query.specs.Spots.{known, setIn}
 
 -- v is one of the side's numbers from low on
 abbrev pub between : (low side v : ℕ) → Bool
@@ -27,3 +31,7 @@ pub record LeafIn (t : Tree) (l : Leaf) : Type 0 where
 abbrev pub LastIn : Tree → Found → Type 0
 LastIn t (At l) = LeafIn t l
 LastIn t Broken = Unit {0}
+
+-- the shown set with the leaf that it is read from
+abbrev pub shownIn : Tree → (x y : ℕ) → Shown
+shownIn t x y = cond (known t x y) (Set (setIn t x y) (leafIn t x y)) Seen.Broken

@@ -18,7 +18,7 @@ ghost use Rattle.reading.specs.Reading.{setAt};
 ghost use Rattle.tree.specs.Tables.{tree};
 ghost use Rattle.leaf.specs.Leaf.{leafIn};
 ghost use Rattle.query.specs.Spots.{spotOf, spotIn, positionAnswer};
-ghost use Rattle.query.specs.Numbers.{between, inSquare, LastIn};
+ghost use Rattle.query.specs.Numbers.{between, inSquare, LastIn, shownIn};
 
 // What shows at a position: the set of areas, the material of the front one, and the colour.
 pub struct Spot {
@@ -33,6 +33,12 @@ pub struct Spot {
 pub enum Answer {
     At(Spot),
     Not(Refusal),
+}
+
+// A shown set, with the leaf that it was read from; or 12.
+pub enum Shown {
+    Set(u64, Found),
+    Broken,
 }
 
 // ---- a leaf that was found
@@ -132,6 +138,33 @@ pub fn leaf_for(
             leaf::leaf_at(plan, areas, xs, ys, head, cells, entries, x, y)
         }
         Found::Broken => leaf::leaf_at(plan, areas, xs, ys, head, cells, entries, x, y),
+    }
+}
+
+// The shown set at (x, y), or 12, where `last` is the leaf that was found last.
+pub fn shown_at(
+    plan: &[u32],
+    areas: &[u32],
+    xs: &[u32],
+    ys: &[u32],
+    head: &[u32],
+    cells: &[u32],
+    entries: &[u32],
+    last: Found,
+    x: u32,
+    y: u32,
+) -> Shown
+    requires { ⌜ LastIn (tree (now plan) (now areas) (now xs) (now ys) (now head) (now cells) (now entries)) last ⌝ }
+    requires { ⌜ (x < 65536) × (y < 65536) ⌝ }
+    ensures { λ r. ⌜ r ≡ shownIn (tree (now (plan .entry)) (now (areas .entry)) (now (xs .entry)) (now (ys .entry)) (now (head .entry)) (now (cells .entry)) (now (entries .entry))) x y ⌝ }
+{
+    let f = leaf_for(plan, areas, xs, ys, head, cells, entries, last, x, y);
+    match f {
+        Found::At(l) => {
+            let set = set_in(plan, areas, xs, ys, entries, l, x, y);
+            Shown::Set(set, f)
+        }
+        Found::Broken => Shown::Broken,
     }
 }
 

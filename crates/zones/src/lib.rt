@@ -4,16 +4,20 @@
 // half is the result.
 use drawing::Written;
 use grammar::Verdict;
+use leaf::FoundLeaf;
 use refusals::Refusal;
 ghost use mathlib.Core.Path.{_≡_};
 ghost use Prim.Native.Nat.{_≤_};
+ghost use lib.ListN.{length};
 ghost use Rattle.refusals.specs.Refusals.{numberOf};
 ghost use Rattle.reader.specs.Words.{planWords, areaWords, xWords, yWords, fileOf};
 ghost use Rattle.reader.specs.Reading.{recordsIn, readAnswer, leftBy};
 ghost use Rattle.drawing.specs.Tables.{tables, drawnIn, writeAnswer, outAfter};
 ghost use Rattle.tree.specs.Tables.{tree};
 ghost use Rattle.tree.specs.Split.{splitAnswer, headAfter, cellsAfter, entriesAfter};
-ghost use Rattle.zones.specs.Answers.{packed, readNumber, writeNumber, readLow, writeLow, splitNumber};
+ghost use Rattle.newtree.specs.Open.{openAnswer, headOpened, cellsOpened, entriesOpened};
+ghost use Rattle.leaf.specs.Leaf.{findAnswer};
+ghost use Rattle.zones.specs.Answers.{packed, readNumber, writeNumber, readLow, writeLow, openNumber, splitNumber, leafPut, findRoom, findNumber, outFound};
 
 // The refusal's number, or 0, and what goes with it.
 fn pack(number: u32, low: usize) -> u64
@@ -54,12 +58,54 @@ fn pack_written(w: Written) -> u64
     }
 }
 
+fn pack_open(a: newtree::Answer) -> u64
+    ensures { λ r. ⌜ r ≡ openNumber a ⌝ }
+{
+    match a {
+        newtree::Answer::Opened(entries) => pack(0, entries as usize),
+        newtree::Answer::Not(r) => refused(r),
+    }
+}
+
 fn pack_split(a: tree::Answer) -> u64
     ensures { λ r. ⌜ r ≡ splitNumber a ⌝ }
 {
     match a {
         tree::Answer::Split(child) => pack(0, child as usize),
         tree::Answer::Not(r) => refused(r),
+    }
+}
+
+// Writes the seven words of a leaf.
+fn put_leaf(out: &mut [u32], l: FoundLeaf)
+    requires { ⌜ 7 ≤ length (now out) ⌝ }
+    ensures { λ _. ⌜ now (out .exit) ≡ leafPut l (now (out .entry)) ⌝ }
+{
+    out[0] = l.cell;
+    out[1] = l.x;
+    out[2] = l.y;
+    out[3] = l.side;
+    out[4] = l.steps;
+    out[5] = l.entries;
+    out[6] = l.lines;
+}
+
+// A leaf that was found, or 11.
+fn put_found(out: &mut [u32], a: leaf::Answer) -> u64
+    ensures { λ r. ⌜ r ≡ findNumber (findRoom a (length (now (out .entry)))) ⌝ }
+    ensures { λ r. ⌜ now (out .exit) ≡ outFound (findRoom a (length (now (out .entry)))) (now (out .entry)) ⌝ }
+{
+    match a {
+        leaf::Answer::Found(l) => {
+            if 7 <= out.len() {
+                put_leaf(out, l);
+                return pack(0, l.cell as usize);
+            }
+            return refused(Refusal::Room);
+        }
+        leaf::Answer::Not(r) => {
+            return refused(r);
+        }
     }
 }
 
@@ -100,6 +146,27 @@ pub extern "C" fn zones_write(
     pack_written(w)
 }
 
+// Opens a tree over a drawing: cell 0 alone. The result is the number of its entries.
+// Refusals, in this order: 7 (tables of x and y of unequal length), 12 (no drawing in the tables), 11. Nothing is changed on a refusal.
+#[no_mangle]
+pub extern "C" fn zones_open(
+    plan: &[u32],
+    areas: &[u32],
+    xs: &[u32],
+    ys: &[u32],
+    head: &mut [u32],
+    cells: &mut [u32],
+    entries: &mut [u32],
+) -> u64
+    ensures { λ r. ⌜ r ≡ openNumber (openAnswer (tree (now (plan .entry)) (now (areas .entry)) (now (xs .entry)) (now (ys .entry)) (now (head .entry)) (now (cells .entry)) (now (entries .entry)))) ⌝ }
+    ensures { λ r. ⌜ now (head .exit) ≡ headOpened (tree (now (plan .entry)) (now (areas .entry)) (now (xs .entry)) (now (ys .entry)) (now (head .entry)) (now (cells .entry)) (now (entries .entry))) (openAnswer (tree (now (plan .entry)) (now (areas .entry)) (now (xs .entry)) (now (ys .entry)) (now (head .entry)) (now (cells .entry)) (now (entries .entry)))) ⌝ }
+    ensures { λ r. ⌜ now (cells .exit) ≡ cellsOpened (tree (now (plan .entry)) (now (areas .entry)) (now (xs .entry)) (now (ys .entry)) (now (head .entry)) (now (cells .entry)) (now (entries .entry))) (openAnswer (tree (now (plan .entry)) (now (areas .entry)) (now (xs .entry)) (now (ys .entry)) (now (head .entry)) (now (cells .entry)) (now (entries .entry)))) ⌝ }
+    ensures { λ r. ⌜ now (entries .exit) ≡ entriesOpened (tree (now (plan .entry)) (now (areas .entry)) (now (xs .entry)) (now (ys .entry)) (now (head .entry)) (now (cells .entry)) (now (entries .entry))) (openAnswer (tree (now (plan .entry)) (now (areas .entry)) (now (xs .entry)) (now (ys .entry)) (now (head .entry)) (now (cells .entry)) (now (entries .entry)))) ⌝ }
+{
+    let a = newtree::open(plan, areas, xs, ys, head, cells, entries);
+    pack_open(a)
+}
+
 // Splits a cell of a tree. The result is the number of its first child.
 // Refusals, in this order: 7 (tables of x and y of unequal length), 8, 12, 9, 10, 11. Nothing is changed on a refusal.
 #[no_mangle]
@@ -120,4 +187,26 @@ pub extern "C" fn zones_split(
 {
     let a = tree::split(plan, areas, xs, ys, head, cells, entries, cell);
     pack_split(a)
+}
+
+// Finds the leaf that holds (x, y) and writes seven words: its number, x, y, side, steps, entries, lines. The result is its number.
+// Refusals, in this order: 7 (tables of x and y of unequal length, no position), 12, 11. Nothing is changed on a refusal.
+#[no_mangle]
+pub extern "C" fn zones_find_leaf(
+    plan: &[u32],
+    areas: &[u32],
+    xs: &[u32],
+    ys: &[u32],
+    head: &[u32],
+    cells: &[u32],
+    entries: &[u32],
+    x: u32,
+    y: u32,
+    out: &mut [u32],
+) -> u64
+    ensures { λ r. ⌜ r ≡ findNumber (findRoom (findAnswer (tree (now (plan .entry)) (now (areas .entry)) (now (xs .entry)) (now (ys .entry)) (now (head .entry)) (now (cells .entry)) (now (entries .entry))) x y) (length (now (out .entry)))) ⌝ }
+    ensures { λ r. ⌜ now (out .exit) ≡ outFound (findRoom (findAnswer (tree (now (plan .entry)) (now (areas .entry)) (now (xs .entry)) (now (ys .entry)) (now (head .entry)) (now (cells .entry)) (now (entries .entry))) x y) (length (now (out .entry)))) (now (out .entry)) ⌝ }
+{
+    let a = leaf::find_leaf(plan, areas, xs, ys, head, cells, entries, x, y);
+    put_found(out, a)
 }
