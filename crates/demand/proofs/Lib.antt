@@ -9,3 +9,7 @@ pub mod Outcomes
 pub mod Opened
 pub mod Finding
 pub mod Readings
+pub mod Growing
+pub mod Answers
+pub mod Demand
+mod Examples

@@ -1,6 +1,6 @@
 -- What every call of the list keeps: the numbers in the tables are in range, the cells are the history's, and the words of each leaf's stream are those
 -- made from the drawing. From it follows what is claimed of the tables. Assumes nothing.
-use mathlib.Core.Path.{_≡_, refl, sym, ap, _∙_, subst}
+use mathlib.Core.Path.{_≡_, sym, ap, _∙_, subst}
 use mathlib.Core.Bool.{true}
 use mathlib.Core.List.{List}
 use Prim.Native.Nat.{ℕ, _+_, _≤_, _<_}
@@ -8,10 +8,10 @@ use lib.ListN.{length, getD}
 use Rattle.paint.specs.Areas.{paintAt, materialOf}
 use Rattle.paint.specs.Colours.{colourOf}
 use Rattle.pruning.specs.Sides.{paint, flat}
-use Rattle.cells.specs.Cells.{Position, at, Cell, Holds}
+use Rattle.cells.specs.Cells.{at, Cell, Holds}
 use Rattle.cells.specs.Drawings.{Drawing}
 use Rattle.cells.specs.Streams.{Each, Winds, source, made, shownIn}
-use Rattle.cells.specs.Rows.{rowsOf, Decoded, entriesOf, decode, roleIn}
+use Rattle.cells.specs.Rows.{rowsOf, entriesOf, decode, roleIn}
 use Rattle.cells.proofs.Streams.{made-shown, source-shown, made-winds}
 use Rattle.cells.proofs.Rows.{decode-rows, made-on-side}
 use Rattle.stream.specs.Grammar.{bounds}
