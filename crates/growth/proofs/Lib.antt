@@ -9,3 +9,4 @@ pub mod Counts
 pub mod Turned
 pub mod Looped
 pub mod Calls
+pub mod Ends
