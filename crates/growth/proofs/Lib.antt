@@ -10,3 +10,4 @@ pub mod Turned
 pub mod Looped
 pub mod Calls
 pub mod Ends
+mod Examples
