@@ -34,7 +34,7 @@ quarter-place lowHigh = refl
 quarter-place highHigh = refl
 
 -- ---- the drawing stays
-drawing-split : (t : Tree) (i : ℕ) → drawingOf (splitTree t i) ≡ drawingOf t
+pub drawing-split : (t : Tree) (i : ℕ) → drawingOf (splitTree t i) ≡ drawingOf t
 unfolding splitTree
 drawing-split t i = refl
 
