@@ -6,7 +6,7 @@ use mathlib.Core.List.{List, [], _∷_}
 use Prim.Native.Nat.{ℕ, zero, suc, _+_, _*_, _-_, _≤_, _<_}
 use native.Mathlib.Omega.{arith}
 use native.Mathlib.Decide.{ℕ-discrete}
-use lib.Dec.{eqb, ltb}
+use lib.Dec.{eqb, ltb, leb}
 use lib.ListN.{length}
 use borrow.Author.Tests.{eqb-true, eqb-false, ltb-true, lt-ltb}
 use Rattle.laws.proofs.Booleans.{and-left, and-right, and-both, clash}
@@ -19,11 +19,12 @@ use Rattle.tree.specs.Tables.{Tree, cellsUsed, entriesUsed}
 use Rattle.tree.specs.Split.{words, against, stream, splitAnswer}
 use Rattle.splits.specs.After.{splitTree}
 use Rattle.splits.proofs.Counts.{used-most}
+use Rattle.newtree.specs.Open.{drawingTables}
 use Rattle.leaf.specs.Leaf.{linesIn}
 use Rattle.growth.specs.declared.Tried.{Tried}
 use Rattle.growth.specs.declared.Tried.the-variants.{Bad, Past, Wanted}
 use Rattle.growth.specs.Grow as Grow
-use Rattle.growth.specs.Grow.{depthAt, isWanted, tried, Lowest, none, at, orNext, lowestFrom, Round, splits, done, full, broken, roundAt, roundBy, round, Ending, none-left, no-room, not-passed, Grown, goOn, growing, grown}
+use Rattle.growth.specs.Grow.{depthAt, isWanted, tried, Lowest, none, at, orNext, lowestFrom, Round, splits, done, full, broken, roundAt, roundBy, round, Ending, none-left, no-room, not-passed, Grown, goOn, growing, grown, growTree}
 use Rattle.demand.specs.History.{Node, cellIn, splitAt, afterSplits, Leaf}
 use Rattle.demand.specs.Stands.{drawingOf, wordsOfCell}
 use Rattle.demand.specs.Demand as Demand
@@ -31,13 +32,34 @@ use Rattle.demand.specs.Demand.{NoneWanted, FullAt}
 use Rattle.demand.proofs.History.{one-longer}
 use Rattle.demand.proofs.Sound.{Sound}
 use Rattle.demand.proofs.Passing.{cell-is, cell-passes, leaf-passes}
-use Rattle.demand.proofs.Splits.{drawing-split}
+use Rattle.demand.proofs.Splits.{tables-split, drawing-split}
 use Rattle.demand.proofs.Outcomes.{Roomed, fits, short, leaf-roomed}
 
 same-lines : (ws : List Words) → Grow.linesIn ws ≡ linesIn ws
 unfolding Grow.linesIn
 same-lines [] = refl
 same-lines (w ∷ ws) = ap (λ (k : ℕ). cond (eqb (w .kind) 5) (1 + k) k) (same-lines ws)
+
+-- ---- the drawing stays
+on-tables : (n l : ℕ) (t : Tree) (f : Tree → Grown) → ((u : Tree) → drawingTables (f u .after) ≡ drawingTables u) → (r : Round) → drawingTables (goOn r t f .after) ≡ drawingTables t
+on-tables n l t f g (splits i) = g (splitTree t i) ∙ tables-split t i
+on-tables n l t f g done = refl
+on-tables n l t f g full = refl
+on-tables n l t f g broken = refl
+
+tables-growing : (k n l : ℕ) (t : Tree) → drawingTables (growing k n l t .after) ≡ drawingTables t
+unfolding growing
+tables-growing zero n l t = refl
+tables-growing (suc k) n l t = on-tables n l t (growing k n l) (λ u. tables-growing k n l u) (round n l t)
+
+pub tables-grown : (t : Tree) (n l : ℕ) → drawingTables (growTree t n l) ≡ drawingTables t
+unfolding grown
+tables-grown t n l = go (eqb (length (t .xs)) (length (t .ys))) (leb l 16)
+  where
+    go : (a b : Bool) → drawingTables (cond a (cond b (grown n l t .after) t) t) ≡ drawingTables t
+    go true true = tables-growing 4096 n l t
+    go true false = refl
+    go false b = refl
 
 module _ (D : Drawing) (n l : ℕ) (few : l ≤ 16) where
   abbrev Wants : List Node → ℕ → Type 0

@@ -12,7 +12,7 @@ use Rattle.tree.specs.declared.Answer as Splitting
 use Rattle.tree.specs.declared.Answer.the-variants as Splits
 use Rattle.tree.specs.Split.{splitAnswer}
 use Rattle.newtree.specs.declared.Answer.the-variants as Opens
-use Rattle.newtree.specs.Open.{openAnswer}
+use Rattle.newtree.specs.Open.{drawingTables, openAnswer}
 use Rattle.growth.specs.declared.Answer as Growing
 use Rattle.growth.specs.declared.Answer.the-variants as Grows
 use Rattle.growth.specs.Grow.{growAnswer, growTree}
@@ -102,10 +102,11 @@ Unmet c t = isOpening c ≡ false → refusal (answerTo c t) ≡ 12 → ⊥
 abbrev pub Allowed : Call → Tree → Type 0
 Allowed c t = isOpening c ≡ true → refusal (answerTo c t) ≡ 0 → ⊥
 
--- at each call: the tables stand as it finds them and as it leaves them, its answer is right, and 12 does not meet it
+-- at each call: the tables stand as it finds them and as it leaves them, over the same drawing, its answer is right, and 12 does not meet it
 pub record Claim (c : Call) (t : Tree) (H : List Node) : Type 0 where
   pub before : Stands t H
   pub after : Stands (treeAfter c t) (historyAfter c t H)
+  pub drawing : drawingTables (treeAfter c t) ≡ drawingTables t
   pub right : Right c t H
   pub unmet : Unmet c t
 
