@@ -1,16 +1,17 @@
 -- The answers of the calls on sound tables. Assumes nothing.
 use mathlib.Core.Path.{_≡_, refl, sym, ap, _∙_, subst}
-use mathlib.Core.Bool.{Bool, true, false, cond}
+use mathlib.Core.Bool.{Bool, true, false, cond, _&&_}
 use mathlib.Core.List.{List, [], _∷_}
 use Prim.Native.Nat.{ℕ, _+_, _*_, _-_}
 use native.Mathlib.Omega.{arith}
-use lib.Dec.{leb}
+use lib.Dec.{eqb, ltb, leb}
 use lib.ListN.{length, set, length-append, length-set}
 use borrow.Author.Tests.{eq-eqb, leb-true}
 use Rattle.refusals.specs.declared.Refusal.{Refusal}
 use Rattle.refusals.specs.declared.Refusal.the-variants as Refusals
 use Rattle.refusals.specs.Refusals.{numberOf}
 use Rattle.cells.specs.Cells.{at, level}
+use Rattle.cells.specs.Drawings.{Drawing}
 use Rattle.ranges.proofs.Streams.{words-length}
 use Rattle.celltable.specs.Descent.{leafOf}
 use Rattle.tree.specs.declared.Answer as Splitting
@@ -27,12 +28,15 @@ use Rattle.leaf.specs.Leaf.{positionRange, linesIn, reportOf, foundBy, leafIn, 
 use Rattle.leaf.proofs.Landing.{on-grid}
 use Rattle.query.specs.declared.Answer as Reading
 use Rattle.query.specs.declared.Answer.the-variants as Reads
+use Rattle.logs.specs.declared.LogAnswer.{LogAnswer}
+use Rattle.logs.specs.declared.LogAnswer.the-variants as Logs
+use Rattle.logs.specs.Logs.{outsideFrom, eachWord}
 use Rattle.demand.specs.History.{Node, node, cellIn, quarters, splitAt, afterSplits, Leaf}
 use Rattle.demand.specs.NoTree.{spotShown}
 use Rattle.demand.specs.Stands.{drawingOf, wordsOfCell}
-use Rattle.demand.specs.Calls.{splitting, growing, finding, reading, refusal, afterSplit, grownCells}
+use Rattle.demand.specs.Calls.{splitting, growing, finding, reading, logging, refusal, afterSplit, grownCells}
 use Rattle.demand.specs.Demand.{SplitRight, GrowRight, reportShown, FindRight}
-use Rattle.demand.specs.Shown.{positionShown}
+use Rattle.demand.specs.Shown.{positionShown, logShown, logAnswerShown}
 use Rattle.demand.proofs.Sound.{Sound}
 use Rattle.demand.proofs.Outcomes.{Outcome, accepted, refused, split-outcome}
 use Rattle.demand.proofs.Growing.{Grows, grown-sound}
@@ -144,3 +148,17 @@ module _ (t : Tree) (x y : ℕ) (a : Reading.Answer) (e : a ≡ positionShown (d
 
   pub position-unmet : refusal (reading a) ≡ 12 → ⊥
   position-unmet z = shown-by (positionRange x y) (sym (ap (λ (r : Reading.Answer). refusal (reading r)) e) ∙ z)
+
+-- ---- a log
+module _ (D : Drawing) (px py : List ℕ) (n : ℕ) where
+  log-shown-by : (p q r : Bool) (place : ℕ) (l : List ℕ)
+      → refusal (logging (cond p (cond q (Logs.Not Refusals.Argument place) (cond r (Logs.Indices (length l)) (Logs.Not Refusals.Room 0))) (Logs.Not Refusals.Argument 0))) ≡ 12 → ⊥
+  log-shown-by true true r place l z = omega arith
+  log-shown-by true false true place l z = omega arith
+  log-shown-by true false false place l z = omega arith
+  log-shown-by false q r place l z = omega arith
+
+  pub log-unmet : (a : LogAnswer) → a ≡ logAnswerShown D px py n → refusal (logging a) ≡ 12 → ⊥
+  log-unmet a e z =
+      log-shown-by (eqb (length px) (length py)) (ltb (outsideFrom px py 0 (length px)) (length px)) (leb (length (logShown D px py)) n && eachWord (logShown D px py)) (outsideFrom px py 0 (length px)) (logShown D px py)
+      (sym (ap (λ (r : LogAnswer). refusal (logging r)) e) ∙ z)

@@ -1,6 +1,7 @@
 -- Demand 3: after one accepted opening, at every call of every list. Assumes nothing.
 use mathlib.Core.Path.{_≡_, refl, sym, subst}
 use mathlib.Core.List.{List, [], _∷_}
+use lib.ListN.{length}
 use Rattle.laws.proofs.Booleans.{clash}
 use Rattle.tree.specs.Tables.{Tree}
 use Rattle.newtree.specs.declared.Answer as Opening
@@ -8,14 +9,17 @@ use Rattle.newtree.specs.declared.Answer.the-variants as Opens
 use Rattle.newtree.specs.Open.{openAnswer}
 use Rattle.drawing.specs.Tables.{Tables}
 use Rattle.query.specs.Spots.{positionAnswer}
+use Rattle.logs.specs.Logs.{logAnswer}
 use Rattle.demand.specs.History.{Node, begun}
+use Rattle.demand.specs.Stands.{drawingOf}
 use Rattle.demand.specs.Opened.{openTree}
-use Rattle.demand.specs.Calls.{Call, opens, splits, grows, finds, reads, opening, refusal, over, afterOpening, treeAfter, historyAfter}
+use Rattle.demand.specs.Calls.{Call, opens, splits, grows, finds, reads, logs, opening, refusal, over, afterOpening, treeAfter, historyAfter}
 use Rattle.demand.specs.Demand.{Right, Unmet, Allowed, Throughout, Demand3}
 use Rattle.demand.proofs.Sound.{Sound, sound-stands}
 use Rattle.demand.proofs.Opened.{open-sound}
 use Rattle.demand.proofs.Readings.{position-right}
-use Rattle.demand.proofs.Answers.{split-done, grow-done, find-right, find-unmet, position-unmet}
+use Rattle.demand.proofs.Answers.{split-done, grow-done, find-right, find-unmet, position-unmet, log-unmet}
+use Rattle.demand.proofs.Logs.{log-right, log-out}
 
 -- a refused opening leaves all
 refused-same : (d : Tables) (t : Tree) (a : Opening.Answer) → (refusal (opening a) ≡ 0 → ⊥) → afterOpening d t a ≡ t
@@ -35,6 +39,9 @@ called (splits i) t H s a = let r = split-done t H i s in record { sound = r .so
 called (grows n l) t H s a = let r = grow-done t H n l s in record { sound = r .sound; right = r .right; unmet = λ e. r .unmet }
 called (finds x y) t H s a = record { sound = s; right = find-right t H s x y; unmet = λ e. find-unmet t H s x y }
 called (reads x y) t H s a = let q = position-right t H s x y in record { sound = s; right = q; unmet = λ e. position-unmet t x y (positionAnswer t x y) q }
+called (logs px py out) t H s a =
+    let q = log-right t H s px py out in
+    record { sound = s; right = record { answer = q; output = log-out t H s px py out }; unmet = λ e. log-unmet (drawingOf t) px py (length out) (logAnswer t px py (length out)) q }
 
 claimed : (cs : List Call) (t : Tree) (H : List Node) → Sound t H → Throughout cs t H
 claimed [] t H s = sound-stands t H s

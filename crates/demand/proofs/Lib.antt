@@ -12,4 +12,5 @@ pub mod Readings
 pub mod Growing
 pub mod Answers
 pub mod Demand
+pub mod Logs
 mod Examples

@@ -24,6 +24,9 @@ use Rattle.leaf.specs.Leaf.{findAnswer}
 use Rattle.query.specs.declared.Answer as Reading
 use Rattle.query.specs.declared.Answer.the-variants as Reads
 use Rattle.query.specs.Spots.{positionAnswer}
+use Rattle.logs.specs.declared.LogAnswer.{LogAnswer}
+use Rattle.logs.specs.declared.LogAnswer.the-variants as Logs
+use Rattle.logs.specs.Logs.{logAnswer, outAfter}
 use Rattle.demand.specs.History.{Node, splitAt, afterSplits}
 use Rattle.demand.specs.Opened.{openedBy}
 
@@ -36,6 +39,8 @@ pub data Call : Type 0 where
   grows : (threshold limit : ℕ) → Call
   finds : (x y : ℕ) → Call
   reads : (x y : ℕ) → Call
+  -- the positions of the run, and the table that takes the indices
+  logs : (px py out : List ℕ) → Call
 
 pub data Answer : Type 0 where
   opening : Opening.Answer → Answer
@@ -43,6 +48,7 @@ pub data Answer : Type 0 where
   growing : Growing.Answer → Answer
   finding : Finding.Answer → Answer
   reading : Reading.Answer → Answer
+  logging : LogAnswer → Answer
 
 abbrev pub isOpening : Call → Bool
 isOpening (opens d) = true
@@ -50,6 +56,7 @@ isOpening (splits i) = false
 isOpening (grows n l) = false
 isOpening (finds x y) = false
 isOpening (reads x y) = false
+isOpening (logs px py out) = false
 
 -- the tables of a tree, with another drawing
 abbrev pub over : Tables → Tree → Tree
@@ -61,6 +68,7 @@ answerTo (splits i) t = splitting (splitAnswer t i)
 answerTo (grows n l) t = growing (growAnswer t n l)
 answerTo (finds x y) t = finding (findAnswer t x y)
 answerTo (reads x y) t = reading (positionAnswer t x y)
+answerTo (logs px py out) t = logging (logAnswer t px py (length out))
 
 -- the number of its refusal, 0 where it is accepted
 abbrev pub refusal : Answer → ℕ
@@ -75,6 +83,8 @@ refusal (finding (Finds.Found l)) = 0
 refusal (finding (Finds.Not r)) = numberOf r
 refusal (reading (Reads.At s)) = 0
 refusal (reading (Reads.Not r)) = numberOf r
+refusal (logging (Logs.Indices n)) = 0
+refusal (logging (Logs.Not r place)) = numberOf r
 
 -- ---- the tables
 -- the tree as an opening leaves it, with the drawing of the opening where that is accepted, and with its own where it is refused
@@ -88,6 +98,16 @@ treeAfter (splits i) t = splitTree t i
 treeAfter (grows n l) t = growTree t n l
 treeAfter (finds x y) t = t
 treeAfter (reads x y) t = t
+treeAfter (logs px py out) t = t
+
+-- the output that a call is lent besides, as it leaves it
+abbrev pub outputAfter : Call → Tree → List ℕ
+outputAfter (opens d) t = []
+outputAfter (splits i) t = []
+outputAfter (grows n l) t = []
+outputAfter (finds x y) t = []
+outputAfter (reads x y) t = []
+outputAfter (logs px py out) t = outAfter t px py (logAnswer t px py (length out)) out
 
 -- ---- the history
 abbrev pub afterSplit : List Node → ℕ → Splitting.Answer → List Node
@@ -105,3 +125,4 @@ historyAfter (splits i) t H = afterSplit H i (splitAnswer t i)
 historyAfter (grows n l) t H = afterSplits H (grownCells t n l)
 historyAfter (finds x y) t H = H
 historyAfter (reads x y) t H = H
+historyAfter (logs px py out) t H = H

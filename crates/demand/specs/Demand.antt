@@ -21,11 +21,13 @@ use Rattle.leaf.specs.declared.Answer as Finding
 use Rattle.leaf.specs.declared.Answer.the-variants as Finds
 use Rattle.leaf.specs.Leaf.{positionRange, linesIn, findAnswer}
 use Rattle.query.specs.Spots.{positionAnswer}
+use Rattle.logs.specs.declared.LogAnswer.{LogAnswer}
+use Rattle.logs.specs.Logs.{logAnswer}
 use Rattle.demand.specs.History.{Node, begun, afterSplits, cellIn, Leaf, LeafAt}
 use Rattle.demand.specs.Stands.{drawingOf, wordsOfCell, Stands}
-use Rattle.demand.specs.Shown.{positionShown}
+use Rattle.demand.specs.Shown.{positionShown, logAnswerShown, logOutShown}
 use Rattle.demand.specs.Opened.{openTree}
-use Rattle.demand.specs.Calls.{Call, opens, splits, grows, finds, reads, isOpening, answerTo, refusal, treeAfter, grownCells, historyAfter}
+use Rattle.demand.specs.Calls.{Call, opens, splits, grows, finds, reads, logs, isOpening, answerTo, refusal, treeAfter, outputAfter, grownCells, historyAfter}
 
 -- ---- the answers
 
@@ -58,6 +60,11 @@ pub record FindRight (D : Drawing) (H : List Node) (x y : ℕ) (a : Finding.Answ
   pub inside : positionRange x y ≡ true → (i : ℕ) × LeafAt H (at x y) i × (a ≡ Finds.Found (reportShown D H i))
   pub outside : positionRange x y ≡ false → a ≡ Finds.Not Refusals.Argument
 
+-- the log worked out with no tree, as the answer and in the output
+pub record LogRight (D : Drawing) (px py out : List ℕ) (a : LogAnswer) (after : List ℕ) : Type 0 where
+  pub answer : a ≡ logAnswerShown D px py (length out)
+  pub output : after ≡ logOutShown D px py (logAnswerShown D px py (length out)) out
+
 -- the answer to a call on a tree with the history H
 abbrev pub Right : Call → Tree → List Node → Type 0
 Right (opens d) t H = Unit {0}
@@ -65,6 +72,7 @@ Right (splits i) t H = SplitRight H i (splitAnswer t i)
 Right (grows n l) t H = GrowRight H (afterSplits H (grownCells t n l)) (growAnswer t n l)
 Right (finds x y) t H = FindRight (drawingOf t) H x y (findAnswer t x y)
 Right (reads x y) t H = positionAnswer t x y ≡ positionShown (drawingOf t) x y
+Right (logs px py out) t H = LogRight (drawingOf t) px py out (logAnswer t px py (length out)) (outputAfter (logs px py out) t)
 
 -- 12 meets no call, but for an opening, which may be lent any drawing
 abbrev pub Unmet : Call → Tree → Type 0

@@ -9,3 +9,5 @@ pub mod Counts
 pub mod Turned
 pub mod Looped
 pub mod Calls
+pub mod Ends
+mod Examples

@@ -128,7 +128,7 @@ fn try_leaf(
     Tried::Bad
 }
 
-// Cell i, whose words are w.
+// The next cell of the sweep, whose words are w.
 fn try_cell(
     entries: &[u32],
     areas: &[u32],

@@ -1,0 +1,31 @@
+-- The answers of the calls that read a tree: one number, and the words that are written. Assumes nothing.
+use mathlib.Core.Bool.{cond}
+use mathlib.Core.List.{List}
+use Prim.Native.Nat.{ℕ, _/_, _%_}
+use lib.Dec.{leb}
+use lib.ListN.{set}
+use Rattle.refusals.specs.declared.Refusal.the-variants.{Room}
+use Rattle.refusals.specs.Refusals.{numberOf}
+use Rattle.query.specs.declared.Spot.{Spot}
+use Rattle.query.specs.declared.Answer as query-answer
+use Rattle.query.specs.declared.Answer.the-variants as query
+use Rattle.zones.specs.Answers.{packed}
+
+-- a position: 11, "another output table too short for the whole result", which is six words; out is how many words the table has
+abbrev pub spotRoom : query-answer.Answer → (out : ℕ) → query-answer.Answer
+spotRoom (query.At s) out = cond (leb 6 out) (query.At s) (query.Not Room)
+spotRoom (query.Not r) out = query.Not r
+
+-- the material; refusals of a position have place 0
+abbrev pub spotNumber : query-answer.Answer → ℕ
+spotNumber (query.At s) = packed 0 (s .material)
+spotNumber (query.Not r) = packed (numberOf r) 0
+
+-- the six words of what shows: the low and the high half of the set, the material, the colour
+abbrev pub spotPut : Spot → List ℕ → List ℕ
+spotPut s out = set (set (set (set (set (set out 0 (s .set % 4294967296)) 1 (s .set / 4294967296)) 2 (s .material)) 3 (s .red)) 4 (s .green)) 5 (s .blue)
+
+-- "nothing lent changed" on a refusal; "An accepted call leaves the rest of a longer output untouched."
+abbrev pub outSpot : query-answer.Answer → List ℕ → List ℕ
+outSpot (query.At s) out = spotPut s out
+outSpot (query.Not r) out = out
