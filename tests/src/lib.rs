@@ -7,6 +7,7 @@ pub mod compare;
 pub mod damage;
 pub mod drawing;
 pub mod expect;
+pub mod fast;
 pub mod foreign;
 pub mod lent;
 pub mod lister;

@@ -1,9 +1,9 @@
 -- In sound tables the way down from cell 0 to a position ends at the history's leaf that holds it, after as many steps as its depth, and meets nothing
 -- that 12 refuses. Assumes nothing.
-use mathlib.Core.Path.{_≡_, refl, sym, ap, _∙_, subst}
+use mathlib.Core.Path.{_≡_, sym, ap, _∙_, subst}
 use mathlib.Core.Bool.{true}
 use mathlib.Core.List.{List}
-use Prim.Native.Nat.{ℕ, zero, suc, _+_, _-_, _≤_, _<_}
+use Prim.Native.Nat.{ℕ, zero, suc, _+_, _-_, _<_}
 use native.Mathlib.Omega.{arith}
 use native.Mathlib.Decide.{ℕ-discrete}
 use lib.ListN.{length}
@@ -18,7 +18,7 @@ use Rattle.tree.specs.Tables.{Tree, cellsUsed, entriesUsed}
 use Rattle.tree.specs.Split.{words}
 use Rattle.leaf.specs.Leaf.{leafIn}
 use Rattle.leaf.proofs.Landing.{leaf-met}
-use Rattle.demand.specs.History.{Node, cellIn, firstIn, Leaf, LeafAt}
+use Rattle.demand.specs.History.{Node, cellIn, firstIn, LeafAt}
 use Rattle.demand.proofs.History.{few-places}
 use Rattle.demand.proofs.Sound.{Sound}
 use Rattle.demand.proofs.Passing.{cell-passes, leaf-passes}

@@ -1,17 +1,16 @@
 -- The cells of a history: each lies on the grid, those of a split cell are its quarters, and the leaves tile the grid. Assumes nothing.
 use mathlib.Core.Path.{_≡_, refl, sym, ap, _∙_, subst}
-use mathlib.Core.List.{List, [], _∷_, _++_}
-use Prim.Native.Nat.{ℕ, zero, suc, _+_, _*_, _^_, _≤_, _<_}
+use mathlib.Core.List.{List}
+use Prim.Native.Nat.{ℕ, zero, suc, _+_, _≤_, _<_}
 use native.Mathlib.Omega.{arith}
-use native.Mathlib.Nat.{two-pow-succ}
 use native.Mathlib.Decide.{decLt, ℕ-discrete}
 use lib.ListN.{length, getD, set, length-append, length-set, List·getD-append}
 use lib.Seq.{getD-set-same, getD-set-other, getD-append-add}
-use Rattle.cells.specs.Cells.{Position, OnGrid, Cell, cell, level, root, Holds, Quarter, lowLow, highLow, lowHigh, highHigh, child, quarterOf}
+use Rattle.cells.specs.Cells.{Position, Cell, cell, level, root, Holds, Quarter, lowLow, highLow, lowHigh, highHigh, child, quarterOf}
 use Rattle.cells.proofs.Cells.{root-holds, child-holds, holds-up}
 use Rattle.celltable.specs.Descent.{placeOf}
 use Rattle.celltable.proofs.Grid.{Gridded, root-gridded, child-gridded}
-use Rattle.demand.specs.History.{Node, node, cellOf, firstOf, begun, cellIn, firstIn, quarters, splitAt, Leaf, LeafAt, Tiled}
+use Rattle.demand.specs.History.{Node, node, cellOf, firstOf, begun, cellIn, firstIn, quarters, splitAt, LeafAt, Tiled}
 
 -- a cell that was split: it had more than one position, and its four cells are its quarters, numbered in a row
 pub record Divided (H : List Node) (i j : ℕ) : Type 0 where

@@ -9,3 +9,8 @@ pub mod Outcomes
 pub mod Opened
 pub mod Finding
 pub mod Readings
+pub mod Growing
+pub mod Answers
+pub mod Demand
+pub mod Logs
+mod Examples

@@ -1,10 +1,8 @@
 -- An accepted opening leaves tables that are sound, with the one cell of the history's begin. Assumes nothing.
 use mathlib.Core.Path.{_≡_, refl, sym, ap, _∙_, subst}
-use mathlib.Core.Bool.{Bool, true}
-use mathlib.Core.List.{List}
-use Prim.Native.Nat.{ℕ, zero, suc, _+_, _*_, _-_, _/_, _≤_, _<_}
+use mathlib.Core.Bool.{true}
+use Prim.Native.Nat.{ℕ, zero, suc, _+_, _*_, _/_, _≤_, _<_}
 use native.Mathlib.Omega.{arith}
-use lib.Dec.{leb}
 use lib.ListN.{length, getD, set, length-set}
 use lib.Seq.{getD-set-same, getD-set-other}
 use borrow.Author.Tests.{le-leb}
@@ -15,22 +13,16 @@ use Rattle.drawing.specs.Tables.{drawnIn}
 use Rattle.drawing.proofs.Rows as Rows
 use Rattle.drawing.proofs.Theorems.{passes-holding}
 use Rattle.cells.specs.Cells.{root}
-use Rattle.stream.specs.declared.Bounds.{Bounds}
-use Rattle.stream.specs.declared.Words.{Words}
-use Rattle.stream.specs.Table.{wordsFrom, written}
+use Rattle.stream.specs.Table.{wordsFrom}
 use Rattle.stream.specs.Grammar.{bounds, usedRange}
 use Rattle.stream.proofs.Table.{written-read, length-written}
-use Rattle.ranges.specs.Valid.{Valid}
-use Rattle.ranges.specs.Held.{Held}
 use Rattle.plans.proofs.Valid.{accepted-valid}
 use Rattle.plans.proofs.Held.{accepted-held}
 use Rattle.celltable.specs.declared.CellWords.{CellWords}
-use Rattle.celltable.specs.Table.{cellAt, putCellAt}
-use Rattle.celltable.specs.Ranges.{headRange}
 use Rattle.celltable.proofs.Table.{put-cell-same, length-put-cell}
 use Rattle.celltable.proofs.Grid.{SaysCell}
 use Rattle.opening.specs.Opened.{rowsOpened, wordsOpened}
-use Rattle.tree.specs.Tables.{Tree, cellsUsed, entriesUsed, boundsOf, countsIn}
+use Rattle.tree.specs.Tables.{Tree, cellsUsed, entriesUsed, countsIn}
 use Rattle.tree.specs.Split.{words, stream}
 use Rattle.splits.proofs.Counts.{used-is, head-fits, counts-of}
 use Rattle.newtree.specs.declared.Answer.{Answer}

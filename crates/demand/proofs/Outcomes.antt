@@ -2,13 +2,12 @@
 use mathlib.Core.Path.{_≡_, refl, sym, ap, _∙_, subst}
 use mathlib.Core.Bool.{Bool, true, false, cond}
 use mathlib.Core.List.{List}
-use Prim.Native.Nat.{ℕ, zero, suc, _+_, _*_, _^_, _≤_, _<_}
+use Prim.Native.Nat.{ℕ, zero, suc, _+_, _<_}
 use native.Mathlib.Omega.{arith}
 use native.Mathlib.Nat.{one-le-pow, two-pow-succ}
 use lib.Dec.{eqb, ltb, leb}
 use lib.ListN.{length}
 use borrow.Author.Tests.{eqb-true, eqb-false, ltb-true, eq-eqb}
-use Rattle.laws.proofs.Booleans.{clash}
 use Rattle.refusals.specs.declared.Refusal.{Refusal}
 use Rattle.refusals.specs.declared.Refusal.the-variants.{Argument, NoCell, AlreadySplit, Smallest, Room, Broken}
 use Rattle.refusals.specs.Refusals.{numberOf}
@@ -23,8 +22,7 @@ use Rattle.tree.specs.Split.{words, against, made, roomAnswer, drawingSplit, ce
 use Rattle.splits.specs.After.{Splittable, splitTree}
 use Rattle.splits.proofs.Counts.{counts-head, counts-plan, counts-used}
 use Rattle.splits.proofs.Accepted.{able-answer}
-use Rattle.splits.proofs.Trees.{tree-refused}
-use Rattle.demand.specs.History.{Node, cellIn, firstIn, splitAt, Leaf}
+use Rattle.demand.specs.History.{Node, cellIn, splitAt, Leaf}
 use Rattle.demand.proofs.Sound.{Sound}
 use Rattle.demand.proofs.Passing.{cell-passes, leaf-passes}
 use Rattle.demand.proofs.Splits.{split-sound}

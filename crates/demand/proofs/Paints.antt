@@ -3,22 +3,21 @@ use mathlib.Core.Path.{_≡_, refl, sym, ap, _∙_, subst}
 use mathlib.Core.Bool.{Bool, true, false, cond, _||_}
 use mathlib.Core.List.{List, [], _∷_, _++_}
 use Prim.Native.Nat.{ℕ, zero, suc, _<_}
-use native.Mathlib.Omega.{arith}
 use lib.Dec.{eqb}
 use lib.ListN.{length}
 use borrow.Author.Tests.{eqb-true}
 use Rattle.laws.proofs.Booleans.{clash}
 use Rattle.records.specs.declared.Fields.{Fields}
-use Rattle.paint.specs.Sets.{has, among, setOf, eachFrom, each}
+use Rattle.paint.specs.Sets.{has, among, eachFrom, each}
 use Rattle.paint.specs.Areas.{paintAt, materialFrom, materialOf}
 use Rattle.paint.specs.Colours.{add, start, mixOf, over, rounded, colourOf}
 use Rattle.paint.specs.declared.area.Paint.{Paint}
 use Rattle.paint.specs.declared.colour.Mix.{Mix}
 use Rattle.paint.proofs.Sets.{has-set}
-use Rattle.pruning.specs.Sides.{Kind, paint, clip, Side, end, leaf, group}
-use Rattle.pruning.specs.Meaning.{clipPasses, shownAll, upTo, shown}
+use Rattle.pruning.specs.Sides.{Kind, paint, Side, end, leaf, group}
+use Rattle.pruning.specs.Meaning.{clipPasses, shownAll, upTo}
 use Rattle.cells.specs.Cells.{Position}
-use Rattle.cells.specs.Drawings.{Drawing, fieldsOf, passesAt, isOpaque, shownAt}
+use Rattle.cells.specs.Drawings.{Drawing, passesAt, isOpaque, shownAt}
 use Rattle.cells.specs.Streams.{On}
 use Rattle.stream.specs.declared.Bounds.{Bounds}
 use Rattle.ranges.specs.Valid.{Valid}

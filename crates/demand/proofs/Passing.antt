@@ -1,5 +1,5 @@
 -- In tables that are sound every cell in use passes 12, and so does every leaf with its stream. Assumes nothing.
-use mathlib.Core.Path.{_≡_, refl, sym, ap, _∙_}
+use mathlib.Core.Path.{_≡_, refl, ap, _∙_}
 use mathlib.Core.Bool.{Bool, true, false, _||_}
 use mathlib.Core.List.{List}
 use Prim.Native.Nat.{ℕ, _+_, _<_}
@@ -9,11 +9,10 @@ use lib.Dec.{eqb, ltb}
 use lib.ListN.{length}
 use borrow.Author.Tests.{lt-ltb, le-leb}
 use Rattle.laws.proofs.Booleans.{and-both}
-use Rattle.cells.specs.Cells.{Cell, cell, low, side, root}
+use Rattle.cells.specs.Cells.{Cell, cell, side, root}
 use Rattle.stream.specs.Grammar.{checkStream}
 use Rattle.ranges.proofs.Streams.{made-checks}
 use Rattle.celltable.specs.declared.CellWords.{CellWords}
-use Rattle.celltable.specs.Table.{cellAt}
 use Rattle.celltable.specs.Ranges.{childRange, entryRange, numbersRange, cellRange, levelOf, cellOf}
 use Rattle.celltable.proofs.Powers.{level-of}
 use Rattle.celltable.proofs.Ranges.{leaf-numbers}

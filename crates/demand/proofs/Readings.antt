@@ -1,10 +1,10 @@
 -- What is read from sound tables at a position is what the drawing shows there: the set, the material, the colour. Assumes nothing.
-use mathlib.Core.Path.{_≡_, refl, sym, ap, _∙_, subst}
+use mathlib.Core.Path.{_≡_, refl, ap, _∙_}
 use mathlib.Core.Bool.{Bool, true, false, cond, _&&_}
 use mathlib.Core.List.{List, [], _∷_}
-use Prim.Native.Nat.{ℕ, zero, suc, _+_, _*_, _-_, _≤_, _<_}
+use Prim.Native.Nat.{ℕ, zero, suc, _+_, _≤_, _<_}
 use native.Mathlib.Omega.{arith}
-use lib.Dec.{eqb, ltb, leb}
+use lib.Dec.{ltb}
 use lib.ListN.{length, getD}
 use borrow.Author.Tests.{ltb-true, eq-eqb}
 use Rattle.laws.proofs.Booleans.{and-left, and-right}
@@ -14,27 +14,20 @@ use Rattle.paint.specs.Colours.{colourOf}
 use Rattle.paint.specs.declared.colour.Colour.{Colour}
 use Rattle.paint.specs.declared.colour.Channels.{Channels}
 use Rattle.paint.specs.Pixels.{rowOffsets, rowOffset, sampleX, sampleY, plus, samples, sixteenth, pixelOf}
-use Rattle.cells.specs.Cells.{Position, at, OnGrid, level}
-use Rattle.celltable.specs.declared.Leaf.{Leaf}
-use Rattle.celltable.specs.declared.Found.{Found}
+use Rattle.cells.specs.Cells.{at, OnGrid}
 use Rattle.celltable.specs.declared.Found.the-variants.{At}
-use Rattle.celltable.specs.Descent.{leafOf}
 use Rattle.reading.specs.Reading.{setAt}
-use Rattle.stream.specs.declared.Words.{Words}
 use Rattle.tree.specs.Tables.{Tree}
-use Rattle.tree.specs.Split.{words, stream}
-use Rattle.leaf.specs.Leaf.{positionRange, leafIn}
+use Rattle.leaf.specs.Leaf.{positionRange}
 use Rattle.leaf.proofs.Landing.{on-grid}
-use Rattle.query.specs.declared.Spot.{Spot}
-use Rattle.query.specs.declared.Answer.{Answer}
 use Rattle.query.specs.declared.Answer.the-variants as Answers
 use Rattle.query.specs.Spots.{isFound, setBy, spotOf, known, setIn, materialIn, colourIn, spotIn, positionAnswer}
 use Rattle.demand.specs.History.{Node, cellIn}
-use Rattle.demand.specs.NoTree.{setShown, materialShown, colourShown, spotShown, pixelShown}
+use Rattle.demand.specs.NoTree.{setShown, materialShown, colourShown, spotShown}
 use Rattle.demand.specs.Stands.{drawingOf}
 use Rattle.demand.proofs.Paints.{material-held, colour-held}
 use Rattle.demand.proofs.Sound.{Sound, cell-set}
-use Rattle.demand.proofs.Finding.{Lands, lands}
+use Rattle.demand.proofs.Finding.{lands}
 
 module _ (t : Tree) (H : List Node) (s : Sound t H) where
   -- ---- one position
@@ -83,14 +76,14 @@ below-small [] i e = omega arith
 below-small (n ∷ ns) zero e = ltb-true n 16 (and-left (ltb n 16) (allSmall ns) e)
 below-small (n ∷ ns) (suc i) e = below-small ns i (and-right (ltb n 16) (allSmall ns) e)
 
+offset-small : (i : ℕ) → rowOffset i < 16
+offset-small i = below-small rowOffsets i refl
+
+pub sample-on-grid : (row pixel i : ℕ) → row ≤ 4095 → pixel ≤ 4095 → i < 16 → OnGrid (at (sampleX pixel i) (sampleY row i))
+sample-on-grid row pixel i h k l = record { x-below = omega arith; y-below = omega (arith, offset-small i) }
+
 -- colours that are the same at each position of the grid
 module _ (f g : ℕ → ℕ → Colour) (same : (x y : ℕ) → OnGrid (at x y) → f x y ≡ g x y) where
-  offset-small : (i : ℕ) → rowOffset i < 16
-  offset-small i = below-small rowOffsets i refl
-
-  pub sample-on-grid : (row pixel i : ℕ) → row ≤ 4095 → pixel ≤ 4095 → i < 16 → OnGrid (at (sampleX pixel i) (sampleY row i))
-  sample-on-grid row pixel i h k l = record { x-below = omega arith; y-below = omega (arith, offset-small i) }
-
   samples-same : (row pixel i n : ℕ) (c : Channels) → row ≤ 4095 → pixel ≤ 4095 → i + n ≤ 16 → samples f row pixel i n c ≡ samples g row pixel i n c
   samples-same row pixel i zero c h k l = refl
   samples-same row pixel i (suc n) c h k l =

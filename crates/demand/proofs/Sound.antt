@@ -8,10 +8,10 @@ use lib.ListN.{length, getD}
 use Rattle.paint.specs.Areas.{paintAt, materialOf}
 use Rattle.paint.specs.Colours.{colourOf}
 use Rattle.pruning.specs.Sides.{paint, flat}
-use Rattle.cells.specs.Cells.{Position, at, Cell, Holds}
+use Rattle.cells.specs.Cells.{at, Cell, Holds}
 use Rattle.cells.specs.Drawings.{Drawing}
 use Rattle.cells.specs.Streams.{Each, Winds, source, made, shownIn}
-use Rattle.cells.specs.Rows.{rowsOf, Decoded, entriesOf, decode, roleIn}
+use Rattle.cells.specs.Rows.{rowsOf, entriesOf, decode, roleIn}
 use Rattle.cells.proofs.Streams.{made-shown, source-shown, made-winds}
 use Rattle.cells.proofs.Rows.{decode-rows, made-on-side}
 use Rattle.stream.specs.Grammar.{bounds}
@@ -63,6 +63,7 @@ module _ (t : Tree) (d : Drawn t) (c : Cell) where
   cell-stands : LeafStands t c (wordsOfCell D c)
   cell-stands =
       record {
+        stream = refl;
         windings = rw (words-say D (d .valid) c) cell-winds;
         meaning = λ p h. ap (shownIn D p) (words-stream D (d .valid) c) ∙ (made-shown D c p h (source D) ∙ source-shown D p);
         set = cell-set;

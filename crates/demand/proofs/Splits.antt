@@ -1,14 +1,11 @@
 -- A split in tables that are sound: it is accepted, and leaves them sound with the cell divided in the history, or it is refused, and not with 12. Assumes nothing.
 use mathlib.Core.Path.{_≡_, refl, sym, ap, _∙_, subst}
-use mathlib.Core.Bool.{Bool, true, false, cond}
 use mathlib.Core.List.{List}
-use Prim.Native.Nat.{ℕ, zero, suc, _+_, _^_, _≤_, _<_}
+use Prim.Native.Nat.{ℕ, suc, _+_, _≤_, _<_}
 use native.Mathlib.Omega.{arith}
-use native.Mathlib.Nat.{two-pow-succ}
 use lib.ListN.{length}
-use Rattle.cells.specs.Cells.{Cell, cell, level, side, Quarter, lowLow, highLow, lowHigh, highHigh, child}
+use Rattle.cells.specs.Cells.{Cell, level, side, Quarter, lowLow, highLow, lowHigh, highHigh, child}
 use Rattle.cells.specs.Drawings.{Drawing}
-use Rattle.stream.specs.declared.Words.{Words}
 use Rattle.stream.specs.Table.{wordsFrom}
 use Rattle.celltable.specs.declared.CellWords.{CellWords}
 use Rattle.celltable.specs.Table.{withChild}
@@ -16,10 +13,10 @@ use Rattle.celltable.specs.Ranges.{cellOf}
 use Rattle.celltable.specs.Descent.{placeOf, quarterAt}
 use Rattle.celltable.proofs.Grid.{SaysCell}
 use Rattle.making.specs.Made.{wordsMade}
-use Rattle.children.specs.Children.{wordsWith, entriesOfChild, wordsOfChild, streamsTo}
+use Rattle.children.specs.Children.{wordsWith, entriesOfChild, streamsTo}
 use Rattle.tree.specs.declared.Answer.the-variants.{Split}
 use Rattle.tree.specs.Tables.{Tree, cellsUsed, entriesUsed, boundsOf}
-use Rattle.tree.specs.Split.{words, drawing, stream, made, splitAnswer}
+use Rattle.tree.specs.Split.{words, drawing, stream, splitAnswer}
 use Rattle.splits.specs.After.{splitTree}
 use Rattle.splits.proofs.Rows.{streams-more, streams-up}
 use Rattle.splits.proofs.Trees.{tree-used, tree-free, tree-counts, tree-keeps-cell, tree-cell, tree-child, tree-stream, tree-child-stream}

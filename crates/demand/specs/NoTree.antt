@@ -1,5 +1,4 @@
 -- Document 01, "The list of demand 3": "'with no tree' is by the same section over the whole drawing, pixels and logs too". Assumes nothing.
-use mathlib.Core.List.{List, [], _∷_}
 use Prim.Native.Nat.{ℕ}
 use Rattle.paint.specs.Sets.{setOf}
 use Rattle.paint.specs.Areas.{materialOf}

@@ -1,0 +1,4 @@
+-- Laws of zone logs.
+pub mod Runs
+pub mod Counting
+pub mod Answers

@@ -1,0 +1,3 @@
+-- Zone logs.
+pub mod Logs
+pub mod Numbers
