@@ -18,7 +18,8 @@ use Rattle.tree.specs.Split.{words, against}
 use Rattle.splits.specs.After.{splitTree}
 use Rattle.growth.specs.declared.Tried.{Tried}
 use Rattle.growth.specs.declared.Tried.the-variants.{Bad, Past, Wanted}
-use Rattle.growth.specs.Grow.{linesIn, depthAt, isWanted, tried, Lowest, none, at, orNext, lowestFrom, Round, splits, done, full, broken, roundAt, roundBy, round, Ending, none-left, no-room, not-passed, Grown, goOn, growing, grown}
+use Rattle.leaf.specs.Leaf.{linesIn}
+use Rattle.growth.specs.Grow.{depthAt, isWanted, tried, Lowest, none, at, orNext, lowestFrom, Round, splits, done, full, broken, roundAt, roundBy, round, Ending, none-left, no-room, not-passed, Grown, goOn, growing, grown}
 use Rattle.demand.specs.History.{Node, cellIn, splitAt, afterSplits, Leaf}
 use Rattle.demand.proofs.Sound.{Sound}
 use Rattle.demand.proofs.Passing.{cell-is, cell-passes, leaf-passes}
