@@ -23,7 +23,6 @@ use Rattle.newtree.specs.Open.{drawingTables}
 use Rattle.leaf.specs.Leaf.{linesIn}
 use Rattle.growth.specs.declared.Tried.{Tried}
 use Rattle.growth.specs.declared.Tried.the-variants.{Bad, Past, Wanted}
-use Rattle.growth.specs.Grow as Grow
 use Rattle.growth.specs.Grow.{depthAt, isWanted, tried, Lowest, none, at, orNext, lowestFrom, Round, splits, done, full, broken, roundAt, roundBy, round, Ending, none-left, no-room, not-passed, Grown, goOn, growing, grown, growTree}
 use Rattle.demand.specs.History.{Node, cellIn, splitAt, afterSplits, Leaf}
 use Rattle.demand.specs.Stands.{drawingOf, wordsOfCell}
@@ -34,11 +33,6 @@ use Rattle.demand.proofs.Sound.{Sound}
 use Rattle.demand.proofs.Passing.{cell-is, cell-passes, leaf-passes}
 use Rattle.demand.proofs.Splits.{tables-split, drawing-split}
 use Rattle.demand.proofs.Outcomes.{Roomed, fits, short, leaf-roomed}
-
-same-lines : (ws : List Words) → Grow.linesIn ws ≡ linesIn ws
-unfolding Grow.linesIn
-same-lines [] = refl
-same-lines (w ∷ ws) = ap (λ (k : ℕ). cond (eqb (w .kind) 5) (1 + k) k) (same-lines ws)
 
 -- ---- the drawing stays
 on-tables : (n l : ℕ) (t : Tree) (f : Tree → Grown) → ((u : Tree) → drawingTables (f u .after) ≡ drawingTables u) → (r : Round) → drawingTables (goOn r t f .after) ≡ drawingTables t
@@ -77,22 +71,22 @@ module _ (D : Drawing) (n l : ℕ) (few : l ≤ 16) where
     abbrev streamed : Bool
     streamed = checkStream (t .entries) (words t i .first) (words t i .count) (entriesUsed (t .head)) (against t i)
 
-    lines-are : Leaf H i → Grow.linesIn (stream t i) ≡ linesIn (wordsOfCell D (cellIn H i))
-    lines-are o = same-lines (stream t i) ∙ ap linesIn (s .streams i o ∙ ap (λ (E : Drawing). wordsOfCell E (cellIn H i)) same)
+    lines-are : Leaf H i → linesIn (stream t i) ≡ linesIn (wordsOfCell D (cellIn H i))
+    lines-are o = ap linesIn (s .streams i o ∙ ap (λ (E : Drawing). wordsOfCell E (cellIn H i)) same)
 
     depth-is : depthAt (words t i .side) ≡ 16 - level (cellIn H i)
     depth-is = ap (λ (k : ℕ). 16 - k) (ap level (cell-is t H s i h))
 
     sees-leaf : Leaf H i → (b : Bool) → wants ≡ b → Sees H i (cond b Wanted Past)
     sees-leaf o true e =
-        let a = ltb-true n (Grow.linesIn (stream t i)) (and-left (ltb n (Grow.linesIn (stream t i))) (ltb (depthAt (words t i .side)) l) e) in
-        let d = ltb-true (depthAt (words t i .side)) l (and-right (ltb n (Grow.linesIn (stream t i))) (ltb (depthAt (words t i .side)) l) e) in
+        let a = ltb-true n (linesIn (stream t i)) (and-left (ltb n (linesIn (stream t i))) (ltb (depthAt (words t i .side)) l) e) in
+        let d = ltb-true (depthAt (words t i .side)) l (and-right (ltb n (linesIn (stream t i))) (ltb (depthAt (words t i .side)) l) e) in
         wanted (record { leaf = o; lines = omega (arith, lines-are o); shallow = omega (arith, depth-is) })
     sees-leaf o false e =
         past
         (λ w. clash
         (sym e
-        ∙ and-both (ltb n (Grow.linesIn (stream t i))) (ltb (depthAt (words t i .side)) l) (lt-ltb n (Grow.linesIn (stream t i)) (omega (arith, w .lines, lines-are o)))
+        ∙ and-both (ltb n (linesIn (stream t i))) (ltb (depthAt (words t i .side)) l) (lt-ltb n (linesIn (stream t i)) (omega (arith, w .lines, lines-are o)))
         (lt-ltb (depthAt (words t i .side)) l (omega (arith, w .shallow, depth-is)))))
 
     sees-cell : (b : Bool) → eqb (words t i .child) 0 ≡ b → Sees H i (cond b (cond streamed (cond wants Wanted Past) Bad) Past)
