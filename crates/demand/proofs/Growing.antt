@@ -2,7 +2,7 @@
 -- history has it. Assumes nothing.
 use mathlib.Core.Path.{_≡_, refl, sym, ap, _∙_, subst}
 use mathlib.Core.Bool.{Bool, true, false, cond}
-use mathlib.Core.List.{List, [], _∷_}
+use mathlib.Core.List.{List}
 use Prim.Native.Nat.{ℕ, zero, suc, _+_, _*_, _-_, _≤_, _<_}
 use native.Mathlib.Omega.{arith}
 use native.Mathlib.Decide.{ℕ-discrete}
@@ -12,7 +12,6 @@ use borrow.Author.Tests.{eqb-true, eqb-false, ltb-true, lt-ltb}
 use Rattle.laws.proofs.Booleans.{and-left, and-right, and-both, clash}
 use Rattle.cells.specs.Cells.{level}
 use Rattle.cells.specs.Drawings.{Drawing}
-use Rattle.stream.specs.declared.Words.{Words}
 use Rattle.stream.specs.Grammar.{checkStream}
 use Rattle.tree.specs.declared.Answer as Splitting
 use Rattle.tree.specs.Tables.{Tree, cellsUsed, entriesUsed}
