@@ -20,7 +20,7 @@ loop-holds : tie.Need-loop-holds Inv-loop μ-loop
 loop-holds c = let a = c .before .before .before .before .before .before .before .args in let p = c .before .before .before .before .before .before .before .pre in let T = tree (now (a .plan)) (now (a .areas)) (now (a .xs)) (now (a .ys)) (now (a .head)) (now (a .cells)) (now (a .entries)) in sampling-begin T (a .row) (a .column) 16 (a .before) (p .0)
 
 sample-at-requires : tie.Need-sample-at-requires Inv-loop μ-loop
-sample-at-requires c κs = let a = c .before .before .before .before .before .before .before .before .before .args in let p = c .before .before .before .before .before .before .before .before .before .pre in let T = tree (now (a .plan)) (now (a .areas)) (now (a .xs)) (now (a .ys)) (now (a .head)) (now (a .cells)) (now (a .entries)) in let i = c .before .loop .i in let k = c .loop-test .taken in (p .1 .0, (p .1 .1, k))
+sample-at-requires c κs = let a = c .before .before .before .before .before .before .before .before .before .args in let p = c .before .before .before .before .before .before .before .before .before .pre in let T = tree (now (a .plan)) (now (a .areas)) (now (a .xs)) (now (a .ys)) (now (a .head)) (now (a .cells)) (now (a .entries)) in let i = c .before .loop .i in let k = c .loop-test .taken in omega (arith, p .1, k)
 
 shown-at-requires : tie.Need-shown-at-requires Inv-loop μ-loop
 shown-at-requires c κs = let a = c .before .before .before .before .before .before .before .before .before .before .args in let p = c .before .before .before .before .before .before .before .before .before .before .pre in let T = tree (now (a .plan)) (now (a .areas)) (now (a .xs)) (now (a .ys)) (now (a .head)) (now (a .cells)) (now (a .entries)) in let i = c .before .before .loop .i in let k = c .before .loop-test .taken in let q = c .sample-at .result in let e = c .sample-at .ensures in (c .before .before .loop .inv .leaf, (e .1 .1 .0, e .1 .1 .1))
