@@ -6,6 +6,10 @@ use lib.Dec.{leb}
 use lib.ListN.{set}
 use Rattle.refusals.specs.declared.Refusal.the-variants.{Room}
 use Rattle.refusals.specs.Refusals.{numberOf}
+use Rattle.logs.specs.declared.LogAnswer.{LogAnswer}
+use Rattle.logs.specs.declared.LogAnswer.the-variants as logs
+use Rattle.pixels.specs.declared.RowAnswer.{RowAnswer}
+use Rattle.pixels.specs.declared.RowAnswer.the-variants as pixels
 use Rattle.query.specs.declared.Spot.{Spot}
 use Rattle.query.specs.declared.Answer as query-answer
 use Rattle.query.specs.declared.Answer.the-variants as query
@@ -29,3 +33,21 @@ spotPut s out = set (set (set (set (set (set out 0 (s .set % 4294967296)) 1 (s .
 abbrev pub outSpot : query-answer.Answer → List ℕ → List ℕ
 outSpot (query.At s) out = spotPut s out
 outSpot (query.Not r) out = out
+
+-- a place or a result over 4,294,967,295 is packed as 4,294,967,295
+abbrev pub lowHalf : ℕ → ℕ
+lowHalf n = cond (leb n 4294967295) n 4294967295
+
+-- a zone log: how many indices; 7 has the "index of the position in a run"
+abbrev pub logNumber : LogAnswer → ℕ
+logNumber (logs.Indices n) = packed 0 (lowHalf n)
+logNumber (logs.Not r place) = packed (numberOf r) (lowHalf place)
+
+-- a row of pixels: no result; 12 has "the pixel's index in the call", which is below 4,096
+abbrev pub rowNumber : RowAnswer → ℕ
+rowNumber pixels.Done = packed 0 0
+rowNumber (pixels.Not r place) = packed (numberOf r) place
+
+abbrev pub rowPlace : RowAnswer → ℕ
+rowPlace pixels.Done = 0
+rowPlace (pixels.Not r place) = place
