@@ -111,7 +111,7 @@ pub fn write(drawing: &LentTables, before: &Lent<u8>) -> (Answer, Lent<u8>) {
 
 // ---- the calls on a tree ----
 
-fn answer(result: Result<u32, Refusal>) -> Answer {
+pub fn answer(result: Result<u32, Refusal>) -> Answer {
     match result {
         Ok(low) => Answer::Accepted(low),
         Err(Refusal { number, place }) => Answer::Refused { number, place },

@@ -12,7 +12,7 @@ pub enum Answer {
 
 impl Answer {
     /// The high half is the refusal's number, 0 if the call was accepted.
-    fn from_number(answer: u64) -> Answer {
+    pub fn from_number(answer: u64) -> Answer {
         let (high, low) = ((answer >> 32) as u32, answer as u32);
         match high {
             0 => Answer::Accepted(low),

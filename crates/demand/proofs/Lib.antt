@@ -9,7 +9,9 @@ pub mod Outcomes
 pub mod Opened
 pub mod Finding
 pub mod Readings
+pub mod Rows
 pub mod Growing
 pub mod Answers
 pub mod Demand
+pub mod Logs
 mod Examples

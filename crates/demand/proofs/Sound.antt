@@ -1,6 +1,6 @@
 -- What every call of the list keeps: the numbers in the tables are in range, the cells are the history's, and the words of each leaf's stream are those
 -- made from the drawing. From it follows what is claimed of the tables. Assumes nothing.
-use mathlib.Core.Path.{_≡_, sym, ap, _∙_, subst}
+use mathlib.Core.Path.{_≡_, refl, sym, ap, _∙_, subst}
 use mathlib.Core.Bool.{true}
 use mathlib.Core.List.{List}
 use Prim.Native.Nat.{ℕ, _+_, _≤_, _<_}
@@ -63,6 +63,7 @@ module _ (t : Tree) (d : Drawn t) (c : Cell) where
   cell-stands : LeafStands t c (wordsOfCell D c)
   cell-stands =
       record {
+        stream = refl;
         windings = rw (words-say D (d .valid) c) cell-winds;
         meaning = λ p h. ap (shownIn D p) (words-stream D (d .valid) c) ∙ (made-shown D c p h (source D) ∙ source-shown D p);
         set = cell-set;

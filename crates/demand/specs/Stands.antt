@@ -18,7 +18,7 @@ use Rattle.celltable.specs.Table.{cellAt}
 use Rattle.celltable.specs.Descent.{onSquare}
 use Rattle.opening.specs.Opened.{drawingIn}
 use Rattle.tree.specs.Tables.{Tree, cellsUsed}
-use Rattle.tree.specs.Split.{stream}
+use Rattle.tree.specs.Split as Split
 use Rattle.newtree.specs.Open.{drawingTables}
 use Rattle.demand.specs.History.{Node, cellIn, firstIn, Leaf, Tiled}
 use Rattle.demand.specs.NoTree.{setShown, materialShown, colourShown}
@@ -33,6 +33,8 @@ wordsOfCell D c = map wordsOf (rowsOf (flat paint (made D c (source D))))
 
 -- ws are the words of the stream of a leaf c
 pub record LeafStands (t : Tree) (c : Cell) (ws : List Words) : Type 0 where
+  -- they follow from the drawing and the leaf's square, whatever was split before
+  pub stream : ws ≡ wordsOfCell (drawingOf t) c
   -- "An area's winding in it at (x, y) is its start number, plus the sign of each of its shortcuts with row y, plus +1 or −1 for each of its kept
   -- lines that counts there": of each area entry, at each position of the leaf, the winding in the whole drawing
   pub windings : Each (Winds (drawingOf t) c) (entriesOf (decode (roleIn (drawingOf t)) (rowsIn ws)))
@@ -50,4 +52,4 @@ pub record Stands (t : Tree) (H : List Node) : Type 0 where
   pub children : (i : ℕ) → i < length H → cellAt (t .cells) i .child ≡ firstIn H i
   -- whose leaves tile the grid
   pub tiled : Tiled H
-  pub leaves : (i : ℕ) → Leaf H i → LeafStands t (cellIn H i) (stream t i)
+  pub leaves : (i : ℕ) → Leaf H i → LeafStands t (cellIn H i) (Split.stream t i)

@@ -10,7 +10,7 @@ ghost use lib.ListN.{length, set};
 ghost use lib.Seq.{sets};
 ghost use Rattle.tree.specs.Tables.{tree};
 ghost use Rattle.leaf.specs.Leaf.{positionRange};
-ghost use Rattle.logs.specs.Logs.{outsideFrom, eachWord, knownFrom, zoneLog, logRoom, logKnown, logRange, logAnswer, outAfter};
+ghost use Rattle.logs.specs.Logs.{outsideFrom, eachWord, knownFrom, zoneLog, logKnown, logRange, logAnswer, outAfter};
 ghost use Rattle.logs.specs.Numbers.{RunIn, loggedN, talliedN, countIn};
 
 // How many indices a log has, or why the call was refused and where.

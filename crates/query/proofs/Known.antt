@@ -98,13 +98,14 @@ module _ (t : Tree) where
     pub record Known (s : ℕ) (f : Found) : Type 0 where
       pub is-known : known t x y ≡ true
       pub is-set : s ≡ setIn t x y
+      pub is-found : f ≡ leafIn t x y
       pub is-leaf : LastIn t f
 
     pub known-set : (r : Shown) (s : ℕ) (f : Found) → r ≡ shownIn t x y → r ≡ Set s f → Known s f
     known-set r s f e g = go (known t x y) refl (sym e ∙ g)
       where
         go : (b : Bool) → known t x y ≡ b → cond b (Set (setIn t x y) (leafIn t x y)) Seen.Broken ≡ Set s f → Known s f
-        go true k h = record { is-known = k; is-set = cc; is-leaf = last-in f cc }
+        go true k h = record { is-known = k; is-set = cc; is-found = cc; is-leaf = last-in f cc }
         go false k h = absurd (let z : _≡_ {A = ℕ} 0 1 = cc in omega arith)
 
     pub unknown-set : (r : Shown) → r ≡ shownIn t x y → r ≡ Seen.Broken → known t x y ≡ false

@@ -2,6 +2,8 @@
 //
 // Each answer is one number: the number of the refusal times 2^32, and its place. Where nothing is refused the high half is 0 and the low
 // half is the result.
+pub mod readings;
+
 use drawing::Written;
 use grammar::Verdict;
 use leaf::FoundLeaf;

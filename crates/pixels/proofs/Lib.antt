@@ -1,0 +1,3 @@
+-- Laws of rows of pixels.
+pub mod Sampling
+pub mod Filling
