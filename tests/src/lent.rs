@@ -1,8 +1,10 @@
 //! What is lent: tables with guard items on both sides.
 
 use crate::drawing::{AREA_WORDS, MOST_AREAS, MOST_CORNERS, MOST_RECORDS, PLAN_COUNTS};
+use crate::meaning::Drawing;
 use crate::random::Random;
 use crate::samples::Tables;
+use crate::tree::{Tree, TreeMut, TreeTables};
 
 /// The middle of a longer table. Two are equal when the guards are equal too.
 #[derive(Clone, PartialEq, Eq, Debug)]
@@ -67,7 +69,7 @@ pub fn any_bytes(random: &mut Random, len: usize) -> Vec<u8> {
     (0..len).map(|_| random.byte()).collect()
 }
 
-fn lent_words(random: &mut Random, words: &[u32]) -> Lent<u32> {
+pub fn lent_words(random: &mut Random, words: &[u32]) -> Lent<u32> {
     let (before, after) = (random.within(1..=9), random.within(1..=9));
     Lent::new(before, words, after, || any_word(random))
 }
@@ -130,6 +132,15 @@ impl LentTables {
         LentTables::blank(random, [plan, areas, MOST_CORNERS, MOST_CORNERS])
     }
 
+    pub fn drawing(&self) -> Drawing<'_> {
+        Drawing {
+            plan: self.plan.table(),
+            areas: self.areas.table(),
+            xs: self.xs.table(),
+            ys: self.ys.table(),
+        }
+    }
+
     pub fn each(&self) -> [&Lent<u32>; 4] {
         [&self.plan, &self.areas, &self.xs, &self.ys]
     }
@@ -141,5 +152,68 @@ impl LentTables {
     pub fn guards_as_in(&self, before: &LentTables) -> bool {
         let mut pairs = self.each().into_iter().zip(before.each());
         pairs.all(|(now, then)| now.guards_as_in(then))
+    }
+}
+
+/// A tree's three tables, lent.
+#[derive(Clone, PartialEq, Eq, Debug)]
+pub struct LentTree {
+    pub head: Lent<u32>,
+    pub cells: Lent<u32>,
+    pub entries: Lent<u32>,
+}
+
+impl LentTree {
+    pub fn new(random: &mut Random, tree: &TreeTables) -> LentTree {
+        LentTree {
+            head: lent_words(random, &tree.head),
+            cells: lent_words(random, &tree.cells),
+            entries: lent_words(random, &tree.entries),
+        }
+    }
+
+    /// Tables for so many cells and entries and a few words more, full of any words.
+    pub fn blank(random: &mut Random, cells: usize, entries: usize) -> LentTree {
+        let mut tree = TreeTables::new(cells, entries);
+        for (table, row) in [
+            (&mut tree.head, 3),
+            (&mut tree.cells, 8),
+            (&mut tree.entries, 4),
+        ] {
+            let words = table.len() + random.below(row);
+            *table = any_words(random, words);
+        }
+        LentTree::new(random, &tree)
+    }
+
+    pub fn view(&self) -> Tree<'_> {
+        Tree {
+            head: self.head.table(),
+            cells: self.cells.table(),
+            entries: self.entries.table(),
+        }
+    }
+
+    pub fn lend(&mut self) -> TreeMut<'_> {
+        TreeMut {
+            head: self.head.table_mut(),
+            cells: self.cells.table_mut(),
+            entries: self.entries.table_mut(),
+        }
+    }
+
+    /// The tables without their guards.
+    pub fn tables(&self) -> TreeTables {
+        TreeTables {
+            head: self.head.table().to_vec(),
+            cells: self.cells.table().to_vec(),
+            entries: self.entries.table().to_vec(),
+        }
+    }
+
+    pub fn guards_as_in(&self, before: &LentTree) -> bool {
+        self.head.guards_as_in(&before.head)
+            && self.cells.guards_as_in(&before.cells)
+            && self.entries.guards_as_in(&before.entries)
     }
 }

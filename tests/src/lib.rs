@@ -7,6 +7,7 @@ pub mod compare;
 pub mod damage;
 pub mod drawing;
 pub mod expect;
+pub mod fast;
 pub mod foreign;
 pub mod lent;
 pub mod lister;
@@ -17,6 +18,8 @@ pub mod probe;
 pub mod prune;
 pub mod query;
 pub mod random;
+#[allow(unsafe_code)]
+pub mod readings;
 pub mod record;
 pub mod samples;
 pub mod scenes;
@@ -24,5 +27,6 @@ pub mod stream;
 pub mod tally;
 pub mod tree;
 pub mod tree_damage;
+pub mod words;
 #[allow(unsafe_code)]
 pub mod zones;

@@ -325,6 +325,23 @@ fn coordinate(random: &mut Random, corner: Option<u32>) -> u32 {
     beside.min(MOST_POSITION)
 }
 
+/// A position on the line from one corner to the next, or one beside it.
+pub fn position_on_edge(random: &mut Random, tables: &Tables) -> (u32, u32) {
+    let corners = tables.xs.len().min(tables.ys.len());
+    if corners < 2 {
+        return position(random, tables);
+    }
+    let from = random.below(corners - 1);
+    let part = random.below(65_537) as i64;
+    let mut between = |table: &[u32]| {
+        let (low, high) = (i64::from(table[from]), i64::from(table[from + 1]));
+        let on = low + (high - low) * part / 65_536;
+        let beside = on + random.pick(&[0, 0, 1, -1]);
+        beside.clamp(0, i64::from(MOST_POSITION)) as u32
+    };
+    (between(&tables.xs), between(&tables.ys))
+}
+
 /// A run of positions: steps along a line, or jumps.
 pub fn run(random: &mut Random, tables: &Tables, len: usize) -> (Vec<u32>, Vec<u32>) {
     let (x, y) = position(random, tables);

@@ -1,5 +1,8 @@
 //! The library under test: its C functions, and safe functions on slices over them.
 
+use crate::meaning::Drawing;
+use crate::tree::{Tree, TreeMut};
+
 /// What a call answers: its result, or the refusal's number and place.
 #[derive(Clone, Copy, PartialEq, Eq, Debug)]
 pub enum Answer {
@@ -9,7 +12,7 @@ pub enum Answer {
 
 impl Answer {
     /// The high half is the refusal's number, 0 if the call was accepted.
-    fn from_number(answer: u64) -> Answer {
+    pub fn from_number(answer: u64) -> Answer {
         let (high, low) = ((answer >> 32) as u32, answer as u32);
         match high {
             0 => Answer::Accepted(low),
@@ -42,6 +45,81 @@ extern "C" {
         ys: *const u32,
         ys_len: usize,
         out: *mut u8,
+        out_len: usize,
+    ) -> u64;
+
+    fn zones_open(
+        plan: *const u32,
+        plan_len: usize,
+        areas: *const u32,
+        areas_len: usize,
+        xs: *const u32,
+        xs_len: usize,
+        ys: *const u32,
+        ys_len: usize,
+        head: *mut u32,
+        head_len: usize,
+        cells: *mut u32,
+        cells_len: usize,
+        entries: *mut u32,
+        entries_len: usize,
+    ) -> u64;
+
+    fn zones_split(
+        plan: *const u32,
+        plan_len: usize,
+        areas: *const u32,
+        areas_len: usize,
+        xs: *const u32,
+        xs_len: usize,
+        ys: *const u32,
+        ys_len: usize,
+        head: *mut u32,
+        head_len: usize,
+        cells: *mut u32,
+        cells_len: usize,
+        entries: *mut u32,
+        entries_len: usize,
+        cell: u32,
+    ) -> u64;
+
+    fn zones_grow(
+        plan: *const u32,
+        plan_len: usize,
+        areas: *const u32,
+        areas_len: usize,
+        xs: *const u32,
+        xs_len: usize,
+        ys: *const u32,
+        ys_len: usize,
+        head: *mut u32,
+        head_len: usize,
+        cells: *mut u32,
+        cells_len: usize,
+        entries: *mut u32,
+        entries_len: usize,
+        threshold: u32,
+        limit: u32,
+    ) -> u64;
+
+    fn zones_find_leaf(
+        plan: *const u32,
+        plan_len: usize,
+        areas: *const u32,
+        areas_len: usize,
+        xs: *const u32,
+        xs_len: usize,
+        ys: *const u32,
+        ys_len: usize,
+        head: *const u32,
+        head_len: usize,
+        cells: *const u32,
+        cells_len: usize,
+        entries: *const u32,
+        entries_len: usize,
+        x: u32,
+        y: u32,
+        out: *mut u32,
         out_len: usize,
     ) -> u64;
 }
@@ -84,6 +162,108 @@ pub fn write(plan: &[u32], areas: &[u32], xs: &[u32], ys: &[u32], out: &mut [u8]
             xs.len(),
             ys.as_ptr(),
             ys.len(),
+            out.as_mut_ptr(),
+            out.len(),
+        )
+    })
+}
+
+/// Opens a tree; accepted: how many entries.
+pub fn open(drawing: Drawing, tree: &mut TreeMut) -> Answer {
+    // Each pointer comes with the length of its own slice.
+    Answer::from_number(unsafe {
+        zones_open(
+            drawing.plan.as_ptr(),
+            drawing.plan.len(),
+            drawing.areas.as_ptr(),
+            drawing.areas.len(),
+            drawing.xs.as_ptr(),
+            drawing.xs.len(),
+            drawing.ys.as_ptr(),
+            drawing.ys.len(),
+            tree.head.as_mut_ptr(),
+            tree.head.len(),
+            tree.cells.as_mut_ptr(),
+            tree.cells.len(),
+            tree.entries.as_mut_ptr(),
+            tree.entries.len(),
+        )
+    })
+}
+
+/// Splits a cell; accepted: the number of its first child.
+pub fn split(drawing: Drawing, tree: &mut TreeMut, cell: u32) -> Answer {
+    // Each pointer comes with the length of its own slice.
+    Answer::from_number(unsafe {
+        zones_split(
+            drawing.plan.as_ptr(),
+            drawing.plan.len(),
+            drawing.areas.as_ptr(),
+            drawing.areas.len(),
+            drawing.xs.as_ptr(),
+            drawing.xs.len(),
+            drawing.ys.as_ptr(),
+            drawing.ys.len(),
+            tree.head.as_mut_ptr(),
+            tree.head.len(),
+            tree.cells.as_mut_ptr(),
+            tree.cells.len(),
+            tree.entries.as_mut_ptr(),
+            tree.entries.len(),
+            cell,
+        )
+    })
+}
+
+/// What a growing that is full adds to the splits made.
+pub const FULL: u32 = 1 << 31;
+
+/// Grows; accepted: the splits made, and FULL more if there was no room for the next.
+pub fn grow(drawing: Drawing, tree: &mut TreeMut, threshold: u32, limit: u32) -> Answer {
+    // Each pointer comes with the length of its own slice.
+    Answer::from_number(unsafe {
+        zones_grow(
+            drawing.plan.as_ptr(),
+            drawing.plan.len(),
+            drawing.areas.as_ptr(),
+            drawing.areas.len(),
+            drawing.xs.as_ptr(),
+            drawing.xs.len(),
+            drawing.ys.as_ptr(),
+            drawing.ys.len(),
+            tree.head.as_mut_ptr(),
+            tree.head.len(),
+            tree.cells.as_mut_ptr(),
+            tree.cells.len(),
+            tree.entries.as_mut_ptr(),
+            tree.entries.len(),
+            threshold,
+            limit,
+        )
+    })
+}
+
+/// Finds the leaf at a position and writes its seven words; accepted: its number.
+pub fn find_leaf(drawing: Drawing, tree: Tree, x: u32, y: u32, out: &mut [u32]) -> Answer {
+    // Each pointer comes with the length of its own slice.
+    Answer::from_number(unsafe {
+        zones_find_leaf(
+            drawing.plan.as_ptr(),
+            drawing.plan.len(),
+            drawing.areas.as_ptr(),
+            drawing.areas.len(),
+            drawing.xs.as_ptr(),
+            drawing.xs.len(),
+            drawing.ys.as_ptr(),
+            drawing.ys.len(),
+            tree.head.as_ptr(),
+            tree.head.len(),
+            tree.cells.as_ptr(),
+            tree.cells.len(),
+            tree.entries.as_ptr(),
+            tree.entries.len(),
+            x,
+            y,
             out.as_mut_ptr(),
             out.len(),
         )

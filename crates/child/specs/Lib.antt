@@ -1,1 +1,3 @@
--- What a child's stream is.
+-- The start numbers of a child's areas, and the numbers of their counting.
+pub mod Starts
+pub mod Numbers

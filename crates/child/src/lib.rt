@@ -1,9 +1,12 @@
 // The stream of a child, made from its parent's stream in the same table: counted, and then written to the free end.
 use geometry::class::Square;
+use making::Maker;
 use stream::Bounds;
 ghost use mathlib.Core.Path.{_≡_};
+ghost use mathlib.Core.List.{[]};
 ghost use Prim.Native.Nat.{_+_, _*_, _≤_, _<_};
 ghost use lib.ListN.{length};
+ghost use lib.IntN.{natAbs};
 ghost use Rattle.geometry.specs.Reach.{SquareIn};
 ghost use Rattle.cells.specs.Cells.{squareOf};
 ghost use Rattle.cells.specs.Making.{rowSize};
@@ -12,8 +15,67 @@ ghost use Rattle.stream.specs.Table.{wordsFrom, written};
 ghost use Rattle.stream.specs.Grammar.{env, Passed};
 ghost use Rattle.ranges.specs.Held.{lent};
 ghost use Rattle.making.specs.Made.{rowsMade, wordsMade, cellIn};
+ghost use Rattle.child.specs.Starts.{startsIn};
+ghost use Rattle.child.specs.Numbers.{starts, notedN, firstOf};
 
-// How much the child's stream is, in one number: 1 for each entry, 65,536 more for a line, 4,294,967,296 more for an area.
+// ---- the start numbers of the areas
+// How many, and the numbers, with zeros behind them.
+pub struct Starts {
+    pub count: usize,
+    pub at: [i64; 64],
+}
+
+// No area, and zeros.
+fn none() -> Starts
+    ensures { λ r. ⌜ r ≡ startsIn [] ⌝ }
+{
+    Starts {
+        count: 0,
+        at: [0; 64],
+    }
+}
+
+// The start number of the area that waits, behind those of the areas that stand. An area that goes again makes place for the next.
+fn noted(s: Starts, m: Maker) -> Starts
+    requires { ⌜ natAbs (m .waiting .start) ≤ 8192 ⌝ }
+    ensures { λ r. ⌜ r ≡ notedN s m ⌝ }
+{
+    let p = m.pruner;
+    let a = m.waiting;
+    let k = (p.length / 4294967296) as usize;
+    let z = a.start;
+    let mut at = s.at;
+    if k < 64 {
+        at[k] = z;
+        return Starts { count: k, at: at };
+    }
+    Starts { count: k, at: at }
+}
+
+// The first `count` of them, with zeros behind them.
+fn ended(s: Starts, count: usize) -> Starts
+    ensures { λ r. ⌜ r ≡ starts count (firstOf count (s .at)) ⌝ }
+{
+    let mut at = s.at;
+    let mut i = count;
+    while i < 64 {
+        at[i] = 0;
+        i += 1;
+    }
+    Starts {
+        count: count,
+        at: at,
+    }
+}
+
+// ---- the child's stream
+// `size`: 1 for each entry, 65,536 more for a line, 4,294,967,296 more for an area. `starts`: the start numbers of its areas.
+pub struct Count {
+    pub size: u64,
+    pub starts: Starts,
+}
+
+// How much the child's stream is, in one pass over its parent's.
 pub fn count_child(
     entries: &[u32],
     first: usize,
@@ -23,23 +85,33 @@ pub fn count_child(
     ys: &[u32],
     b: Bounds,
     s: Square,
-) -> u64
+) -> Count
     requires { ⌜ Passed (now entries) first count (env (now areas) (now xs) (now ys) b) ⌝ }
     requires { ⌜ SquareIn s ⌝ }
     requires { ⌜ squareOf (cellIn s) ≡ s ⌝ }
-    ensures { λ r. ⌜ r ≡ total rowSize (rowsMade (lent (now (areas .entry)) (now (xs .entry)) (now (ys .entry)) b) (cellIn s) (wordsFrom (now (entries .entry)) first count)) ⌝ }
+    ensures { λ r. ⌜ r .size ≡ total rowSize (rowsMade (lent (now (areas .entry)) (now (xs .entry)) (now (ys .entry)) b) (cellIn s) (wordsFrom (now (entries .entry)) first count)) ⌝ }
+    ensures { λ r. ⌜ r .starts ≡ startsIn (rowsMade (lent (now (areas .entry)) (now (xs .entry)) (now (ys .entry)) b) (cellIn s) (wordsFrom (now (entries .entry)) first count)) ⌝ }
 {
     let end = first + count;
     let mut m = making::begun();
+    let mut z = none();
     let mut i = first;
     while i < end {
         let w = stream::read_entry(entries, i);
         let l = making::left_of(xs, ys, b.corners, s, w);
+        let y = noted(z, m);
         let n = making::made_after(areas, m, l, w);
+        z = y;
         m = n;
         i += 1;
     }
-    making::made_size(areas, m)
+    let last = noted(z, m);
+    let size = making::made_size(areas, m);
+    let made = ended(last, (size / 4294967296) as usize);
+    Count {
+        size: size,
+        starts: made,
+    }
 }
 
 // Writes the child's stream to the free end of the table, which begins at entry `free`. It has `made` entries. Beyond them the table stays as it was.

@@ -1,4 +1,4 @@
--- The tally of a stream, from one number. Assumes nothing.
+-- The tally of a stream, from its size in one number and its start numbers. Assumes nothing.
 use mathlib.Core.Path.{_≡_, refl}
 use mathlib.Core.List.{List, [], _∷_}
 use Prim.Native.Nat.{ℕ, _+_, _*_, _/_, _%_, _≤_}
@@ -8,7 +8,17 @@ use Rattle.pruning.specs.Weights.{total}
 use Rattle.cells.specs.Segments.{drawn, shortcut}
 use Rattle.cells.specs.Rows.{Row, opens, bar, closes, bare, named, segment}
 use Rattle.cells.specs.Making.{rowSize}
-use Rattle.children.specs.Children.{lineOne, areaOne, sumOf, tally, tallyN}
+use Rattle.child.specs.declared.Count.{Count}
+use Rattle.child.specs.Starts.{startsIn}
+use Rattle.children.specs.Children.{lineOne, sumOf, tally, tallyN}
+
+abbrev areaOne : Row → ℕ
+areaOne opens = 0
+areaOne bar = 0
+areaOne closes = 0
+areaOne bare = 0
+areaOne (named n z) = 1
+areaOne (segment g) = 0
 
 row-is : (r : Row) → (rowSize r ≡ 1 + 65536 * lineOne r + 4294967296 * areaOne r) × (lineOne r ≤ 1)
 row-is opens = (refl, omega arith)
@@ -27,14 +37,11 @@ total-is (r ∷ rs) =
     (omega (arith, a .0, b .0), omega (arith, a .1, b .1))
 
 -- of a stream that is not too long
-pub tally-is : (rs : List Row) (n : ℕ) → length rs ≤ 4096 → n ≡ total rowSize rs → tallyN n ≡ tally rs
-tally-is rs n h e = λ d. record { entries = x d; lines = y d; starts = z d }
+pub tally-is : (rs : List Row) (k : Count) → length rs ≤ 4096 → k .size ≡ total rowSize rs → k .starts ≡ startsIn rs → tallyN k ≡ tally rs
+tally-is rs k h e z = λ d. record { entries = x d; lines = y d; starts = z d }
   where
-    x : n % 65536 ≡ length rs
+    x : k .size % 65536 ≡ length rs
     x = omega (arith, total-is rs .0, e)
 
-    y : n / 65536 % 65536 ≡ sumOf lineOne rs
+    y : k .size / 65536 % 65536 ≡ sumOf lineOne rs
     y = omega (arith, total-is rs .0, total-is rs .1, e)
-
-    z : n / 4294967296 ≡ sumOf areaOne rs
-    z = omega (arith, total-is rs .0, total-is rs .1, e)

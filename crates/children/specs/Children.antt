@@ -11,9 +11,11 @@ use Rattle.celltable.specs.declared.CellWords.{CellWords}
 use Rattle.celltable.specs.Table.{putCellAt}
 use Rattle.celltable.specs.Descent.{quarterAt}
 use Rattle.making.specs.Made.{rowsMade, wordsMade}
+use Rattle.child.specs.declared.Count.{Count}
+use Rattle.child.specs.Starts.{startsIn}
 use Rattle.children.specs.declared.Tally.{Tally}
 
--- how many rows are lines, and how many are areas
+-- how many rows are lines
 abbrev pub lineOne : Row → ℕ
 lineOne opens = 0
 lineOne bar = 0
@@ -23,32 +25,24 @@ lineOne (named n z) = 0
 lineOne (segment (drawn l)) = 1
 lineOne (segment (shortcut z lo hi)) = 0
 
-abbrev pub areaOne : Row → ℕ
-areaOne opens = 0
-areaOne bar = 0
-areaOne closes = 0
-areaOne bare = 0
-areaOne (named n z) = 1
-areaOne (segment g) = 0
-
 abbrev pub sumOf : (Row → ℕ) → List Row → ℕ
 sumOf f [] = 0
 sumOf f (r ∷ rs) = f r + sumOf f rs
 
--- the tally of a stream: its entries, its lines and its areas, each of which has a start number
+-- the tally of a stream: its entries, its lines, and the start numbers of its areas
 abbrev pub tally : List Row → Tally
-tally rs = record { entries = length rs; lines = sumOf lineOne rs; starts = sumOf areaOne rs }
+tally rs = record { entries = length rs; lines = sumOf lineOne rs; starts = startsIn rs }
 
--- the same from one number: 1 for each entry, 65,536 more for a line, 4,294,967,296 more for an area
-abbrev pub tallyN : ℕ → Tally
-tallyN n = record { entries = n % 65536; lines = n / 65536 % 65536; starts = n / 4294967296 }
+-- the same from a size in one number: 1 for each entry, 65,536 more for a line, 4,294,967,296 more for an area
+abbrev pub tallyN : Count → Tally
+tallyN k = record { entries = k .size % 65536; lines = k .size / 65536 % 65536; starts = k .starts }
 
 -- the words of a leaf: its square, no child, its stream
 abbrev pub wordsWith : Cell → (first count : ℕ) → CellWords
 wordsWith c first count = record { x = left c; y = low c; side = side c; child = 0; first = first; count = count }
 
 abbrev pub noTally : Tally
-noTally = record { entries = 0; lines = 0; starts = 0 }
+noTally = record { entries = 0; lines = 0; starts = record { count = 0; at = [] } }
 
 -- where the stream of child n begins, by the tallies
 abbrev pub firstBy : List Tally → (free n : ℕ) → ℕ

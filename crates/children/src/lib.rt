@@ -1,9 +1,10 @@
 // The four children of a cell: their streams counted together before any is written, then written child by child, and their cells.
 use celltable::CellWords;
+use child::Count;
+use child::Starts;
 use stream::Bounds;
 ghost use mathlib.Core.Path.{_≡_};
 ghost use mathlib.Core.Bool.{true};
-ghost use mathlib.Core.List.{[], _∷_};
 ghost use Prim.Native.Nat.{_+_, _*_, _≤_, _<_};
 ghost use lib.ListN.{length};
 ghost use Rattle.stream.specs.Table.{wordsFrom, written};
@@ -14,20 +15,22 @@ ghost use Rattle.children.specs.Children.{tally, tallyN, rowsOfChild, wo
 ghost use Rattle.cells.specs.Cells.{child};
 ghost use Rattle.celltable.specs.Descent.{quarterAt};
 
-// What a child's stream has: entries, lines, and areas, each of which has a start number.
+// What a child's stream has: entries, lines, and the start numbers of its areas.
 pub struct Tally {
     pub entries: usize,
     pub lines: usize,
-    pub starts: usize,
+    pub starts: Starts,
 }
 
-fn tally_of(n: u64) -> Tally
-    ensures { λ r. ⌜ r ≡ tallyN n ⌝ }
+fn tally_of(k: Count) -> Tally
+    ensures { λ r. ⌜ r ≡ tallyN k ⌝ }
 {
+    let n = k.size;
+    let z = k.starts;
     Tally {
         entries: (n % 65536) as usize,
         lines: (n / 65536 % 65536) as usize,
-        starts: (n / 4294967296) as usize,
+        starts: z,
     }
 }
 

@@ -1,3 +1,17 @@
 -- Demand 3 and its proof.
 pub mod History
 pub mod Made
+pub mod Paints
+pub mod Sound
+pub mod Passing
+pub mod Splits
+pub mod Outcomes
+pub mod Opened
+pub mod Finding
+pub mod Readings
+pub mod Rows
+pub mod Growing
+pub mod Answers
+pub mod Demand
+pub mod Logs
+mod Examples

@@ -1,18 +1,18 @@
 -- A stream is made with the areas and corners of a drawing and nothing else of it: so a split, which has them from lent tables that hold the drawing,
 -- makes of a cell's stream the streams of its quarters that are made from the drawing. Assumes nothing.
-use mathlib.Core.Path.{_≡_, refl, sym, ap, _∙_, fun-ext}
-use mathlib.Core.Bool.{Bool, cond}
+use mathlib.Core.Path.{_≡_, refl, ap, _∙_, fun-ext}
+use mathlib.Core.Bool.{cond}
 use mathlib.Core.List.{List, [], _∷_, _++_, map}
 use Prim.Native.Nat.{ℕ, _≤_}
 use native.Mathlib.Omega.{arith}
-use lib.ListN.{length, getD}
+use lib.ListN.{getD}
 use lib.IntN.{ℤ, natAbs}
 use mir.Syntax.{w32}
 use mir.Val.{SFits}
 use Rattle.laws.proofs.Differences.{mag-abs}
 use Rattle.records.specs.declared.Fields.{Fields}
 use Rattle.pruning.specs.Sides.{Kind, paint, clip, Side, Entry, item, push, activate, pop, flat, mapSide}
-use Rattle.pruning.specs.Items.{Class, fails, passes, other, Items}
+use Rattle.pruning.specs.Items.{fails}
 use Rattle.pruning.specs.Order.{pruned}
 use Rattle.cells.specs.Cells.{Cell, Quarter, child}
 use Rattle.cells.specs.Segments.{Segment, drawn, shortcut, keptIn, startIn}
@@ -23,7 +23,6 @@ use Rattle.cells.proofs.Streams.{child-made}
 use Rattle.cells.proofs.Bounds.{made-small}
 use Rattle.cells.proofs.Rows as Rows
 use Rattle.stream.specs.declared.Bounds.{Bounds}
-use Rattle.stream.specs.declared.Words.{Words}
 use Rattle.reading.specs.Reading.{rowsIn}
 use Rattle.reading.specs.Words.{wordsOf, EachFits}
 use Rattle.reading.proofs.Words.{rows-back}

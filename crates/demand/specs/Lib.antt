@@ -2,3 +2,7 @@
 pub mod History
 pub mod NoTree
 pub mod Stands
+pub mod Opened
+pub mod Shown
+pub mod Calls
+pub mod Demand

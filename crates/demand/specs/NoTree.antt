@@ -1,5 +1,4 @@
 -- Document 01, "The list of demand 3": "'with no tree' is by the same section over the whole drawing, pixels and logs too". Assumes nothing.
-use mathlib.Core.List.{List, [], _∷_}
 use Prim.Native.Nat.{ℕ}
 use Rattle.paint.specs.Sets.{setOf}
 use Rattle.paint.specs.Areas.{materialOf}
@@ -9,6 +8,7 @@ use Rattle.paint.specs.declared.area.Paint.{Paint}
 use Rattle.paint.specs.declared.colour.Colour.{Colour}
 use Rattle.cells.specs.Cells.{Position, at}
 use Rattle.cells.specs.Drawings.{Drawing, fieldsOf, shownAt}
+use Rattle.query.specs.declared.Spot.{Spot}
 
 module _ (D : Drawing) where
   -- alpha, colour and material of area n
@@ -25,6 +25,17 @@ module _ (D : Drawing) where
 
   abbrev pub colourShown : Position → Colour
   colourShown p = colourOf paintOf (setShown p)
+
+  -- the answer at a position
+  abbrev pub spotShown : Position → Spot
+  spotShown p =
+      record {
+        set = setShown p;
+        material = materialShown p;
+        red = colourShown p .red;
+        green = colourShown p .green;
+        blue = colourShown p .blue;
+      }
 
   -- "A pixel is 16 by 16 units."
   abbrev pub pixelShown : (row pixel : ℕ) → Colour

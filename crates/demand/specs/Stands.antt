@@ -6,7 +6,6 @@ use Prim.Native.Nat.{ℕ, _<_}
 use lib.ListN.{length}
 use Rattle.paint.specs.Areas.{paintAt, materialOf}
 use Rattle.paint.specs.Colours.{colourOf}
-use Rattle.drawing.specs.Tables.{Tables, tables}
 use Rattle.pruning.specs.Sides.{paint, flat}
 use Rattle.cells.specs.Cells.{Position, at, Cell, Holds}
 use Rattle.cells.specs.Drawings.{Drawing, shownAt}
@@ -19,14 +18,12 @@ use Rattle.celltable.specs.Table.{cellAt}
 use Rattle.celltable.specs.Descent.{onSquare}
 use Rattle.opening.specs.Opened.{drawingIn}
 use Rattle.tree.specs.Tables.{Tree, cellsUsed}
-use Rattle.tree.specs.Split.{stream}
+use Rattle.tree.specs.Split as Split
+use Rattle.newtree.specs.Open.{drawingTables}
 use Rattle.demand.specs.History.{Node, cellIn, firstIn, Leaf, Tiled}
 use Rattle.demand.specs.NoTree.{setShown, materialShown, colourShown}
 
 -- the drawing of a tree
-abbrev pub drawingTables : Tree → Tables
-drawingTables t = tables (t .plan) (t .areas) (t .xs) (t .ys)
-
 abbrev pub drawingOf : Tree → Drawing
 drawingOf t = drawingIn (drawingTables t)
 
@@ -36,6 +33,8 @@ wordsOfCell D c = map wordsOf (rowsOf (flat paint (made D c (source D))))
 
 -- ws are the words of the stream of a leaf c
 pub record LeafStands (t : Tree) (c : Cell) (ws : List Words) : Type 0 where
+  -- they follow from the drawing and the leaf's square, whatever was split before
+  pub stream : ws ≡ wordsOfCell (drawingOf t) c
   -- "An area's winding in it at (x, y) is its start number, plus the sign of each of its shortcuts with row y, plus +1 or −1 for each of its kept
   -- lines that counts there": of each area entry, at each position of the leaf, the winding in the whole drawing
   pub windings : Each (Winds (drawingOf t) c) (entriesOf (decode (roleIn (drawingOf t)) (rowsIn ws)))
@@ -53,4 +52,4 @@ pub record Stands (t : Tree) (H : List Node) : Type 0 where
   pub children : (i : ℕ) → i < length H → cellAt (t .cells) i .child ≡ firstIn H i
   -- whose leaves tile the grid
   pub tiled : Tiled H
-  pub leaves : (i : ℕ) → Leaf H i → LeafStands t (cellIn H i) (stream t i)
+  pub leaves : (i : ℕ) → Leaf H i → LeafStands t (cellIn H i) (Split.stream t i)

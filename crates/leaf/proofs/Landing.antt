@@ -1,7 +1,7 @@
 -- The way to a leaf, test by test; and what the leaf that is found says: 12 has passed over it, and it holds the position. Assumes nothing.
 use mathlib.Core.Path.{_≡_, refl, sym, subst, _∙_}
 use mathlib.Core.Bool.{Bool, true, false, cond}
-use Prim.Native.Nat.{ℕ}
+use Prim.Native.Nat.{ℕ, _+_, _≤_}
 use native.Mathlib.Omega.{arith}
 use lib.Dec.{ltb}
 use lib.ListN.{getD}
@@ -13,7 +13,10 @@ use Rattle.stream.proofs.Passed.{passed}
 use Rattle.celltable.specs.declared.Leaf.{Leaf}
 use Rattle.celltable.specs.declared.Found.{Found}
 use Rattle.celltable.specs.declared.Found.the-variants.{At, Broken}
+use Rattle.celltable.specs.Table.{cellAt}
 use Rattle.celltable.specs.Descent.{descendIn}
+use Rattle.celltable.proofs.Ranges.{passes-range}
+use Rattle.celltable.proofs.Grid.{passes-east, passes-north}
 use Rattle.celltable.proofs.Landing.{LeafFound, leaf-found}
 use Rattle.tree.specs.Tables.{Tree, cellsUsed, entriesUsed, countsIn}
 use Rattle.tree.proofs.Choices.{pick-true, pick-false}
@@ -91,6 +94,14 @@ module _ (t : Tree) where
     leaf-holds l g e =
         let m = leaf-landed l e in
         leaf-found (t .cells) (cellsUsed (t .head)) (entriesUsed (t .head)) x y l (counts-fit t (m .counts) .cells-fit .some) (on-grid x y g) (m .way)
+
+    -- its square lies in the grid
+    pub leaf-square : (l : Leaf) → positionRange x y ≡ true → leafIn t x y ≡ At l → (l .x + l .side ≤ 65536) × (l .y + l .side ≤ 65536)
+    leaf-square l g e =
+        let m = leaf-holds l g e in
+        let w = cellAt (t .cells) (l .cell) in
+        let r = passes-range w (l .cell) (cellsUsed (t .head)) (entriesUsed (t .head)) (m .passes) in
+        subst (λ (k : Leaf). (k .x + k .side ≤ 65536) × (k .y + k .side ≤ 65536)) (sym (m .words)) (passes-east w r, passes-north w r)
 
     -- ---- with the numbers in use as the code reads them
     module _ (used free : ℕ) (f : Found) (h : countsIn t ≡ true) (eu : used ≡ getD (t .head) 0 0) (ef : free ≡ getD (t .head) 1 0) (w : f ≡ descendIn (t .cells) used free x y) where

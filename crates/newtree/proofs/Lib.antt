@@ -2,3 +2,5 @@
 pub mod Rooms
 pub mod Answers
 pub mod Accepted
+pub mod After
+mod Examples

@@ -58,10 +58,11 @@ fn put_root(cells: &mut [u32], n: u32)
     requires { ⌜ 8 ≤ length (now cells) ⌝ }
     ensures { λ _. ⌜ now (cells .exit) ≡ putCellAt (now (cells .entry)) 0 (rootWords n) ⌝ }
 {
+    let side = 65536;
     let w = CellWords {
         x: 0,
         y: 0,
-        side: 65536,
+        side: side,
         child: 0,
         first: 0,
         count: n,

@@ -109,8 +109,8 @@ fn entries_made(
     ensures { λ r. ⌜ r ≡ length (childRows (now (entries .entry)) first count (env (now (areas .entry)) (now (xs .entry)) (now (ys .entry)) b) s) ⌝ }
     ensures { λ r. ⌜ r < 65536 ⌝ }
 {
-    let size = child::count_child(entries, first, count, areas, xs, ys, b, s);
-    (size % 65536) as usize
+    let k = child::count_child(entries, first, count, areas, xs, ys, b, s);
+    (k.size % 65536) as usize
 }
 
 // Writes the child's stream behind the entries in use, if it fits there: the number of its entries and 1 more, or 0.

@@ -1,2 +1,3 @@
 -- The numbers that the exported calls answer.
 pub mod Answers
+pub mod Readings

@@ -2,18 +2,25 @@
 //
 // Each answer is one number: the number of the refusal times 2^32, and its place. Where nothing is refused the high half is 0 and the low
 // half is the result.
+pub mod readings;
+
 use drawing::Written;
 use grammar::Verdict;
+use leaf::FoundLeaf;
 use refusals::Refusal;
 ghost use mathlib.Core.Path.{_≡_};
 ghost use Prim.Native.Nat.{_≤_};
+ghost use lib.ListN.{length};
 ghost use Rattle.refusals.specs.Refusals.{numberOf};
 ghost use Rattle.reader.specs.Words.{planWords, areaWords, xWords, yWords, fileOf};
 ghost use Rattle.reader.specs.Reading.{recordsIn, readAnswer, leftBy};
 ghost use Rattle.drawing.specs.Tables.{tables, drawnIn, writeAnswer, outAfter};
 ghost use Rattle.tree.specs.Tables.{tree};
 ghost use Rattle.tree.specs.Split.{splitAnswer, headAfter, cellsAfter, entriesAfter};
-ghost use Rattle.zones.specs.Answers.{packed, readNumber, writeNumber, readLow, writeLow, splitNumber};
+ghost use Rattle.newtree.specs.Open.{openAnswer, headOpened, cellsOpened, entriesOpened};
+ghost use Rattle.leaf.specs.Leaf.{findAnswer};
+ghost use Rattle.growth.specs.Grow.{growAnswer, growTree};
+ghost use Rattle.zones.specs.Answers.{packed, readNumber, writeNumber, readLow, writeLow, openNumber, splitNumber, growSplits, growNumber, leafPut, findRoom, findNumber, outFound};
 
 // The refusal's number, or 0, and what goes with it.
 fn pack(number: u32, low: usize) -> u64
@@ -54,12 +61,66 @@ fn pack_written(w: Written) -> u64
     }
 }
 
+fn pack_open(a: newtree::Answer) -> u64
+    ensures { λ r. ⌜ r ≡ openNumber a ⌝ }
+{
+    match a {
+        newtree::Answer::Opened(entries) => pack(0, entries as usize),
+        newtree::Answer::Not(r) => refused(r),
+    }
+}
+
 fn pack_split(a: tree::Answer) -> u64
     ensures { λ r. ⌜ r ≡ splitNumber a ⌝ }
 {
     match a {
         tree::Answer::Split(child) => pack(0, child as usize),
         tree::Answer::Not(r) => refused(r),
+    }
+}
+
+// "full" has 2^31 more than "done".
+fn pack_grow(a: growth::Answer) -> u64
+    requires { ⌜ growSplits a ≤ 4096 ⌝ }
+    ensures { λ r. ⌜ r ≡ growNumber a ⌝ }
+{
+    match a {
+        growth::Answer::Done(splits) => pack(0, splits as usize),
+        growth::Answer::Full(splits) => pack(0, 2147483648 + (splits as usize)),
+        growth::Answer::Not(r) => refused(r),
+    }
+}
+
+// Writes the seven words of a leaf.
+fn put_leaf(out: &mut [u32], l: FoundLeaf)
+    requires { ⌜ 7 ≤ length (now out) ⌝ }
+    ensures { λ _. ⌜ now (out .exit) ≡ leafPut l (now (out .entry)) ⌝ }
+{
+    out[0] = l.cell;
+    out[1] = l.x;
+    out[2] = l.y;
+    out[3] = l.side;
+    out[4] = l.steps;
+    out[5] = l.entries;
+    out[6] = l.lines;
+}
+
+// A leaf that was found, or 11.
+fn put_found(out: &mut [u32], a: leaf::Answer) -> u64
+    ensures { λ r. ⌜ r ≡ findNumber (findRoom a (length (now (out .entry)))) ⌝ }
+    ensures { λ r. ⌜ now (out .exit) ≡ outFound (findRoom a (length (now (out .entry)))) (now (out .entry)) ⌝ }
+{
+    match a {
+        leaf::Answer::Found(l) => {
+            if 7 <= out.len() {
+                put_leaf(out, l);
+                return pack(0, l.cell as usize);
+            }
+            return refused(Refusal::Room);
+        }
+        leaf::Answer::Not(r) => {
+            return refused(r);
+        }
     }
 }
 
@@ -100,6 +161,27 @@ pub extern "C" fn zones_write(
     pack_written(w)
 }
 
+// Opens a tree over a drawing: cell 0 alone. The result is the number of its entries.
+// Refusals, in this order: 7 (tables of x and y of unequal length), 12 (no drawing in the tables), 11. Nothing is changed on a refusal.
+#[no_mangle]
+pub extern "C" fn zones_open(
+    plan: &[u32],
+    areas: &[u32],
+    xs: &[u32],
+    ys: &[u32],
+    head: &mut [u32],
+    cells: &mut [u32],
+    entries: &mut [u32],
+) -> u64
+    ensures { λ r. ⌜ r ≡ openNumber (openAnswer (tree (now (plan .entry)) (now (areas .entry)) (now (xs .entry)) (now (ys .entry)) (now (head .entry)) (now (cells .entry)) (now (entries .entry)))) ⌝ }
+    ensures { λ r. ⌜ now (head .exit) ≡ headOpened (tree (now (plan .entry)) (now (areas .entry)) (now (xs .entry)) (now (ys .entry)) (now (head .entry)) (now (cells .entry)) (now (entries .entry))) (openAnswer (tree (now (plan .entry)) (now (areas .entry)) (now (xs .entry)) (now (ys .entry)) (now (head .entry)) (now (cells .entry)) (now (entries .entry)))) ⌝ }
+    ensures { λ r. ⌜ now (cells .exit) ≡ cellsOpened (tree (now (plan .entry)) (now (areas .entry)) (now (xs .entry)) (now (ys .entry)) (now (head .entry)) (now (cells .entry)) (now (entries .entry))) (openAnswer (tree (now (plan .entry)) (now (areas .entry)) (now (xs .entry)) (now (ys .entry)) (now (head .entry)) (now (cells .entry)) (now (entries .entry)))) ⌝ }
+    ensures { λ r. ⌜ now (entries .exit) ≡ entriesOpened (tree (now (plan .entry)) (now (areas .entry)) (now (xs .entry)) (now (ys .entry)) (now (head .entry)) (now (cells .entry)) (now (entries .entry))) (openAnswer (tree (now (plan .entry)) (now (areas .entry)) (now (xs .entry)) (now (ys .entry)) (now (head .entry)) (now (cells .entry)) (now (entries .entry)))) ⌝ }
+{
+    let a = newtree::open(plan, areas, xs, ys, head, cells, entries);
+    pack_open(a)
+}
+
 // Splits a cell of a tree. The result is the number of its first child.
 // Refusals, in this order: 7 (tables of x and y of unequal length), 8, 12, 9, 10, 11. Nothing is changed on a refusal.
 #[no_mangle]
@@ -120,4 +202,50 @@ pub extern "C" fn zones_split(
 {
     let a = tree::split(plan, areas, xs, ys, head, cells, entries, cell);
     pack_split(a)
+}
+
+// Splits the lowest numbered leaf with more lines than the threshold and a depth below the limit, again and again. The result is the splits
+// made where it is done, and 2^31 more where it is full.
+// Refusals: 7 (tables of x and y of unequal length, a limit over 16), and 12, before which cells may have been split.
+#[no_mangle]
+pub extern "C" fn zones_grow(
+    plan: &[u32],
+    areas: &[u32],
+    xs: &[u32],
+    ys: &[u32],
+    head: &mut [u32],
+    cells: &mut [u32],
+    entries: &mut [u32],
+    threshold: u32,
+    limit: u32,
+) -> u64
+    ensures { λ r. ⌜ r ≡ growNumber (growAnswer (tree (now (plan .entry)) (now (areas .entry)) (now (xs .entry)) (now (ys .entry)) (now (head .entry)) (now (cells .entry)) (now (entries .entry))) threshold limit) ⌝ }
+    ensures { λ r. ⌜ now (head .exit) ≡ growTree (tree (now (plan .entry)) (now (areas .entry)) (now (xs .entry)) (now (ys .entry)) (now (head .entry)) (now (cells .entry)) (now (entries .entry))) threshold limit .head ⌝ }
+    ensures { λ r. ⌜ now (cells .exit) ≡ growTree (tree (now (plan .entry)) (now (areas .entry)) (now (xs .entry)) (now (ys .entry)) (now (head .entry)) (now (cells .entry)) (now (entries .entry))) threshold limit .cells ⌝ }
+    ensures { λ r. ⌜ now (entries .exit) ≡ growTree (tree (now (plan .entry)) (now (areas .entry)) (now (xs .entry)) (now (ys .entry)) (now (head .entry)) (now (cells .entry)) (now (entries .entry))) threshold limit .entries ⌝ }
+{
+    let a = growth::grow(plan, areas, xs, ys, head, cells, entries, threshold, limit);
+    pack_grow(a)
+}
+
+// Finds the leaf that holds (x, y) and writes seven words: its number, x, y, side, steps, entries, lines. The result is its number.
+// Refusals, in this order: 7 (tables of x and y of unequal length, no position), 12, 11. Nothing is changed on a refusal.
+#[no_mangle]
+pub extern "C" fn zones_find_leaf(
+    plan: &[u32],
+    areas: &[u32],
+    xs: &[u32],
+    ys: &[u32],
+    head: &[u32],
+    cells: &[u32],
+    entries: &[u32],
+    x: u32,
+    y: u32,
+    out: &mut [u32],
+) -> u64
+    ensures { λ r. ⌜ r ≡ findNumber (findRoom (findAnswer (tree (now (plan .entry)) (now (areas .entry)) (now (xs .entry)) (now (ys .entry)) (now (head .entry)) (now (cells .entry)) (now (entries .entry))) x y) (length (now (out .entry)))) ⌝ }
+    ensures { λ r. ⌜ now (out .exit) ≡ outFound (findRoom (findAnswer (tree (now (plan .entry)) (now (areas .entry)) (now (xs .entry)) (now (ys .entry)) (now (head .entry)) (now (cells .entry)) (now (entries .entry))) x y) (length (now (out .entry)))) (now (out .entry)) ⌝ }
+{
+    let a = leaf::find_leaf(plan, areas, xs, ys, head, cells, entries, x, y);
+    put_found(out, a)
 }

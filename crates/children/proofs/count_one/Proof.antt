@@ -10,6 +10,7 @@ use Rattle.cells.specs.Making.{rowSize}
 use Rattle.stream.specs.Table.{wordsFrom}
 use Rattle.ranges.specs.Held.{lent}
 use Rattle.making.specs.Made.{rowsMade}
+use Rattle.child.specs.Starts.{startsIn}
 use Rattle.children.specs.Children.{rowsOfChild}
 use Rattle.celltable.specs.Ranges.{cellOf}
 use Rattle.children.proofs.Squares.{kid-square, kid-in, kid-back}
@@ -26,7 +27,7 @@ tally-of-requires : tie.Need-tally-of-requires
 tally-of-requires c κs = search needs
 
 returns : tie.Need-returns
-returns c = let a = c .before .before .before .before .before .before .before .args in let p = c .before .before .before .before .before .before .before .pre in let D = lent (now (a .areas)) (now (a .xs)) (now (a .ys)) (a .b) in let ws = wordsFrom (now (a .entries)) (a .first) (a .count) in c .tally-of .ensures ∙ tally-is (rowsOfChild D (cellOf (a .w)) ws (a .q)) (c .before .count-child .result) (few-rows (now (a .entries)) (now (a .areas)) (now (a .xs)) (now (a .ys)) (a .b) (a .first) (a .count) _ (p .0)) (c .before .count-child .ensures ∙ ap (λ (k : Cell). total rowSize (rowsMade D k ws)) (kid-in (a .w) (p .1 .0) (a .q) (c .before .before .quarter-of .result) (c .before .before .quarter-of .ensures)))
+returns c = let a = c .before .before .before .before .before .before .before .args in let p = c .before .before .before .before .before .before .before .pre in let D = lent (now (a .areas)) (now (a .xs)) (now (a .ys)) (a .b) in let ws = wordsFrom (now (a .entries)) (a .first) (a .count) in c .tally-of .ensures ∙ tally-is (rowsOfChild D (cellOf (a .w)) ws (a .q)) (c .before .count-child .result) (few-rows (now (a .entries)) (now (a .areas)) (now (a .xs)) (now (a .ys)) (a .b) (a .first) (a .count) _ (p .0)) (c .before .count-child .ensures .0 ∙ ap (λ (k : Cell). total rowSize (rowsMade D k ws)) (kid-in (a .w) (p .1 .0) (a .q) (c .before .before .quarter-of .result) (c .before .before .quarter-of .ensures))) (c .before .count-child .ensures .1 ∙ ap (λ (k : Cell). startsIn (rowsMade D k ws)) (kid-in (a .w) (p .1 .0) (a .q) (c .before .before .quarter-of .result) (c .before .before .quarter-of .ensures)))
 
 pub count-one-spec : {M : Type 1} → statement M
 count-one-spec =

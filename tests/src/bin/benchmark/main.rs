@@ -1,66 +1,26 @@
-//! Times the library against the second implementation on the fullest drawing.
+//! Times the library against the second implementation: on the fullest drawing, and on trees.
+
+mod timing;
+mod trees;
 
 use std::hint::black_box;
-use std::time::{Duration, Instant};
 
+use timing::compare;
 use zones_tests::drawing::{self, RECORD_BYTES};
 use zones_tests::random::Random;
 use zones_tests::samples::{self, Tables};
 use zones_tests::zones::{self, Answer};
 
-/// Each side runs at least so long.
-const LEAST: Duration = Duration::from_secs(1);
 /// Calls timed at once.
 const CALLS: u32 = 8;
 
-/// Microseconds of a call, from `CALLS` calls in a row.
-fn time(call: &mut impl FnMut() -> Answer, expected: Answer) -> f64 {
-    let start = Instant::now();
-    for _ in 0..CALLS {
-        assert_eq!(black_box(call()), expected);
-    }
-    start.elapsed().as_secs_f64() * 1e6 / f64::from(CALLS)
-}
-
-fn median(mut times: Vec<f64>) -> f64 {
-    times.sort_by(f64::total_cmp);
-    times[times.len() / 2]
-}
-
-/// Runs both by turns, each as often first as the other, and prints the medians.
-fn compare(
-    name: &str,
-    expected: Answer,
-    mut library: impl FnMut() -> Answer,
-    mut second: impl FnMut() -> Answer,
-) {
-    let least = LEAST.as_secs_f64() * 1e6 / f64::from(CALLS);
-    let (mut library_times, mut second_times) = (Vec::new(), Vec::new());
-    let (mut library_sum, mut second_sum) = (0.0, 0.0);
-    while library_sum < least || second_sum < least {
-        for library_first in [true, false] {
-            let (by_library, by_second);
-            if library_first {
-                by_library = time(&mut library, expected);
-                by_second = time(&mut second, expected);
-            } else {
-                by_second = time(&mut second, expected);
-                by_library = time(&mut library, expected);
-            }
-            library_times.push(by_library);
-            second_times.push(by_second);
-            library_sum += by_library;
-            second_sum += by_second;
-        }
-    }
-    let (library, second) = (median(library_times), median(second_times));
-    let ratio = library / second;
-    println!(
-        "{name}: library {library:.2} us, second {second:.2} us, ratio library / second {ratio:.2}"
-    );
-}
-
 fn main() {
+    tables();
+    trees::trees();
+}
+
+/// Reading the fullest drawing and writing it out.
+fn tables() {
     let records = samples::fullest(&mut Random::new(1));
     let bytes = records.concat();
     let tables = samples::tables(&records);
@@ -70,6 +30,7 @@ fn main() {
     let (mut by_library, mut by_second) = (blank(&tables), blank(&tables));
     compare(
         "read",
+        CALLS,
         Answer::Accepted(n),
         || {
             let t = black_box(&mut by_library);
@@ -87,6 +48,7 @@ fn main() {
     let (mut by_library, mut by_second) = (vec![0; bytes.len()], vec![0; bytes.len()]);
     compare(
         "write",
+        CALLS,
         Answer::Accepted(n * RECORD_BYTES as u32),
         || {
             let (t, out) = (black_box(&tables), black_box(&mut by_library));

@@ -1,0 +1,30 @@
+-- The start numbers as the code holds them while it counts. `Rattle.child.proofs` says that they are those of the rows. Assumes nothing.
+use mathlib.Core.Bool.{cond}
+use mathlib.Core.List.{List, [], _∷_}
+use Prim.Native.Nat.{ℕ, zero, suc, _/_}
+use lib.Dec.{ltb}
+use lib.ListN.{set}
+use lib.IntN.{ℤ, pos}
+use Rattle.making.specs.declared.Maker.{Maker}
+use Rattle.child.specs.declared.Starts.{Starts}
+
+abbrev pub starts : ℕ → List ℤ → Starts
+starts n zs = record { count = n; at = zs }
+
+-- how many areas stand in what weighs n: each weighs 4,294,967,296 and less
+abbrev pub areasIn : ℕ → ℕ
+areasIn n = n / 4294967296
+
+-- number k is z
+unfoldable pub putStart : List ℤ → (k : ℕ) → ℤ → List ℤ
+putStart zs k z = cond (ltb k 64) (set zs k z) zs
+
+-- the start number of the area that waits, behind those of the areas that stand
+abbrev pub notedN : Starts → Maker → Starts
+notedN s m = starts (areasIn (m .pruner .length)) (putStart (s .at) (areasIn (m .pruner .length)) (m .waiting .start))
+
+-- the first n numbers, and zeros in place of the others
+unfoldable pub firstOf : ℕ → List ℤ → List ℤ
+firstOf n [] = []
+firstOf zero (z ∷ zs) = pos 0 ∷ firstOf zero zs
+firstOf (suc n) (z ∷ zs) = z ∷ firstOf n zs

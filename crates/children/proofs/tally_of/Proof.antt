@@ -1,0 +1,10 @@
+-- `children::tally_of` meets its contract. Assumes nothing.
+use Rattle.children.proofs.tally_of.Statement.{statement}
+use Rattle.children.proofs.tally_of.Tie as tie
+use mathlib.Core.Path.{refl}
+
+returns : tie.Need-returns
+returns c = refl
+
+pub tally-of-spec : {M : Type 1} → statement M
+tally-of-spec = tie.close (tie.spec returns)

@@ -1,0 +1,66 @@
+-- In tables that are sound every cell in use passes 12, and so does every leaf with its stream. Assumes nothing.
+use mathlib.Core.Path.{_≡_, refl, ap, _∙_}
+use mathlib.Core.Bool.{Bool, true, false, _||_}
+use mathlib.Core.List.{List}
+use Prim.Native.Nat.{ℕ, _+_, _<_}
+use native.Mathlib.Omega.{arith}
+use native.Mathlib.Decide.{ℕ-discrete}
+use lib.Dec.{eqb, ltb}
+use lib.ListN.{length}
+use borrow.Author.Tests.{lt-ltb, le-leb}
+use Rattle.laws.proofs.Booleans.{and-both}
+use Rattle.cells.specs.Cells.{Cell, cell, side, root}
+use Rattle.stream.specs.Grammar.{checkStream}
+use Rattle.ranges.proofs.Streams.{made-checks}
+use Rattle.celltable.specs.declared.CellWords.{CellWords}
+use Rattle.celltable.specs.Ranges.{childRange, entryRange, numbersRange, cellRange, levelOf, cellOf}
+use Rattle.celltable.proofs.Powers.{level-of}
+use Rattle.celltable.proofs.Ranges.{leaf-numbers}
+use Rattle.celltable.proofs.Grid.{Gridded, SaysCell, gridded-cell}
+use Rattle.tree.specs.Tables.{Tree, cellsUsed, entriesUsed, boundsOf}
+use Rattle.tree.specs.Split.{words, against}
+use Rattle.splits.proofs.Counts.{free-most, free-within}
+use Rattle.demand.specs.History.{Node, cellIn, firstIn, Leaf}
+use Rattle.demand.specs.Stands.{drawingOf}
+use Rattle.demand.proofs.Sound.{Sound}
+
+-- words that say a cell of the grid are that cell's
+pub says-is : (w : CellWords) (c : Cell) → Gridded c → SaysCell w c → cellOf w ≡ c
+says-is w (cell x y k) g s = λ d. cell (s .same-x d) (s .same-y d) ((ap levelOf (s .same-side) ∙ level-of 16 k (g .few)) d)
+
+or-true : (a b : Bool) → b ≡ true → (a || b) ≡ true
+or-true true b e = refl
+or-true false b e = e
+
+module _ (t : Tree) (H : List Node) (s : Sound t H) where
+  abbrev used : ℕ
+  used = cellsUsed (t .head)
+
+  abbrev free : ℕ
+  free = entriesUsed (t .head)
+
+  pub cell-is : (i : ℕ) → i < length H → cellOf (words t i) ≡ cellIn H i
+  cell-is i h = says-is (words t i) (cellIn H i) (s .grown .on-grid i h) (s .squares i h)
+
+  numbers : (i : ℕ) → i < length H → numbersRange (words t i) used free ≡ true
+  numbers i h = go (ℕ-discrete (firstIn H i) 0)
+    where
+      go : Dec (firstIn H i ≡ 0) → numbersRange (words t i) used free ≡ true
+      go (yes z) = leaf-numbers (words t i) used free (s .firsts i h ∙ z) (s .entries i h)
+      go (no z) =
+          let d = s .grown .divided i h z in
+          and-both (childRange (words t i .child) used) (entryRange (words t i .first) (words t i .count) free)
+          (or-true (eqb (words t i .child) 0) (ltb (words t i .child + 3) used) (lt-ltb (words t i .child + 3) used (omega (arith, d .in-use, s .firsts i h, s .in-use))))
+          (le-leb (words t i .first + words t i .count) free (s .entries i h))
+
+  first-root : (i : ℕ) → i ≡ 0 → cellIn H i ≡ root
+  first-root i e = ap (cellIn H) e ∙ s .grown .first
+
+  pub cell-passes : (i : ℕ) → i < length H → cellRange (words t i) i (cellsUsed (t .head)) (entriesUsed (t .head)) ≡ true
+  cell-passes i h = gridded-cell (words t i) (cellIn H i) i used free (s .grown .on-grid i h) (first-root i) (s .squares i h) (numbers i h)
+
+  pub leaf-passes : (i : ℕ) → Leaf H i → checkStream (t .entries) (words t i .first) (words t i .count) (entriesUsed (t .head)) (against t i) ≡ true
+  leaf-passes i l =
+      let q = s .squares i (l .in-use) in
+      made-checks (drawingOf t) (s .drawn .valid) (t .areas) (t .xs) (t .ys) (boundsOf (t .plan) (words t i)) (s .drawn .held (words t i .y) (words t i .side)) (cellIn H i)
+      (q .same-y) (q .same-side) (t .entries) (words t i .first) (words t i .count) free (s .streams i l) (s .entries i (l .in-use)) (free-within t (s .counts)) (free-most t (s .counts))

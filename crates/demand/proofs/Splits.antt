@@ -1,0 +1,147 @@
+-- A split in tables that are sound: it is accepted, and leaves them sound with the cell divided in the history, or it is refused, and not with 12. Assumes nothing.
+use mathlib.Core.Path.{_≡_, refl, sym, ap, _∙_, subst}
+use mathlib.Core.List.{List}
+use Prim.Native.Nat.{ℕ, suc, _+_, _≤_, _<_}
+use native.Mathlib.Omega.{arith}
+use lib.ListN.{length}
+use Rattle.cells.specs.Cells.{Cell, level, side, Quarter, lowLow, highLow, lowHigh, highHigh, child}
+use Rattle.cells.specs.Drawings.{Drawing}
+use Rattle.stream.specs.Table.{wordsFrom}
+use Rattle.celltable.specs.declared.CellWords.{CellWords}
+use Rattle.celltable.specs.Table.{withChild}
+use Rattle.celltable.specs.Ranges.{cellOf}
+use Rattle.celltable.specs.Descent.{placeOf, quarterAt}
+use Rattle.celltable.proofs.Grid.{SaysCell}
+use Rattle.making.specs.Made.{wordsMade}
+use Rattle.children.specs.Children.{wordsWith, entriesOfChild, streamsTo}
+use Rattle.tree.specs.declared.Answer.the-variants.{Split}
+use Rattle.tree.specs.Tables.{Tree, cellsUsed, entriesUsed, boundsOf}
+use Rattle.tree.specs.Split.{words, drawing, stream, splitAnswer}
+use Rattle.splits.specs.After.{splitTree}
+use Rattle.splits.proofs.Rows.{streams-more, streams-up}
+use Rattle.splits.proofs.Trees.{tree-used, tree-free, tree-counts, tree-keeps-cell, tree-cell, tree-child, tree-stream, tree-child-stream}
+use Rattle.opening.specs.Opened.{drawingIn}
+use Rattle.newtree.specs.Open.{drawingTables}
+use Rattle.demand.specs.History.{Node, cellIn, firstIn, splitAt, Leaf}
+use Rattle.demand.specs.Stands.{drawingOf, wordsOfCell}
+use Rattle.demand.proofs.History.{From, kept, divides, new, comes, few-places, split-length, cell-old, cell-new, first-other, first-split, first-new, split-grown}
+use Rattle.demand.proofs.Made.{split-made}
+use Rattle.demand.proofs.Sound.{Drawn, Sound}
+use Rattle.demand.proofs.Passing.{cell-is}
+
+pub quarter-place : (q : Quarter) → quarterAt (placeOf q) ≡ q
+quarter-place lowLow = refl
+quarter-place highLow = refl
+quarter-place lowHigh = refl
+quarter-place highHigh = refl
+
+-- ---- the drawing stays
+pub tables-split : (t : Tree) (i : ℕ) → drawingTables (splitTree t i) ≡ drawingTables t
+unfolding splitTree
+tables-split t i = refl
+
+pub drawing-split : (t : Tree) (i : ℕ) → drawingOf (splitTree t i) ≡ drawingOf t
+drawing-split t i = ap drawingIn (tables-split t i)
+
+drawn-split : (t : Tree) (i : ℕ) → Drawn t → Drawn (splitTree t i)
+unfolding splitTree
+drawn-split t i d = record { valid = d .valid; held = d .held; pair = d .pair }
+
+module _ (t : Tree) (H : List Node) (i n : ℕ) (s : Sound t H) (e : splitAnswer t i ≡ Split n) (l : Leaf H i) (large : 0 < level (cellIn H i)) where
+  abbrev m₀ : ℕ
+  m₀ = length H
+
+  abbrev h : i < length H
+  h = l .in-use
+
+  abbrev w : CellWords
+  w = words t i
+
+  abbrev u : Tree
+  u = splitTree t i
+
+  abbrev K : List Node
+  K = splitAt H i
+
+  -- the cells in use are those of the history
+  used-is : cellsUsed (t .head) ≡ length H
+  used-is = s .in-use
+
+  -- ---- each new cell
+  abbrev streamFirst : ℕ → ℕ
+  streamFirst q = entriesUsed (t .head) + length (streamsTo (drawing t i) (cellOf w) (stream t i) q)
+
+  abbrev streamCount : ℕ → ℕ
+  streamCount q = entriesOfChild (drawing t i) (cellOf w) (stream t i) q
+
+  new-words : (q : Quarter) → words u (length H + placeOf q) ≡ wordsWith (child (cellIn H i) q) (streamFirst (placeOf q)) (streamCount (placeOf q))
+  new-words q =
+      ap (λ (k : ℕ). words u (k + placeOf q)) (sym used-is)
+      ∙ (tree-child t i n e (placeOf q) (few-places q)
+      ∙ ap (λ (c : Cell). wordsWith c (streamFirst (placeOf q)) (streamCount (placeOf q))) (λ d. child (cell-is t H s i h d) (quarter-place q d)))
+
+  new-stream : (q : Quarter) → stream u (length H + placeOf q) ≡ wordsOfCell (drawingOf t) (child (cellIn H i) q)
+  new-stream q =
+      ap (λ (x : CellWords). wordsFrom (u .entries) (x .first) (x .count)) (new-words q)
+      ∙ (tree-child-stream t i n e (placeOf q) (few-places q)
+      ∙ ((λ d. wordsMade (drawing t i) (child (cell-is t H s i h d) (quarter-place q d)) (s .streams i l d))
+      ∙ split-made (drawingOf t) (s .drawn .valid) (t .areas) (t .xs) (t .ys) (boundsOf (t .plan) w) (s .drawn .held (w .y) (w .side)) (cellIn H i) q))
+
+  new-entries : (q : Quarter) → streamFirst (placeOf q) + streamCount (placeOf q) ≤ entriesUsed (u .head)
+  new-entries q =
+      omega (arith, tree-free t i n e, streams-more (drawing t i) (cellOf w) (stream t i) (placeOf q), streams-up (drawing t i) (cellOf w) (stream t i) (suc (placeOf q)) 4 (omega (arith, few-places q)))
+
+  -- ---- each cell
+  squares-by : (m : ℕ) → From H i h m → SaysCell (words u m) (cellIn K m)
+  squares-by m (kept g z) =
+      subst (λ (x : CellWords). SaysCell x (cellIn K m)) (sym (tree-keeps-cell t i n e m (omega (arith, used-is)) z)) (subst (SaysCell (words t m)) (sym (cell-old H i h m g)) (s .squares m g))
+  squares-by m (divides z) =
+      let o = s .squares i h in
+      let p : SaysCell (words u i) (cellIn K i) =
+      subst (λ (x : CellWords). SaysCell x (cellIn K i)) (sym (tree-cell t i n e))
+      (subst (SaysCell (withChild w (cellsUsed (t .head)))) (sym (cell-old H i h i h)) (record { same-x = o .same-x; same-y = o .same-y; same-side = o .same-side })) in
+      subst (λ (k : ℕ). SaysCell (words u k) (cellIn K k)) (sym z) p
+  squares-by m (new q z) =
+      let p : SaysCell (words u (length H + placeOf q)) (cellIn K (length H + placeOf q)) =
+      subst (λ (x : CellWords). SaysCell x (cellIn K (length H + placeOf q))) (sym (new-words q))
+      (subst (SaysCell (wordsWith (child (cellIn H i) q) (streamFirst (placeOf q)) (streamCount (placeOf q)))) (sym (cell-new H i h q)) (record { same-x = refl; same-y = refl; same-side = refl })) in
+      subst (λ (k : ℕ). SaysCell (words u k) (cellIn K k)) (sym z) p
+
+  firsts-by : (m : ℕ) → From H i h m → words u m .child ≡ firstIn K m
+  firsts-by m (kept g z) = ap (λ (x : CellWords). x .child) (tree-keeps-cell t i n e m (omega (arith, used-is)) z) ∙ (s .firsts m g ∙ sym (first-other H i h m g z))
+  firsts-by m (divides z) =
+      ap (λ (k : ℕ). words u k .child) z ∙ (ap (λ (x : CellWords). x .child) (tree-cell t i n e) ∙ (used-is ∙ (sym (first-split H i h) ∙ ap (firstIn K) (sym z))))
+  firsts-by m (new q z) =
+      ap (λ (k : ℕ). words u k .child) z ∙ (ap (λ (x : CellWords). x .child) (new-words q) ∙ (sym (first-new H i h q) ∙ ap (firstIn K) (sym z)))
+
+  entries-by : (m : ℕ) → From H i h m → words u m .first + words u m .count ≤ entriesUsed (u .head)
+  entries-by m (kept g z) =
+      subst (λ (x : CellWords). x .first + x .count ≤ entriesUsed (u .head)) (sym (tree-keeps-cell t i n e m (omega (arith, used-is)) z)) (omega (arith, s .entries m g, tree-free t i n e))
+  entries-by m (divides z) =
+      subst (λ (k : ℕ). words u k .first + words u k .count ≤ entriesUsed (u .head)) (sym z)
+      (subst (λ (x : CellWords). x .first + x .count ≤ entriesUsed (u .head)) (sym (tree-cell t i n e)) (omega (arith, s .entries i h, tree-free t i n e)))
+  entries-by m (new q z) =
+      subst (λ (k : ℕ). words u k .first + words u k .count ≤ entriesUsed (u .head)) (sym z)
+      (subst (λ (x : CellWords). x .first + x .count ≤ entriesUsed (u .head)) (sym (new-words q)) (new-entries q))
+
+  streams-by : (m : ℕ) → From H i h m → firstIn K m ≡ 0 → stream u m ≡ wordsOfCell (drawingOf t) (cellIn K m)
+  streams-by m (kept g z) f =
+      ap (λ (x : CellWords). wordsFrom (u .entries) (x .first) (x .count)) (tree-keeps-cell t i n e m (omega (arith, used-is)) z)
+      ∙ (tree-stream t i n e (words t m .first) (words t m .count) (s .entries m g)
+      ∙ (s .streams m (record { in-use = g; undivided = sym (first-other H i h m g z) ∙ f }) ∙ ap (wordsOfCell (drawingOf t)) (sym (cell-old H i h m g))))
+  streams-by m (divides z) f = absurd (let o : length H ≡ 0 = sym (first-split H i h) ∙ (ap (firstIn K) (sym z) ∙ f) in omega (arith, h))
+  streams-by m (new q z) f =
+      ap (stream u) z ∙ (new-stream q ∙ (ap (wordsOfCell (drawingOf t)) (sym (cell-new H i h q)) ∙ ap (λ (k : ℕ). wordsOfCell (drawingOf t) (cellIn K k)) (sym z)))
+
+  pub split-sound : Sound (splitTree t i) (splitAt H i)
+  split-sound =
+      record {
+        drawn = drawn-split t i (s .drawn);
+        counts = tree-counts t i n e;
+        in-use = omega (arith, tree-used t i n e, used-is, split-length H i h);
+        grown = split-grown H i h (s .grown) (l .undivided) large;
+        squares = λ m g. squares-by m (comes H i h m g);
+        firsts = λ m g. firsts-by m (comes H i h m g);
+        entries = λ m g. entries-by m (comes H i h m g);
+        streams = λ m g. streams-by m (comes H i h m (g .in-use)) (g .undivided) ∙ ap (λ (D : Drawing). wordsOfCell D (cellIn K m)) (sym (drawing-split t i));
+      }

@@ -1,0 +1,11 @@
+-- Document 01, "Cells": the seven tables after an opening. Assumes nothing.
+use Rattle.tree.specs.Tables.{Tree, tree}
+use Rattle.newtree.specs.declared.Answer.{Answer}
+use Rattle.newtree.specs.Open.{openAnswer, headOpened, cellsOpened, entriesOpened}
+
+-- those before where the opening is refused
+abbrev pub openedBy : Tree → Answer → Tree
+openedBy t r = tree (t .plan) (t .areas) (t .xs) (t .ys) (headOpened t r) (cellsOpened t r) (entriesOpened t r)
+
+abbrev pub openTree : Tree → Tree
+openTree t = openedBy t (openAnswer t)

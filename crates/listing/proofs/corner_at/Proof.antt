@@ -1,0 +1,32 @@
+-- `listing::corner_at` meets its contract. Assumes nothing.
+use mathlib.Core.Path.{_∙_}
+use denote.Ref.{now}
+use Rattle.tree.specs.Tables.{tree}
+use Rattle.listing.proofs.Order.{corner-is}
+use borrow.Author.Needs.{needs}
+use Rattle.listing.proofs.corner_at.Statement.{statement}
+use Rattle.listing.proofs.corner_at.Tie as tie
+
+corner-x-requires : tie.Need-corner-x-requires
+corner-x-requires c κs = search needs
+
+corner-y-requires : tie.Need-corner-y-requires
+corner-y-requires c κs = search needs
+
+find-leaf-requires : tie.Need-find-leaf-requires
+find-leaf-requires c κs = search needs
+
+of-answer-requires : tie.Need-of-answer-requires
+of-answer-requires c κs = search needs
+
+returns : tie.Need-returns
+returns c =
+    let a = c .before .before .before .before .before .before .before .before .before .before .before .args in
+    let t = tree (now (a .plan)) (now (a .areas)) (now (a .xs)) (now (a .ys)) (now (a .head)) (now (a .cells)) (now (a .entries)) in
+    c .of-answer .ensures
+    ∙ corner-is t (a .k) (c .before .before .before .corner-x .result) (c .before .before .corner-y .result) (c .before .find-leaf .result) (c .before .before .before .corner-x .ensures .0) (c .before .before .corner-y .ensures .0) (c .before .find-leaf .ensures)
+
+pub corner-at-spec : {M : Type 1} → statement M
+corner-at-spec =
+    tie.close
+    (tie.spec corner-x-requires corner-y-requires find-leaf-requires of-answer-requires returns)

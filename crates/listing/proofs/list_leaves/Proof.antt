@@ -1,0 +1,58 @@
+-- `listing::list_leaves` meets its contract. Assumes nothing.
+use Prim.Native.Nat.{_-_}
+use native.Mathlib.Omega.{arith}
+use Rattle.tree.specs.Tables.{tree}
+use Rattle.listing.proofs.Listing.{Listing, list-begin, list-turn, list-count, list-done}
+use borrow.Author.Needs.{needs}
+use Rattle.listing.proofs.list_leaves.Statement.{statement}
+use Rattle.listing.proofs.list_leaves.Tie as tie
+
+abbrev Inv-loop : tie.InvT-loop
+Inv-loop plan areas xs ys head cells entries rows₀ n₀ k₀ rows n k = Listing (tree plan areas xs ys head cells entries) rows₀ rows k n
+
+abbrev μ-loop : tie.MeasureT-loop
+μ-loop plan areas xs ys head cells entries rows₀ n₀ k₀ rows n k = 256 - k
+
+loop-holds : tie.Need-loop-holds Inv-loop μ-loop
+loop-holds c = list-begin _ _
+
+corner-at-requires : tie.Need-corner-at-requires Inv-loop μ-loop
+corner-at-requires c κs = search needs
+
+put-corner-requires : tie.Need-put-corner-requires Inv-loop μ-loop
+put-corner-requires c κs =
+    let i = c .before .before .before .loop .inv in
+    omega (arith, i .size, i .few, c .before .before .loop-test .taken, c .before .before .before .before .before .before .before .before .before .before .before .before .pre)
+
+add-k : tie.Need-add-k Inv-loop μ-loop
+add-k c = search needs
+
+loop-less : tie.Need-loop-less Inv-loop μ-loop
+loop-less c = search needs
+
+loop-again : tie.Need-loop-again Inv-loop μ-loop
+loop-again c = list-turn _ _ _ _ _ _ _ _ (c .before .before .before .before .before .loop-test .taken) (c .before .before .before .before .corner-at .ensures) (c .before .before .put-corner .ensures .0) (c .before .before .put-corner .ensures .1) (c .before .before .before .before .before .before .loop .inv)
+
+same-length : tie.Need-same-length Inv-loop μ-loop
+same-length c = c .before .loop .inv .size
+
+returns : tie.Need-returns Inv-loop μ-loop
+returns c =
+    let i = c .before .loop .inv in
+    let h = c .loop-test .left in
+    (list-count _ _ _ _ _ h i, (list-done _ _ _ _ _ h i, omega (arith, i .few, i .low)))
+
+pub list-leaves-spec : {M : Type 1} → statement M
+list-leaves-spec =
+    tie.close
+    (tie.spec
+    Inv-loop
+    μ-loop
+    loop-holds
+    corner-at-requires
+    put-corner-requires
+    add-k
+    loop-less
+    loop-again
+    same-length
+    returns)

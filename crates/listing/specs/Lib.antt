@@ -1,0 +1,2 @@
+-- The leaves of a tree in key order.
+pub mod Listed

@@ -1,0 +1,66 @@
+//! Two calls timed by turns in one run.
+
+use std::fmt::Debug;
+use std::hint::black_box;
+use std::time::{Duration, Instant};
+
+/// Each side runs at least so long.
+const LEAST: Duration = Duration::from_secs(1);
+
+/// Microseconds of a call, from so many calls in a row.
+fn time<A: PartialEq + Debug>(calls: u32, call: &mut impl FnMut() -> A, expected: &A) -> f64 {
+    let start = Instant::now();
+    for _ in 0..calls {
+        assert_eq!(black_box(call()), *expected);
+    }
+    start.elapsed().as_secs_f64() * 1e6 / f64::from(calls)
+}
+
+fn median(mut times: Vec<f64>) -> f64 {
+    times.sort_by(f64::total_cmp);
+    times[times.len() / 2]
+}
+
+/// Runs both by turns, each as often first as the other: the medians in microseconds.
+pub fn by_turns<A: PartialEq + Debug>(
+    calls: u32,
+    expected: A,
+    mut library: impl FnMut() -> A,
+    mut second: impl FnMut() -> A,
+) -> (f64, f64) {
+    let least = LEAST.as_secs_f64() * 1e6 / f64::from(calls);
+    let (mut library_times, mut second_times) = (Vec::new(), Vec::new());
+    let (mut library_sum, mut second_sum) = (0.0, 0.0);
+    while library_sum < least || second_sum < least {
+        for library_first in [true, false] {
+            let (by_library, by_second);
+            if library_first {
+                by_library = time(calls, &mut library, &expected);
+                by_second = time(calls, &mut second, &expected);
+            } else {
+                by_second = time(calls, &mut second, &expected);
+                by_library = time(calls, &mut library, &expected);
+            }
+            library_times.push(by_library);
+            second_times.push(by_second);
+            library_sum += by_library;
+            second_sum += by_second;
+        }
+    }
+    (median(library_times), median(second_times))
+}
+
+/// Runs both by turns and prints the medians.
+pub fn compare<A: PartialEq + Debug>(
+    name: &str,
+    calls: u32,
+    expected: A,
+    library: impl FnMut() -> A,
+    second: impl FnMut() -> A,
+) {
+    let (library, second) = by_turns(calls, expected, library, second);
+    let ratio = library / second;
+    println!(
+        "{name}: library {library:.2} us, second {second:.2} us, ratio library / second {ratio:.2}"
+    );
+}

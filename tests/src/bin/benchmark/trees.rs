@@ -1,0 +1,211 @@
+//! Trees: the second implementation is its fast form.
+
+use std::hint::black_box;
+
+use zones_tests::drawing::{AREA_WORDS, BAR, CLIP, CLOSE, OPEN, PAINT};
+use zones_tests::fast;
+use zones_tests::foreign;
+use zones_tests::meaning::Drawing;
+use zones_tests::random::Random;
+use zones_tests::record::{area, delimiter, Record};
+use zones_tests::samples::{self, Tables};
+use zones_tests::scenes::contour;
+use zones_tests::stream::Entry;
+use zones_tests::tree::{TreeTables, CELL_WORDS, CHILD_WORD};
+use zones_tests::zones::{self, Answer};
+
+use crate::timing::{by_turns, compare};
+
+/// What a tree may hold.
+const CELLS: usize = 4_096;
+const ENTRIES: usize = 65_536;
+
+/// Corners of an area, and rows and columns of a block of the grid.
+const CORNERS: u32 = 32;
+const HIGH: u32 = 65_536 / 8;
+const WIDE: u32 = 65_536 / 4;
+
+/// 64 areas of 32 corners each, two in each of 32 blocks of the grid: a zigzag between its lowest and
+/// highest row. Every other block's are a clip area and what it shows.
+fn zigzags(random: &mut Random) -> Vec<Record> {
+    let mut zigzag = |block: u32| {
+        let (low_x, low_y) = (block % 4 * WIDE, block / 4 * HIGH);
+        let corners: Vec<(u32, u32)> = (0..CORNERS)
+            .map(|i| {
+                let step = WIDE / CORNERS;
+                let x = low_x + i * step + random.below(step as usize) as u32;
+                (x, low_y + i % 2 * HIGH)
+            })
+            .collect();
+        contour(&corners)
+    };
+    let mut records = Vec::new();
+    for block in 0..32 {
+        let paint = |alpha: u8| area(PAINT, 0, alpha, [block as u8; 3], 1 + block as u16);
+        if block % 2 == 0 {
+            records.extend([delimiter(OPEN), area(CLIP, 0, 0, [0; 3], 0)]);
+            records.extend(zigzag(block));
+            records.extend([delimiter(BAR), paint(255)]);
+            records.extend(zigzag(block));
+            records.push(delimiter(CLOSE));
+        } else {
+            for alpha in [128, 255] {
+                records.push(paint(alpha));
+                records.extend(zigzag(block));
+            }
+        }
+    }
+    records
+}
+
+pub fn trees() {
+    let random = &mut Random::new(2);
+    let tables = samples::tables(&zigzags(random));
+    grown(&tables);
+    splits(random, &tables);
+}
+
+fn accepted(answer: Answer) -> u32 {
+    match answer {
+        Answer::Accepted(low) => low,
+        refused => panic!("{refused:?}"),
+    }
+}
+
+/// Opens, and splits each leaf with lines, the lowest numbered first, until one is refused with 11.
+fn grown(tables: &Tables) {
+    let drawing = Drawing::of(tables);
+    let (mut by_library, mut by_second) = (
+        TreeTables::new(CELLS, ENTRIES),
+        TreeTables::new(CELLS, ENTRIES),
+    );
+    let mut made = Vec::new();
+    let mut tree = TreeTables::new(CELLS, ENTRIES);
+    fast::open(drawing, &mut tree.lend(), &mut made).expect("opening is accepted");
+    let opened = tree.head[1];
+    fast::grow(drawing, &mut tree.lend(), 0, 16, &mut made).expect("growing is accepted");
+    let (cells, entries) = (tree.head[0], tree.head[1]);
+    let split: Vec<u32> = (0..cells)
+        .filter(|cell| !tree.view().cell(*cell).is_leaf())
+        .collect();
+    println!(
+        "tree: {} areas, {} corners, {opened} entries when opened, {cells} cells and {entries} entries when grown",
+        tables.plan[1], tables.plan[2]
+    );
+    compare(
+        "open",
+        8,
+        opened,
+        || {
+            let tree = black_box(&mut by_library);
+            accepted(zones::open(black_box(drawing), &mut tree.lend()))
+        },
+        || {
+            let tree = black_box(&mut by_second);
+            let opened = fast::open(black_box(drawing), &mut tree.lend(), &mut made);
+            opened.expect("opening is accepted")
+        },
+    );
+    compare(
+        "open and the same splits",
+        1,
+        cells,
+        || {
+            let tree = black_box(&mut by_library);
+            accepted(zones::open(black_box(drawing), &mut tree.lend()));
+            for cell in &split {
+                accepted(zones::split(black_box(drawing), &mut tree.lend(), *cell));
+            }
+            tree.head[0]
+        },
+        || {
+            let tree = black_box(&mut by_second);
+            _ = fast::open(black_box(drawing), &mut tree.lend(), &mut made);
+            for cell in &split {
+                _ = fast::split(black_box(drawing), &mut tree.lend(), *cell, &mut made);
+            }
+            tree.head[0]
+        },
+    );
+    assert!(by_library == tree && by_second == tree);
+}
+
+/// A stream of so many entries over a drawing, the same mix for each: of 64 entries one is an area,
+/// 32 are lines, 31 are those of groups.
+fn mixed(random: &mut Random, tables: &Tables, entries: usize) -> Vec<Entry> {
+    let corners = tables.plan[2] as usize;
+    let paint = (0..).find(|area| tables.areas[AREA_WORDS * *area as usize] == PAINT);
+    let number = paint.expect("a paint area");
+    let mut stream = Vec::new();
+    while stream.len() < entries {
+        stream.push(Entry::Area { number, start: 0 });
+        for _ in 0..32 {
+            let from = random.below(corners) as u32;
+            let to = random.below(corners) as u32;
+            stream.push(Entry::Line { from, to });
+        }
+        stream.extend([Entry::Open, Entry::Passes, Entry::Bar, Entry::Close]);
+        stream.extend([Entry::Open, Entry::Bar, Entry::Close].repeat(9));
+    }
+    stream
+}
+
+/// A tree of one cell with a stream, and room for its children.
+fn one_cell(random: &mut Random, stream: &[Entry]) -> TreeTables {
+    let count = stream.len() as u32;
+    let mut tree = TreeTables::new(5, 0);
+    tree.entries = foreign::words(random, stream);
+    tree.entries.extend(vec![0; 4 * tree.entries.len()]);
+    tree.head = vec![1, count];
+    let cell = [0, 0, 65_536, 0, 0, count, 0, 0];
+    tree.cells[..CELL_WORDS].copy_from_slice(&cell);
+    tree
+}
+
+/// The time of one split against the entries of the cell. Each size has as many entries in all, so
+/// that none is known to the processor by heart.
+fn splits(random: &mut Random, tables: &Tables) {
+    let drawing = Drawing::of(tables);
+    for entries in [256, 512, 1_024, 2_048, 4_096] {
+        let mut by_library: Vec<TreeTables> = (0..4 * 4_096 / entries)
+            .map(|_| {
+                let stream = mixed(random, tables, entries);
+                assert_eq!(stream.len(), entries);
+                one_cell(random, &stream)
+            })
+            .collect();
+        let mut by_second = by_library.clone();
+        let mut made = Vec::new();
+        let unsplit = |tree: &mut TreeTables| {
+            tree.head.copy_from_slice(&[1, entries as u32]);
+            tree.cells[CHILD_WORD] = 0;
+        };
+        let (library, second) = by_turns(
+            1,
+            (),
+            || {
+                for tree in black_box(&mut by_library) {
+                    unsplit(tree);
+                    accepted(zones::split(drawing, &mut tree.lend(), 0));
+                }
+            },
+            || {
+                for tree in black_box(&mut by_second) {
+                    unsplit(tree);
+                    let split = fast::split(drawing, &mut tree.lend(), 0, &mut made);
+                    split.expect("the split is accepted");
+                }
+            },
+        );
+        assert!(by_library == by_second);
+        let splits = by_library.len() as f64;
+        let (library, second) = (library / splits, second / splits);
+        let each = |time: f64| 1e3 * time / entries as f64;
+        println!(
+            "split of {entries} entries: library {library:.2} us, {:.0} ns an entry; second {second:.2} us, {:.0} ns an entry; ratio {:.2}",
+            each(library),
+            each(second),
+            library / second
+        );
+    }
+}

@@ -1,0 +1,392 @@
+//! The readings of a tree: the library against the second implementation, with the tree and with no
+//! tree, after lists of calls, on damaged tables and on tables written by others.
+
+use zones_tests::compare;
+use zones_tests::drawing::{MOST_AREAS, MOST_RECORDS};
+use zones_tests::foreign;
+use zones_tests::lent::{lent_bytes, lent_words, LentTables, LentTree};
+use zones_tests::meaning::{Drawing, Scene};
+use zones_tests::random::Random;
+use zones_tests::readings::{spot_words, Reader, SPOT_WORDS};
+use zones_tests::record::{letters, Record};
+use zones_tests::samples::{self, Tables};
+use zones_tests::scenes::{self, painted, square_at, Look};
+use zones_tests::tally::Tally;
+use zones_tests::tree::{self, TreeTables};
+use zones_tests::tree_damage::{damage_tree, TREE_DAMAGES};
+use zones_tests::zones::Answer;
+
+fn note(tally: &mut Tally, call: &str, answer: Answer) {
+    tally.note(match answer {
+        Answer::Accepted(_) => format!("{call} accepted"),
+        Answer::Refused { number, .. } => format!("{call} {number}"),
+    });
+}
+
+/// A drawing and a tree over it, both lent.
+struct Sample {
+    tables: Tables,
+    drawing: LentTables,
+    tree: LentTree,
+}
+
+impl Sample {
+    /// The tables just as they are.
+    fn exact(random: &mut Random, tables: Tables, tree: &TreeTables) -> Sample {
+        Sample {
+            drawing: LentTables::new(random, &tables),
+            tree: LentTree::new(random, tree),
+            tables,
+        }
+    }
+
+    /// A coordinate of a border of a leaf, or one beside it.
+    fn on_border(random: &mut Random, low: u32, side: u32) -> u32 {
+        let at = random.pick(&[low, low + side]) + random.pick(&[0, 0, 1]);
+        at.saturating_sub(random.pick(&[0, 1])).min(65_535)
+    }
+
+    /// On a line, a corner or a border of cells, or one beside it, or anywhere.
+    fn position(&self, random: &mut Random) -> (u32, u32) {
+        let (x, y) = match random.below(3) {
+            0 => scenes::position_on_edge(random, &self.tables),
+            _ => scenes::position(random, &self.tables),
+        };
+        if !random.one_in(4) {
+            return (x, y);
+        }
+        match tree::find_leaf(self.drawing.drawing(), self.tree.view(), x, y) {
+            Ok(leaf) => match random.below(3) {
+                0 => (
+                    Sample::on_border(random, leaf.square.x, leaf.square.side),
+                    y,
+                ),
+                1 => (
+                    x,
+                    Sample::on_border(random, leaf.square.y, leaf.square.side),
+                ),
+                _ => (
+                    Sample::on_border(random, leaf.square.x, leaf.square.side),
+                    Sample::on_border(random, leaf.square.y, leaf.square.side),
+                ),
+            },
+            Err(_) => (x, y),
+        }
+    }
+}
+
+// ---- the readings, one by one ----
+
+/// Reads at so many positions, with room for the words or too little. With a scene, what is read is
+/// what the drawing says with no tree.
+fn positions(
+    random: &mut Random,
+    sample: &Sample,
+    scene: Option<&Scene>,
+    tally: &mut Tally,
+    times: usize,
+) {
+    let mut reader = Reader::new(&sample.drawing, &sample.tree);
+    for _ in 0..times {
+        let (mut x, mut y) = sample.position(random);
+        match random.below(80) {
+            0 => x = random.pick(&[65_536, 65_537, u32::MAX]),
+            1 => y = random.pick(&[65_536, 131_071, u32::MAX]),
+            _ => {}
+        }
+        let words = match random.below(10) {
+            0 => random.pick(&[7, 10, 5, 1, 0]),
+            _ => SPOT_WORDS,
+        };
+        let words: Vec<u32> = (0..words).map(|_| random.word()).collect();
+        let blank = lent_words(random, &words);
+        let (answer, out) = reader.position((x, y), &blank);
+        note(tally, "position", answer);
+        if let (Answer::Accepted(material), Some(scene)) = (answer, scene) {
+            let reading = scene.position(x, y);
+            assert_eq!(out.table()[..SPOT_WORDS], spot_words(reading));
+            assert_eq!(material, reading.material);
+            assert_eq!(out.table()[SPOT_WORDS..], words[SPOT_WORDS..]);
+        }
+    }
+    reader.finish();
+}
+
+// ---- lists of calls ----
+
+/// A drawing of any look, now and then one of the largest.
+fn any_tables(random: &mut Random) -> Tables {
+    if random.one_in(100) {
+        let look = Look::fullest(random);
+        return samples::tables(&scenes::of(random, &look));
+    }
+    scenes::tables(random)
+}
+
+/// One call that splits, grows, opens or finds; what it changed stays.
+fn change(random: &mut Random, sample: &mut Sample, tally: &mut Tally) {
+    match random.below(8) {
+        0 => refused_open(random, sample, tally),
+        1 => grow(random, sample, tally),
+        2 => {
+            let blank = lent_words(random, &[7; 9]);
+            let at = sample.position(random);
+            let (answer, _) = compare::find_leaf(&sample.drawing, &sample.tree, at, &blank);
+            note(tally, "find", answer);
+        }
+        _ => {
+            let at = sample.position(random);
+            let (drawing, view) = (sample.drawing.drawing(), sample.tree.view());
+            let cell = match random.below(8) {
+                0 => random.below(view.head[0] as usize + 1) as u32,
+                _ => {
+                    let leaf = tree::find_leaf(drawing, view, at.0, at.1);
+                    leaf.expect("a leaf is found").cell
+                }
+            };
+            let (answer, after) = compare::split(&sample.drawing, &sample.tree, cell);
+            note(tally, "split", answer);
+            sample.tree = after;
+        }
+    }
+}
+
+/// An opening that is refused: with tables of unequal length, or a drawing that breaks the grammar.
+fn refused_open(random: &mut Random, sample: &mut Sample, tally: &mut Tally) {
+    let mut drawing = sample.drawing.clone();
+    match random.below(2) {
+        0 => {
+            let corners = drawing.xs.table().len();
+            match corners {
+                0 => drawing.plan.shorten(2),
+                _ => drawing.xs.shorten(corners - 1),
+            }
+        }
+        _ => drawing.plan.table_mut()[0] += 1_000_000,
+    }
+    let (answer, after) = compare::open(&drawing, &sample.tree);
+    assert!(matches!(answer, Answer::Refused { .. }), "{answer:?}");
+    note(tally, "open", answer);
+    sample.tree = after;
+}
+
+/// Growing, by the splits that it makes.
+fn grow(random: &mut Random, sample: &mut Sample, tally: &mut Tally) {
+    let threshold = random.pick(&[0, 0, 1, 2, 5, 20]);
+    let limit = random.pick(&[1, 2, 3, 4, 6, 16]);
+    let mut grown = sample.tree.clone();
+    let drawing = sample.drawing.drawing();
+    let growth = tree::grow(drawing, &mut grown.lend(), threshold, limit);
+    assert!(growth.is_ok(), "{growth:?}");
+    while sample.tree.view().head[0] < grown.view().head[0] {
+        let next = sample.tree.view().head[0];
+        let parent = |n: &u32| grown.view().cell(*n).child == next;
+        let cell = (0..next).find(parent).expect("a cell was split");
+        let (answer, after) = compare::split(&sample.drawing, &sample.tree, cell);
+        assert_eq!(answer, Answer::Accepted(next));
+        sample.tree = after;
+    }
+    assert!(sample.tree == grown);
+    tally.note("grow accepted".to_string());
+}
+
+/// A tree opened by both in tables that are full of other words; None where they have no room.
+fn opened(random: &mut Random, tally: &mut Tally) -> Option<Sample> {
+    let tables = any_tables(random);
+    let cells = random.pick(&[1, 5, 9, 30, 100, 100, 300]);
+    let entries = random.pick(&[50, 300, 300, 3_000, 3_000]);
+    let blank = LentTree::blank(random, cells, entries);
+    let drawing = LentTables::longer(random, tables.clone());
+    let (answer, tree) = compare::open(&drawing, &blank);
+    note(tally, "open", answer);
+    matches!(answer, Answer::Accepted(_)).then_some(Sample {
+        tables,
+        drawing,
+        tree,
+    })
+}
+
+#[test]
+fn readings_in_lists_of_calls() {
+    let random = &mut Random::for_test(110);
+    let mut tally = Tally::default();
+    for _ in 0..1_000 {
+        let Some(mut sample) = opened(random, &mut tally) else {
+            continue;
+        };
+        let tables = sample.tables.clone();
+        let scene = Scene::of(Drawing::of(&tables));
+        for _ in 0..random.within(1..=8) {
+            change(random, &mut sample, &mut tally);
+            positions(random, &sample, Some(&scene), &mut tally, 50);
+        }
+        positions(random, &sample, Some(&scene), &mut tally, 50);
+        tally.note("drawings".to_string());
+    }
+    tally.print("lists");
+    tally.reached("drawings", 500);
+    tally.reached("position accepted", 200_000);
+    for what in ["7", "11"] {
+        tally.reached(&format!("position {what}"), 2_000);
+    }
+    for what in [
+        "split accepted",
+        "grow accepted",
+        "find accepted",
+        "open 7",
+        "open 12",
+    ] {
+        tally.reached(what, 100);
+    }
+    tally.reached("split 9", 20);
+    tally.reached("split 11", 20);
+}
+
+// ---- damaged tables ----
+
+/// A drawing and a tree that was opened and split a few times.
+fn grown(random: &mut Random) -> (Tables, TreeTables) {
+    let tables = scenes::tables(random);
+    let (cells, entries) = (random.pick(&[9, 30, 60]), random.pick(&[900, 2_000]));
+    let mut tree = TreeTables::new(cells, entries);
+    let drawing = Drawing::of(&tables);
+    if tree::open(drawing, &mut tree.lend()).is_err() {
+        return grown(random);
+    }
+    for _ in 0..random.below(6) {
+        let (x, y) = scenes::position(random, &tables);
+        let leaf = tree::find_leaf(drawing, tree.view(), x, y).expect("a leaf is found");
+        _ = tree::split(drawing, &mut tree.lend(), leaf.cell);
+    }
+    (tables, tree)
+}
+
+#[test]
+fn readings_of_damaged_tables() {
+    let random = &mut Random::for_test(111);
+    let mut all = Tally::default();
+    for damage in TREE_DAMAGES {
+        let mut tally = Tally::default();
+        for _ in 0..150 {
+            let (mut tables, mut tree) = grown(random);
+            damage_tree(random, &mut tables, &mut tree, damage);
+            let sample = Sample::exact(random, tables, &tree);
+            positions(random, &sample, None, &mut tally, 10);
+            positions(random, &sample, None, &mut all, 5);
+        }
+        tally.print(&format!("{damage:?}"));
+    }
+    all.print("damaged");
+    for what in ["accepted", "7", "11", "12"] {
+        all.reached(&format!("position {what}"), 100);
+    }
+}
+
+#[test]
+fn readings_of_trees_written_by_others() {
+    let random = &mut Random::for_test(112);
+    let mut tally = Tally::default();
+    for _ in 0..600 {
+        let tables = scenes::tables(random);
+        let splits = random.below(12);
+        let tree = foreign::tree(random, &tables, splits);
+        let sample = Sample::exact(random, tables, &tree);
+        positions(random, &sample, None, &mut tally, 40);
+    }
+    tally.print("others");
+    for what in ["accepted", "12"] {
+        tally.reached(&format!("position {what}"), 500);
+    }
+}
+
+// ---- the spots of document 01 that are not proved ----
+
+const ONE_AT_0: Answer = Answer::Refused {
+    number: 1,
+    place: 0,
+};
+const SEVEN_AT_0: Answer = Answer::Refused {
+    number: 7,
+    place: 0,
+};
+
+/// Reads records and opens a tree over them.
+fn read_and_open(random: &mut Random, records: &[Record]) -> Sample {
+    let blank = LentTables::ample(random);
+    let bytes = lent_bytes(random, &records.concat());
+    let (answer, drawing) = compare::read(&bytes, &blank);
+    assert_eq!(answer, Answer::Accepted(records.len() as u32));
+    let blank = LentTree::blank(random, 30, 8_000);
+    let (answer, tree) = compare::open(&drawing, &blank);
+    assert!(matches!(answer, Answer::Accepted(_)), "{answer:?}");
+    let tables = samples::tables(records);
+    Sample {
+        tables,
+        drawing,
+        tree,
+    }
+}
+
+/// "4,096 records read, 4,097 give 1".
+#[test]
+fn as_many_records_as_a_file_may_have() {
+    let random = &mut Random::for_test(113);
+    let mut records = samples::fullest(random);
+    assert_eq!(records.len(), MOST_RECORDS);
+    let sample = read_and_open(random, &records);
+    let tables = sample.tables.clone();
+    let scene = Scene::of(Drawing::of(&tables));
+    positions(random, &sample, Some(&scene), &mut Tally::default(), 100);
+    records.extend(letters("p"));
+    let bytes = lent_bytes(random, &records.concat());
+    let blank = LentTables::ample(random);
+    assert_eq!(compare::read(&bytes, &blank).0, ONE_AT_0);
+}
+
+/// "64 areas pass": all of them are in the set, before and behind a split.
+#[test]
+fn as_many_areas_as_a_drawing_may_have() {
+    let random = &mut Random::for_test(114);
+    let one = |n: u32| painted(254, [0; 3], square_at(n, n, 65_536 - 2 * n));
+    let records: Vec<Record> = (0..MOST_AREAS as u32).flat_map(one).collect();
+    let mut sample = read_and_open(random, &records);
+    for cell in 0..2 {
+        let blank = lent_words(random, &[77; SPOT_WORDS]);
+        let mut reader = Reader::new(&sample.drawing, &sample.tree);
+        let (answer, out) = reader.position((2_000, 3_000), &blank);
+        assert_eq!(answer, Answer::Accepted(7));
+        assert_eq!(out.table()[..2], [u32::MAX; 2]);
+        // At (40, 70) the areas 0 to 40 pass.
+        let (answer, out) = reader.position((40, 70), &blank);
+        assert_eq!(answer, Answer::Accepted(7));
+        assert_eq!(out.table()[..2], [u32::MAX, (1 << 9) - 1]);
+        reader.finish();
+        let (answer, after) = compare::split(&sample.drawing, &sample.tree, cell);
+        assert!(matches!(answer, Answer::Accepted(_)), "{answer:?}");
+        sample.tree = after;
+    }
+}
+
+/// "position 65,535 passes, 65,536 gives 7".
+#[test]
+fn the_last_position() {
+    let random = &mut Random::for_test(115);
+    let records = painted(255, [10, 20, 30], square_at(0, 0, 65_536));
+    let mut sample = read_and_open(random, &records);
+    for cell in 0..2 {
+        let blank = lent_words(random, &[77; SPOT_WORDS]);
+        let mut reader = Reader::new(&sample.drawing, &sample.tree);
+        for at in [(65_535, 65_535), (65_535, 0), (0, 65_535)] {
+            let (answer, out) = reader.position(at, &blank);
+            assert_eq!(answer, Answer::Accepted(7));
+            assert_eq!(out.table(), [1, 0, 7, 10, 20, 30]);
+        }
+        for at in [(65_536, 0), (0, 65_536), (65_536, 65_536), (u32::MAX, 0)] {
+            assert_eq!(reader.position(at, &blank).0, SEVEN_AT_0);
+        }
+        reader.finish();
+        let (answer, after) = compare::split(&sample.drawing, &sample.tree, cell);
+        assert!(matches!(answer, Answer::Accepted(_)), "{answer:?}");
+        sample.tree = after;
+    }
+}
