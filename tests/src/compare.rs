@@ -9,8 +9,8 @@ use crate::lent::{Lent, LentTables, LentTree};
 use crate::meaning::Drawing;
 use crate::samples::{self, Tables};
 use crate::stream::ENTRY_WORDS;
-use crate::tree::{self, TreeMut, CELL_WORDS, HEAD_WORDS};
-use crate::zones::{self, Answer};
+use crate::tree::{self, End, Growth, TreeMut, CELL_WORDS, HEAD_WORDS};
+use crate::zones::{self, Answer, FULL};
 
 /// Reads by both into copies of the same tables.
 pub fn read(records: &Lent<u8>, before: &LentTables) -> (Answer, LentTables) {
@@ -187,6 +187,43 @@ pub fn split(drawing: &LentTables, before: &LentTree, cell: u32) -> (Answer, Len
         Answer::Accepted(child) => {
             assert_eq!(child, before.head.table()[0]);
             expect::split_words(&before.tables(), &after.tables(), cell);
+        }
+    }
+    (answer, after)
+}
+
+/// What growing answers.
+pub fn grow_answer(growth: Growth) -> u32 {
+    match growth.end {
+        End::Done => growth.splits,
+        End::Full => FULL + growth.splits,
+    }
+}
+
+/// Grows by both. 7 changes nothing; before a 12 cells may have been split.
+pub fn grow(
+    drawing: &LentTables,
+    before: &LentTree,
+    threshold: u32,
+    limit: u32,
+) -> (Answer, LentTree) {
+    let (answer, after) = on_tree(
+        drawing,
+        before,
+        |drawing, tree| zones::grow(drawing, tree, threshold, limit),
+        |drawing, tree| answer(tree::grow(drawing, tree, threshold, limit).map(grow_answer)),
+    );
+    match answer {
+        Answer::Refused { number, place } => {
+            assert!(place == 0 && (number == 7 || number == 12));
+            assert!(
+                number == 12 || after == *before,
+                "written on a refusal: {before:?}"
+            );
+        }
+        Answer::Accepted(splits) => {
+            let more = after.head.table()[0] - before.head.table()[0];
+            assert_eq!(more, 4 * (splits % FULL));
         }
     }
     (answer, after)

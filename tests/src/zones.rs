@@ -83,6 +83,25 @@ extern "C" {
         cell: u32,
     ) -> u64;
 
+    fn zones_grow(
+        plan: *const u32,
+        plan_len: usize,
+        areas: *const u32,
+        areas_len: usize,
+        xs: *const u32,
+        xs_len: usize,
+        ys: *const u32,
+        ys_len: usize,
+        head: *mut u32,
+        head_len: usize,
+        cells: *mut u32,
+        cells_len: usize,
+        entries: *mut u32,
+        entries_len: usize,
+        threshold: u32,
+        limit: u32,
+    ) -> u64;
+
     fn zones_find_leaf(
         plan: *const u32,
         plan_len: usize,
@@ -192,6 +211,34 @@ pub fn split(drawing: Drawing, tree: &mut TreeMut, cell: u32) -> Answer {
             tree.entries.as_mut_ptr(),
             tree.entries.len(),
             cell,
+        )
+    })
+}
+
+/// What a growing that is full adds to the splits made.
+pub const FULL: u32 = 1 << 31;
+
+/// Grows; accepted: the splits made, and FULL more if there was no room for the next.
+pub fn grow(drawing: Drawing, tree: &mut TreeMut, threshold: u32, limit: u32) -> Answer {
+    // Each pointer comes with the length of its own slice.
+    Answer::from_number(unsafe {
+        zones_grow(
+            drawing.plan.as_ptr(),
+            drawing.plan.len(),
+            drawing.areas.as_ptr(),
+            drawing.areas.len(),
+            drawing.xs.as_ptr(),
+            drawing.xs.len(),
+            drawing.ys.as_ptr(),
+            drawing.ys.len(),
+            tree.head.as_mut_ptr(),
+            tree.head.len(),
+            tree.cells.as_mut_ptr(),
+            tree.cells.len(),
+            tree.entries.as_mut_ptr(),
+            tree.entries.len(),
+            threshold,
+            limit,
         )
     })
 }

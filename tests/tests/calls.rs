@@ -15,7 +15,7 @@ use zones_tests::stream::{Entry, ENTRY_WORDS, MOST_START};
 use zones_tests::tally::Tally;
 use zones_tests::tree::{self, TreeTables, CELL_WORDS, CHILD_WORD, MOST_CELLS, MOST_ENTRIES};
 use zones_tests::tree_damage::{damage_tree, TREE_DAMAGES};
-use zones_tests::zones::Answer;
+use zones_tests::zones::{Answer, FULL};
 
 fn note(tally: &mut Tally, call: &str, answer: Answer) {
     tally.note(match answer {
@@ -88,6 +88,19 @@ impl Sample {
         answer
     }
 
+    fn grow(&mut self, random: &mut Random, tally: &mut Tally) {
+        let threshold = random.pick(&[0, 0, 1, 2, 5, 20, u32::MAX]);
+        let limit = random.pick(&[0, 1, 2, 3, 4, 6, 16, 16, 17, u32::MAX]);
+        let (answer, after) = compare::grow(&self.drawing, &self.tree, threshold, limit);
+        tally.note(match answer {
+            Answer::Accepted(splits) if splits < FULL => "grow done".to_string(),
+            Answer::Accepted(_) => "grow full".to_string(),
+            Answer::Refused { number, .. } if after == self.tree => format!("grow {number}"),
+            Answer::Refused { number, .. } => format!("grow {number} behind splits"),
+        });
+        self.tree = after;
+    }
+
     /// Finds a leaf at a position, now and then at none, with room for its words or too little.
     fn find(&mut self, random: &mut Random, tally: &mut Tally) {
         let (mut x, mut y) = position(random, &self.tables);
@@ -107,7 +120,8 @@ impl Sample {
     fn call(&mut self, random: &mut Random, tally: &mut Tally) {
         match random.below(20) {
             0 => _ = self.open(tally),
-            1..8 => self.find(random, tally),
+            1..7 => self.find(random, tally),
+            7..10 => self.grow(random, tally),
             _ => {
                 let cell = self.pick_cell(random);
                 self.split(tally, cell);
@@ -123,6 +137,10 @@ impl Sample {
             self.split(tally, cell);
             self.tree = before.clone();
             self.find(random, tally);
+        }
+        for _ in 0..splits.div_ceil(2) {
+            self.grow(random, tally);
+            self.tree = before.clone();
         }
         self.open(tally);
         self.tree = before;
@@ -187,11 +205,14 @@ fn lists_of_calls_on_random_drawings() {
     tally.print("calls");
     tally.reached("drawings", 2_000);
     for what in ["split accepted", "split 8", "split 9", "split 11"] {
-        tally.reached(what, 500);
+        tally.reached(what, 300);
     }
     tally.reached("split 10", 30);
     for what in ["find accepted", "find 7", "find 11"] {
-        tally.reached(what, 500);
+        tally.reached(what, 200);
+    }
+    for what in ["grow done", "grow full", "grow 7"] {
+        tally.reached(what, 200);
     }
 }
 
@@ -224,9 +245,12 @@ fn cells_and_entries_up_to_their_limits() {
             _ => (MOST_ENTRIES as u32).saturating_sub(more).max(used),
         };
         let mut sample = Sample::new(random, tables, &tree);
+        let before = sample.tree.clone();
         for _ in 0..3 {
             sample.split(&mut tally, 0);
         }
+        sample.tree = before;
+        sample.grow(random, &mut tally);
     }
     tally.print("limits");
     for what in ["split accepted", "split 9", "split 11", "split 12"] {
@@ -302,6 +326,9 @@ fn calls_on_damaged_tables() {
     for what in ["accepted", "7", "11", "12"] {
         all.reached(&format!("open {what}"), 50);
         all.reached(&format!("find {what}"), 50);
+    }
+    for what in ["done", "full", "7", "12", "12 behind splits"] {
+        all.reached(&format!("grow {what}"), 20);
     }
 }
 
@@ -473,6 +500,8 @@ fn each_range_of_12_at_its_end_and_beyond() {
             continue;
         }
         rounds += 1;
+        let Square { x, y, .. } = tree.view().cell(leaf).square;
+        let low = (x, y);
         for Break {
             name,
             beyond,
@@ -489,6 +518,11 @@ fn each_range_of_12_at_its_end_and_beyond() {
             // A number in its range may break the grammar, or another range.
             assert!(is_12 || !beyond, "{name}: {answer:?} {tree:?}");
             tally.note(format!("{name} {}", if is_12 { "12" } else { "passed" }));
+            // Found at a position of the leaf, the same is met.
+            let blank = lent_words(random, &[0; 8]);
+            let (answer, _) = compare::find_leaf(&sample.drawing, &sample.tree, low, &blank);
+            let is_12 = matches!(answer, Answer::Refused { number: 12, .. });
+            assert!(is_12 || !beyond, "{name}: {answer:?} {tree:?}");
             sample.calls(random, &mut Tally::default(), 2);
         }
     }
@@ -546,6 +580,9 @@ fn calls_on_trees_written_by_others() {
     }
     for what in ["accepted", "11", "12"] {
         tally.reached(&format!("find {what}"), 100);
+    }
+    for what in ["done", "full", "12", "12 behind splits"] {
+        tally.reached(&format!("grow {what}"), 50);
     }
 }
 

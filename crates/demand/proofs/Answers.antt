@@ -1,11 +1,11 @@
 -- The answers of the calls on sound tables. Assumes nothing.
 use mathlib.Core.Path.{_≡_, refl, sym, ap, _∙_, subst}
 use mathlib.Core.Bool.{Bool, true, false, cond, _&&_}
-use mathlib.Core.List.{List, [], _∷_}
-use Prim.Native.Nat.{ℕ, _+_, _*_, _-_}
+use mathlib.Core.List.{List, []}
+use Prim.Native.Nat.{ℕ, _+_, _-_, _/_, _%_, _≤_}
 use native.Mathlib.Omega.{arith}
 use lib.Dec.{eqb, ltb, leb}
-use lib.ListN.{length, set, length-append, length-set}
+use lib.ListN.{length}
 use borrow.Author.Tests.{eq-eqb, leb-true}
 use Rattle.refusals.specs.declared.Refusal.{Refusal}
 use Rattle.refusals.specs.declared.Refusal.the-variants as Refusals
@@ -28,18 +28,21 @@ use Rattle.leaf.specs.Leaf.{positionRange, linesIn, reportOf, foundBy, leafIn, 
 use Rattle.leaf.proofs.Landing.{on-grid}
 use Rattle.query.specs.declared.Answer as Reading
 use Rattle.query.specs.declared.Answer.the-variants as Reads
+use Rattle.pixels.specs.declared.RowAnswer.the-variants as Rows
+use Rattle.pixels.specs.Rows.{Filled, filled}
 use Rattle.logs.specs.declared.LogAnswer.{LogAnswer}
 use Rattle.logs.specs.declared.LogAnswer.the-variants as Logs
 use Rattle.logs.specs.Logs.{outsideFrom, eachWord}
-use Rattle.demand.specs.History.{Node, node, cellIn, quarters, splitAt, afterSplits, Leaf}
+use Rattle.demand.specs.History.{Node, cellIn, afterSplits, Leaf}
 use Rattle.demand.specs.NoTree.{spotShown}
 use Rattle.demand.specs.Stands.{drawingOf, wordsOfCell}
-use Rattle.demand.specs.Calls.{splitting, growing, finding, reading, logging, refusal, afterSplit, grownCells}
+use Rattle.demand.specs.Calls.{splitting, growing, finding, reading, rowing, logging, refusal, afterSplit, grownCells}
 use Rattle.demand.specs.Demand.{SplitRight, GrowRight, reportShown, FindRight}
-use Rattle.demand.specs.Shown.{positionShown, logShown, logAnswerShown}
+use Rattle.demand.specs.Shown.{positionShown, fillShown, rowShown, logShown, logAnswerShown}
+use Rattle.demand.proofs.History.{splits-longer}
 use Rattle.demand.proofs.Sound.{Sound}
 use Rattle.demand.proofs.Outcomes.{Outcome, accepted, refused, split-outcome}
-use Rattle.demand.proofs.Growing.{Grows, grown-sound}
+use Rattle.demand.proofs.Growing.{Ends, grown-sound}
 use Rattle.demand.proofs.Finding.{lands}
 
 -- ---- a split
@@ -70,33 +73,31 @@ pub split-done : (t : Tree) (H : List Node) (i : ℕ) → Sound t H → SplitDon
 split-done t H i s = split-by t H i s refl (split-outcome t H i s)
 
 -- ---- growing
-one-longer : (H : List Node) (i : ℕ) → length (splitAt H i) ≡ length H + 4
-one-longer H i = length-append (set H i (node (cellIn H i) (length H))) (quarters (cellIn H i)) ∙ rw (length-set H i (node (cellIn H i) (length H)))
-
-splits-longer : (H : List Node) (is : List ℕ) → length (afterSplits H is) ≡ length H + 4 * length is
-splits-longer H [] = omega arith
-splits-longer H (i ∷ is) = omega (arith, splits-longer (splitAt H i) is, one-longer H i)
-
-pub record GrowDone (H K : List Node) (u : Tree) (a : Growing.Answer) : Type 0 where
+pub record GrowDone (D : Drawing) (n l : ℕ) (H K : List Node) (u : Tree) (a : Growing.Answer) : Type 0 where
   pub sound : Sound u K
-  pub right : GrowRight H K a
+  pub right : GrowRight D n l H K u a
   pub unmet : refusal (growing a) ≡ 12 → ⊥
 
-grown-by : (H : List Node) (u : Tree) (is : List ℕ) (e : Ending) → Sound u (afterSplits H is) → (e ≡ not-passed → ⊥) → GrowDone H (afterSplits H is) u (answerBy e (length is))
-grown-by H u is none-left s f = record { sound = s; right = splits-longer H is; unmet = λ z. omega arith }
-grown-by H u is no-room s f = record { sound = s; right = splits-longer H is; unmet = λ z. omega arith }
-grown-by H u is not-passed s f = absurd (f refl)
+grown-by : (D : Drawing) (n l : ℕ) (few : l ≤ 16) (H : List Node) (u : Tree) (is : List ℕ) (e : Ending) → Sound u (afterSplits H is) → Ends D n l few (afterSplits H is) u e
+    → GrowDone D n l H (afterSplits H is) u (answerBy e (length is))
+grown-by D n l few H u is none-left s f = record { sound = s; right = (splits-longer H is, f); unmet = λ z. omega arith }
+grown-by D n l few H u is no-room s f = record { sound = s; right = (splits-longer H is, f); unmet = λ z. omega arith }
+grown-by D n l few H u is not-passed s f = absurd f
 
 module _ (t : Tree) (H : List Node) (n l : ℕ) (s : Sound t H) where
-  limited : (b : Bool) → leb l 16 ≡ b → GrowDone H (afterSplits H (cond b (grown n l t .cells) [])) (cond b (grown n l t .after) t) (cond b (answerOf (grown n l t)) (Grows.Not Refusals.Argument))
+  limited : (b : Bool) → leb l 16 ≡ b
+      → GrowDone (drawingOf t) n l H (afterSplits H (cond b (grown n l t .cells) [])) (cond b (grown n l t .after) t) (cond b (answerOf (grown n l t)) (Grows.Not Refusals.Argument))
   limited true e =
-      let g = grown-sound n l (leb-true l 16 e) t H s in
-      grown-by H (grown n l t .after) (grown n l t .cells) (grown n l t .ending) (g .sound) (g .passed)
+      let few : l ≤ 16 = leb-true l 16 e in
+      let g = grown-sound (drawingOf t) n l few t H s refl in
+      grown-by (drawingOf t) n l few H (grown n l t .after) (grown n l t .cells) (grown n l t .ending) (g .sound) (g .ending)
   limited false e = record { sound = s; right = refl; unmet = λ z. omega arith }
 
-  pub grow-done : GrowDone H (afterSplits H (grownCells t n l)) (growTree t n l) (growAnswer t n l)
+  pub grow-done : GrowDone (drawingOf t) n l H (afterSplits H (grownCells t n l)) (growTree t n l) (growAnswer t n l)
   grow-done =
-      subst (λ (b : Bool). GrowDone H (afterSplits H (cond b (cond (leb l 16) (grown n l t .cells) []) [])) (cond b (cond (leb l 16) (grown n l t .after) t) t) (cond b (cond (leb l 16) (answerOf (grown n l t)) (Grows.Not Refusals.Argument)) (Grows.Not Refusals.Argument)))
+      subst
+      (λ (b : Bool). GrowDone (drawingOf t) n l H (afterSplits H (cond b (cond (leb l 16) (grown n l t .cells) []) [])) (cond b (cond (leb l 16) (grown n l t .after) t) t)
+      (cond b (cond (leb l 16) (answerOf (grown n l t)) (Grows.Not Refusals.Argument)) (Grows.Not Refusals.Argument)))
       (sym (eq-eqb (length (t .xs)) (length (t .ys)) (s .drawn .pair)))
       (limited (leb l 16) refl)
 
@@ -148,6 +149,25 @@ module _ (t : Tree) (x y : ℕ) (a : Reading.Answer) (e : a ≡ positionShown (d
 
   pub position-unmet : refusal (reading a) ≡ 12 → ⊥
   position-unmet z = shown-by (positionRange x y) (sym (ap (λ (r : Reading.Answer). refusal (reading r)) e) ∙ z)
+
+-- ---- a row
+module _ (D : Drawing) (row first : ℕ) (out : List ℕ) where
+  row-shown-by : (p q r : Bool) (bytes : List ℕ)
+      → refusal
+      (rowing
+      (cond p (cond q (cond r (filled Rows.Done bytes) (filled (Rows.Not Refusals.Argument 0) out)) (filled (Rows.Not Refusals.Argument 0) out)) (filled (Rows.Not Refusals.Argument 0) out)
+      .answer))
+      ≡ 12
+      → ⊥
+  row-shown-by true true true bytes z = omega arith
+  row-shown-by true true false bytes z = omega arith
+  row-shown-by true false r bytes z = omega arith
+  row-shown-by false q r bytes z = omega arith
+
+  pub row-unmet : (f : Filled) → f ≡ rowShown D row first out → refusal (rowing (f .answer)) ≡ 12 → ⊥
+  row-unmet f e z =
+      row-shown-by (leb row 4095) (eqb (length out % 3) 0) (leb (first + length out / 3) 4096) (fillShown D row first 0 (length out / 3) out)
+      (sym (ap (λ (g : Filled). refusal (rowing (g .answer))) e) ∙ z)
 
 -- ---- a log
 module _ (D : Drawing) (px py : List ℕ) (n : ℕ) where

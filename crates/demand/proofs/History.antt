@@ -1,7 +1,7 @@
 -- The cells of a history: each lies on the grid, those of a split cell are its quarters, and the leaves tile the grid. Assumes nothing.
 use mathlib.Core.Path.{_≡_, refl, sym, ap, _∙_, subst}
-use mathlib.Core.List.{List}
-use Prim.Native.Nat.{ℕ, zero, suc, _+_, _≤_, _<_}
+use mathlib.Core.List.{List, [], _∷_}
+use Prim.Native.Nat.{ℕ, zero, suc, _+_, _*_, _≤_, _<_}
 use native.Mathlib.Omega.{arith}
 use native.Mathlib.Decide.{decLt, ℕ-discrete}
 use lib.ListN.{length, getD, set, length-append, length-set, List·getD-append}
@@ -10,7 +10,7 @@ use Rattle.cells.specs.Cells.{Position, Cell, cell, level, root, Holds, Quarter
 use Rattle.cells.proofs.Cells.{root-holds, child-holds, holds-up}
 use Rattle.celltable.specs.Descent.{placeOf}
 use Rattle.celltable.proofs.Grid.{Gridded, root-gridded, child-gridded}
-use Rattle.demand.specs.History.{Node, node, cellOf, firstOf, begun, cellIn, firstIn, quarters, splitAt, LeafAt, Tiled}
+use Rattle.demand.specs.History.{Node, node, cellOf, firstOf, begun, cellIn, firstIn, quarters, splitAt, afterSplits, LeafAt, Tiled}
 
 -- a cell that was split: it had more than one position, and its four cells are its quarters, numbered in a row
 pub record Divided (H : List Node) (i j : ℕ) : Type 0 where
@@ -87,6 +87,12 @@ one-quarter (cell x y (suc k)) p highHigh lowHigh h i j = absurd (omega (arith, 
 one-quarter (cell x y (suc k)) p highHigh highHigh h i j = refl
 
 -- ---- a split of cell i
+pub one-longer : (H : List Node) (i : ℕ) → length (splitAt H i) ≡ length H + 4
+one-longer H i = length-append (set H i (node (cellIn H i) (length H))) (quarters (cellIn H i)) ∙ rw (length-set H i (node (cellIn H i) (length H)))
+
+pub splits-longer : (H : List Node) (is : List ℕ) → length (afterSplits H is) ≡ length H + 4 * length is
+splits-longer H [] = omega arith
+splits-longer H (i ∷ is) = omega (arith, splits-longer (splitAt H i) is, one-longer H i)
 
 module _ (H : List Node) (i : ℕ) (h : i < length H) where
   abbrev n : ℕ
@@ -102,7 +108,7 @@ module _ (H : List Node) (i : ℕ) (h : i < length H) where
   none = node root 0
 
   pub split-length : length K ≡ n + 4
-  split-length = length-append (set H i (node c n)) (quarters c) ∙ rw (length-set H i (node c n))
+  split-length = one-longer H i
 
   in-front : (m : ℕ) → m < n → getD K m none ≡ getD (set H i (node c n)) m none
   in-front m g = List·getD-append (set H i (node c n)) (quarters c) none m (omega (arith, length-set H i (node c n)))

@@ -9,6 +9,7 @@ pub mod Outcomes
 pub mod Opened
 pub mod Finding
 pub mod Readings
+pub mod Rows
 pub mod Growing
 pub mod Answers
 pub mod Demand

@@ -20,6 +20,8 @@ use Rattle.tree.specs.Split.{words, drawing, stream, splitAnswer}
 use Rattle.splits.specs.After.{splitTree}
 use Rattle.splits.proofs.Rows.{streams-more, streams-up}
 use Rattle.splits.proofs.Trees.{tree-used, tree-free, tree-counts, tree-keeps-cell, tree-cell, tree-child, tree-stream, tree-child-stream}
+use Rattle.opening.specs.Opened.{drawingIn}
+use Rattle.newtree.specs.Open.{drawingTables}
 use Rattle.demand.specs.History.{Node, cellIn, firstIn, splitAt, Leaf}
 use Rattle.demand.specs.Stands.{drawingOf, wordsOfCell}
 use Rattle.demand.proofs.History.{From, kept, divides, new, comes, few-places, split-length, cell-old, cell-new, first-other, first-split, first-new, split-grown}
@@ -34,9 +36,12 @@ quarter-place lowHigh = refl
 quarter-place highHigh = refl
 
 -- ---- the drawing stays
-drawing-split : (t : Tree) (i : ℕ) → drawingOf (splitTree t i) ≡ drawingOf t
+pub tables-split : (t : Tree) (i : ℕ) → drawingTables (splitTree t i) ≡ drawingTables t
 unfolding splitTree
-drawing-split t i = refl
+tables-split t i = refl
+
+pub drawing-split : (t : Tree) (i : ℕ) → drawingOf (splitTree t i) ≡ drawingOf t
+drawing-split t i = ap drawingIn (tables-split t i)
 
 drawn-split : (t : Tree) (i : ℕ) → Drawn t → Drawn (splitTree t i)
 unfolding splitTree

@@ -24,6 +24,9 @@ use Rattle.leaf.specs.Leaf.{findAnswer}
 use Rattle.query.specs.declared.Answer as Reading
 use Rattle.query.specs.declared.Answer.the-variants as Reads
 use Rattle.query.specs.Spots.{positionAnswer}
+use Rattle.pixels.specs.declared.RowAnswer.{RowAnswer}
+use Rattle.pixels.specs.declared.RowAnswer.the-variants as Rows
+use Rattle.pixels.specs.Rows.{rowFilled}
 use Rattle.logs.specs.declared.LogAnswer.{LogAnswer}
 use Rattle.logs.specs.declared.LogAnswer.the-variants as Logs
 use Rattle.logs.specs.Logs.{logAnswer, outAfter}
@@ -39,6 +42,8 @@ pub data Call : Type 0 where
   grows : (threshold limit : ℕ) → Call
   finds : (x y : ℕ) → Call
   reads : (x y : ℕ) → Call
+  -- the row, its first pixel, and the buffer that takes the pixels
+  rows : (row first : ℕ) (out : List ℕ) → Call
   -- the positions of the run, and the table that takes the indices
   logs : (px py out : List ℕ) → Call
 
@@ -48,6 +53,7 @@ pub data Answer : Type 0 where
   growing : Growing.Answer → Answer
   finding : Finding.Answer → Answer
   reading : Reading.Answer → Answer
+  rowing : RowAnswer → Answer
   logging : LogAnswer → Answer
 
 abbrev pub isOpening : Call → Bool
@@ -56,6 +62,7 @@ isOpening (splits i) = false
 isOpening (grows n l) = false
 isOpening (finds x y) = false
 isOpening (reads x y) = false
+isOpening (rows row first out) = false
 isOpening (logs px py out) = false
 
 -- the tables of a tree, with another drawing
@@ -68,6 +75,7 @@ answerTo (splits i) t = splitting (splitAnswer t i)
 answerTo (grows n l) t = growing (growAnswer t n l)
 answerTo (finds x y) t = finding (findAnswer t x y)
 answerTo (reads x y) t = reading (positionAnswer t x y)
+answerTo (rows row first out) t = rowing (rowFilled t row first out .answer)
 answerTo (logs px py out) t = logging (logAnswer t px py (length out))
 
 -- the number of its refusal, 0 where it is accepted
@@ -83,6 +91,8 @@ refusal (finding (Finds.Found l)) = 0
 refusal (finding (Finds.Not r)) = numberOf r
 refusal (reading (Reads.At s)) = 0
 refusal (reading (Reads.Not r)) = numberOf r
+refusal (rowing Rows.Done) = 0
+refusal (rowing (Rows.Not r place)) = numberOf r
 refusal (logging (Logs.Indices n)) = 0
 refusal (logging (Logs.Not r place)) = numberOf r
 
@@ -98,6 +108,7 @@ treeAfter (splits i) t = splitTree t i
 treeAfter (grows n l) t = growTree t n l
 treeAfter (finds x y) t = t
 treeAfter (reads x y) t = t
+treeAfter (rows row first out) t = t
 treeAfter (logs px py out) t = t
 
 -- the output that a call is lent besides, as it leaves it
@@ -107,6 +118,7 @@ outputAfter (splits i) t = []
 outputAfter (grows n l) t = []
 outputAfter (finds x y) t = []
 outputAfter (reads x y) t = []
+outputAfter (rows row first out) t = rowFilled t row first out .bytes
 outputAfter (logs px py out) t = outAfter t px py (logAnswer t px py (length out)) out
 
 -- ---- the history
@@ -125,4 +137,5 @@ historyAfter (splits i) t H = afterSplit H i (splitAnswer t i)
 historyAfter (grows n l) t H = afterSplits H (grownCells t n l)
 historyAfter (finds x y) t H = H
 historyAfter (reads x y) t H = H
+historyAfter (rows row first out) t H = H
 historyAfter (logs px py out) t H = H

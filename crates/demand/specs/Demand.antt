@@ -2,7 +2,7 @@
 use mathlib.Core.Path.{_≡_}
 use mathlib.Core.Bool.{true, false}
 use mathlib.Core.List.{List, [], _∷_}
-use Prim.Native.Nat.{ℕ, _+_, _*_, _-_}
+use Prim.Native.Nat.{ℕ, _+_, _*_, _-_, _<_}
 use lib.ListN.{length}
 use Rattle.refusals.specs.declared.Refusal.the-variants as Refusals
 use Rattle.cells.specs.Cells.{at, left, low, side, level}
@@ -12,22 +12,23 @@ use Rattle.tree.specs.declared.Answer as Splitting
 use Rattle.tree.specs.declared.Answer.the-variants as Splits
 use Rattle.tree.specs.Split.{splitAnswer}
 use Rattle.newtree.specs.declared.Answer.the-variants as Opens
-use Rattle.newtree.specs.Open.{openAnswer}
+use Rattle.newtree.specs.Open.{drawingTables, openAnswer}
 use Rattle.growth.specs.declared.Answer as Growing
 use Rattle.growth.specs.declared.Answer.the-variants as Grows
-use Rattle.growth.specs.Grow.{growAnswer}
+use Rattle.growth.specs.Grow.{growAnswer, growTree}
 use Rattle.leaf.specs.declared.FoundLeaf.{FoundLeaf}
 use Rattle.leaf.specs.declared.Answer as Finding
 use Rattle.leaf.specs.declared.Answer.the-variants as Finds
 use Rattle.leaf.specs.Leaf.{positionRange, linesIn, findAnswer}
 use Rattle.query.specs.Spots.{positionAnswer}
+use Rattle.pixels.specs.Rows.{rowFilled}
 use Rattle.logs.specs.declared.LogAnswer.{LogAnswer}
 use Rattle.logs.specs.Logs.{logAnswer}
 use Rattle.demand.specs.History.{Node, begun, afterSplits, cellIn, Leaf, LeafAt}
 use Rattle.demand.specs.Stands.{drawingOf, wordsOfCell, Stands}
-use Rattle.demand.specs.Shown.{positionShown, logAnswerShown, logOutShown}
+use Rattle.demand.specs.Shown.{positionShown, rowShown, logAnswerShown, logOutShown}
 use Rattle.demand.specs.Opened.{openTree}
-use Rattle.demand.specs.Calls.{Call, opens, splits, grows, finds, reads, logs, isOpening, answerTo, refusal, treeAfter, outputAfter, grownCells, historyAfter}
+use Rattle.demand.specs.Calls.{Call, opens, splits, grows, finds, reads, rows, logs, isOpening, answerTo, refusal, treeAfter, outputAfter, grownCells, historyAfter}
 
 -- ---- the answers
 
@@ -36,11 +37,28 @@ abbrev pub SplitRight : List Node → ℕ → Splitting.Answer → Type 0
 SplitRight H i (Splits.Split n) = (n ≡ length H) × Leaf H i
 SplitRight H i (Splits.Not r) = Unit {0}
 
--- growing "gives the splits made": each makes four cells
-abbrev pub GrowRight : (before after : List Node) → Growing.Answer → Type 0
-GrowRight H K (Grows.Done k) = length K ≡ length H + 4 * k
-GrowRight H K (Grows.Full k) = length K ≡ length H + 4 * k
-GrowRight H K (Grows.Not r) = length K ≡ length H
+-- growing, with threshold n and depth limit l: a "leaf with more lines than the threshold and a depth below the limit"
+pub record Wanted (D : Drawing) (n l : ℕ) (H : List Node) (i : ℕ) : Type 0 where
+  pub leaf : Leaf H i
+  pub lines : n < linesIn (wordsOfCell D (cellIn H i))
+  pub shallow : 16 - level (cellIn H i) < l
+
+-- "it says "done" when there is none"
+abbrev pub NoneWanted : Drawing → (n l : ℕ) → List Node → Type 0
+NoneWanted D n l H = (i : ℕ) → Wanted D n l H i → ⊥
+
+-- ""full" when that split would be refused with 11": of "the lowest numbered leaf"
+pub record FullAt (D : Drawing) (n l : ℕ) (H : List Node) (t : Tree) : Type 0 where
+  pub cell : ℕ
+  pub wanted : Wanted D n l H cell
+  pub lowest : (j : ℕ) → j < cell → Wanted D n l H j → ⊥
+  pub refused : splitAnswer t cell ≡ Splits.Not Refusals.Room
+
+-- "and gives the splits made", each of which makes four cells; K and t are the history and the tables after it
+abbrev pub GrowRight : Drawing → (n l : ℕ) → (H K : List Node) → Tree → Growing.Answer → Type 0
+GrowRight D n l H K t (Grows.Done k) = (length K ≡ length H + 4 * k) × NoneWanted D n l K
+GrowRight D n l H K t (Grows.Full k) = (length K ≡ length H + 4 * k) × FullAt D n l K t
+GrowRight D n l H K t (Grows.Not r) = K ≡ H
 
 -- a leaf of the history: its number, its square, as many steps as its depth, and the entries and lines of the stream that is made from the drawing
 abbrev pub reportShown : Drawing → List Node → ℕ → FoundLeaf
@@ -69,9 +87,10 @@ pub record LogRight (D : Drawing) (px py out : List ℕ) (a : LogAnswer) (after 
 abbrev pub Right : Call → Tree → List Node → Type 0
 Right (opens d) t H = Unit {0}
 Right (splits i) t H = SplitRight H i (splitAnswer t i)
-Right (grows n l) t H = GrowRight H (afterSplits H (grownCells t n l)) (growAnswer t n l)
+Right (grows n l) t H = GrowRight (drawingOf t) n l H (afterSplits H (grownCells t n l)) (growTree t n l) (growAnswer t n l)
 Right (finds x y) t H = FindRight (drawingOf t) H x y (findAnswer t x y)
 Right (reads x y) t H = positionAnswer t x y ≡ positionShown (drawingOf t) x y
+Right (rows row first out) t H = rowFilled t row first out ≡ rowShown (drawingOf t) row first out
 Right (logs px py out) t H = LogRight (drawingOf t) px py out (logAnswer t px py (length out)) (outputAfter (logs px py out) t)
 
 -- 12 meets no call, but for an opening, which may be lent any drawing
@@ -83,10 +102,11 @@ Unmet c t = isOpening c ≡ false → refusal (answerTo c t) ≡ 12 → ⊥
 abbrev pub Allowed : Call → Tree → Type 0
 Allowed c t = isOpening c ≡ true → refusal (answerTo c t) ≡ 0 → ⊥
 
--- at each call: the tables stand as it finds them and as it leaves them, its answer is right, and 12 does not meet it
+-- at each call: the tables stand as it finds them and as it leaves them, over the same drawing, its answer is right, and 12 does not meet it
 pub record Claim (c : Call) (t : Tree) (H : List Node) : Type 0 where
   pub before : Stands t H
   pub after : Stands (treeAfter c t) (historyAfter c t H)
+  pub drawing : drawingTables (treeAfter c t) ≡ drawingTables t
   pub right : Right c t H
   pub unmet : Unmet c t
 

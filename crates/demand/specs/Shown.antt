@@ -2,7 +2,7 @@
 -- logs too". Assumes nothing.
 use mathlib.Core.Bool.{cond, _&&_}
 use mathlib.Core.List.{List}
-use Prim.Native.Nat.{ℕ}
+use Prim.Native.Nat.{ℕ, zero, suc, _+_, _/_, _%_}
 use lib.Dec.{eqb, ltb, leb}
 use lib.ListN.{length, getD}
 use lib.Seq.{sets}
@@ -12,15 +12,31 @@ use Rattle.cells.specs.Drawings.{Drawing}
 use Rattle.leaf.specs.Leaf.{positionRange}
 use Rattle.query.specs.declared.Answer as Reading
 use Rattle.query.specs.declared.Answer.the-variants as Reads
+use Rattle.pixels.specs.declared.RowAnswer.the-variants as Rows
+use Rattle.pixels.specs.Rows.{Filled, filled, putPixel}
 use Rattle.logs.specs.declared.LogAnswer.{LogAnswer}
 use Rattle.logs.specs.declared.LogAnswer.the-variants.{Indices, Not}
 use Rattle.logs.specs.Logs.{logFrom, outsideFrom, eachWord}
-use Rattle.demand.specs.NoTree.{materialShown, spotShown}
+use Rattle.demand.specs.NoTree.{materialShown, spotShown, pixelShown}
 
 module _ (D : Drawing) where
   -- the answer at a position; 7 where the position is out of range
   abbrev pub positionShown : (x y : ℕ) → Reading.Answer
   positionShown x y = cond (positionRange x y) (Reads.At (spotShown D (at x y))) (Reads.Not Argument)
+
+  -- "A row call fills red, green, blue per pixel": the n pixels of the call from index i on
+  abbrev pub fillShown : (row first i n : ℕ) → List ℕ → List ℕ
+  fillShown row first i zero out = out
+  fillShown row first i (suc n) out = fillShown row first (i + 1) n (putPixel out i (pixelShown D row (first + i)))
+
+  -- 7 for a "pixel row over 4,095", a "pixel buffer no multiple of 3" and "first pixel plus pixels over 4,096", else every pixel of the buffer
+  abbrev pub rowShown : (row first : ℕ) → List ℕ → Filled
+  rowShown row first out =
+      cond (leb row 4095)
+      (cond (eqb (length out % 3) 0)
+      (cond (leb (first + length out / 3) 4096) (filled Rows.Done (fillShown row first 0 (length out / 3) out)) (filled (Rows.Not Argument 0) out))
+      (filled (Rows.Not Argument 0) out))
+      (filled (Rows.Not Argument 0) out)
 
   module _ (px py : List ℕ) where
     -- "A zone log over a run of positions gives index 0 (if there is one) and each index whose material differs from the one before."

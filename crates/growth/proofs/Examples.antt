@@ -10,7 +10,7 @@ use Rattle.stream.specs.Grammar.{course, accepts, usedRange}
 use Rattle.celltable.specs.Ranges.{powerUpTo, levelUpTo, cellRange, headRange}
 use Rattle.tree.specs.Tables.{Tree, tree, countsIn}
 use Rattle.growth.specs.declared.Answer.the-variants.{Done, Full, Not}
-use Rattle.growth.specs.Grow.{linesIn, tried, lowestFrom, round, growing, grown, growAnswer}
+use Rattle.growth.specs.Grow.{tried, lowestFrom, round, growing, grown, growAnswer}
 
 -- one paint area; cell 0 alone, whose stream has the area, two lines and a shortcut; tables with no room for more
 abbrev areas : List ℕ
@@ -23,22 +23,22 @@ small child =
 
 -- two lines are more than one, and depth 0 is below 1
 full-at-once : growAnswer (small 0) 1 1 ≡ Full 0
-unfolding grown growing round lowestFrom tried countsIn headRange cellRange powerUpTo levelUpTo usedRange accepts course wordsFrom areaRange areaRow linesIn
+unfolding grown growing round lowestFrom tried countsIn headRange cellRange powerUpTo levelUpTo usedRange accepts course wordsFrom areaRange areaRow
 full-at-once = refl
 
 -- and not more than two: the shortcut is no line
 not-more-lines : growAnswer (small 0) 2 16 ≡ Done 0
-unfolding grown growing round lowestFrom tried countsIn headRange cellRange powerUpTo levelUpTo usedRange accepts course wordsFrom areaRange areaRow linesIn
+unfolding grown growing round lowestFrom tried countsIn headRange cellRange powerUpTo levelUpTo usedRange accepts course wordsFrom areaRange areaRow
 not-more-lines = refl
 
 -- depth 0 is not below 0
 not-deeper : growAnswer (small 0) 0 0 ≡ Done 0
-unfolding grown growing round lowestFrom tried countsIn headRange cellRange powerUpTo levelUpTo usedRange accepts course wordsFrom areaRange areaRow linesIn
+unfolding grown growing round lowestFrom tried countsIn headRange cellRange powerUpTo levelUpTo usedRange accepts course wordsFrom areaRange areaRow
 not-deeper = refl
 
 -- children that are not in use
 child-beyond : growAnswer (small 1) 2 16 ≡ Not Broken
-unfolding grown growing round lowestFrom tried countsIn headRange cellRange powerUpTo levelUpTo usedRange accepts course wordsFrom areaRange areaRow linesIn
+unfolding grown growing round lowestFrom tried countsIn headRange cellRange powerUpTo levelUpTo usedRange accepts course wordsFrom areaRange areaRow
 child-beyond = refl
 
 -- a depth limit of 17

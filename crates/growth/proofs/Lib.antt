@@ -3,9 +3,7 @@ pub mod Tries
 pub mod Fuel
 pub mod Rounds
 pub mod Swept
-pub mod Lines
 pub mod Depths
-pub mod Counts
 pub mod Turned
 pub mod Looped
 pub mod Calls

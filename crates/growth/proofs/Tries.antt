@@ -26,7 +26,8 @@ use Rattle.splits.proofs.Trees.{tree-keeps-cell, tree-cell, tree-stream}
 use Rattle.splits.proofs.Passing.{tree-range, tree-range-split, tree-check}
 use Rattle.growth.specs.declared.Tried.{Tried}
 use Rattle.growth.specs.declared.Tried.the-variants.{Bad, Past, Wanted}
-use Rattle.growth.specs.Grow.{linesIn, depthAt, isWanted, triedCell, tried}
+use Rattle.leaf.specs.Leaf.{linesIn}
+use Rattle.growth.specs.Grow.{depthAt, isWanted, triedCell, tried}
 
 -- ---- the four tests
 abbrev tests : (r f c w : Bool) → Tried

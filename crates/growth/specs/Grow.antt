@@ -16,17 +16,13 @@ use Rattle.tree.specs.declared.Answer.the-variants as split
 use Rattle.tree.specs.Tables.{Tree, cellsUsed, entriesUsed, countsIn}
 use Rattle.tree.specs.Split.{words, against, splitAnswer}
 use Rattle.splits.specs.After.{splitTree}
+use Rattle.leaf.specs.Leaf.{linesIn}
 use Rattle.growth.specs.declared.Answer.{Answer}
 use Rattle.growth.specs.declared.Answer.the-variants.{Done, Full, Not}
 use Rattle.growth.specs.declared.Tried.{Tried}
 use Rattle.growth.specs.declared.Tried.the-variants.{Bad, Past, Wanted}
 
 -- ---- one cell
-
--- the lines of a stream: its entries of kind 5; shortcuts are not lines
-unfoldable pub linesIn : List Words → ℕ
-linesIn [] = 0
-linesIn (w ∷ ws) = cond (eqb (w .kind) 5) (1 + linesIn ws) (linesIn ws)
 
 -- cell 0 has side 65,536 and depth 0, and each step down halves the side
 abbrev pub depthAt : (side : ℕ) → ℕ

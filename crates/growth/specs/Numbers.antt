@@ -1,8 +1,6 @@
 -- One turn of the sweep over the numbers that the code holds. `Rattle.growth.proofs.Swept` says that the sweep is growing. Assumes nothing.
-use mathlib.Core.Bool.{cond}
 use mathlib.Core.List.{List}
 use Prim.Native.Nat.{ℕ, _+_}
-use lib.Dec.{eqb}
 use Rattle.tree.specs.declared.Answer as Splitting
 use Rattle.tree.specs.declared.Answer.the-variants as split
 use Rattle.tree.specs.Tables.{Tree, entriesUsed}
@@ -13,10 +11,6 @@ use Rattle.growth.specs.declared.Tried.the-variants.{Bad, Past, Wanted}
 use Rattle.growth.specs.declared.Sweep.{Sweep}
 use Rattle.growth.specs.declared.Turn.{Turn}
 use Rattle.growth.specs.declared.Turn.the-variants.{Further, NoRoom, Stopped}
-
--- 1 for a line
-abbrev pub lineN : (kind : ℕ) → ℕ
-lineN kind = cond (eqb kind 5) 1 0
 
 -- the cell is passed over
 abbrev pub pastN : Sweep → Sweep

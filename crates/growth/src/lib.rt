@@ -12,8 +12,8 @@ ghost use Rattle.celltable.specs.Ranges.{sideRange, squareRange};
 ghost use Rattle.ranges.specs.Held.{lent};
 ghost use Rattle.tree.specs.Tables.{tree, cellsUsed, entriesUsed, boundsOf, countsIn};
 ghost use Rattle.tree.specs.Split.{roomAnswer, madeBy, headBy, cellsOf, entriesBy};
-ghost use Rattle.growth.specs.Grow.{linesIn, depthAt, isWanted, triedLeaf, triedCell, tried, grown, answerOf, growAnswer, growTree};
-ghost use Rattle.growth.specs.Numbers.{lineN, pastN, splitN, byRoom, turnBy, treeBy};
+ghost use Rattle.growth.specs.Grow.{depthAt, isWanted, triedLeaf, triedCell, tried, grown, answerOf, growAnswer, growTree};
+ghost use Rattle.growth.specs.Numbers.{pastN, splitN, byRoom, turnBy, treeBy};
 
 // Growing's answer: done or full with the splits made, or why it was refused.
 pub enum Answer {
@@ -45,35 +45,6 @@ pub enum Turn {
 }
 
 // ---- one cell
-// 1 for a line, and 0 for any other entry.
-fn line_of(kind: u32) -> u32
-    ensures { λ r. ⌜ r ≡ lineN kind ⌝ }
-    ensures { λ r. ⌜ r ≤ 1 ⌝ }
-{
-    if kind == 5 {
-        return 1;
-    }
-    0
-}
-
-// The lines of a stream.
-fn lines_in(entries: &[u32], first: usize, count: usize) -> u32
-    requires { ⌜ (first + count) * 4 ≤ length (now entries) ⌝ }
-    requires { ⌜ count ≤ 4096 ⌝ }
-    ensures { λ r. ⌜ r ≡ linesIn (wordsFrom (now (entries .entry)) first count) ⌝ }
-{
-    let end = first + count;
-    let mut n: u32 = 0;
-    let mut i = first;
-    while i < end {
-        let w = stream::read_entry(entries, i);
-        let more = line_of(w.kind);
-        n = n + more;
-        i += 1;
-    }
-    n
-}
-
 // How many steps down from cell 0 a cell of this side lies.
 fn depth_of(side: u32) -> u32
     requires { ⌜ sideRange side ≡ true ⌝ }
@@ -97,7 +68,7 @@ fn is_wanted(entries: &[u32], w: CellWords, threshold: u32, limit: u32) -> bool
 {
     let first = w.first as usize;
     let count = w.count as usize;
-    let n = lines_in(entries, first, count);
+    let n = leaf::lines_in(entries, first, count);
     let d = depth_of(w.side);
     (threshold < n) & (d < limit)
 }
@@ -272,35 +243,6 @@ fn take_turn(
 }
 
 // ---- the sweep
-// 12 over the numbers in use.
-fn counts_fit(
-    plan: &[u32],
-    areas: &[u32],
-    xs: &[u32],
-    ys: &[u32],
-    head: &[u32],
-    cells: &[u32],
-    entries: &[u32],
-) -> bool
-    ensures { λ r. ⌜ r ≡ countsIn (tree (now (plan .entry)) (now (areas .entry)) (now (xs .entry)) (now (ys .entry)) (now (head .entry)) (now (cells .entry)) (now (entries .entry))) ⌝ }
-{
-    let n = entries.len();
-    if celltable::head_fits(head, cells.len(), n) {
-        if 3 <= plan.len() {
-            let free = laws::wide(head[1]);
-            let b = Bounds {
-                areas: laws::wide(plan[1]),
-                corners: laws::wide(plan[2]),
-                low: 0,
-                side: 0,
-            };
-            return stream::used_range(n, free, areas.len(), xs.len(), ys.len(), b);
-        }
-        return false;
-    }
-    false
-}
-
 // From cell 0 upward, the cells that splits make on the way included. No cell is read twice.
 fn sweep_up(
     plan: &[u32],
@@ -378,7 +320,7 @@ pub fn grow(
 {
     if xs.len() == ys.len() {
         if limit <= 16 {
-            if counts_fit(plan, areas, xs, ys, head, cells, entries) {
+            if leaf::counts_fit(plan, areas, xs, ys, head, cells, entries) {
                 return sweep_up(plan, areas, xs, ys, head, cells, entries, threshold, limit);
             }
             return Answer::Not(Refusal::Broken);

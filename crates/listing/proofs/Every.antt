@@ -1,7 +1,7 @@
 -- Every leaf that is found at a depth of at most 4 is listed. Assumes nothing.
 use mathlib.Core.Path.{_≡_, refl, sym, subst, ap, _∙_}
 use mathlib.Core.Bool.{Bool, true, false, cond, _&&_}
-use mathlib.Core.List.{List, [], _∷_, _++_}
+use mathlib.Core.List.{List, [], _∷_}
 use Prim.Native.Nat.{ℕ, zero, suc, _+_, _*_, _-_, _/_, _%_, _^_, _≤_, _<_}
 use native.Mathlib.Omega.{arith}
 use lib.Dec.{T, eqb, ltb, eqb→eq, ltb→lt}
@@ -22,7 +22,6 @@ use Rattle.celltable.proofs.Ranges.{SquareFits, square-fits, passes-range}
 use Rattle.celltable.proofs.Landing.{LeafFound}
 use Rattle.tree.specs.Tables.{Tree, cellsUsed, entriesUsed}
 use Rattle.leaf.specs.declared.FoundLeaf.{FoundLeaf}
-use Rattle.leaf.specs.declared.Answer.{Answer}
 use Rattle.leaf.specs.declared.Answer.the-variants as Answers
 use Rattle.leaf.specs.Leaf.{positionRange, reportOf, leafIn, foundBy, findAnswer}
 use Rattle.leaf.proofs.Landing.{leaf-holds}
@@ -191,3 +190,18 @@ every-leaf t x y f e h = go (behind t x y f e)
         let p : f .x ≡ l .x = sym (ap (λ (m : FoundLeaf). m .x) (b .reported)) in
         let q : f .y ≡ l .y = sym (ap (λ (m : FoundLeaf). m .y) (b .reported)) in
         lines-hold t 256 0 (keyOf (l .x / 4096) (l .y / 4096)) (lineOf f) (at-corner t (l .x) (l .y) _ f c (answer-low t x y f l b) p q) (omega arith) (omega (arith, c .below))
+
+-- its cell, and what its depth says of the side
+pub record FoundCell (t : Tree) (f : FoundLeaf) : Type 0 where
+  pub number : ℕ
+  pub in-use : number < cellsUsed (t .head)
+  pub side-is : 2 ^ (16 - f .steps) ≡ cellAt (t .cells) number .side
+
+pub found-cell : (t : Tree) (x y : ℕ) (f : FoundLeaf) → findAnswer t x y ≡ Answers.Found f → FoundCell t f
+found-cell t x y f e = go (behind t x y f e)
+  where
+    go : (l : Leaf) × Behind t x y f l → FoundCell t f
+    go (l, b) =
+        let m = as-found t x y f l b in
+        let s : l .steps ≡ f .steps = ap (λ (r : FoundLeaf). r .steps) (b .reported) in
+        record { number = l .cell; in-use = m .in-use; side-is = rw (← s) (sym (m .side-is) ∙ side-is-words t x y f l b) }

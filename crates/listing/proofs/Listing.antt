@@ -1,17 +1,17 @@
--- Lines written to a table one after the other, and the loop over the corners. Assumes nothing.
-use mathlib.Core.Path.{_≡_, refl, ap, _∙_}
+-- Lines written to a table one after the other, the loop over the corners, and the lines read back. Assumes nothing.
+use mathlib.Core.Path.{_≡_, refl, sym, ap, _∙_}
 use mathlib.Core.List.{List, [], _∷_, _++_}
-use Prim.Native.Nat.{ℕ, zero, suc, _+_, _*_, _-_, _≤_, _<_}
+use Prim.Native.Nat.{ℕ, suc, _+_, _*_, _-_, _≤_, _<_}
 use native.Mathlib.Omega.{arith}
 use native.Mathlib.Nat.{add-zero}
 use native.Mathlib.Numerals.{towards-suc}
-use lib.ListN.{length}
-use lib.Seq.{length-sets}
+use lib.ListN.{length, getD, take, set, length-set}
+use lib.Seq.{getD-set-same, getD-set-other, getD-take, take-set-le, sets, length-sets}
 use Rattle.tree.specs.Tables.{Tree}
 use Rattle.listing.specs.declared.Line.{Line}
 use Rattle.listing.specs.declared.Corner.{Corner}
 use Rattle.listing.specs.declared.Corner.the-variants.{Low, Other}
-use Rattle.listing.specs.Listed.{cornerAt, withCorner, linesFrom, listed, flat, putAt, written}
+use Rattle.listing.specs.Listed.{cornerAt, withCorner, linesFrom, listed, flat, lineAt, linesIn, putAt, written}
 
 pub written-nil : (t : List ℕ) (i : ℕ) → written t i [] ≡ t
 unfolding written flat
@@ -102,3 +102,63 @@ list-count t r₀ r k n h c = omega (arith, rw (lines-none t k h) at (c .count))
 
 pub list-done : (t : Tree) (r₀ r : List ℕ) (k n : ℕ) → 256 ≤ k → Listing t r₀ r k n → r ≡ written r₀ 0 (listed t)
 list-done t r₀ r k n h c = rw (lines-none t k h, written-nil r n) at (c .rest)
+
+-- ---- the lines that are written can be read back, and are those that were written
+at-agree : (t t′ : List ℕ) (m i : ℕ) → take m t ≡ take m t′ → i * 5 + 5 ≤ m → lineAt t i ≡ lineAt t′ i
+at-agree t t′ m i e h = λ d. record { cell = at (i * 5) (omega arith) d; key = at (i * 5 + 1) (omega arith) d; side = at (i * 5 + 2) (omega arith) d; entries = at (i * 5 + 3) (omega arith) d; lines = at (i * 5 + 4) (omega arith) d }
+  where
+    at : (k : ℕ) → k < m → getD t k 0 ≡ getD t′ k 0
+    at k l = sym (getD-take m t k 0 l) ∙ ap (λ (x : List ℕ). getD x k 0) e ∙ getD-take m t′ k 0 l
+
+take-sets : (m i : ℕ) (l vs : List ℕ) → m ≤ i → take m (sets l i vs) ≡ take m l
+take-sets m i l [] h = refl
+take-sets m i l (v ∷ vs) h = take-sets m (suc i) (set l i v) vs (omega arith) ∙ take-set-le m l i v h
+
+written-keeps : (t : List ℕ) (m i : ℕ) (ls : List Line) → m ≤ i * 5 → take m (written t i ls) ≡ take m t
+unfolding written
+written-keeps t m i ls h = take-sets m (i * 5) t (flat ls) h
+
+skip : (l : List ℕ) (i j a : ℕ) → j < i → getD (set l i a) j 0 ≡ getD l j 0
+skip l i j a h = getD-set-other l i j a 0 (λ e. omega arith)
+
+put-same : (t : List ℕ) (i : ℕ) (l : Line) → i * 5 + 5 ≤ length t → lineAt (putAt t i l) i ≡ l
+put-same t i l h = λ d. record { cell = c d; key = k d; side = s d; entries = e d; lines = n d }
+  where
+    t₁ : List ℕ
+    t₁ = set t (i * 5) (l .cell)
+
+    t₂ : List ℕ
+    t₂ = set t₁ (i * 5 + 1) (l .key)
+
+    t₃ : List ℕ
+    t₃ = set t₂ (i * 5 + 2) (l .side)
+
+    t₄ : List ℕ
+    t₄ = set t₃ (i * 5 + 3) (l .entries)
+
+    c : lineAt (putAt t i l) i .cell ≡ l .cell
+    c = skip t₄ (i * 5 + 4) (i * 5) (l .lines) (omega arith) ∙ skip t₃ (i * 5 + 3) (i * 5) (l .entries) (omega arith) ∙ skip t₂ (i * 5 + 2) (i * 5) (l .side) (omega arith) ∙ skip t₁ (i * 5 + 1) (i * 5) (l .key) (omega arith) ∙ getD-set-same t (i * 5) (l .cell) 0 (omega arith)
+
+    k : lineAt (putAt t i l) i .key ≡ l .key
+    k = skip t₄ (i * 5 + 4) (i * 5 + 1) (l .lines) (omega arith) ∙ skip t₃ (i * 5 + 3) (i * 5 + 1) (l .entries) (omega arith) ∙ skip t₂ (i * 5 + 2) (i * 5 + 1) (l .side) (omega arith) ∙ getD-set-same t₁ (i * 5 + 1) (l .key) 0 (simp length-set (omega arith))
+
+    s : lineAt (putAt t i l) i .side ≡ l .side
+    s = skip t₄ (i * 5 + 4) (i * 5 + 2) (l .lines) (omega arith) ∙ skip t₃ (i * 5 + 3) (i * 5 + 2) (l .entries) (omega arith) ∙ getD-set-same t₂ (i * 5 + 2) (l .side) 0 (simp length-set (omega arith))
+
+    e : lineAt (putAt t i l) i .entries ≡ l .entries
+    e = skip t₄ (i * 5 + 4) (i * 5 + 3) (l .lines) (omega arith) ∙ getD-set-same t₃ (i * 5 + 3) (l .entries) 0 (simp length-set (omega arith))
+
+    n : lineAt (putAt t i l) i .lines ≡ l .lines
+    n = getD-set-same t₄ (i * 5 + 4) (l .lines) 0 (simp length-set (omega arith))
+
+pub written-read : (t : List ℕ) (i : ℕ) (ls : List Line) → (i + length ls) * 5 ≤ length t → linesIn (written t i ls) i (length ls) ≡ ls
+unfolding linesIn
+written-read t i [] h = refl
+written-read t i (l ∷ ls) h =
+    rw (← written-cons t i l ls) (λ d. first d ∷ written-read (putAt t i l) (i + 1) ls room d)
+  where
+    first : lineAt (written (putAt t i l) (i + 1) ls) i ≡ l
+    first = at-agree _ _ (i * 5 + 5) i (written-keeps (putAt t i l) (i * 5 + 5) (i + 1) ls (omega arith)) (omega arith) ∙ put-same t i l (omega arith)
+
+    room : (i + 1 + length ls) * 5 ≤ length (putAt t i l)
+    room = simp length-set (omega arith)

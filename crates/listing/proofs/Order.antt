@@ -17,7 +17,7 @@ use Rattle.listing.specs.declared.Line.{Line}
 use Rattle.listing.specs.declared.Corner.{Corner}
 use Rattle.listing.specs.declared.Corner.the-variants.{Low, Other}
 use Rattle.leaf.specs.Leaf.{findAnswer}
-use Rattle.listing.specs.Listed.{cornerX, cornerY, lineOf, ifLow, ofAnswer, cornerAt, withCorner, linesFrom, listed, keysFrom}
+use Rattle.listing.specs.Listed.{cornerX, cornerY, lineOf, ofAnswer, cornerAt, withCorner, linesFrom, listed, keysFrom}
 
 -- the key of corner k is k steps of the keys of a cell of depth 4: one test at each of the 256 corners
 right : ℕ → Bool

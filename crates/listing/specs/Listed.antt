@@ -20,8 +20,8 @@ use Rattle.listing.specs.declared.Corner.the-variants.{Low, Other}
 abbrev pub everyOther : ℕ → ℕ
 everyOther k = k % 2 + 2 * (k / 4 % 2) + (4 * (k / 16 % 2) + 8 * (k / 64 % 2))
 
--- A leaf of depth 4 at most has its low corner at multiples of 65,536 / 2^4. Corner k of the 256 of them: `in-key-order` says that k counts
--- them in the order of their keys.
+-- A leaf of a depth of at most 4 has its low corner at multiples of 65,536 / 2^4 = 4,096: 256 corners. The key of corner k is k * 2^24
+-- (`corner-key`), so k counts them in the order of their keys.
 unfoldable pub cornerX : ℕ → ℕ
 cornerX k = 4096 * everyOther k
 
@@ -43,16 +43,16 @@ ofAnswer x y (Not r) = Other
 abbrev pub cornerAt : Tree → ℕ → Corner
 cornerAt t k = ofAnswer (cornerX k) (cornerY k) (findAnswer t (cornerX k) (cornerY k))
 
--- the lines of the corners k and onward, n of them
 abbrev pub withCorner : Corner → List Line → List Line
 withCorner (Low l) ls = l ∷ ls
 withCorner Other ls = ls
 
+-- the lines of n corners from corner k on
 unfoldable pub linesFrom : Tree → (k n : ℕ) → List Line
 linesFrom t k zero = []
 linesFrom t k (suc n) = withCorner (cornerAt t k) (linesFrom t (k + 1) n)
 
--- all of them
+-- the lines of all leaves of a depth of at most 4; `in-key-order` and `every-leaf` say that this is what the sentence asks
 abbrev pub listed : Tree → List Line
 listed t = linesFrom t 0 256
 
@@ -69,6 +69,11 @@ flat (l ∷ ls) = l .cell ∷ l .key ∷ l .side ∷ l .entries ∷ l .lines ∷
 -- the five words of line i
 abbrev pub lineAt : List ℕ → ℕ → Line
 lineAt t i = record { cell = getD t (i * 5) 0; key = getD t (i * 5 + 1) 0; side = getD t (i * 5 + 2) 0; entries = getD t (i * 5 + 3) 0; lines = getD t (i * 5 + 4) 0 }
+
+-- the n lines from line i on
+unfoldable pub linesIn : List ℕ → (i n : ℕ) → List Line
+linesIn t i zero = []
+linesIn t i (suc n) = lineAt t i ∷ linesIn t (i + 1) n
 
 -- the table with l at line i, as five stores
 abbrev pub putAt : List ℕ → ℕ → Line → List ℕ

@@ -21,6 +21,8 @@ pub enum Corner {
     Other,
 }
 
+// Corner k of the 256 places that a low corner can have at a depth of at most 4, in steps of 4,096. The bits of k are taken apart as a key puts
+// those of x and y together, so the key of corner k is k * 2^24, and counting k upward goes through the corners in key order.
 fn every_other(k: u32) -> u32
     requires { ⌜ k < 256 ⌝ }
     ensures { λ r. ⌜ r ≡ everyOther k ⌝ }
@@ -103,7 +105,7 @@ fn put_line(rows: &mut [u32], n: usize, l: Line)
     rows[n * 5 + 4] = l.lines;
 }
 
-// Low line more, or none.
+// One line more, or none.
 fn put_corner(rows: &mut [u32], n: usize, p: Corner) -> usize
     requires { ⌜ n * 5 + 5 ≤ length (now rows) ⌝ }
     ensures { λ m. ⌜ m ≡ n + length (withCorner p []) ⌝ }
@@ -118,7 +120,7 @@ fn put_corner(rows: &mut [u32], n: usize, p: Corner) -> usize
     }
 }
 
-// The lines of all leaves in key order, and how many there are.
+// Writes the lines of all leaves of a depth of at most 4, in key order, and gives how many there are.
 pub fn list_leaves(
     plan: &[u32],
     areas: &[u32],
@@ -144,6 +146,7 @@ pub fn list_leaves(
     n
 }
 
+// Line n of a table.
 pub fn read_line(rows: &[u32], n: usize) -> Line
     requires { ⌜ n * 5 + 5 ≤ length (now rows) ⌝ }
     ensures { λ l. ⌜ l ≡ lineAt (now (rows .entry)) n ⌝ }

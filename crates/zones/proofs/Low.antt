@@ -2,7 +2,7 @@
 use mathlib.Core.Path.{_≡_, refl}
 use mathlib.Core.Bool.{Bool, true, false, cond}
 use mathlib.Core.List.{List}
-use Prim.Native.Nat.{ℕ, _*_, _/_, _%_, _≤_}
+use Prim.Native.Nat.{ℕ, zero, suc, _*_, _/_, _%_, _≤_}
 use native.Mathlib.Omega.{arith}
 use lib.ListN.{length}
 use lib.Dec.{eqb, leb}
@@ -17,7 +17,11 @@ use Rattle.reader.proofs.Files.{filed, length-from}
 use Rattle.drawing.specs.declared.Written.the-variants.{Bytes, Not}
 use Rattle.drawing.specs.Tables.{Tables, drawingOf, writtenOf, writeAnswer}
 use Rattle.drawing.proofs.Rows.{drawn}
-use Rattle.zones.specs.Answers.{readLow, writeLow}
+use Rattle.tree.specs.Tables.{Tree}
+use Rattle.splits.specs.After.{splitTree}
+use Rattle.growth.specs.Grow.{Round, splits, done, full, broken, round, goOn, growing, Ending, none-left, no-room, not-passed, grown, answerBy, answerOf, growAnswer}
+use Rattle.growth.specs.declared.Answer.the-variants as growth
+use Rattle.zones.specs.Answers.{readLow, writeLow, growSplits}
 
 verdict-place : (b : List ℕ) → Verdict·place (verdictOf b) ≤ 4096
 unfolding verdictOf
@@ -62,3 +66,29 @@ write-low t out = go (drawingOf t) refl
     go : (v : Verdict) → drawingOf t ≡ v → writeLow (writtenOf v (length out)) ≤ 65536
     go (Accepted k) e = room (leb (k .records) (length out / 16)) (k .records) (drawn t k e .below)
     go (Refused r i) e = omega arith
+
+-- no more splits than rounds
+made-by : (k n l : ℕ) (t : Tree) → ((u : Tree) → length (growing k n l u .cells) ≤ k) → (r : Round) → length (goOn r t (growing k n l) .cells) ≤ suc k
+made-by k n l t f (splits i) = omega (arith, f (splitTree t i))
+made-by k n l t f done = omega arith
+made-by k n l t f full = omega arith
+made-by k n l t f broken = omega arith
+
+splits-made : (k n l : ℕ) (t : Tree) → length (growing k n l t .cells) ≤ k
+unfolding growing
+splits-made zero n l t = omega arith
+splits-made (suc k) n l t = made-by k n l t (λ u. splits-made k n l u) (round n l t)
+
+pub grow-low : (t : Tree) (n l : ℕ) → growSplits (growAnswer t n l) ≤ 4096
+unfolding grown
+grow-low t n l = go (eqb (length (t .xs)) (length (t .ys))) (leb l 16)
+  where
+    by-ending : (e : Ending) (k : ℕ) → k ≤ 4096 → growSplits (answerBy e k) ≤ 4096
+    by-ending none-left k h = h
+    by-ending no-room k h = h
+    by-ending not-passed k h = omega arith
+
+    go : (a b : Bool) → growSplits (cond a (cond b (answerOf (growing 4096 n l t)) (growth.Not Argument)) (growth.Not Argument)) ≤ 4096
+    go true true = by-ending (growing 4096 n l t .ending) (length (growing 4096 n l t .cells)) (splits-made 4096 n l t)
+    go true false = omega arith
+    go false b = omega arith

@@ -14,6 +14,8 @@ use Rattle.newtree.specs.declared.Answer as newtree-answer
 use Rattle.newtree.specs.declared.Answer.the-variants as newtree
 use Rattle.tree.specs.declared.Answer as tree-answer
 use Rattle.tree.specs.declared.Answer.the-variants as tree
+use Rattle.growth.specs.declared.Answer as growth-answer
+use Rattle.growth.specs.declared.Answer.the-variants as growth
 use Rattle.leaf.specs.declared.FoundLeaf.{FoundLeaf}
 use Rattle.leaf.specs.declared.Answer as leaf-answer
 use Rattle.leaf.specs.declared.Answer.the-variants as leaf
@@ -40,6 +42,12 @@ openNumber (newtree.Not r) = packed (numberOf r) 0
 abbrev pub splitNumber : tree-answer.Answer → ℕ
 splitNumber (tree.Split child) = packed 0 child
 splitNumber (tree.Not r) = packed (numberOf r) 0
+
+-- growing: "it says "done" when there is none, "full" when that split would be refused with 11, and gives the splits made": 2^31 more for "full"
+abbrev pub growNumber : growth-answer.Answer → ℕ
+growNumber (growth.Done splits) = packed 0 splits
+growNumber (growth.Full splits) = packed 0 (2147483648 + splits)
+growNumber (growth.Not r) = packed (numberOf r) 0
 
 -- finding a leaf: 11, "another output table too short for the whole result", which is seven words; out is how many words the table has
 abbrev pub findRoom : leaf-answer.Answer → (out : ℕ) → leaf-answer.Answer
@@ -68,3 +76,9 @@ readLow (Refused r p) = p
 abbrev pub writeLow : Written → ℕ
 writeLow (Bytes n) = n
 writeLow (Not r) = 0
+
+-- the splits made
+abbrev pub growSplits : growth-answer.Answer → ℕ
+growSplits (growth.Done splits) = splits
+growSplits (growth.Full splits) = splits
+growSplits (growth.Not r) = 0

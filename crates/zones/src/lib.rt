@@ -19,7 +19,8 @@ ghost use Rattle.tree.specs.Tables.{tree};
 ghost use Rattle.tree.specs.Split.{splitAnswer, headAfter, cellsAfter, entriesAfter};
 ghost use Rattle.newtree.specs.Open.{openAnswer, headOpened, cellsOpened, entriesOpened};
 ghost use Rattle.leaf.specs.Leaf.{findAnswer};
-ghost use Rattle.zones.specs.Answers.{packed, readNumber, writeNumber, readLow, writeLow, openNumber, splitNumber, leafPut, findRoom, findNumber, outFound};
+ghost use Rattle.growth.specs.Grow.{growAnswer, growTree};
+ghost use Rattle.zones.specs.Answers.{packed, readNumber, writeNumber, readLow, writeLow, openNumber, splitNumber, growSplits, growNumber, leafPut, findRoom, findNumber, outFound};
 
 // The refusal's number, or 0, and what goes with it.
 fn pack(number: u32, low: usize) -> u64
@@ -75,6 +76,18 @@ fn pack_split(a: tree::Answer) -> u64
     match a {
         tree::Answer::Split(child) => pack(0, child as usize),
         tree::Answer::Not(r) => refused(r),
+    }
+}
+
+// "full" has 2^31 more than "done".
+fn pack_grow(a: growth::Answer) -> u64
+    requires { ⌜ growSplits a ≤ 4096 ⌝ }
+    ensures { λ r. ⌜ r ≡ growNumber a ⌝ }
+{
+    match a {
+        growth::Answer::Done(splits) => pack(0, splits as usize),
+        growth::Answer::Full(splits) => pack(0, 2147483648 + (splits as usize)),
+        growth::Answer::Not(r) => refused(r),
     }
 }
 
@@ -189,6 +202,30 @@ pub extern "C" fn zones_split(
 {
     let a = tree::split(plan, areas, xs, ys, head, cells, entries, cell);
     pack_split(a)
+}
+
+// Splits the lowest numbered leaf with more lines than the threshold and a depth below the limit, again and again. The result is the splits
+// made where it is done, and 2^31 more where it is full.
+// Refusals: 7 (tables of x and y of unequal length, a limit over 16), and 12, before which cells may have been split.
+#[no_mangle]
+pub extern "C" fn zones_grow(
+    plan: &[u32],
+    areas: &[u32],
+    xs: &[u32],
+    ys: &[u32],
+    head: &mut [u32],
+    cells: &mut [u32],
+    entries: &mut [u32],
+    threshold: u32,
+    limit: u32,
+) -> u64
+    ensures { λ r. ⌜ r ≡ growNumber (growAnswer (tree (now (plan .entry)) (now (areas .entry)) (now (xs .entry)) (now (ys .entry)) (now (head .entry)) (now (cells .entry)) (now (entries .entry))) threshold limit) ⌝ }
+    ensures { λ r. ⌜ now (head .exit) ≡ growTree (tree (now (plan .entry)) (now (areas .entry)) (now (xs .entry)) (now (ys .entry)) (now (head .entry)) (now (cells .entry)) (now (entries .entry))) threshold limit .head ⌝ }
+    ensures { λ r. ⌜ now (cells .exit) ≡ growTree (tree (now (plan .entry)) (now (areas .entry)) (now (xs .entry)) (now (ys .entry)) (now (head .entry)) (now (cells .entry)) (now (entries .entry))) threshold limit .cells ⌝ }
+    ensures { λ r. ⌜ now (entries .exit) ≡ growTree (tree (now (plan .entry)) (now (areas .entry)) (now (xs .entry)) (now (ys .entry)) (now (head .entry)) (now (cells .entry)) (now (entries .entry))) threshold limit .entries ⌝ }
+{
+    let a = growth::grow(plan, areas, xs, ys, head, cells, entries, threshold, limit);
+    pack_grow(a)
 }
 
 // Finds the leaf that holds (x, y) and writes seven words: its number, x, y, side, steps, entries, lines. The result is its number.

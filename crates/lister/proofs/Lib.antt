@@ -1,0 +1,2 @@
+-- No leaf is missed.
+pub mod Depths

@@ -1,0 +1,2 @@
+-- The tree whose leaves the lister prints.
+pub mod Grown
