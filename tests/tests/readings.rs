@@ -265,24 +265,13 @@ fn refused_open(random: &mut Random, sample: &mut Sample, tally: &mut Tally) {
     sample.tree = after;
 }
 
-/// Growing, by the splits that it makes.
+/// Growing, now and then with a depth limit that is none.
 fn grow(random: &mut Random, sample: &mut Sample, tally: &mut Tally) {
     let threshold = random.pick(&[0, 0, 1, 2, 5, 20]);
-    let limit = random.pick(&[1, 2, 3, 4, 6, 16]);
-    let mut grown = sample.tree.clone();
-    let drawing = sample.drawing.drawing();
-    let growth = tree::grow(drawing, &mut grown.lend(), threshold, limit);
-    assert!(growth.is_ok(), "{growth:?}");
-    while sample.tree.view().head[0] < grown.view().head[0] {
-        let next = sample.tree.view().head[0];
-        let parent = |n: &u32| grown.view().cell(*n).child == next;
-        let cell = (0..next).find(parent).expect("a cell was split");
-        let (answer, after) = compare::split(&sample.drawing, &sample.tree, cell);
-        assert_eq!(answer, Answer::Accepted(next));
-        sample.tree = after;
-    }
-    assert!(sample.tree == grown);
-    tally.note("grow accepted".to_string());
+    let limit = random.pick(&[1, 2, 3, 4, 6, 16, 17]);
+    let (answer, after) = compare::grow(&sample.drawing, &sample.tree, threshold, limit);
+    note(tally, "grow", answer);
+    sample.tree = after;
 }
 
 /// A tree opened by both in tables that are full of other words; None where they have no room.
@@ -341,8 +330,9 @@ fn readings_in_lists_of_calls() {
     ] {
         tally.reached(what, 100);
     }
-    tally.reached("split 9", 20);
-    tally.reached("split 11", 20);
+    for what in ["split 9", "split 11", "grow 7"] {
+        tally.reached(what, 20);
+    }
 }
 
 // ---- damaged tables ----
