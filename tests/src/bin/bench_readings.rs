@@ -1,11 +1,15 @@
-//! Times positions and pixel rows of the library on a drawing of 64 areas and 2,048 corners, its tree
-//! grown until it is full, against two plain readings in Rust: one with no tree, and one with the
-//! same tree that checks nothing.
+//! Times positions and pixel rows of the library on drawings of 64 areas and 2,048 corners, each with a
+//! tree grown until it is full, against three plain readings in Rust: with no tree, with the same
+//! tree and nothing checked, and with the same tree and all checked that 12 asks for.
 
 use std::hint::black_box;
 use std::time::{Duration, Instant};
 
-use zones_tests::drawing::{AREA, AREA_WORDS, BAR, CLIP, CLOSE, FIRST, NEXT, OPEN, PAINT};
+use zones_tests::class::WHOLE_SIDE;
+use zones_tests::drawing::{
+    AREA, AREA_WORDS, BAR, CLIP, CLOSE, FIRST, MOST_AREAS, MOST_CORNERS, MOST_GROUPS, MOST_RECORDS,
+    NEXT, OPEN, PAINT,
+};
 use zones_tests::meaning::{fill_passes, pixel, samples, Drawing, OPAQUE};
 use zones_tests::query::{CHANNELS, PIXELS};
 use zones_tests::random::Random;
@@ -13,46 +17,64 @@ use zones_tests::readings::{self, SPOT_WORDS};
 use zones_tests::record::{area, clip, corner, delimiter, Record};
 use zones_tests::samples::{self, Tables};
 use zones_tests::scenes;
-use zones_tests::stream::ENTRY_WORDS;
+use zones_tests::stream::{ENTRY_WORDS, MOST_START};
 use zones_tests::tree::{Tree, TreeTables, CELL_WORDS, MOST_CELLS, MOST_DEPTH, MOST_ENTRIES};
 use zones_tests::zones::{self, Answer};
 
 // ---- the drawing ----
 
-/// A contour of 32 corners around a centre.
-fn contour(random: &mut Random, records: &mut Vec<Record>) {
-    let coordinate = |random: &mut Random| random.within(6_000..=59_000) as f64;
-    let (x, y) = (coordinate(random), coordinate(random));
-    let radius = random.within(1_500..=6_000) as f64;
-    for i in 0..32 {
-        let angle = f64::from(i) / 32.0 * std::f64::consts::TAU;
-        let far = radius * random.within(70..=100) as f64 / 100.0;
-        let (x, y) = (x + far * angle.cos(), y + far * angle.sin());
-        let kind = if i == 0 { FIRST } else { NEXT };
-        records.push(corner(kind, x as u32, y as u32));
-    }
+/// Where 64 areas lie: the grid in equal places, so many to a row, and about how far the corners of an
+/// area are from the middle of its place.
+struct Layout {
+    columns: u32,
+    rows: u32,
+    wide: f64,
+    high: f64,
 }
 
-/// 64 areas of 32 corners: by turns one at the top level, and a group of a clip area and a paint area.
-fn drawing(random: &mut Random) -> Vec<Record> {
-    let mut records = Vec::new();
-    let paint = |random: &mut Random, records: &mut Vec<Record>, n: u16| {
-        let alpha = random.pick(&[255, 255, 200, 128]);
-        let colour = [random.byte(), random.byte(), random.byte()];
-        records.push(area(PAINT, (n % 2) as u8, alpha, colour, n + 1));
-        contour(random, records);
-    };
-    for n in 0..64 / 4 {
-        paint(random, &mut records, 3 * n);
-        paint(random, &mut records, 3 * n + 1);
-        records.push(delimiter(OPEN));
-        records.push(clip());
-        contour(random, &mut records);
-        records.push(delimiter(BAR));
-        paint(random, &mut records, 3 * n + 2);
-        records.push(delimiter(CLOSE));
+impl Layout {
+    /// A contour of 32 corners around the middle of a place.
+    fn contour(&self, random: &mut Random, place: u32, records: &mut Vec<Record>) {
+        let middle = |n: u32, of: u32| (f64::from(n) + 0.5) * 65_536.0 / f64::from(of);
+        let x = middle(place % self.columns, self.columns);
+        let y = middle(place / self.columns % self.rows, self.rows);
+        for i in 0..32 {
+            let angle = f64::from(i) / 32.0 * std::f64::consts::TAU;
+            let far = random.within(85..=115) as f64 / 100.0;
+            let at = |middle: f64, far: f64| (middle + far).clamp(0.0, 65_536.0) as u32;
+            let x = at(x, self.wide * far * angle.cos());
+            let y = at(y, self.high * far * angle.sin());
+            let kind = if i == 0 { FIRST } else { NEXT };
+            records.push(corner(kind, x, y));
+        }
     }
-    records
+
+    /// 64 areas: three at the top level, then a group of a clip area and a paint area, and so on.
+    fn drawing(&self, random: &mut Random) -> Vec<Record> {
+        let mut records = Vec::new();
+        let paint = |random: &mut Random, records: &mut Vec<Record>, n: u32| {
+            let alpha = random.pick(&[255, 255, 200, 128]);
+            let colour = [random.byte(), random.byte(), random.byte()];
+            records.push(area(PAINT, (n % 2) as u8, alpha, colour, n as u16 + 1));
+            self.contour(random, n, records);
+        };
+        for n in 0..64 {
+            match n % 8 {
+                6 => {
+                    records.push(delimiter(OPEN));
+                    records.push(clip());
+                    self.contour(random, n, &mut records);
+                    records.push(delimiter(BAR));
+                }
+                7 => {
+                    paint(random, &mut records, n);
+                    records.push(delimiter(CLOSE));
+                }
+                _ => paint(random, &mut records, n),
+            }
+        }
+        records
+    }
 }
 
 // ---- what both plain readings share ----
@@ -286,16 +308,16 @@ fn outline(contours: &[Vec<(u32, u32)>]) -> Outline {
 
 // ---- with the tree, nothing checked ----
 
-struct Unchecked<'a> {
+struct Plain<'a> {
     drawing: Drawing<'a>,
     areas: &'a [[u32; AREA_WORDS]],
     cells: &'a [[u32; CELL_WORDS]],
     entries: &'a [[u32; ENTRY_WORDS]],
 }
 
-impl<'a> Unchecked<'a> {
-    fn new(tables: &'a Tables, tree: Tree<'a>) -> Unchecked<'a> {
-        Unchecked {
+impl<'a> Plain<'a> {
+    fn new(tables: &'a Tables, tree: Tree<'a>) -> Plain<'a> {
+        Plain {
             drawing: Drawing::of(tables),
             areas: tables.areas.as_chunks().0,
             cells: tree.cells.as_chunks().0,
@@ -354,61 +376,183 @@ impl<'a> Unchecked<'a> {
         }
         machine.set
     }
+}
 
-    fn shown(&self, x: u32, y: u32) -> u64 {
-        self.shown_in(self.leaf(x, y), x, y)
+// ---- with the tree, all checked that is met ----
+
+impl<'a> Plain<'a> {
+    /// The leaf at a position, if the numbers in use, the path down and the whole leaf pass 12.
+    fn checked_leaf(&self, head: &[u32], x: u32, y: u32) -> Option<&'a [u32; CELL_WORDS]> {
+        let [_, areas, corners, ..] = *self.drawing.plan else {
+            return None;
+        };
+        let [cells, entries, ..] = *head else {
+            return None;
+        };
+        let in_use = (1..=self.cells.len().min(MOST_CELLS)).contains(&(cells as usize))
+            && entries as usize <= self.entries.len().min(MOST_ENTRIES)
+            && areas as usize <= self.areas.len().min(MOST_AREAS)
+            && corners as usize <= self.drawing.xs.len().min(MOST_CORNERS);
+        if !in_use {
+            return None;
+        }
+        let (mut number, mut square) = (0, (0, 0, WHOLE_SIDE));
+        loop {
+            let cell = &self.cells[number as usize];
+            let [low_x, low_y, side, child, first, count, ..] = *cell;
+            let last = u64::from(child) + 3;
+            if (low_x, low_y, side) != square
+                || u64::from(first) + u64::from(count) > u64::from(entries)
+            {
+                return None;
+            }
+            if child == 0 {
+                return self.stream_passes(cell).then_some(cell);
+            }
+            if side == 1 || last >= u64::from(cells) {
+                return None;
+            }
+            let half = side / 2;
+            let (right, upper) = (u32::from(x >= low_x + half), u32::from(y >= low_y + half));
+            number = child + right + 2 * upper;
+            square = (low_x + half * right, low_y + half * upper, half);
+        }
     }
+
+    fn stream_passes(&self, leaf: &[u32; CELL_WORDS]) -> bool {
+        let [_, low, side, _, first, count, ..] = *leaf;
+        let stream = &self.entries[first as usize..][..count as usize];
+        let [areas_used, corners_used] = [self.drawing.plan[1], self.drawing.plan[2]];
+        // Two bits for each open group, the innermost lowest: the role of the side that it stands
+        // on, and whether its bar was met.
+        let (mut groups, mut depth, mut areas, mut segments) = (0_u32, 0, 0, 0);
+        let mut after_area = false;
+        let corner = |n: u32| {
+            n < corners_used
+                && self.drawing.xs[n as usize] <= WHOLE_SIDE
+                && self.drawing.ys[n as usize] <= WHOLE_SIDE
+        };
+        for [kind, p, q, r] in stream.iter().copied() {
+            let role = match (depth, groups & 3) {
+                (0, _) | (_, 1) => PAINT,
+                _ => CLIP,
+            };
+            let fits = match kind {
+                1 => {
+                    groups = groups << 2 | role << 1;
+                    depth += 1;
+                    depth <= MOST_GROUPS
+                }
+                2 => {
+                    let on_left = depth > 0 && groups & 1 == 0;
+                    groups |= 1;
+                    on_left
+                }
+                3 => {
+                    let on_right = depth > 0 && groups & 1 == 1;
+                    groups >>= 2;
+                    depth = depth.saturating_sub(1);
+                    on_right
+                }
+                4 => {
+                    areas += 1;
+                    areas <= MOST_AREAS
+                        && p < areas_used
+                        && area_passes(&self.areas[p as usize], role)
+                        && (-MOST_START..=MOST_START).contains(&(q as i32))
+                }
+                5 => {
+                    segments += 1;
+                    after_area && segments <= MOST_CORNERS && corner(p) && corner(q)
+                }
+                6 => {
+                    segments += 1;
+                    after_area
+                        && segments <= MOST_CORNERS
+                        && (p == 1 || p == u32::MAX)
+                        && low <= q
+                        && q < r
+                        && r <= low + side
+                }
+                7 => role == CLIP,
+                _ => false,
+            };
+            if !fits {
+                return false;
+            }
+            after_area = (4..=6).contains(&kind);
+        }
+        depth == 0 && stream.len() <= MOST_RECORDS
+    }
+}
+
+fn area_passes(row: &[u32; AREA_WORDS], side: u32) -> bool {
+    let [role, rule, alpha, red, green, blue, material, unnamed] = *row;
+    let fits = match role {
+        PAINT => [alpha, red, green, blue].iter().all(|byte| *byte <= 255) && material != 0,
+        _ => [alpha, red, green, blue, material] == [0; 5],
+    };
+    role == side && rule <= 1 && unnamed == 0 && material <= 65_535 && fits
 }
 
 /// The pixels of a row; `shown` gives the set at a position.
 fn fill_row(
     areas: &[[u32; AREA_WORDS]],
-    (row, first): (u32, u32),
+    row: u32,
     out: &mut [u8],
     mut shown: impl FnMut(u32, u32) -> u64,
 ) {
     let pixels = out.as_chunks_mut::<CHANNELS>().0;
-    for (out, number) in pixels.iter_mut().zip(first..) {
+    for (out, number) in pixels.iter_mut().zip(0..) {
         *out = pixel(samples(row, number).map(|(x, y)| colour(areas, shown(x, y))));
     }
 }
 
 // ---- timing ----
 
-/// Each reading runs at least so long.
-const LEAST: Duration = Duration::from_millis(1_500);
+/// The bytes of a whole row.
+const ROW_BYTES: usize = CHANNELS * PIXELS as usize;
+
+/// Each reading runs about so long.
+const LEAST: Duration = Duration::from_millis(700);
 
 fn median(mut times: Vec<f64>) -> f64 {
     times.sort_by(f64::total_cmp);
     times[times.len() / 2]
 }
 
-/// Runs the three by turns, beginning with another each time, and prints the medians for one item.
-fn compare(name: &str, unit: &str, items: usize, readings: [&mut dyn FnMut(); 3]) {
-    let mut times = [const { Vec::new() }; 3];
+/// Runs all by turns, beginning with another each time, and prints the medians for one item and how
+/// long the others take, the library's being 1.
+fn compare(name: &str, items: usize, readings: [(&str, &mut dyn FnMut()); 4]) {
+    let mut times = [const { Vec::new() }; 4];
     let begin = Instant::now();
     let mut turn = 0;
-    while begin.elapsed() < 3 * LEAST || turn < 9 {
-        for i in 0..3 {
-            let which = (turn + i) % 3;
+    while begin.elapsed() < 4 * LEAST || turn < 8 {
+        for i in 0..4 {
+            let which = (turn + i) % 4;
             let start = Instant::now();
-            readings[which]();
+            readings[which].1();
             times[which].push(start.elapsed().as_secs_f64() * 1e9 / items as f64);
         }
         turn += 1;
     }
-    let [library, scan, unchecked] = times.map(median);
-    println!(
-        "{name}, ns a {unit}: library {library:.0}, no tree {scan:.0}, the tree unchecked {unchecked:.0}; \
-         ratio no tree / library {:.2}, library / unchecked {:.2}",
-        scan / library,
-        library / unchecked
-    );
+    let medians = times.map(median);
+    let texts: Vec<String> = readings
+        .iter()
+        .zip(medians)
+        .map(|((reading, _), time)| format!("{reading} {time:.0} ({:.2})", time / medians[0]))
+        .collect();
+    println!("  {name}: {}", texts.join(", "));
 }
+
+const LIBRARY: &str = "library";
+const NO_TREE: &str = "no tree";
+const UNCHECKED: &str = "tree unchecked";
+const CHECKED: &str = "tree checked";
 
 fn time_positions(name: &str, tables: &Tables, tree: Tree, positions: &[(u32, u32)]) {
     let drawing = Drawing::of(tables);
-    let (scan, unchecked) = (Scan::new(tables), Unchecked::new(tables, tree));
+    let (scan, plain) = (Scan::new(tables), Plain::new(tables, tree));
     let by_library = |x, y| {
         let mut out = [0; SPOT_WORDS];
         let answer = readings::position(black_box(drawing), black_box(tree), x, y, &mut out);
@@ -419,90 +563,140 @@ fn time_positions(name: &str, tables: &Tables, tree: Tree, positions: &[(u32, u3
         let scan = black_box(&scan);
         words(scan.areas, scan.shown(x, y))
     };
-    let by_tree = |x, y| {
-        let unchecked = black_box(&unchecked);
-        words(unchecked.areas, unchecked.shown(x, y))
+    let unchecked = |x, y| {
+        let plain = black_box(&plain);
+        words(plain.areas, plain.shown_in(plain.leaf(x, y), x, y))
+    };
+    let checked = |x, y| {
+        let plain = black_box(&plain);
+        let leaf = plain.checked_leaf(black_box(tree.head), x, y);
+        let leaf = leaf.expect("the tables pass");
+        words(plain.areas, plain.shown_in(leaf, x, y))
     };
     for (x, y) in positions.iter().copied() {
-        assert_eq!(by_library(x, y), by_scan(x, y), "at {x}, {y}");
-        assert_eq!(by_library(x, y), by_tree(x, y), "at {x}, {y}");
+        let expected = by_library(x, y);
+        assert_eq!(expected, by_scan(x, y), "at {x}, {y}");
+        assert_eq!(expected, unchecked(x, y), "at {x}, {y}");
+        assert_eq!(expected, checked(x, y), "at {x}, {y}");
     }
     let all = |reading: &dyn Fn(u32, u32) -> [u32; SPOT_WORDS]| {
         for (x, y) in positions.iter().copied() {
             black_box(reading(x, y));
         }
     };
-    let mut readings = (|| all(&by_library), || all(&by_scan), || all(&by_tree));
-    let each: [&mut dyn FnMut(); 3] = [&mut readings.0, &mut readings.1, &mut readings.2];
-    compare(name, "position", positions.len(), each);
+    let readings: [(&str, &mut dyn FnMut()); 4] = [
+        (LIBRARY, &mut || all(&by_library)),
+        (NO_TREE, &mut || all(&by_scan)),
+        (UNCHECKED, &mut || all(&unchecked)),
+        (CHECKED, &mut || all(&checked)),
+    ];
+    compare(name, positions.len(), readings);
 }
 
-fn time_rows(tables: &Tables, tree: Tree, rows: &[u32]) {
+/// The set at a position of a run, where the leaf of the position before serves those in its square.
+fn shown_in_run<'a>(
+    plain: &Plain<'a>,
+    last: &mut Option<&'a [u32; CELL_WORDS]>,
+    (x, y): (u32, u32),
+    find: impl Fn(u32, u32) -> &'a [u32; CELL_WORDS],
+) -> u64 {
+    let leaf = match *last {
+        Some(leaf) if x.wrapping_sub(leaf[0]) < leaf[2] && y.wrapping_sub(leaf[1]) < leaf[2] => {
+            leaf
+        }
+        _ => find(x, y),
+    };
+    *last = Some(leaf);
+    plain.shown_in(leaf, x, y)
+}
+
+fn time_rows(name: &str, tables: &Tables, tree: Tree, rows: &[u32]) {
     let drawing = Drawing::of(tables);
-    let (scan, unchecked) = (Scan::new(tables), Unchecked::new(tables, tree));
-    let bytes = CHANNELS * PIXELS as usize;
+    let (scan, plain) = (Scan::new(tables), Plain::new(tables, tree));
     let by_library = |row: u32, out: &mut [u8]| {
         let answer = readings::pixel_row(black_box(drawing), black_box(tree), row, 0, out);
         assert_eq!(answer, Answer::Accepted(0));
     };
     let by_scan = |row: u32, out: &mut [u8]| {
         let scan = black_box(&scan);
-        fill_row(scan.areas, (row, 0), out, |x, y| scan.shown(x, y));
+        fill_row(scan.areas, row, out, |x, y| scan.shown(x, y));
     };
-    let by_tree = |row: u32, out: &mut [u8]| {
-        let unchecked = black_box(&unchecked);
-        // The leaf of the sample before serves this one where it lies in its square.
-        let mut last = &unchecked.cells[0];
-        fill_row(unchecked.areas, (row, 0), out, |x, y| {
-            let [low_x, low_y, side, child, ..] = *last;
-            let inside = x.wrapping_sub(low_x) < side && y.wrapping_sub(low_y) < side;
-            if child != 0 || !inside {
-                last = unchecked.leaf(x, y);
-            }
-            unchecked.shown_in(last, x, y)
+    let unchecked = |row: u32, out: &mut [u8]| {
+        let (plain, mut last) = (black_box(&plain), None);
+        fill_row(plain.areas, row, out, |x, y| {
+            shown_in_run(plain, &mut last, (x, y), |x, y| plain.leaf(x, y))
         });
     };
-    let mut outs = [const { Vec::new() }; 3];
-    for row in rows {
-        outs = outs.map(|_| vec![0; bytes]);
-        by_library(*row, &mut outs[0]);
-        by_scan(*row, &mut outs[1]);
-        by_tree(*row, &mut outs[2]);
-        assert!(outs[0] == outs[1] && outs[0] == outs[2], "row {row}");
-    }
-    let all = |reading: &dyn Fn(u32, &mut [u8]), out: &mut Vec<u8>| {
-        for row in rows {
-            reading(*row, black_box(out));
-        }
+    let checked = |row: u32, out: &mut [u8]| {
+        let (plain, mut last) = (black_box(&plain), None);
+        fill_row(plain.areas, row, out, |x, y| {
+            shown_in_run(plain, &mut last, (x, y), |x, y| {
+                let leaf = plain.checked_leaf(black_box(tree.head), x, y);
+                leaf.expect("the tables pass")
+            })
+        });
     };
-    let [one, two, three] = &mut outs;
-    let mut readings = (
-        || all(&by_library, one),
-        || all(&by_scan, two),
-        || all(&by_tree, three),
-    );
-    let each: [&mut dyn FnMut(); 3] = [&mut readings.0, &mut readings.1, &mut readings.2];
-    compare("rows", "pixel", rows.len() * PIXELS as usize, each);
+    let drawn = |reading: &dyn Fn(u32, &mut [u8])| {
+        let mut out = vec![0; rows.len() * ROW_BYTES];
+        for (row, out) in rows.iter().zip(out.chunks_mut(ROW_BYTES)) {
+            reading(*row, out);
+        }
+        black_box(out)
+    };
+    let expected = drawn(&by_library);
+    assert!(expected == drawn(&by_scan));
+    assert!(expected == drawn(&unchecked));
+    assert!(expected == drawn(&checked));
+    let readings: [(&str, &mut dyn FnMut()); 4] = [
+        (LIBRARY, &mut || _ = drawn(&by_library)),
+        (NO_TREE, &mut || _ = drawn(&by_scan)),
+        (UNCHECKED, &mut || _ = drawn(&unchecked)),
+        (CHECKED, &mut || _ = drawn(&checked)),
+    ];
+    compare(name, rows.len() * PIXELS as usize, readings);
 }
 
-fn main() {
+fn time_layout(name: &str, layout: &Layout) {
     let random = &mut Random::new(1);
-    let tables = samples::tables(&drawing(random));
+    let tables = samples::tables(&layout.drawing(random));
     let mut tree = TreeTables::new(MOST_CELLS, MOST_ENTRIES);
     let opened = zones::open(Drawing::of(&tables), &mut tree.lend());
     assert!(matches!(opened, Answer::Accepted(_)), "{opened:?}");
     let grown = zones::grow(Drawing::of(&tables), &mut tree.lend(), 0, MOST_DEPTH);
     assert!(matches!(grown, Answer::Accepted(_)), "{grown:?}");
-    let [n, areas, corners] = [0, 1, 2].map(|i| tables.plan[i]);
+    let [areas, corners] = [1, 2].map(|i| tables.plan[i]);
     let [cells, entries] = [0, 1].map(|i| tree.head[i]);
-    println!("{n} records, {areas} areas, {corners} corners; {cells} cells, {entries} entries");
-    assert!((areas, corners) == (64, 2_048) && cells as usize + 4 > MOST_CELLS);
+    println!("areas {name}: {areas} areas, {corners} corners; {cells} cells, {entries} entries");
 
     let mut any = || random.below(65_536) as u32;
     let anywhere: Vec<(u32, u32)> = (0..4_000).map(|_| (any(), any())).collect();
-    time_positions("positions anywhere", &tables, tree.view(), &anywhere);
     let beside = (0..4_000).map(|_| scenes::position_on_edge(random, &tables));
     let beside: Vec<(u32, u32)> = beside.collect();
-    time_positions("positions beside lines", &tables, tree.view(), &beside);
-    time_rows(&tables, tree.view(), &[300, 1_500, 2_700]);
+    let view = tree.view();
+    time_positions("ns a position, anywhere", &tables, view, &anywhere);
+    time_positions("ns a position, beside lines", &tables, view, &beside);
+    time_rows(
+        "ns a pixel of whole rows",
+        &tables,
+        view,
+        &[300, 1_500, 2_048],
+    );
+}
+
+fn main() {
+    println!("In brackets: times the library's.");
+    let layouts = [
+        ("one above the other", 1, 64, 3_000.0, 430.0),
+        ("in eight rows of eight", 8, 8, 4_000.0, 4_000.0),
+        ("over one another", 1, 1, 28_000.0, 28_000.0),
+    ];
+    for (name, columns, rows, wide, high) in layouts {
+        let layout = Layout {
+            columns,
+            rows,
+            wide,
+            high,
+        };
+        time_layout(name, &layout);
+    }
 }
