@@ -516,15 +516,10 @@ const ROW_BYTES: usize = CHANNELS * PIXELS as usize;
 /// Each reading runs about so long.
 const LEAST: Duration = Duration::from_millis(700);
 
-fn median(mut times: Vec<f64>) -> f64 {
-    times.sort_by(f64::total_cmp);
-    times[times.len() / 2]
-}
-
-/// Runs all by turns, beginning with another each time, and prints the medians for one item and how
-/// long the others take, the library's being 1.
+/// Runs all by turns, beginning with another each time, and prints the shortest time of each for one
+/// item, and how long it is where the library's is 1.
 fn compare(name: &str, items: usize, readings: [(&str, &mut dyn FnMut()); 4]) {
-    let mut times = [const { Vec::new() }; 4];
+    let mut times = [f64::INFINITY; 4];
     let begin = Instant::now();
     let mut turn = 0;
     while begin.elapsed() < 4 * LEAST || turn < 8 {
@@ -532,15 +527,15 @@ fn compare(name: &str, items: usize, readings: [(&str, &mut dyn FnMut()); 4]) {
             let which = (turn + i) % 4;
             let start = Instant::now();
             readings[which].1();
-            times[which].push(start.elapsed().as_secs_f64() * 1e9 / items as f64);
+            let time = start.elapsed().as_secs_f64() * 1e9 / items as f64;
+            times[which] = times[which].min(time);
         }
         turn += 1;
     }
-    let medians = times.map(median);
     let texts: Vec<String> = readings
         .iter()
-        .zip(medians)
-        .map(|((reading, _), time)| format!("{reading} {time:.0} ({:.2})", time / medians[0]))
+        .zip(times)
+        .map(|((reading, _), time)| format!("{reading} {time:.0} ({:.2})", time / times[0]))
         .collect();
     println!("  {name}: {}", texts.join(", "));
 }
