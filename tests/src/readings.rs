@@ -33,6 +33,50 @@ extern "C" {
         out: *mut u32,
         out_len: usize,
     ) -> u64;
+
+    fn zones_zone_log(
+        plan: *const u32,
+        plan_len: usize,
+        areas: *const u32,
+        areas_len: usize,
+        xs: *const u32,
+        xs_len: usize,
+        ys: *const u32,
+        ys_len: usize,
+        head: *const u32,
+        head_len: usize,
+        cells: *const u32,
+        cells_len: usize,
+        entries: *const u32,
+        entries_len: usize,
+        px: *const u32,
+        px_len: usize,
+        py: *const u32,
+        py_len: usize,
+        out: *mut u32,
+        out_len: usize,
+    ) -> u64;
+
+    fn zones_pixel_row(
+        plan: *const u32,
+        plan_len: usize,
+        areas: *const u32,
+        areas_len: usize,
+        xs: *const u32,
+        xs_len: usize,
+        ys: *const u32,
+        ys_len: usize,
+        head: *const u32,
+        head_len: usize,
+        cells: *const u32,
+        cells_len: usize,
+        entries: *const u32,
+        entries_len: usize,
+        row: u32,
+        first: u32,
+        out: *mut u8,
+        out_len: usize,
+    ) -> u64;
 }
 
 /// Reads at a position and writes six words; accepted: the material.
@@ -56,6 +100,62 @@ pub fn position(drawing: Drawing, tree: Tree, x: u32, y: u32, out: &mut [u32]) -
             tree.entries.len(),
             x,
             y,
+            out.as_mut_ptr(),
+            out.len(),
+        )
+    })
+}
+
+/// Writes the zone log of a run of positions; accepted: how many indices.
+pub fn zone_log(drawing: Drawing, tree: Tree, px: &[u32], py: &[u32], out: &mut [u32]) -> Answer {
+    // Each pointer comes with the length of its own slice.
+    Answer::from_number(unsafe {
+        zones_zone_log(
+            drawing.plan.as_ptr(),
+            drawing.plan.len(),
+            drawing.areas.as_ptr(),
+            drawing.areas.len(),
+            drawing.xs.as_ptr(),
+            drawing.xs.len(),
+            drawing.ys.as_ptr(),
+            drawing.ys.len(),
+            tree.head.as_ptr(),
+            tree.head.len(),
+            tree.cells.as_ptr(),
+            tree.cells.len(),
+            tree.entries.as_ptr(),
+            tree.entries.len(),
+            px.as_ptr(),
+            px.len(),
+            py.as_ptr(),
+            py.len(),
+            out.as_mut_ptr(),
+            out.len(),
+        )
+    })
+}
+
+/// Fills red, green, blue for each pixel of `out`, from pixel `first` of a row on; accepted: 0.
+pub fn pixel_row(drawing: Drawing, tree: Tree, row: u32, first: u32, out: &mut [u8]) -> Answer {
+    // Each pointer comes with the length of its own slice.
+    Answer::from_number(unsafe {
+        zones_pixel_row(
+            drawing.plan.as_ptr(),
+            drawing.plan.len(),
+            drawing.areas.as_ptr(),
+            drawing.areas.len(),
+            drawing.xs.as_ptr(),
+            drawing.xs.len(),
+            drawing.ys.as_ptr(),
+            drawing.ys.len(),
+            tree.head.as_ptr(),
+            tree.head.len(),
+            tree.cells.as_ptr(),
+            tree.cells.len(),
+            tree.entries.as_ptr(),
+            tree.entries.len(),
+            row,
+            first,
             out.as_mut_ptr(),
             out.len(),
         )
@@ -139,6 +239,54 @@ impl Reader<'_> {
         if let Answer::Refused { place, .. } = answer {
             assert_eq!(place, 0);
             assert!(out == *blank, "written on a refusal");
+        }
+        (answer, out)
+    }
+
+    /// Writes the log of a run by both. A refusal writes nothing.
+    pub fn zone_log(
+        &mut self,
+        px: &Lent<u32>,
+        py: &Lent<u32>,
+        blank: &Lent<u32>,
+    ) -> (Answer, Lent<u32>) {
+        let mut run = (px.clone(), py.clone());
+        let (answer, out) = self.by_both(
+            blank,
+            |drawing, tree, out| {
+                black_box(&mut run);
+                let answer = zone_log(drawing, tree, run.0.table(), run.1.table(), out);
+                black_box(&mut run);
+                answer
+            },
+            |drawing, tree, out| query::zone_log(drawing, tree, px.table(), py.table(), out),
+        );
+        assert!(run.0 == *px && run.1 == *py, "run changed");
+        match answer {
+            Answer::Refused { number, place } => {
+                assert!(place == 0 || number == 7);
+                assert!(out == *blank, "written on a refusal");
+            }
+            Answer::Accepted(indices) => {
+                let behind = indices as usize;
+                assert_eq!(out.table()[behind..], blank.table()[behind..]);
+            }
+        }
+        (answer, out)
+    }
+
+    /// Fills pixels of a row by both. A 7 writes nothing; from the pixel that 12 met on nothing is
+    /// written.
+    pub fn pixel_row(&mut self, row: u32, first: u32, blank: &Lent<u8>) -> (Answer, Lent<u8>) {
+        let (answer, out) = self.by_both(
+            blank,
+            |drawing, tree, out| pixel_row(drawing, tree, row, first, out),
+            |drawing, tree, out| query::pixel_row(drawing, tree, row, first, out).map(|()| 0),
+        );
+        if let Answer::Refused { number, place } = answer {
+            assert!(place == 0 || number == 12);
+            let untouched = query::CHANNELS * place as usize;
+            assert_eq!(out.table()[untouched..], blank.table()[untouched..]);
         }
         (answer, out)
     }

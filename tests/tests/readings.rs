@@ -4,15 +4,16 @@
 use zones_tests::compare;
 use zones_tests::drawing::{MOST_AREAS, MOST_RECORDS};
 use zones_tests::foreign;
-use zones_tests::lent::{lent_bytes, lent_words, LentTables, LentTree};
-use zones_tests::meaning::{Drawing, Scene};
+use zones_tests::lent::{any_bytes, lent_bytes, lent_words, LentTables, LentTree};
+use zones_tests::meaning::{Drawing, Scene, PIXEL};
+use zones_tests::query::{CHANNELS, PIXELS};
 use zones_tests::random::Random;
 use zones_tests::readings::{spot_words, Reader, SPOT_WORDS};
 use zones_tests::record::{letters, Record};
 use zones_tests::samples::{self, Tables};
 use zones_tests::scenes::{self, painted, square_at, Look};
 use zones_tests::tally::Tally;
-use zones_tests::tree::{self, TreeTables};
+use zones_tests::tree::{self, TreeTables, CELL_WORDS};
 use zones_tests::tree_damage::{damage_tree, TREE_DAMAGES};
 use zones_tests::zones::Answer;
 
@@ -112,6 +113,100 @@ fn positions(
     reader.finish();
 }
 
+/// Fills rows of a few pixels, now and then of none or of pixels that are not there.
+fn rows(
+    random: &mut Random,
+    sample: &Sample,
+    scene: Option<&Scene>,
+    tally: &mut Tally,
+    times: usize,
+) {
+    let mut reader = Reader::new(&sample.drawing, &sample.tree);
+    for _ in 0..times {
+        let (x, y) = sample.position(random);
+        let pixels = random.pick(&[0, 1, 2, 3, 5, 20]);
+        let most = PIXELS - pixels as u32;
+        // The pixel of a position is not always the first, so that a row passes borders of cells.
+        let before = random.below(pixels + 1) as u32;
+        let (mut row, mut first) = (y / PIXEL, (x / PIXEL).saturating_sub(before).min(most));
+        let mut bytes = CHANNELS * pixels;
+        match random.below(40) {
+            0 => row = random.pick(&[PIXELS, PIXELS + 1, u32::MAX]),
+            1 => first = random.pick(&[most + 1, PIXELS + 1, u32::MAX]),
+            2 => bytes += random.within(1..=2),
+            3 => (row, first) = (PIXELS - 1, most),
+            _ => {}
+        }
+        let bytes = any_bytes(random, bytes);
+        let blank = lent_bytes(random, &bytes);
+        let (answer, out) = reader.pixel_row(row, first, &blank);
+        note(tally, "row", answer);
+        let drawn = match answer {
+            Answer::Accepted(result) => {
+                assert_eq!(result, 0);
+                pixels
+            }
+            Answer::Refused { place, .. } => place as usize,
+        };
+        for (pixel, i) in out.table().chunks(CHANNELS).take(drawn).zip(first..) {
+            tally.note("pixels".to_string());
+            if let Some(scene) = scene {
+                assert_eq!(*pixel, scene.pixel(row, i));
+            }
+        }
+    }
+    reader.finish();
+}
+
+/// Writes logs of runs, with room for the indices or too little, now and then of runs that have a
+/// position that is none, or tables of unequal length.
+fn logs(
+    random: &mut Random,
+    sample: &Sample,
+    scene: Option<&Scene>,
+    tally: &mut Tally,
+    times: usize,
+) {
+    let mut reader = Reader::new(&sample.drawing, &sample.tree);
+    for _ in 0..times {
+        let len = random.pick(&[0, 1, 2, 5, 20, 60]);
+        let (mut px, mut py) = scenes::run(random, &sample.tables, len);
+        match random.below(30) {
+            0 if len > 0 => px[random.below(len)] = random.pick(&[65_536, u32::MAX]),
+            1 if len > 0 => py[random.below(len)] = random.pick(&[65_536, u32::MAX]),
+            2 => py.push(0),
+            3 => px.push(u32::MAX),
+            _ => {}
+        }
+        let indices = scene.map_or(len, |scene| scene.zone_log(&px, &py).len());
+        let room = match random.below(8) {
+            0 => indices.saturating_sub(1),
+            1 => random.below(indices + 1),
+            2 => indices + random.below(4),
+            _ => indices,
+        };
+        let words: Vec<u32> = (0..room).map(|_| random.word()).collect();
+        let blank = lent_words(random, &words);
+        let (px, py) = (lent_words(random, &px), lent_words(random, &py));
+        let (answer, out) = reader.zone_log(&px, &py, &blank);
+        note(tally, "log", answer);
+        match (answer, scene) {
+            (Answer::Accepted(indices), Some(scene)) => {
+                let expected = scene.zone_log(px.table(), py.table());
+                assert_eq!(out.table()[..indices as usize], expected);
+                if indices > 1 {
+                    tally.note("log of a change".to_string());
+                }
+            }
+            (Answer::Refused { place, .. }, _) if place > 0 => {
+                tally.note("log with a place".to_string());
+            }
+            _ => {}
+        }
+    }
+    reader.finish();
+}
+
 // ---- lists of calls ----
 
 /// A drawing of any look, now and then one of the largest.
@@ -170,24 +265,13 @@ fn refused_open(random: &mut Random, sample: &mut Sample, tally: &mut Tally) {
     sample.tree = after;
 }
 
-/// Growing, by the splits that it makes.
+/// Growing, now and then with a depth limit that is none.
 fn grow(random: &mut Random, sample: &mut Sample, tally: &mut Tally) {
     let threshold = random.pick(&[0, 0, 1, 2, 5, 20]);
-    let limit = random.pick(&[1, 2, 3, 4, 6, 16]);
-    let mut grown = sample.tree.clone();
-    let drawing = sample.drawing.drawing();
-    let growth = tree::grow(drawing, &mut grown.lend(), threshold, limit);
-    assert!(growth.is_ok(), "{growth:?}");
-    while sample.tree.view().head[0] < grown.view().head[0] {
-        let next = sample.tree.view().head[0];
-        let parent = |n: &u32| grown.view().cell(*n).child == next;
-        let cell = (0..next).find(parent).expect("a cell was split");
-        let (answer, after) = compare::split(&sample.drawing, &sample.tree, cell);
-        assert_eq!(answer, Answer::Accepted(next));
-        sample.tree = after;
-    }
-    assert!(sample.tree == grown);
-    tally.note("grow accepted".to_string());
+    let limit = random.pick(&[1, 2, 3, 4, 6, 16, 17]);
+    let (answer, after) = compare::grow(&sample.drawing, &sample.tree, threshold, limit);
+    note(tally, "grow", answer);
+    sample.tree = after;
 }
 
 /// A tree opened by both in tables that are full of other words; None where they have no room.
@@ -210,7 +294,7 @@ fn opened(random: &mut Random, tally: &mut Tally) -> Option<Sample> {
 fn readings_in_lists_of_calls() {
     let random = &mut Random::for_test(110);
     let mut tally = Tally::default();
-    for _ in 0..1_000 {
+    for _ in 0..2_000 {
         let Some(mut sample) = opened(random, &mut tally) else {
             continue;
         };
@@ -219,15 +303,23 @@ fn readings_in_lists_of_calls() {
         for _ in 0..random.within(1..=8) {
             change(random, &mut sample, &mut tally);
             positions(random, &sample, Some(&scene), &mut tally, 50);
+            rows(random, &sample, Some(&scene), &mut tally, 5);
+            logs(random, &sample, Some(&scene), &mut tally, 5);
         }
         positions(random, &sample, Some(&scene), &mut tally, 50);
         tally.note("drawings".to_string());
     }
     tally.print("lists");
-    tally.reached("drawings", 500);
+    tally.reached("drawings", 1_000);
     tally.reached("position accepted", 200_000);
-    for what in ["7", "11"] {
-        tally.reached(&format!("position {what}"), 2_000);
+    tally.reached("pixels", 20_000);
+    tally.reached("log accepted", 10_000);
+    tally.reached("log of a change", 2_000);
+    for what in ["position 7", "position 11"] {
+        tally.reached(what, 2_000);
+    }
+    for what in ["row 7", "log 7", "log 11", "log with a place"] {
+        tally.reached(what, 100);
     }
     for what in [
         "split accepted",
@@ -238,8 +330,9 @@ fn readings_in_lists_of_calls() {
     ] {
         tally.reached(what, 100);
     }
-    tally.reached("split 9", 20);
-    tally.reached("split 11", 20);
+    for what in ["split 9", "split 11", "grow 7"] {
+        tally.reached(what, 20);
+    }
 }
 
 // ---- damaged tables ----
@@ -271,15 +364,78 @@ fn readings_of_damaged_tables() {
             let (mut tables, mut tree) = grown(random);
             damage_tree(random, &mut tables, &mut tree, damage);
             let sample = Sample::exact(random, tables, &tree);
-            positions(random, &sample, None, &mut tally, 10);
-            positions(random, &sample, None, &mut all, 5);
+            for tally in [&mut tally, &mut all] {
+                positions(random, &sample, None, tally, 10);
+                rows(random, &sample, None, tally, 10);
+                logs(random, &sample, None, tally, 10);
+            }
         }
         tally.print(&format!("{damage:?}"));
     }
     all.print("damaged");
     for what in ["accepted", "7", "11", "12"] {
         all.reached(&format!("position {what}"), 100);
+        all.reached(&format!("log {what}"), 100);
     }
+    for what in ["accepted", "7", "12"] {
+        all.reached(&format!("row {what}"), 100);
+    }
+}
+
+/// "a pixel row met by 12: place is the pixel's index in the call, earlier pixels stand, the rest are
+/// untouched." A run that meets the same leaf is refused as a whole.
+#[test]
+fn pixels_before_a_broken_leaf_stand() {
+    let random = &mut Random::for_test(116);
+    let mut tally = Tally::default();
+    for _ in 0..2_000 {
+        let (tables, mut tree) = grown(random);
+        let scene = Scene::of(Drawing::of(&tables));
+        let leaf = random.pick(&tree.leaves());
+        let square = tree.view().cell(leaf).square;
+        if square.side < PIXEL || square.x == 0 {
+            continue;
+        }
+        tree.cells[CELL_WORDS * leaf as usize + 2] = random.pick(&[0, 3, 131_072]);
+        let sample = Sample::exact(random, tables.clone(), &tree);
+        let mut reader = Reader::new(&sample.drawing, &sample.tree);
+        let before = random.within(1..=(square.x / PIXEL).min(6) as usize) as u32;
+        let (x, y) = (
+            square.x - PIXEL * before,
+            square.y + random.below(square.side as usize) as u32,
+        );
+        let pixels = before + random.within(1..=(square.side / PIXEL).min(4) as usize) as u32;
+        let bytes = any_bytes(random, CHANNELS * pixels as usize);
+        let blank = lent_bytes(random, &bytes);
+        let (row, first) = (y / PIXEL, x / PIXEL);
+        let (answer, out) = reader.pixel_row(row, first, &blank);
+        let expected = Answer::Refused {
+            number: 12,
+            place: before,
+        };
+        assert_eq!(answer, expected);
+        for (i, pixel) in out
+            .table()
+            .chunks(CHANNELS)
+            .take(before as usize)
+            .enumerate()
+        {
+            assert_eq!(*pixel, scene.pixel(row, first + i as u32));
+        }
+        let (mut px, mut py) = (vec![x, x + 1, square.x - 1], vec![y; 3]);
+        let blank = lent_words(random, &[77; 3]);
+        for accepted in [true, false] {
+            let (lent_x, lent_y) = (lent_words(random, &px), lent_words(random, &py));
+            let (answer, _) = reader.zone_log(&lent_x, &lent_y, &blank);
+            assert_eq!(matches!(answer, Answer::Accepted(_)), accepted);
+            px.push(square.x);
+            py.push(y);
+        }
+        reader.finish();
+        tally.note("rows".to_string());
+    }
+    tally.print("before a broken leaf");
+    tally.reached("rows", 200);
 }
 
 #[test]
@@ -292,10 +448,14 @@ fn readings_of_trees_written_by_others() {
         let tree = foreign::tree(random, &tables, splits);
         let sample = Sample::exact(random, tables, &tree);
         positions(random, &sample, None, &mut tally, 40);
+        rows(random, &sample, None, &mut tally, 10);
+        logs(random, &sample, None, &mut tally, 10);
     }
     tally.print("others");
     for what in ["accepted", "12"] {
-        tally.reached(&format!("position {what}"), 500);
+        for call in ["position", "row", "log"] {
+            tally.reached(&format!("{call} {what}"), 200);
+        }
     }
 }
 
@@ -337,6 +497,8 @@ fn as_many_records_as_a_file_may_have() {
     let tables = sample.tables.clone();
     let scene = Scene::of(Drawing::of(&tables));
     positions(random, &sample, Some(&scene), &mut Tally::default(), 100);
+    rows(random, &sample, Some(&scene), &mut Tally::default(), 10);
+    logs(random, &sample, Some(&scene), &mut Tally::default(), 10);
     records.extend(letters("p"));
     let bytes = lent_bytes(random, &records.concat());
     let blank = LentTables::ample(random);
@@ -383,6 +545,23 @@ fn the_last_position() {
         }
         for at in [(65_536, 0), (0, 65_536), (65_536, 65_536), (u32::MAX, 0)] {
             assert_eq!(reader.position(at, &blank).0, SEVEN_AT_0);
+        }
+        // In a run it is refused with its index, and the last pixel of a row is drawn.
+        let px = lent_words(random, &[0, 65_535, 0, 65_536, 65_536]);
+        let py = lent_words(random, &[0, 65_535, 65_535, 0, 1]);
+        let expected = Answer::Refused {
+            number: 7,
+            place: 3,
+        };
+        assert_eq!(reader.zone_log(&px, &py, &blank).0, expected);
+        let bytes = lent_bytes(random, &[77; 3]);
+        let (answer, out) = reader.pixel_row(4_095, 4_095, &bytes);
+        assert_eq!(
+            (answer, out.table()),
+            (Answer::Accepted(0), &[10, 20, 30][..])
+        );
+        for (row, first) in [(4_096, 0), (0, 4_096)] {
+            assert_eq!(reader.pixel_row(row, first, &bytes).0, SEVEN_AT_0);
         }
         reader.finish();
         let (answer, after) = compare::split(&sample.drawing, &sample.tree, cell);
