@@ -377,3 +377,41 @@ pub fn square_at(x: u32, y: u32, side: u32) -> Vec<Record> {
 pub fn painted(alpha: u8, colour: [u8; 3], contour: Vec<Record>) -> Vec<Record> {
     [vec![area(PAINT, 0, alpha, colour, 7)], contour].concat()
 }
+
+/// Corners of an area, and rows and columns of a block of the grid.
+const ZIGZAG_CORNERS: u32 = 32;
+const HIGH: u32 = 65_536 / 8;
+const WIDE: u32 = 65_536 / 4;
+
+/// 64 areas of 32 corners each, two in each of 32 blocks of the grid: a zigzag between its lowest and
+/// highest row. Every other block's are a clip area and what it shows.
+pub fn zigzags(random: &mut Random) -> Vec<Record> {
+    let mut zigzag = |block: u32| {
+        let (low_x, low_y) = (block % 4 * WIDE, block / 4 * HIGH);
+        let corners: Vec<(u32, u32)> = (0..ZIGZAG_CORNERS)
+            .map(|i| {
+                let step = WIDE / ZIGZAG_CORNERS;
+                let x = low_x + i * step + random.below(step as usize) as u32;
+                (x, low_y + i % 2 * HIGH)
+            })
+            .collect();
+        contour(&corners)
+    };
+    let mut records = Vec::new();
+    for block in 0..32 {
+        let paint = |alpha: u8| area(PAINT, 0, alpha, [block as u8; 3], 1 + block as u16);
+        if block % 2 == 0 {
+            records.extend([delimiter(OPEN), area(CLIP, 0, 0, [0; 3], 0)]);
+            records.extend(zigzag(block));
+            records.extend([delimiter(BAR), paint(255)]);
+            records.extend(zigzag(block));
+            records.push(delimiter(CLOSE));
+        } else {
+            for alpha in [128, 255] {
+                records.push(paint(alpha));
+                records.extend(zigzag(block));
+            }
+        }
+    }
+    records
+}

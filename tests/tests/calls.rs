@@ -5,6 +5,7 @@ use zones_tests::class::Square;
 use zones_tests::compare;
 use zones_tests::damage::{damage_tables, DAMAGES};
 use zones_tests::drawing::{AREA_WORDS, MOST_AREAS, MOST_CORNERS};
+use zones_tests::fast;
 use zones_tests::foreign;
 use zones_tests::lent::{lent_words, LentTables, LentTree};
 use zones_tests::meaning::Drawing;
@@ -15,7 +16,7 @@ use zones_tests::stream::{Entry, ENTRY_WORDS, MOST_START};
 use zones_tests::tally::Tally;
 use zones_tests::tree::{self, TreeTables, CELL_WORDS, CHILD_WORD, MOST_CELLS, MOST_ENTRIES};
 use zones_tests::tree_damage::{damage_tree, TREE_DAMAGES};
-use zones_tests::zones::{Answer, FULL};
+use zones_tests::zones::{self, Answer, FULL};
 
 fn note(tally: &mut Tally, call: &str, answer: Answer) {
     tally.note(match answer {
@@ -255,6 +256,35 @@ fn cells_and_entries_up_to_their_limits() {
     tally.print("limits");
     for what in ["split accepted", "split 9", "split 11", "split 12"] {
         tally.reached(what, 20);
+    }
+}
+
+/// The largest tree: 64 areas and 2,048 corners, 4,096 cells. The second implementation is its fast
+/// form.
+#[test]
+fn the_largest_tree() {
+    let random = &mut Random::for_test(97);
+    let tables = samples::tables(&scenes::zigzags(random));
+    let drawing = Drawing::of(&tables);
+    let mut made = Vec::new();
+    for (threshold, limit) in [(0, 16), (3, 16), (0, 5)] {
+        let mut by_library = TreeTables::new(MOST_CELLS, MOST_ENTRIES);
+        let mut by_second = by_library.clone();
+        let opened = fast::open(drawing, &mut by_second.lend(), &mut made);
+        let answer = zones::open(drawing, &mut by_library.lend());
+        assert_eq!(answer, Answer::Accepted(opened.expect("room to open")));
+        let grown = fast::grow(drawing, &mut by_second.lend(), threshold, limit, &mut made);
+        let answer = zones::grow(drawing, &mut by_library.lend(), threshold, limit);
+        let expected = compare::grow_answer(grown.expect("growing is accepted"));
+        assert_eq!(answer, Answer::Accepted(expected));
+        assert!(by_library == by_second);
+        if limit == 16 {
+            assert!(expected >= FULL && by_library.head[0] == 4_093);
+        }
+        let mut sample = Sample::new(random, tables.clone(), &by_library);
+        for _ in 0..20 {
+            sample.find(random, &mut Tally::default());
+        }
     }
 }
 

@@ -27,10 +27,10 @@ use Rattle.newtree.proofs.Accepted.{open-accepts}
 use Rattle.newtree.proofs.After.{cells-used, cell-is}
 use Rattle.growth.specs.declared.Tried.{Tried}
 use Rattle.growth.specs.declared.Tried.the-variants.{Bad, Past, Wanted}
-use Rattle.growth.specs.Grow.{linesIn, isWanted, tried, Lowest, none, bad, at, orNext, lowestFrom, Round, splits, done, full, broken, roundAt, roundBy, round, goOn, growing, grown, growTree}
+use Rattle.growth.specs.Grow.{isWanted, tried, Lowest, none, bad, at, orNext, lowestFrom, Round, splits, done, full, broken, roundAt, roundBy, round, goOn, growing, grown, growTree}
 use Rattle.leaf.specs.declared.FoundLeaf.{FoundLeaf}
 use Rattle.leaf.specs.declared.Answer.the-variants.{Found}
-use Rattle.leaf.specs.Leaf.{findAnswer}
+use Rattle.leaf.specs.Leaf.{linesIn, findAnswer}
 use Rattle.listing.specs.Listed.{lineOf, listed, Among}
 use Rattle.listing.proofs.Every.{every-leaf, found-cell}
 use Rattle.lister.specs.Grown.{openedTree, grownTree}

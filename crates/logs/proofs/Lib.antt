@@ -2,3 +2,4 @@
 pub mod Runs
 pub mod Counting
 pub mod Answers
+pub mod Agree

@@ -1,6 +1,6 @@
 -- Document 01, "Winding and meaning", "From the input" and "From the state": a row of pixels. Assumes nothing.
 use mathlib.Core.Bool.{Bool, true, false, cond}
-use mathlib.Core.List.{List}
+use mathlib.Core.List.{List, [], _∷_}
 use Prim.Native.Nat.{ℕ, zero, suc, _+_, _*_, _/_, _%_}
 use lib.Dec.{eqb, leb}
 use lib.ListN.{length, set}
@@ -23,6 +23,12 @@ filled r out = record { answer = r; bytes = out }
 -- "A row call fills red, green, blue per pixel."
 abbrev pub putPixel : List ℕ → ℕ → Colour → List ℕ
 putPixel out i c = set (set (set out (i * 3) (c .red)) (i * 3 + 1) (c .green)) (i * 3 + 2) (c .blue)
+
+-- the bytes of n pixels of a row, where `at` gives the colour at each position
+unfoldable pub rowBytes : (at : ℕ → ℕ → Colour) → (row pixel n : ℕ) → List ℕ
+rowBytes at row pixel zero = []
+rowBytes at row pixel (suc n) =
+    pixelOf at row pixel .red ∷ pixelOf at row pixel .green ∷ pixelOf at row pixel .blue ∷ rowBytes at row (pixel + 1) n
 
 module _ (t : Tree) (row : ℕ) where
   -- 12 is met at none of the n samples of a pixel from column offset i on

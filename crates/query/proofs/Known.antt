@@ -3,9 +3,9 @@ use mathlib.Core.Path.{_≡_, refl, sym, ap, ap₂, _∙_}
 use mathlib.Core.Bool.{Bool, true, false, cond}
 use Prim.Native.Nat.{ℕ, _+_, _-_, _≤_, _<_}
 use native.Mathlib.Omega.{arith}
-use lib.Dec.{ltb, leb}
+use lib.Dec.{eqb, ltb, leb}
 use lib.ListN.{length}
-use borrow.Author.Tests.{leb-true, ltb-true}
+use borrow.Author.Tests.{leb-true, ltb-true, eq-eqb}
 use Rattle.laws.proofs.Booleans.{clash}
 use Rattle.refusals.specs.declared.Refusal.the-variants as Refusals
 use Rattle.cells.specs.Cells.{at}
@@ -17,7 +17,7 @@ use Rattle.celltable.specs.declared.Found.the-variants.{At, Broken}
 use Rattle.reading.specs.Reading.{setAt}
 use Rattle.tree.specs.Tables.{Tree}
 use Rattle.tree.proofs.Choices.{pick-true, pick-false}
-use Rattle.leaf.specs.Leaf.{leafStream, leafBounds, leafIn}
+use Rattle.leaf.specs.Leaf.{positionRange, leafStream, leafBounds, leafIn}
 use Rattle.leaf.proofs.Counts.{counts-fit}
 use Rattle.leaf.proofs.Landing.{leaf-landed, leaf-passed}
 use Rattle.leaf.proofs.Same.{LeafHolds, leaf-same}
@@ -25,7 +25,7 @@ use Rattle.query.specs.declared.Answer.the-variants as Answers
 use Rattle.query.specs.declared.Shown.{Shown}
 use Rattle.query.specs.declared.Shown.the-variants.{Set}
 use Rattle.query.specs.declared.Shown.the-variants as Seen
-use Rattle.query.specs.Spots.{isFound, spotOf, setBy, known, setIn, spotIn}
+use Rattle.query.specs.Spots.{isFound, spotOf, setBy, known, setIn, spotIn, positionAnswer}
 use Rattle.query.specs.Numbers.{between, inSquare, LeafIn, LastIn, shownIn}
 use Rattle.query.proofs.Painted.{set-painted, none-painted}
 
@@ -123,3 +123,12 @@ module _ (t : Tree) where
         go : (f : Found) → leafIn t x y ≡ f → Painted (t .areas) (setBy t x y f)
         go (At l) e = set-painted (t .entries) (l .first) (l .count) (env (t .areas) (t .xs) (t .ys) (leafBounds t l)) x y (leaf-stream l e)
         go Broken e = none-painted (t .areas)
+
+    -- a position in range where 12 is not met
+    pub position-accepted : (s : ℕ) → length (t .xs) ≡ length (t .ys) → positionRange x y ≡ true → known t x y ≡ true → setIn t x y ≡ s → positionAnswer t x y ≡ Answers.At (spotOf (t .areas) s)
+    position-accepted s e r k z =
+        let no = Answers.Not Refusals.Argument in
+        let a₁ = pick-true (known t x y) (Answers.At (spotOf (t .areas) (setIn t x y))) (Answers.Not Refusals.Broken) k in
+        let a₂ = pick-true (positionRange x y) (spotIn t x y) no r in
+        let a₃ = pick-true (eqb (length (t .xs)) (length (t .ys))) (cond (positionRange x y) (spotIn t x y) no) no (eq-eqb (length (t .xs)) (length (t .ys)) e) in
+        sym (a₁ ∙ (a₂ ∙ a₃)) ∙ ap (λ (v : ℕ). Answers.At (spotOf (t .areas) v)) z

@@ -38,7 +38,7 @@ entries-held-requires : tie.Need-entries-held-requires
 entries-held-requires c κs = search needs
 
 cast-put-split : tie.Need-cast-put-split
-cast-put-split c = let a = c .before .before .before .before .before .before .before .before .before .before .before .before .before .before .before .before .before .before .args in let p = c .before .before .before .before .before .before .before .before .before .before .before .before .before .before .before .before .before .before .pre in let D = lent (now (a .areas)) (now (a .xs)) (now (a .ys)) (a .b) in let ws = wordsFrom (now (a .entries)) (a .w .first) (a .w .count) in let K = cellOf (a .w) in record { fits = omega (arith, entries-room (a .free + c .before .before .before .before .before .before .before .entries-of .result) (length (now (a .entries))) (sym (c .before .before .before .before .entries-held .ensures) ∙ c .before .before .before .if2 .taken) .1) }
+cast-put-split c = let a = c .before .before .before .before .before .before .before .before .before .before .before .before .before .before .before .before .before .before .args in let p = c .before .before .before .before .before .before .before .before .before .before .before .before .before .before .before .before .before .before .pre in let D = lent (now (a .areas)) (now (a .xs)) (now (a .ys)) (a .b) in let ws = wordsFrom (now (a .entries)) (a .w .first) (a .w .count) in let K = cellOf (a .w) in let f = few-each (now (a .entries)) (now (a .areas)) (now (a .xs)) (now (a .ys)) (a .b) (a .w .first) (a .w .count) K (c .before .before .before .before .before .before .before .before .count-four .result) (p .0) (c .before .before .before .before .before .before .before .before .count-four .ensures) in record { fits = omega (arith, c .before .before .before .before .before .before .before .entries-of .ensures, f .few 0 (omega arith), f .few 1 (omega arith), f .few 2 (omega arith), f .few 3 (omega arith)) }
 
 put-split-requires : tie.Need-put-split-requires
 put-split-requires c κs = let a = c .before .before .before .before .before .before .before .before .before .before .before .before .before .before .before .before .before .before .args in let p = c .before .before .before .before .before .before .before .before .before .before .before .before .before .before .before .before .before .before .pre in let D = lent (now (a .areas)) (now (a .xs)) (now (a .ys)) (a .b) in let ws = wordsFrom (now (a .entries)) (a .w .first) (a .w .count) in let K = cellOf (a .w) in let n = sum-is D K ws (c .before .before .before .before .before .before .before .before .count-four .result) (c .before .before .before .before .before .before .before .entries-of .result) (c .before .before .before .before .before .before .before .before .count-four .ensures) (c .before .before .before .before .before .before .before .entries-of .ensures) in let e = entries-room (a .free + c .before .before .before .before .before .before .before .entries-of .result) (length (now (a .entries))) (sym (c .before .before .before .before .entries-held .ensures) ∙ c .before .before .before .if2 .taken) in let k = cells-room (a .used + 4) (length (now (a .cells))) (sym (c .before .before .before .before .before .before .cells-held .ensures) ∙ c .before .before .before .before .before .if1 .taken) in (p .0, (p .1 .0, (p .1 .1 .0, (p .1 .1 .1 .0, (c .before .before .before .before .before .before .before .before .count-four .ensures, (omega (arith, e .0, n), (few-each (now (a .entries)) (now (a .areas)) (now (a .xs)) (now (a .ys)) (a .b) (a .w .first) (a .w .count) K (c .before .before .before .before .before .before .before .before .count-four .result) (p .0) (c .before .before .before .before .before .before .before .before .count-four .ensures), (k .0, ((p .1 .1 .1 .1 .0 .0, p .1 .1 .1 .1 .0 .1, omega (arith, e .1)), (omega (arith, k .0, p .1 .1 .1 .1 .1 .0), p .1 .1 .1 .1 .1 .1))))))))))

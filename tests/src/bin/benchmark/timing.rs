@@ -16,18 +16,32 @@ fn time<A: PartialEq + Debug>(calls: u32, call: &mut impl FnMut() -> A, expected
     start.elapsed().as_secs_f64() * 1e6 / f64::from(calls)
 }
 
-fn median(mut times: Vec<f64>) -> f64 {
-    times.sort_by(f64::total_cmp);
-    times[times.len() / 2]
+/// Times of one call, in microseconds.
+pub struct Times(Vec<f64>);
+
+impl Times {
+    fn of(mut times: Vec<f64>) -> Times {
+        times.sort_by(f64::total_cmp);
+        Times(times)
+    }
+
+    pub fn median(&self) -> f64 {
+        self.0[self.0.len() / 2]
+    }
+
+    /// What the call takes when nothing else is in its way.
+    pub fn least(&self) -> f64 {
+        self.0[0]
+    }
 }
 
-/// Runs both by turns, each as often first as the other: the medians in microseconds.
+/// Runs both by turns, each as often first as the other.
 pub fn by_turns<A: PartialEq + Debug>(
     calls: u32,
     expected: A,
     mut library: impl FnMut() -> A,
     mut second: impl FnMut() -> A,
-) -> (f64, f64) {
+) -> (Times, Times) {
     let least = LEAST.as_secs_f64() * 1e6 / f64::from(calls);
     let (mut library_times, mut second_times) = (Vec::new(), Vec::new());
     let (mut library_sum, mut second_sum) = (0.0, 0.0);
@@ -47,7 +61,7 @@ pub fn by_turns<A: PartialEq + Debug>(
             second_sum += by_second;
         }
     }
-    (median(library_times), median(second_times))
+    (Times::of(library_times), Times::of(second_times))
 }
 
 /// Runs both by turns and prints the medians.
@@ -59,6 +73,7 @@ pub fn compare<A: PartialEq + Debug>(
     second: impl FnMut() -> A,
 ) {
     let (library, second) = by_turns(calls, expected, library, second);
+    let (library, second) = (library.median(), second.median());
     let ratio = library / second;
     println!(
         "{name}: library {library:.2} us, second {second:.2} us, ratio library / second {ratio:.2}"

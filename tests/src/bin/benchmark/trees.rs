@@ -2,17 +2,17 @@
 
 use std::hint::black_box;
 
-use zones_tests::drawing::{AREA_WORDS, BAR, CLIP, CLOSE, OPEN, PAINT};
+use zones_tests::compare::grow_answer;
+use zones_tests::drawing::{AREA_WORDS, PAINT};
 use zones_tests::fast;
 use zones_tests::foreign;
 use zones_tests::meaning::Drawing;
 use zones_tests::random::Random;
-use zones_tests::record::{area, delimiter, Record};
 use zones_tests::samples::{self, Tables};
-use zones_tests::scenes::contour;
+use zones_tests::scenes;
 use zones_tests::stream::Entry;
 use zones_tests::tree::{TreeTables, CELL_WORDS, CHILD_WORD};
-use zones_tests::zones::{self, Answer};
+use zones_tests::zones::{self, Answer, FULL};
 
 use crate::timing::{by_turns, compare};
 
@@ -20,47 +20,9 @@ use crate::timing::{by_turns, compare};
 const CELLS: usize = 4_096;
 const ENTRIES: usize = 65_536;
 
-/// Corners of an area, and rows and columns of a block of the grid.
-const CORNERS: u32 = 32;
-const HIGH: u32 = 65_536 / 8;
-const WIDE: u32 = 65_536 / 4;
-
-/// 64 areas of 32 corners each, two in each of 32 blocks of the grid: a zigzag between its lowest and
-/// highest row. Every other block's are a clip area and what it shows.
-fn zigzags(random: &mut Random) -> Vec<Record> {
-    let mut zigzag = |block: u32| {
-        let (low_x, low_y) = (block % 4 * WIDE, block / 4 * HIGH);
-        let corners: Vec<(u32, u32)> = (0..CORNERS)
-            .map(|i| {
-                let step = WIDE / CORNERS;
-                let x = low_x + i * step + random.below(step as usize) as u32;
-                (x, low_y + i % 2 * HIGH)
-            })
-            .collect();
-        contour(&corners)
-    };
-    let mut records = Vec::new();
-    for block in 0..32 {
-        let paint = |alpha: u8| area(PAINT, 0, alpha, [block as u8; 3], 1 + block as u16);
-        if block % 2 == 0 {
-            records.extend([delimiter(OPEN), area(CLIP, 0, 0, [0; 3], 0)]);
-            records.extend(zigzag(block));
-            records.extend([delimiter(BAR), paint(255)]);
-            records.extend(zigzag(block));
-            records.push(delimiter(CLOSE));
-        } else {
-            for alpha in [128, 255] {
-                records.push(paint(alpha));
-                records.extend(zigzag(block));
-            }
-        }
-    }
-    records
-}
-
 pub fn trees() {
     let random = &mut Random::new(2);
-    let tables = samples::tables(&zigzags(random));
+    let tables = samples::tables(&scenes::zigzags(random));
     grown(&tables);
     splits(random, &tables);
 }
@@ -72,25 +34,27 @@ fn accepted(answer: Answer) -> u32 {
     }
 }
 
-/// Opens, and splits each leaf with lines, the lowest numbered first, until one is refused with 11.
+/// Opens, and grows until the cells are full.
 fn grown(tables: &Tables) {
     let drawing = Drawing::of(tables);
-    let (mut by_library, mut by_second) = (
-        TreeTables::new(CELLS, ENTRIES),
-        TreeTables::new(CELLS, ENTRIES),
-    );
+    let blank = TreeTables::new(CELLS, ENTRIES);
+    let (mut by_library, mut by_second) = (blank.clone(), blank);
     let mut made = Vec::new();
-    let mut tree = TreeTables::new(CELLS, ENTRIES);
-    fast::open(drawing, &mut tree.lend(), &mut made).expect("opening is accepted");
-    let opened = tree.head[1];
-    fast::grow(drawing, &mut tree.lend(), 0, 16, &mut made).expect("growing is accepted");
-    let (cells, entries) = (tree.head[0], tree.head[1]);
-    let split: Vec<u32> = (0..cells)
-        .filter(|cell| !tree.view().cell(*cell).is_leaf())
-        .collect();
+    let grown = |tree: &mut TreeTables, made: &mut Vec<[u32; 4]>| {
+        _ = fast::open(black_box(drawing), &mut tree.lend(), made);
+        let growth = fast::grow(black_box(drawing), &mut tree.lend(), 0, 16, made);
+        grow_answer(growth.expect("growing is accepted"))
+    };
+    let opened = accepted(zones::open(drawing, &mut by_library.lend()));
+    let growth = grown(&mut by_second, &mut made);
+    let [cells, entries] = by_second.head[..] else {
+        panic!("two words");
+    };
     println!(
-        "tree: {} areas, {} corners, {opened} entries when opened, {cells} cells and {entries} entries when grown",
-        tables.plan[1], tables.plan[2]
+        "tree: {} areas, {} corners, {opened} entries when opened, {} splits, {cells} cells and {entries} entries when grown",
+        tables.plan[1],
+        tables.plan[2],
+        growth % FULL
     );
     compare(
         "open",
@@ -107,27 +71,17 @@ fn grown(tables: &Tables) {
         },
     );
     compare(
-        "open and the same splits",
+        "open and grow",
         1,
-        cells,
+        growth,
         || {
             let tree = black_box(&mut by_library);
             accepted(zones::open(black_box(drawing), &mut tree.lend()));
-            for cell in &split {
-                accepted(zones::split(black_box(drawing), &mut tree.lend(), *cell));
-            }
-            tree.head[0]
+            accepted(zones::grow(black_box(drawing), &mut tree.lend(), 0, 16))
         },
-        || {
-            let tree = black_box(&mut by_second);
-            _ = fast::open(black_box(drawing), &mut tree.lend(), &mut made);
-            for cell in &split {
-                _ = fast::split(black_box(drawing), &mut tree.lend(), *cell, &mut made);
-            }
-            tree.head[0]
-        },
+        || grown(black_box(&mut by_second), &mut made),
     );
-    assert!(by_library == tree && by_second == tree);
+    assert!(by_library == by_second);
 }
 
 /// A stream of so many entries over a drawing, the same mix for each: of 64 entries one is an area,
@@ -162,7 +116,7 @@ fn one_cell(random: &mut Random, stream: &[Entry]) -> TreeTables {
     tree
 }
 
-/// The time of one split against the entries of the cell. Each size has as many entries in all, so
+/// The least time of one split against the entries of the cell. Each size has as many entries in all, so
 /// that none is known to the processor by heart.
 fn splits(random: &mut Random, tables: &Tables) {
     let drawing = Drawing::of(tables);
@@ -199,7 +153,7 @@ fn splits(random: &mut Random, tables: &Tables) {
         );
         assert!(by_library == by_second);
         let splits = by_library.len() as f64;
-        let (library, second) = (library / splits, second / splits);
+        let (library, second) = (library.least() / splits, second.least() / splits);
         let each = |time: f64| 1e3 * time / entries as f64;
         println!(
             "split of {entries} entries: library {library:.2} us, {:.0} ns an entry; second {second:.2} us, {:.0} ns an entry; ratio {:.2}",
