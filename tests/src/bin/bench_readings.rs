@@ -11,7 +11,7 @@ use zones_tests::drawing::{
     NEXT, OPEN, PAINT,
 };
 use zones_tests::meaning::{fill_passes, pixel, samples, Drawing, OPAQUE};
-use zones_tests::query::{CHANNELS, PIXELS};
+use zones_tests::query::CHANNELS;
 use zones_tests::random::Random;
 use zones_tests::readings::{self, SPOT_WORDS};
 use zones_tests::record::{area, clip, corner, delimiter, Record};
@@ -498,20 +498,21 @@ fn area_passes(row: &[u32; AREA_WORDS], side: u32) -> bool {
 /// The pixels of a row; `shown` gives the set at a position.
 fn fill_row(
     areas: &[[u32; AREA_WORDS]],
-    row: u32,
+    (row, first): (u32, u32),
     out: &mut [u8],
     mut shown: impl FnMut(u32, u32) -> u64,
 ) {
     let pixels = out.as_chunks_mut::<CHANNELS>().0;
-    for (out, number) in pixels.iter_mut().zip(0..) {
+    for (out, number) in pixels.iter_mut().zip(first..) {
         *out = pixel(samples(row, number).map(|(x, y)| colour(areas, shown(x, y))));
     }
 }
 
 // ---- timing ----
 
-/// The bytes of a whole row.
-const ROW_BYTES: usize = CHANNELS * PIXELS as usize;
+/// Pixels drawn by one call.
+const ROW_PIXELS: usize = 256;
+const ROW_BYTES: usize = CHANNELS * ROW_PIXELS;
 
 /// Each reading runs about so long.
 const LEAST: Duration = Duration::from_millis(700);
@@ -605,24 +606,27 @@ fn shown_in_run<'a>(
     plain.shown_in(leaf, x, y)
 }
 
-fn time_rows(name: &str, tables: &Tables, tree: Tree, rows: &[u32]) {
+/// Draws pixels from a first one of a row on.
+type DrawRow<'a> = dyn Fn((u32, u32), &mut [u8]) + 'a;
+
+fn time_rows(name: &str, tables: &Tables, tree: Tree, rows: &[(u32, u32)]) {
     let drawing = Drawing::of(tables);
     let (scan, plain) = (Scan::new(tables), Plain::new(tables, tree));
-    let by_library = |row: u32, out: &mut [u8]| {
-        let answer = readings::pixel_row(black_box(drawing), black_box(tree), row, 0, out);
+    let by_library = |row: (u32, u32), out: &mut [u8]| {
+        let answer = readings::pixel_row(black_box(drawing), black_box(tree), row.0, row.1, out);
         assert_eq!(answer, Answer::Accepted(0));
     };
-    let by_scan = |row: u32, out: &mut [u8]| {
+    let by_scan = |row: (u32, u32), out: &mut [u8]| {
         let scan = black_box(&scan);
         fill_row(scan.areas, row, out, |x, y| scan.shown(x, y));
     };
-    let unchecked = |row: u32, out: &mut [u8]| {
+    let unchecked = |row: (u32, u32), out: &mut [u8]| {
         let (plain, mut last) = (black_box(&plain), None);
         fill_row(plain.areas, row, out, |x, y| {
             shown_in_run(plain, &mut last, (x, y), |x, y| plain.leaf(x, y))
         });
     };
-    let checked = |row: u32, out: &mut [u8]| {
+    let checked = |row: (u32, u32), out: &mut [u8]| {
         let (plain, mut last) = (black_box(&plain), None);
         fill_row(plain.areas, row, out, |x, y| {
             shown_in_run(plain, &mut last, (x, y), |x, y| {
@@ -631,7 +635,7 @@ fn time_rows(name: &str, tables: &Tables, tree: Tree, rows: &[u32]) {
             })
         });
     };
-    let drawn = |reading: &dyn Fn(u32, &mut [u8])| {
+    let drawn = |reading: &DrawRow| {
         let mut out = vec![0; rows.len() * ROW_BYTES];
         for (row, out) in rows.iter().zip(out.chunks_mut(ROW_BYTES)) {
             reading(*row, out);
@@ -648,7 +652,7 @@ fn time_rows(name: &str, tables: &Tables, tree: Tree, rows: &[u32]) {
         (UNCHECKED, &mut || _ = drawn(&unchecked)),
         (CHECKED, &mut || _ = drawn(&checked)),
     ];
-    compare(name, rows.len() * PIXELS as usize, readings);
+    compare(name, rows.len() * ROW_PIXELS, readings);
 }
 
 fn time_layout(name: &str, layout: &Layout) {
@@ -670,12 +674,9 @@ fn time_layout(name: &str, layout: &Layout) {
     let view = tree.view();
     time_positions("ns a position, anywhere", &tables, view, &anywhere);
     time_positions("ns a position, beside lines", &tables, view, &beside);
-    time_rows(
-        "ns a pixel of whole rows",
-        &tables,
-        view,
-        &[300, 1_500, 2_048],
-    );
+    // A row and its first pixel.
+    let rows = [(300, 0), (1_500, 1_900), (2_048, 3_000)];
+    time_rows("ns a pixel of rows", &tables, view, &rows);
 }
 
 fn main() {
