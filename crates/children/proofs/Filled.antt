@@ -1,7 +1,7 @@
 -- The loop that writes the streams of the four children. Assumes nothing.
 use mathlib.Core.Path.{_≡_, refl, sym, ap, subst, _∙_}
 use mathlib.Core.Bool as Bool
-use mathlib.Core.List.{List, [], _∷_, map}
+use mathlib.Core.List.{List}
 use Prim.Native.Nat.{ℕ, zero, suc, _+_, _*_, _-_, _≤_, _<_}
 use native.Mathlib.Omega.{arith}
 use native.Mathlib.Nat.{add-zero, le-refl}
@@ -9,23 +9,16 @@ use native.Mathlib.Numerals.{add-one}
 use lib.ListN.{length, getD, length-append}
 use Rattle.cells.specs.Cells.{Cell}
 use Rattle.cells.specs.Drawings.{Drawing}
-use Rattle.cells.specs.Rows.{Row}
 use Rattle.stream.specs.declared.Words.{Words}
 use Rattle.stream.specs.Table.{wordsFrom, written}
 use Rattle.stream.specs.Grammar.{Env, accepts, Passed}
 use Rattle.stream.proofs.Table.{from-agree, written-nil, written-append, written-keeps, length-written}
-use Rattle.reading.specs.Words.{wordsOf}
-use Rattle.making.specs.Made.{wordsMade}
+use Rattle.making.proofs.Made.{made-length}
 use Rattle.children.specs.declared.Tally.{Tally}
-use Rattle.children.specs.Children.{tally, rowsOfChild, wordsOfChild, entriesOfChild, fourTallies, streamsTo, noTally}
-
-length-map : (x : List Row) → length (map wordsOf x) ≡ length x
-length-map [] = refl
-length-map (r ∷ x) = ap suc (length-map x)
+use Rattle.children.specs.Children.{tally, cellOfChild, rowsOfChild, wordsOfChild, entriesOfChild, fourTallies, streamsTo, noTally}
 
 pub length-child : (D : Drawing) (c : Cell) (ws : List Words) (q : ℕ) → length (wordsOfChild D c ws q) ≡ entriesOfChild D c ws q
-unfolding wordsMade
-length-child D c ws q = length-map (rowsOfChild D c ws q)
+length-child D c ws q = made-length D (cellOfChild D c ws q) ws
 
 -- the tally of child q
 tally-at : (D : Drawing) (c : Cell) (ws : List Words) (ts : List Tally) (q : ℕ) → q < 4 → ts ≡ fourTallies D c ws → getD ts q noTally ≡ tally (rowsOfChild D c ws q)

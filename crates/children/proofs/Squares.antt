@@ -1,10 +1,9 @@
 -- The square of a child is one that the making of its stream takes. Assumes nothing.
-use mathlib.Core.Path.{_≡_, refl, sym, ap, _∙_}
+use mathlib.Core.Path.{_≡_, sym, ap, _∙_}
 use mathlib.Core.Bool.{true}
-use Prim.Native.Nat.{ℕ, zero, suc, _*_, _^_, _/_, _≤_, _<_}
+use Prim.Native.Nat.{ℕ, _<_}
 use native.Mathlib.Omega.{arith}
-use native.Mathlib.Nat.{one-le-pow, pow-suc}
-use borrow.Author.Tests.{lt-leb}
+use native.Mathlib.Nat.{one-le-pow}
 use Rattle.geometry.specs.Reach.{SquareIn}
 use Rattle.geometry.specs.declared.class.Square.{Square}
 use Rattle.cells.specs.Cells.{Cell, cell, side, squareOf, child}
@@ -12,16 +11,8 @@ use Rattle.celltable.specs.declared.CellWords.{CellWords}
 use Rattle.celltable.specs.Ranges.{squareRange, cellOf}
 use Rattle.celltable.specs.Descent.{quarterAt}
 use Rattle.celltable.proofs.Grid.{Gridded, passes-gridded, child-gridded}
-use Rattle.making.specs.Made.{levelFrom, cellIn}
-
-level-from : (n k : ℕ) → k ≤ n → levelFrom n (2 ^ k) ≡ k
-level-from zero zero h = refl
-level-from zero (suc k) h = absurd (omega arith)
-level-from (suc n) zero h = refl
-level-from (suc n) (suc k) h =
-    let p : 2 ^ suc k ≡ 2 ^ k * 2 = pow-suc 2 k in
-    let q : 2 ^ suc k / 2 ≡ 2 ^ k = omega arith in
-    rw (lt-leb (2 ^ suc k) 1 (omega (arith, one-le-pow k 2 (omega arith))), q, level-from n k (omega arith))
+use Rattle.making.specs.Made.{cellIn}
+use Rattle.making.proofs.Made.{level-from}
 
 cell-back : (c : Cell) → Gridded c → cellIn (squareOf c) ≡ c
 unfolding cellIn
