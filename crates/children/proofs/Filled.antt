@@ -20,6 +20,11 @@ use Rattle.children.specs.Children.{tally, cellOfChild, rowsOfChild, wor
 pub length-child : (D : Drawing) (c : Cell) (ws : List Words) (q : ℕ) → length (wordsOfChild D c ws q) ≡ entriesOfChild D c ws q
 length-child D c ws q = made-length D (cellOfChild D c ws q) ws
 
+-- a child more is so many entries more
+pub streams-more : (D : Drawing) (c : Cell) (ws : List Words) (n : ℕ) → length (streamsTo D c ws (suc n)) ≡ length (streamsTo D c ws n) + entriesOfChild D c ws n
+unfolding streamsTo
+streams-more D c ws n = length-append (streamsTo D c ws n) (wordsOfChild D c ws n) ∙ ap (λ (k : ℕ). length (streamsTo D c ws n) + k) (length-child D c ws n)
+
 -- the tally of child q
 tally-at : (D : Drawing) (c : Cell) (ws : List Words) (ts : List Tally) (q : ℕ) → q < 4 → ts ≡ fourTallies D c ws → getD ts q noTally ≡ tally (rowsOfChild D c ws q)
 tally-at D c ws ts zero h e = rw e
@@ -55,10 +60,6 @@ module _ (v : Env) (D : Drawing) (c : Cell) (t₀ : List ℕ) (first count free 
       let e : n + suc m ≡ suc (n + m) = omega arith in
       rw (e, length-append (streamsTo D c ws (n + m)) (wordsOfChild D c ws (n + m))) (omega (arith, more n m))
 
-  one-more : (n : ℕ) → length (streamsTo D c ws (suc n)) ≡ length (streamsTo D c ws n) + entriesOfChild D c ws n
-  unfolding streamsTo
-  one-more n = length-append (streamsTo D c ws n) (wordsOfChild D c ws n) ∙ ap (λ (k : ℕ). length (streamsTo D c ws n) + k) (length-child D c ws n)
-
   module _ (q at : ℕ) (t : List ℕ) (f : Filled D c t₀ first count free q at t) where
     pub words-same : wordsFrom t first count ≡ ws
     words-same =
@@ -87,7 +88,7 @@ module _ (v : Env) (D : Drawing) (c : Cell) (t₀ : List ℕ) (first count free 
       made-is n e = e ∙ ap (λ (u : List Words). entriesOfChild D c u q) (sym words-same)
 
       pub child-room : (at + entriesOfChild D c ws q) * 4 ≤ length t
-      child-room = omega (arith, f .next, f .size, room, fits-four, one-more q)
+      child-room = omega (arith, f .next, f .size, room, fits-four, streams-more D c ws q)
 
       pub filled-turn : (t′ : List ℕ) → t′ ≡ written t at (wordsOfChild D c (wordsFrom t first count) q) → Filled D c t₀ first count free (q + 1) (at + entriesOfChild D c ws q) t′
       unfolding streamsTo
@@ -97,7 +98,7 @@ module _ (v : Env) (D : Drawing) (c : Cell) (t₀ : List ℕ) (first count free 
           (record {
             low = omega arith;
             size = ap length e₁ ∙ (length-written t at (wordsOfChild D c ws q) ∙ f .size);
-            next = omega (arith, f .next, one-more q);
+            next = omega (arith, f .next, streams-more D c ws q);
             table = e₁ ∙ (ap (λ (u : List ℕ). written u at (wordsOfChild D c ws q)) (f .table) ∙ (ap (λ (n : ℕ). written (written t₀ free (streamsTo D c ws q)) n (wordsOfChild D c ws q)) (f .next) ∙ written-append t₀ free (streamsTo D c ws q) (wordsOfChild D c ws q)));
           })
 

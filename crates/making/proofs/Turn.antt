@@ -58,8 +58,9 @@ before-most out b = omega (arith, total-append rowSize (take b out) (drop b out)
 base-most : (x : Pruning.State Row) → baseOf (weighed rowSize x) ≤ total rowSize (outOf x)
 base-most (st out b w fs) = before-most out b
 
-length-most : (x : Pruning.State Row) → lengthOf (weighed rowSize x) ≡ total rowSize (outOf x)
-length-most (st out b w fs) = refl
+-- the length of what is weighed is the weight of the rows
+pub length-is : (x : Pruning.State Row) → lengthOf (weighed rowSize x) ≡ total rowSize (outOf x)
+length-is (st out b w fs) = refl
 
 skip-most : (c : Count) → skipIn c ≤ opened c + 1
 skip-most (ct n b going fs) = omega arith
@@ -92,7 +93,7 @@ module _ (v : Env) (D : Drawing) (c : Cell) (R : Reads v D) (k : ℕ) (p : Prune
         arith,
         counted-length p,
         ap lengthOf (f .counts),
-        length-most (stateOf (s .rows)),
+        length-is (stateOf (s .rows)),
         total-most (outOf (stateOf (s .rows))),
         ap (λ (x : Declared.Waiting). x .size) (f .waits),
         waiting-most (waitingOf (s .rows)),

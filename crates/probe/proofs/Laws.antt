@@ -9,7 +9,7 @@ use native.Mathlib.Nat.{one-le-pow, pow-le-pow-right}
 use lib.Dec.{eqb, leb, ltb}
 use lib.ListN.{length}
 use borrow.Author.Tests.{leb-true, ltb-true, le-leb, lt-leb}
-use Rattle.laws.proofs.Booleans.{clash, and-left, and-right}
+use Rattle.laws.proofs.Booleans.{clash, and-left, and-right, and-true}
 use Rattle.geometry.specs.Reach.{PositionIn, SquareIn}
 use Rattle.geometry.specs.declared.class.Square.{Square}
 use Rattle.pruning.specs.Weights.{total}
@@ -43,10 +43,6 @@ position-in x y h =
 pub square-alone : (s : Square) → cellRange (leafOn s) 1 2 0 ≡ squareFits s
 unfolding cellRange squareFits
 square-alone s = and-true (squareRange (leafOn s))
-  where
-    and-true : (b : Bool) → (b && true) ≡ b
-    and-true true = refl
-    and-true false = refl
 
 module _ (s : Square) (h : squareFits s ≡ true) where
   abbrev corner : Bool
