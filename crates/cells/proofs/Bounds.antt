@@ -1,11 +1,10 @@
 -- How large start numbers get: in a cell's stream the magnitude of an area's start number, with its lines and shortcuts, is at most the number of the area's edges. Assumes nothing.
-use mathlib.Core.Path.{_≡_, refl, ap}
 use mathlib.Core.Bool.{Bool, true, false, cond}
 use mathlib.Core.List.{List, [], _∷_, map}
 use Prim.Native.Nat.{ℕ, suc, _+_, _≤_}
 use native.Mathlib.Omega.{arith}
 use lib.Dec.{ltb}
-use lib.ListN.{length, getD}
+use lib.ListN.{length, getD, length-map}
 use lib.IntN.{ℤ, pos, negsuc, _+ℤ_, natAbs}
 use Rattle.laws.proofs.Differences.{abs-add}
 use Rattle.geometry.specs.Edges.{sign}
@@ -59,10 +58,6 @@ module _ (xs ys : List ℕ) where
   start-bound c z [] s = omega arith
   start-bound c z (g ∷ gs) s = start-by c z g gs (classIn xs ys c g) (s .0) (λ y. start-bound c y gs (s .1))
 
-length-map : {A B : Type 0} (f : A → B) (l : List A) → length (map f l) ≡ length l
-length-map f [] = refl
-length-map f (a ∷ l) = ap suc (length-map f l)
-
 -- where no area has more than m edges, no start number of a made stream is beyond m, and no sign beyond 1
 pub made-small : (D : Drawing) (m : ℕ) → ((n : ℕ) → length (linesOf (getD (D .contours) n [])) ≤ m) → (c : Cell) → Each (Small D m) (flat paint (made D c (source D)))
 made-small D m h c =
@@ -74,4 +69,4 @@ made-small D m h c =
     small k n =
         let ls : List Line = linesOf (getD (D .contours) n []) in
         let s : SignsIn (D .xs) (D .ys) (map drawn ls) = signs-lines (D .xs) (D .ys) ls in
-        (omega (arith, start-bound (D .xs) (D .ys) c (pos 0) (map drawn ls) s, length-map {B = Segment} drawn ls, h n), signs-kept (D .xs) (D .ys) c (map drawn ls) s)
+        (omega (arith, start-bound (D .xs) (D .ys) c (pos 0) (map drawn ls) s, length-map {B = Segment} ls drawn, h n), signs-kept (D .xs) (D .ys) c (map drawn ls) s)

@@ -6,7 +6,7 @@ use native.Mathlib.Omega.{arith}
 use native.Mathlib.Nat.{one-le-pow, two-pow-succ, div-add-mod', div-lt-iff-lt-mul, mul-le-mul-right, mul-mod-left}
 use lib.Dec.{eqb, ltb}
 use borrow.Author.Tests.{eqb-true, eq-eqb, lt-ltb}
-use Rattle.laws.proofs.Booleans.{and-left, and-right, and-both}
+use Rattle.laws.proofs.Booleans.{and-left, and-right, and-both, and-true}
 use Rattle.cells.specs.Cells.{Cell, cell, left, low, level, side, root, Quarter, lowLow, highLow, lowHigh, highHigh, alongX, alongY, child}
 use Rattle.celltable.specs.declared.CellWords.{CellWords}
 use Rattle.celltable.specs.Ranges.{gridRange, squareRange, rootRange, numbersRange, cellRange, levelOf, cellOf}
@@ -140,10 +140,6 @@ gridded-range w c i used entries g r h = rw (gridded-passes w c g s, own (eqb i 
         let q : c ≡ root = r (eqb-true i 0 e) in
         rw (e, s .same-x ∙ ap left q, s .same-y ∙ ap low q, s .same-side ∙ ap side q)
     own false e = rw e
-
-    and-true : (a : Bool) → (a && true) ≡ a
-    and-true true = refl
-    and-true false = refl
 
 pub gridded-cell : (w : CellWords) (c : Cell) (i used entries : ℕ) → Gridded c → (i ≡ 0 → c ≡ root) → SaysCell w c → numbersRange w used entries ≡ true
     → cellRange w i used entries ≡ true

@@ -6,7 +6,7 @@ use mathlib.Core.List.{List}
 use native.Mathlib.Omega.{arith}
 use lib.Dec.{eqb}
 use borrow.Author.Tests.{eqb-true, eqb-false, eq-eqb, ne-eqb}
-use Rattle.cells.specs.Cells.{Position, at, OnGrid, Cell, cell, level, side, root, Holds, Quarter, lowLow, highLow, lowHigh, highHigh, child, quarterOf}
+use Rattle.cells.specs.Cells.{Position, at, OnGrid, Cell, cell, level, root, Holds, Quarter, lowLow, highLow, lowHigh, highHigh, child, quarterOf}
 use Rattle.cells.proofs.Cells.{root-holds, child-holds}
 use Rattle.celltable.specs.declared.CellWords.{CellWords}
 use Rattle.celltable.specs.declared.Leaf.{Leaf}
@@ -51,7 +51,7 @@ few-places highLow = omega arith
 few-places lowHigh = omega arith
 few-places highHigh = omega arith
 
-broken-not : {A : Type 0} (l : Leaf) → Broken ≡ At l → A
+pub broken-not : {A : Type 0} (l : Leaf) → Broken ≡ At l → A
 broken-not l e = absurd (let z : _≡_ {A = ℕ} 0 1 = cc in omega arith)
 
 module _ (t : List ℕ) (used entries : ℕ) (p : Position) (l : Leaf) where

@@ -6,6 +6,7 @@ use native.Mathlib.Omega.{arith}
 use native.Mathlib.Nat.{zero-add, one-le-pow, pow-le-pow-right, two-pow-succ, div-add-mod', mul-mod-left}
 use lib.Dec.{eqb}
 use borrow.Author.Tests.{eqb-true, eqb-false, eq-eqb, ne-eqb}
+use Rattle.laws.proofs.Booleans.{or-right}
 use Rattle.celltable.specs.Ranges.{powerUpTo, sideRange, levelUpTo, levelOf}
 
 -- ---- the level of a side
@@ -27,10 +28,6 @@ level-most (suc n) s = go (eqb s (2 ^ suc n)) (level-most n s)
     go : (b : Bool) → levelUpTo n s ≤ n → cond b (suc n) (levelUpTo n s) ≤ suc n
     go true h = omega arith
     go false h = omega arith
-
-or-true : (a b : Bool) → b ≡ true → (a || b) ≡ true
-or-true true b h = refl
-or-true false b h = h
 
 pow-more : (k n : ℕ) → k ≤ n → 2 ^ k < 2 ^ suc n
 pow-more k n h = omega (arith, pow-le-pow-right {n = 2} (omega arith) {i = k} {j = n} h, two-pow-succ n, one-le-pow n 2 (omega arith))
@@ -67,7 +64,7 @@ power-of (suc n) k h = go (eqb k (suc n)) refl (λ q. power-of n k q)
 
     go : (b : Bool) → eqb k (suc n) ≡ b → (k ≤ n → powerUpTo n (2 ^ k) ≡ true) → (eqb (2 ^ k) (2 ^ suc n) || powerUpTo n (2 ^ k)) ≡ true
     go true e f = rw (eq-eqb (2 ^ k) (2 ^ suc n) (ap (λ (m : ℕ). 2 ^ m) (eqb-true k (suc n) e)))
-    go false e f = or-true (eqb (2 ^ k) (2 ^ suc n)) (powerUpTo n (2 ^ k)) (f (below (eqb-false k (suc n) e)))
+    go false e f = or-right (eqb (2 ^ k) (2 ^ suc n)) (powerUpTo n (2 ^ k)) (f (below (eqb-false k (suc n) e)))
 
 -- ---- what divides a power of two
 
@@ -129,7 +126,7 @@ divisor (suc n) s q e = go (eqb (s % 2) 0) (eqb (q % 2) 0) refl refl (λ r h. di
         let h : s ≡ s / 2 + s / 2 = even s (eqb-true (s % 2) 0 f) in
         ap (λ (m : ℕ). powerUpTo (suc n) m) h ∙ power-double n (s / 2) (l (s / 2) (left-half (s / 2) q (2 ^ n) s h doubled))
     go false true f g l r =
-        or-true (eqb s (2 ^ suc n)) (powerUpTo n s) (r (q / 2) (right-half s (q / 2) (2 ^ n) q (even q (eqb-true (q % 2) 0 g)) doubled))
+        or-right (eqb s (2 ^ suc n)) (powerUpTo n s) (r (q / 2) (right-half s (q / 2) (2 ^ n) q (even q (eqb-true (q % 2) 0 g)) doubled))
     go false false f g l r = absurd (both-odd (s / 2) (q / 2) (2 ^ n) s q (odd s (eqb-false (s % 2) 0 f)) (odd q (eqb-false (q % 2) 0 g)) doubled)
 
 -- the test of the code: a side divides 65,536

@@ -8,7 +8,7 @@ use native.Mathlib.Nat.{one-le-pow, pow-le-pow-right}
 use lib.Dec.{eqb, ltb, leb}
 use lib.ListN.{length, getD}
 use borrow.Author.Tests.{eqb-true, eqb-false, ltb-true, leb-true, eq-eqb, le-leb, lt-ltb}
-use Rattle.laws.proofs.Booleans.{and-left, and-right, and-both, clash}
+use Rattle.laws.proofs.Booleans.{and-left, and-right, and-both, cond-left, cond-right}
 use Rattle.celltable.proofs.Powers.{level-is, level-most}
 use Rattle.geometry.specs.Reach.{SquareIn}
 use Rattle.cells.specs.Cells.{level, squareOf}
@@ -31,14 +31,6 @@ side-some s h = rw (level-is 16 s h) at (one-le-pow (levelOf s) 2 (omega arith))
 
 side-most : (s : ℕ) → sideRange s ≡ true → s ≤ 65536
 side-most s h = rw (level-is 16 s h) at (pow-le-pow-right {n = 2} (omega arith) {i = levelOf s} {j = 16} (level-most 16 s))
-
-cond-left : (a b : Bool) → cond a b false ≡ true → a ≡ true
-cond-left true b h = refl
-cond-left false b h = h
-
-cond-right : (a b : Bool) → cond a b false ≡ true → b ≡ true
-cond-right true b h = h
-cond-right false b h = clash h
 
 module _ (w : CellWords) (h : squareRange w ≡ true) where
   abbrev inX : Bool

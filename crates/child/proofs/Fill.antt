@@ -1,7 +1,7 @@
 -- The loop that writes a child's stream to the free end of the table that holds its parent's. Assumes nothing.
 use mathlib.Core.Path.{_≡_, refl, sym, ap, subst, _∙_}
-use mathlib.Core.List.{List, [], _∷_, _++_, map}
-use Prim.Native.Nat.{ℕ, suc, _+_, _*_, _-_, _≤_, _<_}
+use mathlib.Core.List.{List, [], _∷_, _++_}
+use Prim.Native.Nat.{ℕ, _+_, _*_, _-_, _≤_, _<_}
 use native.Mathlib.Omega.{arith}
 use lib.ListN.{length, take, drop, length-drop}
 use lib.IntN.{ℤ}
@@ -12,17 +12,16 @@ use Rattle.pruning.specs.Pruner.{going}
 use Rattle.pruning.specs.Counters.{ct}
 use Rattle.cells.specs.Cells.{Cell, squareOf}
 use Rattle.cells.specs.Drawings.{Drawing}
-use Rattle.cells.specs.Rows.{Row}
 use Rattle.cells.specs.Making.{Making, begun}
 use Rattle.stream.specs.declared.Words.{Words}
 use Rattle.stream.specs.Table.{wordsAt, wordsFrom, flat, written}
 use Rattle.stream.specs.Grammar.{Env, Passed}
 use Rattle.stream.proofs.Table.{words-step, words-none, at-agree}
 use Rattle.pruner.specs.Numbers.{counted}
-use Rattle.reading.specs.Words.{wordsOf}
 use Rattle.making.specs.declared.Maker.{Maker}
 use Rattle.making.specs.Made.{rowsMade, wordsMade}
 use Rattle.making.specs.Numbers.{resting, leftSign, leftClass, waitingN, prunedN}
+use Rattle.making.proofs.Made.{made-length}
 use Rattle.making.proofs.Standing.{Reads}
 use Rattle.making.proofs.Whole.{allOf, standing-start}
 use Rattle.writing.specs.Numbers.{settledPut, onePut}
@@ -105,13 +104,8 @@ module _ (v : Env) (D : Drawing) (c : Cell) (R : Reads v D) (t₀ : List ℕ) (f
 
     -- where no entry is left
     module _ (h : first + count ≤ i) (exact : limit ≡ length (rowsMade D c (wordsFrom t₀ first count))) where
-      length-map : (x : List Row) → length (map wordsOf x) ≡ length x
-      length-map [] = refl
-      length-map (r ∷ x) = ap suc (length-map x)
-
       length-made : length (wordsMade D c (wordsFrom t₀ first count)) ≡ limit
-      unfolding wordsMade
-      length-made = length-map (rowsMade D c (wordsFrom t₀ first count)) ∙ sym exact
+      length-made = made-length D c (wordsFrom t₀ first count) ∙ sym exact
 
       pub fill-end : (s : List ℕ) → s ≡ settledPut limit (v .areas) (take (length t - free * 4) (drop (free * 4) t)) m
           → putMid (free * 4) (length t - free * 4) t s ≡ written t₀ free (wordsMade D c (wordsFrom t₀ first count))

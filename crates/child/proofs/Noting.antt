@@ -1,5 +1,5 @@
 -- The loop over a parent's stream with the start numbers. Assumes nothing.
-use mathlib.Core.Path.{_≡_, refl, sym, ap, ap₂, subst, _∙_}
+use mathlib.Core.Path.{_≡_, sym, ap, ap₂, subst, _∙_}
 use mathlib.Core.List.{List, [], _∷_}
 use Prim.Native.Nat.{ℕ, _+_, _-_, _≤_, _<_}
 use native.Mathlib.Omega.{arith}
@@ -8,11 +8,10 @@ use lib.ListN.{length}
 use lib.IntN.{ℤ}
 use Rattle.geometry.specs.declared.class.Class.{Class}
 use Rattle.geometry.specs.declared.class.Square.{Square}
-use Rattle.pruning.specs.Pruner as Pruning
-use Rattle.pruning.specs.Pruner.{st, going}
+use Rattle.pruning.specs.Pruner.{going}
 use Rattle.pruning.specs.Counters.{ct, lengthOf}
 use Rattle.pruning.specs.Effects.{outOf}
-use Rattle.pruning.specs.Weights.{total, weighed}
+use Rattle.pruning.specs.Weights.{total}
 use Rattle.cells.specs.Cells.{Cell, squareOf}
 use Rattle.cells.specs.Drawings.{Drawing}
 use Rattle.cells.specs.Rows.{Row}
@@ -31,7 +30,7 @@ use Rattle.making.specs.Made.{rowsMade}
 use Rattle.making.specs.Numbers.{resting, leftSign, leftClass, waitingN, prunedN}
 use Rattle.making.proofs.Follows.{stateOf, waitingOf, waitingFor, settle-short}
 use Rattle.making.proofs.Standing.{Reads, Standing}
-use Rattle.making.proofs.Turn.{standing-rows}
+use Rattle.making.proofs.Turn.{standing-rows, length-is}
 use Rattle.making.proofs.Whole.{allOf, standing-start, rows-all}
 use Rattle.child.specs.Starts.{startsOf, startsIn}
 use Rattle.child.specs.Numbers.{starts, areasIn, putStart, firstOf}
@@ -43,9 +42,6 @@ use Rattle.child.proofs.Clear.{first-filled}
 pub record Noting (v : Env) (D : Drawing) (c : Cell) (k : ℕ) (mk : Maker) (ws : List Words) (whole : Making) (zs : List ℤ) : Type 0 where
   pub standing : Standing v D c k (mk .pruner) (mk .waiting) ws whole
   pub stands : Stands zs (startsOf (outOf (stateOf (standing .rows))))
-
-length-is : (x : Pruning.State Row) → lengthOf (weighed rowSize x) ≡ total rowSize (outOf x)
-length-is (st out b w fs) = refl
 
 -- the start number of the area that waits, behind them
 noted-stands : (v : Env) (D : Drawing) (c : Cell) (k : ℕ) (mk : Maker) (ws : List Words) (whole : Making) (zs : List ℤ) → k ≤ 4096 → length zs ≡ 64 → (s : Noting v D c k mk ws whole zs)

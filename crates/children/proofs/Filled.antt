@@ -1,7 +1,7 @@
 -- The loop that writes the streams of the four children. Assumes nothing.
 use mathlib.Core.Path.{_≡_, refl, sym, ap, subst, _∙_}
 use mathlib.Core.Bool as Bool
-use mathlib.Core.List.{List, [], _∷_, map}
+use mathlib.Core.List.{List}
 use Prim.Native.Nat.{ℕ, zero, suc, _+_, _*_, _-_, _≤_, _<_}
 use native.Mathlib.Omega.{arith}
 use native.Mathlib.Nat.{add-zero, le-refl}
@@ -9,23 +9,21 @@ use native.Mathlib.Numerals.{add-one}
 use lib.ListN.{length, getD, length-append}
 use Rattle.cells.specs.Cells.{Cell}
 use Rattle.cells.specs.Drawings.{Drawing}
-use Rattle.cells.specs.Rows.{Row}
 use Rattle.stream.specs.declared.Words.{Words}
 use Rattle.stream.specs.Table.{wordsFrom, written}
 use Rattle.stream.specs.Grammar.{Env, accepts, Passed}
 use Rattle.stream.proofs.Table.{from-agree, written-nil, written-append, written-keeps, length-written}
-use Rattle.reading.specs.Words.{wordsOf}
-use Rattle.making.specs.Made.{wordsMade}
+use Rattle.making.proofs.Made.{made-length}
 use Rattle.children.specs.declared.Tally.{Tally}
-use Rattle.children.specs.Children.{tally, rowsOfChild, wordsOfChild, entriesOfChild, fourTallies, streamsTo, noTally}
-
-length-map : (x : List Row) → length (map wordsOf x) ≡ length x
-length-map [] = refl
-length-map (r ∷ x) = ap suc (length-map x)
+use Rattle.children.specs.Children.{tally, cellOfChild, rowsOfChild, wordsOfChild, entriesOfChild, fourTallies, streamsTo, noTally}
 
 pub length-child : (D : Drawing) (c : Cell) (ws : List Words) (q : ℕ) → length (wordsOfChild D c ws q) ≡ entriesOfChild D c ws q
-unfolding wordsMade
-length-child D c ws q = length-map (rowsOfChild D c ws q)
+length-child D c ws q = made-length D (cellOfChild D c ws q) ws
+
+-- a child more is so many entries more
+pub streams-more : (D : Drawing) (c : Cell) (ws : List Words) (n : ℕ) → length (streamsTo D c ws (suc n)) ≡ length (streamsTo D c ws n) + entriesOfChild D c ws n
+unfolding streamsTo
+streams-more D c ws n = length-append (streamsTo D c ws n) (wordsOfChild D c ws n) ∙ ap (λ (k : ℕ). length (streamsTo D c ws n) + k) (length-child D c ws n)
 
 -- the tally of child q
 tally-at : (D : Drawing) (c : Cell) (ws : List Words) (ts : List Tally) (q : ℕ) → q < 4 → ts ≡ fourTallies D c ws → getD ts q noTally ≡ tally (rowsOfChild D c ws q)
@@ -62,10 +60,6 @@ module _ (v : Env) (D : Drawing) (c : Cell) (t₀ : List ℕ) (first count free 
       let e : n + suc m ≡ suc (n + m) = omega arith in
       rw (e, length-append (streamsTo D c ws (n + m)) (wordsOfChild D c ws (n + m))) (omega (arith, more n m))
 
-  one-more : (n : ℕ) → length (streamsTo D c ws (suc n)) ≡ length (streamsTo D c ws n) + entriesOfChild D c ws n
-  unfolding streamsTo
-  one-more n = length-append (streamsTo D c ws n) (wordsOfChild D c ws n) ∙ ap (λ (k : ℕ). length (streamsTo D c ws n) + k) (length-child D c ws n)
-
   module _ (q at : ℕ) (t : List ℕ) (f : Filled D c t₀ first count free q at t) where
     pub words-same : wordsFrom t first count ≡ ws
     words-same =
@@ -94,7 +88,7 @@ module _ (v : Env) (D : Drawing) (c : Cell) (t₀ : List ℕ) (first count free 
       made-is n e = e ∙ ap (λ (u : List Words). entriesOfChild D c u q) (sym words-same)
 
       pub child-room : (at + entriesOfChild D c ws q) * 4 ≤ length t
-      child-room = omega (arith, f .next, f .size, room, fits-four, one-more q)
+      child-room = omega (arith, f .next, f .size, room, fits-four, streams-more D c ws q)
 
       pub filled-turn : (t′ : List ℕ) → t′ ≡ written t at (wordsOfChild D c (wordsFrom t first count) q) → Filled D c t₀ first count free (q + 1) (at + entriesOfChild D c ws q) t′
       unfolding streamsTo
@@ -104,7 +98,7 @@ module _ (v : Env) (D : Drawing) (c : Cell) (t₀ : List ℕ) (first count free 
           (record {
             low = omega arith;
             size = ap length e₁ ∙ (length-written t at (wordsOfChild D c ws q) ∙ f .size);
-            next = omega (arith, f .next, one-more q);
+            next = omega (arith, f .next, streams-more D c ws q);
             table = e₁ ∙ (ap (λ (u : List ℕ). written u at (wordsOfChild D c ws q)) (f .table) ∙ (ap (λ (n : ℕ). written (written t₀ free (streamsTo D c ws q)) n (wordsOfChild D c ws q)) (f .next) ∙ written-append t₀ free (streamsTo D c ws q) (wordsOfChild D c ws q)));
           })
 

@@ -1,34 +1,22 @@
 -- The square of a child is one that the making of its stream takes. Assumes nothing.
-use mathlib.Core.Path.{_≡_, refl, sym, ap, _∙_}
+use mathlib.Core.Path.{_≡_, sym, ap, _∙_}
 use mathlib.Core.Bool.{true}
-use Prim.Native.Nat.{ℕ, zero, suc, _*_, _^_, _/_, _≤_, _<_}
+use Prim.Native.Nat.{ℕ}
 use native.Mathlib.Omega.{arith}
-use native.Mathlib.Nat.{one-le-pow, pow-suc}
-use borrow.Author.Tests.{lt-leb}
 use Rattle.geometry.specs.Reach.{SquareIn}
 use Rattle.geometry.specs.declared.class.Square.{Square}
-use Rattle.cells.specs.Cells.{Cell, cell, side, squareOf, child}
+use Rattle.cells.specs.Cells.{Cell, cell, squareOf, child}
+use Rattle.cells.proofs.Cells.{some-side}
 use Rattle.celltable.specs.declared.CellWords.{CellWords}
 use Rattle.celltable.specs.Ranges.{squareRange, cellOf}
 use Rattle.celltable.specs.Descent.{quarterAt}
 use Rattle.celltable.proofs.Grid.{Gridded, passes-gridded, child-gridded}
-use Rattle.making.specs.Made.{levelFrom, cellIn}
-
-level-from : (n k : ℕ) → k ≤ n → levelFrom n (2 ^ k) ≡ k
-level-from zero zero h = refl
-level-from zero (suc k) h = absurd (omega arith)
-level-from (suc n) zero h = refl
-level-from (suc n) (suc k) h =
-    let p : 2 ^ suc k ≡ 2 ^ k * 2 = pow-suc 2 k in
-    let q : 2 ^ suc k / 2 ≡ 2 ^ k = omega arith in
-    rw (lt-leb (2 ^ suc k) 1 (omega (arith, one-le-pow k 2 (omega arith))), q, level-from n k (omega arith))
+use Rattle.making.specs.Made.{cellIn}
+use Rattle.making.proofs.Made.{level-from}
 
 cell-back : (c : Cell) → Gridded c → cellIn (squareOf c) ≡ c
 unfolding cellIn
 cell-back (cell x y k) g = ap (cell x y) (level-from 16 k (g .few))
-
-side-some : (c : Cell) → 0 < side c
-side-some (cell x y k) = one-le-pow k 2 (omega arith)
 
 module _ (w : CellWords) (h : squareRange w ≡ true) (q : ℕ) where
   kid : Gridded (child (cellOf w) (quarterAt q))
@@ -40,7 +28,7 @@ module _ (w : CellWords) (h : squareRange w ≡ true) (q : ℕ) where
   -- of a square that is the child's
   module _ (s : Square) (e : s ≡ squareOf (child (cellOf w) (quarterAt q))) where
     pub kid-square : SquareIn s
-    kid-square = rw e (record { some-side = side-some (child (cellOf w) (quarterAt q)); right = omega (arith, kid .east); top = omega (arith, kid .north) })
+    kid-square = rw e (record { some-side = some-side (child (cellOf w) (quarterAt q)); right = omega (arith, kid .east); top = omega (arith, kid .north) })
 
     pub kid-in : cellIn s ≡ child (cellOf w) (quarterAt q)
     kid-in = ap cellIn e ∙ kid-cell

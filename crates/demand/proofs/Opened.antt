@@ -24,7 +24,8 @@ use Rattle.celltable.proofs.Grid.{SaysCell}
 use Rattle.opening.specs.Opened.{rowsOpened, wordsOpened}
 use Rattle.tree.specs.Tables.{Tree, cellsUsed, entriesUsed, countsIn}
 use Rattle.tree.specs.Split.{words, stream}
-use Rattle.splits.proofs.Counts.{used-is, head-fits, counts-of}
+use Rattle.tree.proofs.Heads.{used-is}
+use Rattle.splits.proofs.Counts.{head-fits, counts-of}
 use Rattle.newtree.specs.declared.Answer.{Answer}
 use Rattle.newtree.specs.declared.Answer.the-variants.{Opened}
 use Rattle.newtree.specs.Open.{rootWords, drawingTables, streamOpened, openAnswer}

@@ -14,11 +14,12 @@ use Rattle.celltable.specs.Descent.{placeOf, quarterAt}
 use Rattle.celltable.proofs.Grid.{SaysCell}
 use Rattle.making.specs.Made.{wordsMade}
 use Rattle.children.specs.Children.{wordsWith, entriesOfChild, streamsTo}
+use Rattle.children.proofs.Filled.{streams-more}
 use Rattle.tree.specs.declared.Answer.the-variants.{Split}
 use Rattle.tree.specs.Tables.{Tree, cellsUsed, entriesUsed, boundsOf}
 use Rattle.tree.specs.Split.{words, drawing, stream, splitAnswer}
 use Rattle.splits.specs.After.{splitTree}
-use Rattle.splits.proofs.Rows.{streams-more, streams-up}
+use Rattle.splits.proofs.Rows.{streams-up}
 use Rattle.splits.proofs.Trees.{tree-used, tree-free, tree-counts, tree-keeps-cell, tree-cell, tree-child, tree-stream, tree-child-stream}
 use Rattle.opening.specs.Opened.{drawingIn}
 use Rattle.newtree.specs.Open.{drawingTables}

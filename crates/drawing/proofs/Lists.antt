@@ -1,7 +1,7 @@
 -- Lists of records in a file and in tables: what is written is read, and what is read is there.
 use Prim.Native.Nat.{ℕ, zero, suc, _+_, _*_, _≤_, _<_}
 use mathlib.Core.Path.{_≡_, refl, sym, ap, subst}
-use mathlib.Core.Bool.{Bool, true, _&&_}
+use mathlib.Core.Bool.{true}
 use mathlib.Core.List.{List, [], _∷_, map}
 use native.Mathlib.Omega.{arith}
 use lib.ListN.{length, getD}
@@ -11,7 +11,7 @@ use Rattle.records.specs.declared.Decoded.{Decoded}
 use Rattle.records.specs.declared.Decoded.the-variants.{Good}
 use Rattle.records.specs.Record.{inRange, kindOf}
 use Rattle.records.specs.Bytes.{rawAt, decodedRaw, bytesOf}
-use Rattle.laws.proofs.Booleans.{and-left, and-right}
+use Rattle.laws.proofs.Booleans.{and-left, and-right, and-both}
 use Rattle.records.proofs.Laws.{told}
 use Rattle.grammar.specs.declared.Counts.{Counts}
 use Rattle.grammar.specs.Lists.{goods, areaOne, cornerOne, areasIn, cornersIn}
@@ -25,9 +25,6 @@ use Rattle.drawing.proofs.Rowlaws.{byte-read, byte-told, row-read, row-
 pub goods-map : (rs : List Record) → goods (map Good rs) ≡ rs
 goods-map [] = refl
 goods-map (r ∷ rs) = ap (λ (l : List Record). r ∷ l) (goods-map rs)
-
-range-join : (a b : Bool) → a ≡ true → b ≡ true → a && b ≡ true
-range-join a b p q = rw (p, q)
 
 head-is : (d e : Decoded) (ds es : List Decoded) → d ∷ ds ≡ e ∷ es → d ≡ e
 head-is d e ds es h = cc
@@ -65,7 +62,7 @@ file-range b i zero [] e = refl
 file-range b i zero (r ∷ rs) e = not-nil (Good r) (map Good rs) e
 file-range b i (suc n) [] e = refl
 file-range b i (suc n) (r ∷ rs) e =
-    range-join (inRange r) (allRange rs) (told (rawAt b i) r (head-is (decodedRaw (rawAt b i)) (Good r) (decodedFrom b (i + 1) n) (map Good rs) e) .range)
+    and-both (inRange r) (allRange rs) (told (rawAt b i) r (head-is (decodedRaw (rawAt b i)) (Good r) (decodedFrom b (i + 1) n) (map Good rs) e) .range)
     (file-range b (i + 1) n rs (tail-is (decodedRaw (rawAt b i)) (Good r) (decodedFrom b (i + 1) n) (map Good rs) e))
 
 -- ---- tables
@@ -155,7 +152,7 @@ told-more t u i c r rs w l la lc k h =
             xs = has-join (t .xs) (c .corner) (xW r) (spread xW rs) (record { room = x-room r (c .corner) (u .corners) _ (k .many lc) (w .xs); same = k .xs }) (has-at (t .xs) _ _ (spread xW rs) (sym (x-long r (c .corner))) (h .there .xs));
             ys = has-join (t .ys) (c .corner) (yW r) (spread yW rs) (record { room = y-room r (c .corner) (u .corners) _ (k .many lc) (w .ys); same = k .ys }) (has-at (t .ys) _ _ (spread yW rs) (sym (y-long r (c .corner))) (h .there .ys));
           };
-      range = range-join (inRange r) (allRange rs) (k .range) (h .range);
+      range = and-both (inRange r) (allRange rs) (k .range) (h .range);
     }
 
 pub tables-told : (t : Tables) (u : Counts) (i : ℕ) (c : Cursor) (n : ℕ) (rs : List Record) → Wide t u → i + n ≤ u .records → c .area ≤ u .areas → c .corner ≤ u .corners → rebuilt t u i c n ≡ map Good rs → TablesTold t u i c rs

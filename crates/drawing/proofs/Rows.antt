@@ -10,7 +10,6 @@ use lib.Seq.{sets, length-sets}
 use lib.Dec.{eqb, leb}
 use borrow.Author.Tests.{leb-true, eqb-true}
 use Rattle.records.specs.declared.Raw.{Raw}
-use Rattle.refusals.specs.declared.Refusal.{Refusal}
 use Rattle.refusals.specs.declared.Refusal.the-variants.{Argument, Broken}
 use Rattle.records.specs.declared.Record.{Record}
 use Rattle.records.specs.declared.Record.the-variants.{Area, First, Next, Open, Bar, Close}
@@ -25,7 +24,7 @@ use Rattle.grammar.specs.declared.Verdict.the-variants.{Accepted, Refused}
 use Rattle.grammar.specs.Grammar.{checked}
 use Rattle.grammar.specs.Machine.{advanceN, startN, scanN, isStopped}
 use Rattle.grammar.specs.Lists.{goods, areaOne, cornerOne}
-use Rattle.grammar.proofs.Laws.{sound, stopped-stays}
+use Rattle.grammar.proofs.Laws.{sound, stopped-stays, refused-not}
 use Rattle.drawing.specs.declared.Cursor.{Cursor}
 use Rattle.reader.specs.Words.{spread, onGood, fileOf}
 use Rattle.reader.specs.Reading.{holds}
@@ -148,9 +147,6 @@ pub bytes-table : (t t′ : List ℕ) (at : ℕ) (d : Decoded) (r : Record) (w :
 bytes-table t t′ at d r w q e h = rw q (h ∙ put-is t at w ∙ ap (λ (v : Raw). sets t at (rawBytes v)) e)
 
 -- ---- what a drawing that passes has
-refused-not : {A : Type 0} (x : Refusal) (i : ℕ) (k : Counts) → Refused x i ≡ Accepted k → A
-refused-not x i k e = absurd (let z : _≡_ {A = ℕ} 0 1 = cc in omega arith)
-
 pub record Drawn (t : Tables) (k : Counts) : Type 0 where
   pub used : k ≡ usedOf (t .plan)
   pub same : length (t .xs) ≡ length (t .ys)

@@ -8,7 +8,6 @@ use lib.ListN.{length, getD, drop, length-map}
 use lib.Seq.{sets, sets-eq, length-sets, drop-length}
 use lib.Dec.{eqb}
 use borrow.Author.Tests.{eq-eqb, le-leb, eqb-true}
-use Rattle.refusals.specs.declared.Refusal.{Refusal}
 use Rattle.refusals.specs.declared.Refusal.the-variants.{Argument, Room}
 use Rattle.records.specs.declared.Fields.{Fields}
 use Rattle.records.specs.declared.Record.{Record}
@@ -20,7 +19,7 @@ use Rattle.grammar.specs.declared.Verdict.{Verdict}
 use Rattle.grammar.specs.declared.Verdict.the-variants.{Accepted, Refused}
 use Rattle.grammar.specs.Grammar.{checked, counts}
 use Rattle.grammar.specs.Lists.{goods, areasIn, cornersIn}
-use Rattle.grammar.proofs.Laws.{sound}
+use Rattle.grammar.proofs.Laws.{sound, refused-not}
 use Rattle.reader.specs.Words.{spread, planWords, areaWords, xWords, yWords, fileOf, Has, allRange}
 use Rattle.reader.specs.Reading.{decodedFrom, decodedIn, recordsIn, verdictOf, holds, ifRoom, readAnswer, leftBy}
 use Rattle.drawing.specs.Tables.{Tables, tables, cursor, rebuilt, usedOf, rebuiltIn, drawnIn, agreed, countsJudged, drawingOf, writtenOf, writeAnswer}
@@ -149,9 +148,6 @@ passes-holding t k e =
     )
 
 -- ---- reading, then writing
-refused-not : {A : Type 0} (x : Refusal) (i : ℕ) (k : Counts) → Refused x i ≡ Accepted k → A
-refused-not x i k e = absurd (let z : _≡_ {A = ℕ} 0 1 = cc in omega arith)
-
 pub record Taken (b p a x y : List ℕ) (k : Counts) : Type 0 where
   pub pair : length x ≡ length y
   pub verdict : verdictOf b ≡ Accepted k

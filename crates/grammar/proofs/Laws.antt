@@ -32,7 +32,7 @@ pub record Ran (p q : Progress) (ds : List Decoded) : Type 0 where
 halted : {A : Type 0} (x : Refusal) (i : ℕ) (q : Progress) → stopped x i ≡ at q → A
 halted x i q e = absurd (let z : _≡_ {A = ℕ} 0 1 = cc in omega arith)
 
-stays : (x : Refusal) (j i : ℕ) (ds : List Decoded) → course (stopped x j) i ds ≡ stopped x j
+pub stays : (x : Refusal) (j i : ℕ) (ds : List Decoded) → course (stopped x j) i ds ≡ stopped x j
 unfolding course
 stays x j i [] = refl
 stays x j i (d ∷ ds) = stays x j (i + 1) ds
@@ -93,7 +93,7 @@ pub record Sound (ds : List Decoded) (k : Counts) : Type 0 where
   pub few : k .areas ≤ 64
   pub many : k .corners ≤ 2048
 
-refused-not : {A : Type 0} (x : Refusal) (i : ℕ) (k : Counts) → Refused x i ≡ Accepted k → A
+pub refused-not : {A : Type 0} (x : Refusal) (i : ℕ) (k : Counts) → Refused x i ≡ Accepted k → A
 refused-not x i k e = absurd (let z : _≡_ {A = ℕ} 0 1 = cc in omega arith)
 
 same-counts : (j k : Counts) → Accepted j ≡ Accepted k → j ≡ k

@@ -17,7 +17,7 @@ digit-small paintRight = omega arith
 digit-small clipLeft = omega arith
 digit-small clipRight = omega arith
 
-num-pos : (fs : List Frame) → 1 ≤ num fs
+pub num-pos : (fs : List Frame) → 1 ≤ num fs
 num-pos [] = omega arith
 num-pos (f ∷ fs) = omega (arith, num-pos fs)
 

@@ -12,10 +12,10 @@ use Rattle.tree.specs.declared.Answer as Splitting
 use Rattle.tree.specs.declared.Answer.the-variants as split
 use Rattle.tree.specs.Tables.{Tree, cellsUsed, entriesUsed, countsIn}
 use Rattle.tree.specs.Split.{splitAnswer}
+use Rattle.tree.proofs.Heads.{used-is}
 use Rattle.splits.specs.After.{splitTree}
-use Rattle.splits.proofs.Counts.{used-is, counts-long}
+use Rattle.splits.proofs.Counts.{counts-long}
 use Rattle.splits.proofs.Trees.{tree-refused, tree-xs, tree-ys, tree-used, tree-length-head, tree-length-cells, tree-length-entries, tree-counts}
-use Rattle.growth.specs.declared.Answer.{Answer}
 use Rattle.growth.specs.declared.Answer.the-variants.{Done, Full, Not}
 use Rattle.growth.specs.declared.Tried.{Tried}
 use Rattle.growth.specs.declared.Tried.the-variants.{Bad, Past, Wanted}

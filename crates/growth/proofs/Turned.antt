@@ -5,6 +5,7 @@ use mathlib.Core.List.{List}
 use Prim.Native.Nat.{ℕ, _+_, _≤_, _<_}
 use native.Mathlib.Omega.{arith}
 use lib.ListN.{length, length-set}
+use Rattle.laws.proofs.Booleans.{cond-left}
 use Rattle.refusals.specs.declared.Refusal.{Refusal}
 use Rattle.stream.specs.declared.Bounds.{Bounds}
 use Rattle.stream.specs.declared.Words.{Words}
@@ -18,7 +19,6 @@ use Rattle.tree.specs.declared.Answer.the-variants as split
 use Rattle.tree.specs.Tables.{Tree, tree, cellsUsed, entriesUsed, boundsOf, countsIn}
 use Rattle.tree.specs.Split.{words, roomAnswer, madeBy, headBy, cellsOf, entriesBy, splitAnswer, headAfter, cellsAfter, entriesAfter}
 use Rattle.splits.specs.After.{Splittable, splitTree}
-use Rattle.splits.proofs.Counts.{cond-left}
 use Rattle.splits.proofs.Accepted.{able-answer, able-square, able-entries, able-stream}
 use Rattle.growth.specs.declared.Tried.{Tried}
 use Rattle.growth.specs.declared.Tried.the-variants.{Bad, Past, Wanted}

@@ -10,7 +10,7 @@ ghost use Rattle.stream.specs.Table.{wordsFrom};
 ghost use Rattle.stream.specs.Grammar.{env, Passed};
 ghost use Rattle.celltable.specs.Ranges.{sideRange, squareRange};
 ghost use Rattle.ranges.specs.Held.{lent};
-ghost use Rattle.tree.specs.Tables.{tree, cellsUsed, entriesUsed, boundsOf, countsIn};
+ghost use Rattle.tree.specs.Tables.{tree, cellsUsed, entriesUsed, countsIn};
 ghost use Rattle.tree.specs.Split.{roomAnswer, madeBy, headBy, cellsOf, entriesBy};
 ghost use Rattle.growth.specs.Grow.{depthAt, isWanted, triedLeaf, triedCell, tried, grown, answerOf, growAnswer, growTree};
 ghost use Rattle.growth.specs.Numbers.{pastN, splitN, byRoom, turnBy, treeBy};
@@ -151,19 +151,6 @@ fn split_past(s: Sweep, head: &[u32]) -> Sweep
     }
 }
 
-// The areas and corners in use, and the rows of a cell.
-fn bounds_of(plan: &[u32], w: CellWords) -> Bounds
-    requires { ⌜ 3 ≤ length (now plan) ⌝ }
-    ensures { λ r. ⌜ r ≡ boundsOf (now (plan .entry)) w ⌝ }
-{
-    Bounds {
-        areas: laws::wide(plan[1]),
-        corners: laws::wide(plan[2]),
-        low: w.y,
-        side: w.side,
-    }
-}
-
 // A leaf to split: 11, or the split.
 fn split_wanted(
     head: &mut [u32],
@@ -226,7 +213,7 @@ fn take_turn(
 {
     let i = s.cell as usize;
     let w = celltable::read_cell(cells, i);
-    let b = bounds_of(plan, w);
+    let b = tree::bounds_in(plan, w.y, w.side);
     let t = try_cell(entries, areas, xs, ys, b, s, w, threshold, limit);
     match t {
         Tried::Bad => {

@@ -1,6 +1,6 @@
 -- Tests as facts: `T b` says that the test b passes. Assumes nothing.
 use mathlib.Core.Path.{_≡_, refl, sym, subst}
-use mathlib.Core.Bool.{Bool, true, false, not, _&&_}
+use mathlib.Core.Bool.{Bool, true, false, cond, not, _&&_, _||_}
 use Prim.Native.Nat.{ℕ}
 use native.Mathlib.Omega.{arith}
 use lib.Dec.{T}
@@ -66,3 +66,28 @@ and-right false b h = clash h
 
 pub and-both : (a b : Bool) → a ≡ true → b ≡ true → a && b ≡ true
 and-both a b p q = rw (p, q)
+
+pub and-true : (a : Bool) → (a && true) ≡ a
+and-true true = refl
+and-true false = refl
+
+pub or-false : (a : Bool) → (a || false) ≡ a
+or-false true = refl
+or-false false = refl
+
+pub or-right : (a b : Bool) → b ≡ true → (a || b) ≡ true
+or-right true b h = refl
+or-right false b h = h
+
+pub or-or : (a b c : Bool) → (a || b || c) ≡ (a || (b || c))
+or-or true b c = refl
+or-or false b c = refl
+
+-- one test and then another
+pub cond-left : (a b : Bool) → cond a b false ≡ true → a ≡ true
+cond-left true b h = refl
+cond-left false b h = h
+
+pub cond-right : (a b : Bool) → cond a b false ≡ true → b ≡ true
+cond-right true b h = h
+cond-right false b h = clash h

@@ -6,6 +6,7 @@ use lib.Dec.{leb}
 use lib.ListN.{length, getD}
 use borrow.Author.Tests.{leb-true, le-leb, lt-leb}
 use Rattle.laws.proofs.Booleans.{clash}
+use Rattle.stream.specs.declared.Bounds.{Bounds}
 use Rattle.stream.specs.Grammar.{bounds, usedRange}
 use Rattle.celltable.specs.Ranges.{headRange, CellsIn}
 use Rattle.celltable.proofs.Ranges.{head-long, head-cells, head-entries}
@@ -22,11 +23,11 @@ module _ (t : Tree) where
   abbrev planned : Bool
   planned = cond (leb 3 (length (t .plan))) drawn false
 
-  pub counts-yes : (r : Bool) (free a c : ℕ) → headFits ≡ true → 3 ≤ length (t .plan) → free ≡ getD (t .head) 1 0 → a ≡ getD (t .plan) 1 0 → c ≡ getD (t .plan) 2 0
-      → r ≡ usedRange (length (t .entries)) free (length (t .areas)) (length (t .xs)) (length (t .ys)) (bounds a c 0 0) → r ≡ countsIn t
+  pub counts-yes : (r : Bool) (free : ℕ) (b : Bounds) → headFits ≡ true → 3 ≤ length (t .plan) → free ≡ getD (t .head) 1 0 → b ≡ bounds (getD (t .plan) 1 0) (getD (t .plan) 2 0) 0 0
+      → r ≡ usedRange (length (t .entries)) free (length (t .areas)) (length (t .xs)) (length (t .ys)) b → r ≡ countsIn t
   unfolding countsIn
-  counts-yes r free a c h l ef ea ec e =
-      let e₁ : r ≡ drawn = rw (ef, ea, ec) at e in
+  counts-yes r free b h l ef eb e =
+      let e₁ : r ≡ drawn = rw (ef, eb) at e in
       e₁ ∙ pick-true (leb 3 (length (t .plan))) drawn false (le-leb 3 (length (t .plan)) l) ∙ pick-true headFits planned false h
 
   pub counts-short : headFits ≡ true → length (t .plan) < 3 → false ≡ countsIn t

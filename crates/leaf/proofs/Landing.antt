@@ -17,7 +17,7 @@ use Rattle.celltable.specs.Table.{cellAt}
 use Rattle.celltable.specs.Descent.{descendIn}
 use Rattle.celltable.proofs.Ranges.{passes-range}
 use Rattle.celltable.proofs.Grid.{passes-east, passes-north}
-use Rattle.celltable.proofs.Landing.{LeafFound, leaf-found}
+use Rattle.celltable.proofs.Landing.{LeafFound, leaf-found, broken-not}
 use Rattle.tree.specs.Tables.{Tree, cellsUsed, entriesUsed, countsIn}
 use Rattle.tree.proofs.Choices.{pick-true, pick-false}
 use Rattle.leaf.specs.Leaf.{positionRange, leafBounds, streamFound, leafIn}
@@ -65,9 +65,6 @@ module _ (t : Tree) where
       pub counts : countsIn t ≡ true
       pub way : wayIn x y ≡ At l
       pub stream : passesIn l ≡ true
-
-    broken-not : {A : Type 0} (l : Leaf) → Broken ≡ At l → A
-    broken-not l e = absurd (let z : _≡_ {A = ℕ} 0 1 = cc in omega arith)
 
     pub leaf-landed : (l : Leaf) → leafIn t x y ≡ At l → Landed l
     unfolding leafIn

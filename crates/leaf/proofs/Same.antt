@@ -7,7 +7,7 @@ use native.Mathlib.Omega.{arith}
 use lib.Dec.{eqb, leb}
 use borrow.Author.Tests.{le-leb, lt-leb}
 use Rattle.geometry.specs.Classes.{Inside}
-use Rattle.cells.specs.Cells.{Position, at, col, row, Cell, cell, side, root, Holds, Quarter, child, quarterBy, quarterOf}
+use Rattle.cells.specs.Cells.{Position, at, col, row, Cell, cell, root, Holds, Quarter, child, quarterBy, quarterOf}
 use Rattle.cells.proofs.Cells.{holds-up}
 use Rattle.celltable.specs.declared.CellWords.{CellWords}
 use Rattle.celltable.specs.declared.Leaf.{Leaf}
@@ -17,6 +17,7 @@ use Rattle.celltable.specs.Table.{cellAt}
 use Rattle.celltable.specs.Ranges.{cellRange}
 use Rattle.celltable.specs.Descent.{placeOf, onSquare, leafOf, downFrom, descendIn}
 use Rattle.celltable.proofs.Grid.{says-cell}
+use Rattle.celltable.proofs.Landing.{broken-not}
 use Rattle.tree.specs.Tables.{Tree, cellsUsed, entriesUsed}
 use Rattle.leaf.specs.Leaf.{leafIn}
 use Rattle.leaf.proofs.Landing.{leaf-landed, leaf-met}
@@ -24,9 +25,6 @@ use Rattle.leaf.proofs.Landing.{leaf-landed, leaf-met}
 -- the position is in the square of the leaf
 abbrev pub LeafHolds : Leaf → Position → Type 0
 LeafHolds l p = Inside (l .x) (l .y) (l .side) (col p) (row p)
-
-broken-not : {A : Type 0} (l : Leaf) → Broken ≡ At l → A
-broken-not l e = absurd (let z : _≡_ {A = ℕ} 0 1 = cc in omega arith)
 
 -- a position of the quarter that is picked picks the same quarter
 pub quarter-same : (c : Cell) (p p′ : Position) → Holds (child c (quarterOf c p)) p′ → quarterOf c p′ ≡ quarterOf c p

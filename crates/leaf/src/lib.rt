@@ -2,7 +2,6 @@
 use celltable::Found;
 use celltable::Leaf;
 use refusals::Refusal;
-use stream::Bounds;
 ghost use mathlib.Core.Path.{_≡_};
 ghost use mathlib.Core.Bool.{cond};
 ghost use Prim.Native.Nat.{_+_, _*_, _≤_};
@@ -46,12 +45,7 @@ pub fn counts_fit(
     if celltable::head_fits(head, cells.len(), n) {
         if 3 <= plan.len() {
             let free = laws::wide(head[1]);
-            let b = Bounds {
-                areas: laws::wide(plan[1]),
-                corners: laws::wide(plan[2]),
-                low: 0,
-                side: 0,
-            };
+            let b = tree::bounds_in(plan, 0, 0);
             return stream::used_range(n, free, areas.len(), xs.len(), ys.len(), b);
         }
         return false;
@@ -103,12 +97,7 @@ fn leaf_passes(
 {
     let first = l.first as usize;
     let count = l.count as usize;
-    let b = Bounds {
-        areas: laws::wide(plan[1]),
-        corners: laws::wide(plan[2]),
-        low: l.y,
-        side: l.side,
-    };
+    let b = tree::bounds_in(plan, l.y, l.side);
     stream::check_stream(entries, first, count, free, areas, xs, ys, b)
 }
 

@@ -5,7 +5,7 @@ use mathlib.Core.List.{List, [], _∷_, _++_, map, append-nil}
 use Prim.Native.Nat.{ℕ, suc, _+_, _*_, _≤_, _<_, min, max}
 use native.Mathlib.Omega.{arith}
 use lib.Dec.{eqb, leb}
-use lib.ListN.{length, getD, length-append}
+use lib.ListN.{length, getD, length-append, length-map}
 use lib.IntN.{ℤ, natAbs}
 use borrow.Author.Tests.{ne-eqb}
 use Rattle.laws.proofs.Differences.{abs-add}
@@ -156,13 +156,9 @@ module _ (areas : List ℕ) (D : Drawing) (c : Cell) (agrees : (n : ℕ) → n <
   settle-fits k p a (making x nothing) f = f .fit
   settle-fits k p a (making x (held n z gs)) f = step-fits x (item (roleIn D n) (area n z gs)) (f .fit)
 
-  pub length-segments : (gs : List Segment) → length (map segment gs) ≡ length gs
-  length-segments [] = refl
-  length-segments (g ∷ gs) = ap suc (length-segments gs)
-
   pub settle-short : (k : ℕ) (p : Pruner) (a : Declared.Waiting) (m : Making) → Follows D k p a m → length (outOf (settle D c m)) ≤ k
   settle-short k p a (making x nothing) f = omega (arith, f .short)
-  settle-short k p a (making x (held n z gs)) f = omega (arith, f .short, step-short x (item (roleIn D n) (area n z gs)) (f .fit), length-segments gs)
+  settle-short k p a (making x (held n z gs)) f = omega (arith, f .short, step-short x (item (roleIn D n) (area n z gs)) (f .fit), length-map {B = Row} gs segment)
 
   -- a delimiter or "passes"
   pub mark-follows : (k : ℕ) (p p′ : Pruner) (a : Declared.Waiting) (m : Making) (e : Entry Item) → length (entryRows e) ≡ 1 → Follows D k p a m

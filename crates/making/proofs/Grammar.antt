@@ -17,7 +17,7 @@ use Rattle.records.specs.declared.Decoded.the-variants.{Good, Bad}
 use Rattle.refusals.specs.declared.Refusal.the-variants.{Field}
 use Rattle.records.specs.Record.{inRange}
 use Rattle.drawing.specs.Tables.{fieldsAt, areaRow}
-use Rattle.pruning.specs.Sides.{Kind, paint, clip, Entry, flat}
+use Rattle.pruning.specs.Sides.{Kind, paint, clip, flat}
 use Rattle.pruning.specs.Grammar as Sides
 use Rattle.pruning.specs.Grammar.{sameKind, tree}
 use Rattle.pruning.proofs.Grammar.{fits-flat}
@@ -26,6 +26,7 @@ use Rattle.stream.specs.Entry as Entries
 use Rattle.stream.specs.Entry.{area, line, shortcut, bad, startRange}
 use Rattle.stream.specs.Grammar as Stream
 use Rattle.stream.specs.Grammar.{Env, Place, at, isGood, off, areaMet, recordFits, roleFits, fits, limit, after, course, isWhole, accepts}
+use Rattle.stream.proofs.Passed.{off-stays}
 use Rattle.cells.specs.Streams.{Item}
 use Rattle.cells.specs.Segments as Segments
 use Rattle.cells.specs.Segments.{Segment, drawn}
@@ -36,11 +37,6 @@ use Rattle.reading.proofs.Laws.{both, area-below}
 use Rattle.ranges.proofs.Groups.{opens, kindBy, kindOn, Nested, nested-open, nested-right, nested-outer, fits-end, fits-open, fits-bar, fits-close}
 
 -- ---- one entry of a stream that passes
-
-off-stays : (v : Env) (ws : List Words) → isWhole (course v off ws) ≡ false
-unfolding course
-off-stays v [] = refl
-off-stays v (w ∷ ws) = off-stays v ws
 
 -- entry e fits at place p, and what is left passes
 pub record Passes (v : Env) (p : Place) (e : Entries.Entry) (ws : List Words) : Type 0 where

@@ -1,5 +1,6 @@
 -- Laws of the numbers of a making.
 pub mod Laws
+pub mod Made
 pub mod Rooms
 pub mod Follows
 pub mod Grammar

@@ -4,7 +4,7 @@ use mathlib.Core.Bool.{true}
 use mathlib.Core.List.{List, [], _∷_, _++_, append-nil}
 use Prim.Native.Nat.{ℕ, suc, _+_, _≤_}
 use native.Mathlib.Omega.{arith}
-use lib.ListN.{length, length-append}
+use lib.ListN.{length, length-append, length-map}
 use Rattle.geometry.specs.declared.class.Class as Classes
 use Rattle.geometry.specs.declared.class.Class.the-variants.{Dropped, Start, Shortcut, Kept}
 use Rattle.pruning.specs.Sides.{clip, Entry, item, push, activate, pop}
@@ -23,7 +23,7 @@ use Rattle.stream.specs.Entry.{decode}
 use Rattle.stream.specs.Grammar.{Env, accepts}
 use Rattle.reading.specs.Reading.{rowFor, rowsIn}
 use Rattle.making.specs.Made.{rowsMade}
-use Rattle.making.proofs.Follows.{stateOf, waitingOf, rowsFor, step-fits, step-short, length-segments}
+use Rattle.making.proofs.Follows.{stateOf, waitingOf, rowsFor, step-fits, step-short}
 use Rattle.making.proofs.Standing.{Reads}
 use Rattle.making.proofs.Whole.{allOf, rows-all}
 
@@ -54,7 +54,7 @@ module _ (v : Env) (D : Drawing) (c : Cell) (R : Reads v D) where
   settled k (making x nothing) s = (s .fit, omega (arith, s .short))
   settled k (making x (held n z gs)) s = (
     step-fits (v .areas) D c (R .agrees) x (item (roleIn D n) (area n z gs)) (s .fit),
-    omega (arith, s .short, step-short (v .areas) D c (R .agrees) x (item (roleIn D n) (area n z gs)) (s .fit), length-segments (v .areas) D c (R .agrees) gs),
+    omega (arith, s .short, step-short (v .areas) D c (R .agrees) x (item (roleIn D n) (area n z gs)) (s .fit), length-map {B = Row} gs segment),
   )
 
   -- a delimiter or "passes"

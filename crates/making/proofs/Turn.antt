@@ -2,9 +2,9 @@
 use mathlib.Core.Path.{_≡_, refl, sym, ap, _∙_}
 use mathlib.Core.Bool.{true}
 use mathlib.Core.List.{List, [], _∷_, map}
-use Prim.Native.Nat.{ℕ, suc, _+_, _*_, _≤_, _<_}
+use Prim.Native.Nat.{ℕ, _+_, _*_, _≤_, _<_}
 use native.Mathlib.Omega.{arith}
-use lib.ListN.{length, take, take-append-drop, drop}
+use lib.ListN.{length, take, take-append-drop, drop, length-map}
 use lib.IntN.{natAbs}
 use mir.Syntax.{w32}
 use mir.Val.{toZ}
@@ -29,7 +29,7 @@ use Rattle.cells.specs.Cells.{Cell, squareOf}
 use Rattle.cells.specs.Segments as Segments
 use Rattle.cells.specs.Segments.{Segment, drawn, signOf, classIn}
 use Rattle.cells.specs.Drawings.{Drawing}
-use Rattle.cells.specs.Streams.{Item, always, area, items}
+use Rattle.cells.specs.Streams.{Item, always, items}
 use Rattle.cells.specs.Rows.{Row, segment, entryRows}
 use Rattle.cells.specs.Making.{Waiting, nothing, held, Making, making, prune, settle, addTo, onRows, rowSize}
 use Rattle.stream.specs.declared.Words.{Words}
@@ -58,19 +58,16 @@ before-most out b = omega (arith, total-append rowSize (take b out) (drop b out)
 base-most : (x : Pruning.State Row) → baseOf (weighed rowSize x) ≤ total rowSize (outOf x)
 base-most (st out b w fs) = before-most out b
 
-length-most : (x : Pruning.State Row) → lengthOf (weighed rowSize x) ≡ total rowSize (outOf x)
-length-most (st out b w fs) = refl
+-- the length of what is weighed is the weight of the rows
+pub length-is : (x : Pruning.State Row) → lengthOf (weighed rowSize x) ≡ total rowSize (outOf x)
+length-is (st out b w fs) = refl
 
 skip-most : (c : Count) → skipIn c ≤ opened c + 1
 skip-most (ct n b going fs) = omega arith
 skip-most (ct n b (shut m) fs) = omega arith
 
 segments-length : (gs : List Segment) → total rowSize (map segment gs) ≤ length gs * 4294967297
-segments-length gs = omega (arith, total-most (map segment gs), length-map gs)
-  where
-    length-map : (gs : List Segment) → length (map segment gs) ≡ length gs
-    length-map [] = refl
-    length-map (g ∷ gs) = ap suc (length-map gs)
+segments-length gs = omega (arith, total-most (map segment gs), length-map {B = Row} gs segment)
 
 waiting-most : (w : Waiting) → waitingFor w .size ≤ rowsFor w * 4294967297
 waiting-most nothing = omega arith
@@ -96,7 +93,7 @@ module _ (v : Env) (D : Drawing) (c : Cell) (R : Reads v D) (k : ℕ) (p : Prune
         arith,
         counted-length p,
         ap lengthOf (f .counts),
-        length-most (stateOf (s .rows)),
+        length-is (stateOf (s .rows)),
         total-most (outOf (stateOf (s .rows))),
         ap (λ (x : Declared.Waiting). x .size) (f .waits),
         waiting-most (waitingOf (s .rows)),

@@ -5,14 +5,13 @@ use mathlib.Core.Bool.{true}
 use mathlib.Core.List.{List, []}
 use Prim.Native.Nat.{ℕ}
 use native.Mathlib.Omega.{arith}
-use Rattle.pruning.specs.Pruner as Pruning
-use Rattle.pruning.specs.Pruner.{st, going}
+use Rattle.pruning.specs.Pruner.{going}
 use Rattle.pruning.specs.Counters.{ct, lengthOf}
 use Rattle.pruning.specs.Effects.{outOf}
 use Rattle.pruning.specs.Weights.{total, weighed}
 use Rattle.cells.specs.Cells.{Cell}
 use Rattle.cells.specs.Drawings.{Drawing}
-use Rattle.cells.specs.Rows.{Row, streamOf, roleIn}
+use Rattle.cells.specs.Rows.{streamOf, roleIn}
 use Rattle.cells.specs.Making.{Making, settle, onRows, begun, rowSize}
 use Rattle.cells.proofs.Making.{rows-made}
 use Rattle.stream.specs.declared.Words.{Words}
@@ -27,6 +26,7 @@ use Rattle.making.specs.Numbers.{resting, settledN}
 use Rattle.making.proofs.Follows.{begun-follows, settle-counts}
 use Rattle.making.proofs.Grammar.{entries-flat}
 use Rattle.making.proofs.Standing.{Reads, Standing}
+use Rattle.making.proofs.Turn.{length-is}
 
 -- the rows of all entries
 abbrev pub allOf : Drawing → Cell → List Words → Making
@@ -63,6 +63,3 @@ module _ (v : Env) (D : Drawing) (c : Cell) (R : Reads v D) (ws : List Words) (h
 
     pub size-end : lengthOf (settledN (v .areas) (counted p) a) ≡ total rowSize (rowsMade D c ws)
     size-end = ap lengthOf standing-end ∙ (length-is (settle D c (allOf D c ws)) ∙ ap (total rowSize) rows-all)
-      where
-        length-is : (x : Pruning.State Row) → lengthOf (weighed rowSize x) ≡ total rowSize (outOf x)
-        length-is (st out b w fs) = refl

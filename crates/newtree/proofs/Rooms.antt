@@ -1,7 +1,7 @@
 -- The room that an opening asks for. Assumes nothing.
-use mathlib.Core.Path.{_≡_, refl}
-use mathlib.Core.Bool.{Bool, true, false, _&&_}
-use Prim.Native.Nat.{ℕ, _*_, _/_, _%_, _≤_}
+use mathlib.Core.Path.{_≡_}
+use mathlib.Core.Bool.{true, false, _&&_}
+use Prim.Native.Nat.{ℕ, _*_, _%_, _≤_}
 use native.Mathlib.Omega.{arith}
 use lib.Dec.{leb}
 use lib.ListN.{length, length-map}
@@ -25,13 +25,6 @@ use Rattle.newtree.specs.declared.Answer.the-variants as Answers
 use Rattle.newtree.specs.Open.{roomFor, streamOpened, roomAnswer}
 
 -- ---- what the test says
-pub one-cell : (len : ℕ) → leb 1 (len / 8) ≡ cellsHeld 1 len
-one-cell len = go (leb 1 (len / 8))
-  where
-    go : (b : Bool) → b ≡ (b && true)
-    go true = refl
-    go false = refl
-
 pub room-says : (head cells entries n : ℕ) → roomFor head cells entries n ≡ true → (2 ≤ head) × (8 ≤ cells) × (n * 4 ≤ entries)
 room-says head cells entries n h =
     let p = both (leb 2 head) (cellsHeld 1 cells && entriesHeld n entries) h in

@@ -11,7 +11,6 @@ ghost use Rattle.grammar.specs.declared.Verdict.the-variants.{Accepted};
 ghost use Rattle.drawing.specs.Tables.{tables, drawingOf};
 ghost use Rattle.stream.specs.Table.{written};
 ghost use Rattle.celltable.specs.Table.{putCellAt};
-ghost use Rattle.celltable.specs.Ranges.{cellsHeld};
 ghost use Rattle.opening.specs.Opened.{rowsOpened, wordsOpened, Opened};
 ghost use Rattle.tree.specs.Tables.{tree};
 ghost use Rattle.newtree.specs.Open.{rootWords, roomFor, roomAnswer, openAnswer, headOpened, cellsOpened, entriesOpened};
@@ -22,17 +21,11 @@ pub enum Answer {
     Not(Refusal),
 }
 
-fn one_cell(len: usize) -> bool
-    ensures { λ r. ⌜ r ≡ cellsHeld 1 len ⌝ }
-{
-    1 <= len / 8
-}
-
 // Whether a head, a table of cells and a table of entries of these lengths hold a new tree with n entries.
 fn has_room(head: usize, cells: usize, entries: usize, n: usize) -> bool
     ensures { λ r. ⌜ r ≡ roomFor head cells entries n ⌝ }
 {
-    let c = one_cell(cells);
+    let c = tree::cells_held(1, cells);
     let e = tree::entries_held(n, entries);
     (2 <= head) & (c & e)
 }
@@ -42,15 +35,6 @@ fn entries_in(size: u64) -> usize
     ensures { λ r. ⌜ r ≡ size % 65536 ⌝ }
 {
     (size % 65536) as usize
-}
-
-// One cell in use, and n entries.
-fn put_head(head: &mut [u32], n: u32)
-    requires { ⌜ 2 ≤ length (now head) ⌝ }
-    ensures { λ _. ⌜ now (head .exit) ≡ set (set (now (head .entry)) 0 1) 1 n ⌝ }
-{
-    head[0] = 1;
-    head[1] = n;
 }
 
 // Cell 0, a leaf of n entries.
@@ -93,7 +77,7 @@ fn put_opened(
 {
     opening::write_open(entries, n as usize, plan, areas, xs, ys, records, b);
     put_root(cells, n);
-    put_head(head, n);
+    tree::put_head(head, 1, n);
 }
 
 // 11, and then the new tree. The drawing has passed.

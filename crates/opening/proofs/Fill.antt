@@ -1,7 +1,7 @@
 -- The loop that writes cell 0's stream to a table. Assumes nothing.
 use mathlib.Core.Path.{_≡_, refl, sym, ap, subst, _∙_}
 use mathlib.Core.List.{List, [], _∷_, _++_, map}
-use Prim.Native.Nat.{ℕ, suc, _+_, _*_, _≤_, _<_}
+use Prim.Native.Nat.{ℕ, _+_, _*_, _≤_, _<_}
 use native.Mathlib.Omega.{arith}
 use lib.ListN.{length, getD, drop}
 use lib.IntN.{ℤ}
@@ -11,7 +11,6 @@ use Rattle.pruning.specs.Pruner.{going}
 use Rattle.pruning.specs.Counters.{ct}
 use Rattle.cells.specs.Cells.{root, squareOf}
 use Rattle.cells.specs.Drawings.{Drawing}
-use Rattle.cells.specs.Rows.{Row}
 use Rattle.cells.specs.Making.{Making, begun}
 use Rattle.drawing.specs.Tables.{Tables}
 use Rattle.stream.specs.declared.Words.{Words}
@@ -23,6 +22,7 @@ use Rattle.reading.specs.Words.{wordsOf}
 use Rattle.making.specs.declared.Maker.{Maker}
 use Rattle.making.specs.Made.{rowsMade, wordsMade}
 use Rattle.making.specs.Numbers.{resting, leftSign, leftClass, waitingN, prunedN}
+use Rattle.making.proofs.Made.{made-length}
 use Rattle.making.proofs.Whole.{allOf, standing-start}
 use Rattle.writing.specs.Numbers.{settledPut, onePut}
 use Rattle.writing.proofs.Same.{same-refl}
@@ -81,13 +81,8 @@ module _ (v : Env) (D : Drawing) (plan : List ℕ) (records : ℕ) (all : List W
 
     -- where no record is left
     module _ (h : records ≤ i) (exact : limit ≡ length (rowsMade D root all)) where
-      length-map : (x : List Row) → length (map wordsOf x) ≡ length x
-      length-map [] = refl
-      length-map (r ∷ x) = ap suc (length-map x)
-
       length-made : length (wordsMade D root all) ≡ limit
-      unfolding wordsMade
-      length-made = length-map (rowsMade D root all) ∙ sym exact
+      length-made = made-length D root all ∙ sym exact
 
       pub fill-end : (u : List ℕ) → u ≡ settledPut limit (v .areas) t m → u ≡ written t₀ 0 (wordsMade D root all)
       fill-end u hu =

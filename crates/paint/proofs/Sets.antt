@@ -1,6 +1,6 @@
 -- Sets as masks: which areas they have, the lowest of them, and steps over all of them. Assumes nothing.
 use mathlib.Core.Path.{_≡_, refl, sym, ap, ap₂, _∙_}
-use mathlib.Core.Bool.{Bool, true, false, cond, _||_}
+use mathlib.Core.Bool.{true, false, cond, _||_}
 use mathlib.Core.List.{List, [], _∷_}
 use Prim.Native.Nat.{ℕ, zero, suc, _+_, _-_, _/_, _%_, _^_, _≤_, _<_, max}
 use native.Mathlib.Nat.{pow-suc, pow-succ', zero-add, add-zero, add-suc, suc-add, div-div-eq-div-mul}
@@ -10,6 +10,7 @@ use lib.Pow.{shr-lt}
 use lib.Bits.{bitOr, or-step}
 use lib.Count.{trailingZeros, under}
 use borrow.Author.Tests.{eq-eqb, ne-eqb, lt-ltb, le-ltb}
+use Rattle.laws.proofs.Booleans.{or-false, or-or}
 use Rattle.paint.specs.Sets.{has, withArea, withAreas, setOf, among, eachFrom, each}
 use Rattle.paint.specs.Areas.{materialFrom, materialOf}
 use Rattle.paint.specs.declared.area.Paint.{Paint}
@@ -53,15 +54,7 @@ has-with set n m = has-or set (2 ^ n) m ∙ ap (λ b. has set m || b) (has-power
 -- the set of a list has the areas that the list names
 has-more : (set : ℕ) (ns : List ℕ) (m : ℕ) → has (withAreas set ns) m ≡ (has set m || among ns m)
 has-more set [] m = sym (or-false (has set m))
-  where
-    or-false : (a : Bool) → (a || false) ≡ a
-    or-false true = refl
-    or-false false = refl
 has-more set (n ∷ ns) m = has-more (withArea set n) ns m ∙ (ap (λ b. b || among ns m) (has-with set n m) ∙ or-or (has set m) (eqb n m) (among ns m))
-  where
-    or-or : (a b c : Bool) → (a || b || c) ≡ (a || (b || c))
-    or-or true b c = refl
-    or-or false b c = refl
 
 pub has-set : (ns : List ℕ) (m : ℕ) → has (setOf ns) m ≡ among ns m
 has-set ns m = has-more 0 ns m ∙ ap (λ b. b || among ns m) (has-none m)

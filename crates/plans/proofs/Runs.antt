@@ -15,7 +15,7 @@ use Rattle.grammar.specs.declared.Counts.{Counts}
 use Rattle.grammar.specs.declared.Verdict.the-variants.{Accepted, Refused}
 use Rattle.grammar.specs.Grammar.{Progress, progress, fits, isShort, ends, limit, after, Course, at, stopped, course, counts, final, checked}
 use Rattle.grammar.specs.Lists.{areasIn, cornersIn}
-use Rattle.grammar.proofs.Laws.{sound}
+use Rattle.grammar.proofs.Laws.{sound, refused-not, stays}
 use Rattle.drawing.specs.Held.{Acceptable}
 use Rattle.drawing.proofs.Lists.{goods-map}
 
@@ -29,14 +29,6 @@ pub record Accepts (p : Progress) (r : Record) : Type 0 where
 abbrev pub Runs : Progress → List Record → Type 0
 Runs p [] = isEmpty (p .groups) ≡ true
 Runs p (r ∷ rs) = Accepts p r × Runs (after p r) rs
-
-refused-not : {A : Type 0} (x : Refusal) (i : ℕ) (k : Counts) → Refused x i ≡ Accepted k → A
-refused-not x i k e = absurd (let z : _≡_ {A = ℕ} 0 1 = cc in omega arith)
-
-stays : (x : Refusal) (j i : ℕ) (ds : List Decoded) → course (stopped x j) i ds ≡ stopped x j
-unfolding course
-stays x j i [] = refl
-stays x j i (d ∷ ds) = stays x j (i + 1) ds
 
 stopped-not : {A : Type 0} (x : Refusal) (j i n : ℕ) (ds : List Decoded) (k : Counts) → final (course (stopped x j) i ds) n ≡ Accepted k → A
 stopped-not x j i n ds k e = refused-not x j k (sym (ap (λ (c : Course). final c n) (stays x j i ds)) ∙ e)

@@ -5,6 +5,7 @@ use mathlib.Core.List.{List, [], _∷_}
 use native.Mathlib.Omega.{arith}
 use lib.ListN.{length, getD, length-append}
 use Rattle.geometry.specs.Windings.{Contour, contour, linesFrom, linesOf}
+use Rattle.geometry.proofs.Windings.{length-lines}
 use Rattle.records.specs.declared.Record.{Record}
 use Rattle.records.specs.declared.Record.the-variants.{Area, First, Next, Open, Bar, Close}
 use Rattle.grammar.specs.Lists.{areasIn, cornersIn}
@@ -35,13 +36,8 @@ weigh-tally v d es s e =
 
 -- ---- lines
 
-lines-length : (first i n : ℕ) → length (linesFrom first i n) ≡ n
-lines-length first i zero = refl
-lines-length first i (suc zero) = refl
-lines-length first i (suc (suc n)) = ap suc (lines-length first (suc i) (suc n))
-
 lines-first : (c n : ℕ) (cs : List Contour) → length (linesOf (contour c n ∷ cs)) ≡ n + length (linesOf cs)
-lines-first c n cs = omega (arith, length-append (linesFrom c c n) (linesOf cs), lines-length c c n)
+lines-first c n cs = omega (arith, length-append (linesFrom c c n) (linesOf cs), length-lines c c n)
 
 here-few : (rs : List Record) (c : ℕ) → nexts rs + length (linesOf (contoursHere c rs)) ≤ cornersIn rs
 here-few [] c = omega arith

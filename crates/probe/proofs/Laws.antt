@@ -3,13 +3,13 @@
 use mathlib.Core.Path.{_≡_, refl, sym, ap, _∙_}
 use mathlib.Core.Bool.{Bool, true, false, cond, _&&_}
 use mathlib.Core.List.{List}
-use Prim.Native.Nat.{ℕ, zero, suc, _+_, _*_, _-_, _/_, _%_, _^_, _≤_, _<_}
+use Prim.Native.Nat.{ℕ, _+_, _*_, _-_, _%_, _^_, _≤_, _<_}
 use native.Mathlib.Omega.{arith}
-use native.Mathlib.Nat.{one-le-pow, pow-le-pow-right, two-pow-succ}
+use native.Mathlib.Nat.{one-le-pow, pow-le-pow-right}
 use lib.Dec.{eqb, leb, ltb}
 use lib.ListN.{length}
 use borrow.Author.Tests.{leb-true, ltb-true, le-leb, lt-leb}
-use Rattle.laws.proofs.Booleans.{clash, and-left, and-right}
+use Rattle.laws.proofs.Booleans.{clash, and-left, and-right, and-true}
 use Rattle.geometry.specs.Reach.{PositionIn, SquareIn}
 use Rattle.geometry.specs.declared.class.Square.{Square}
 use Rattle.pruning.specs.Weights.{total}
@@ -24,6 +24,7 @@ use Rattle.stream.proofs.Laws.{used-entries}
 use Rattle.ranges.specs.Held.{lent}
 use Rattle.ranges.proofs.Streams.{words-length}
 use Rattle.making.specs.Made.{cellIn, levelFrom}
+use Rattle.making.proofs.Made.{level-from}
 use Rattle.making.proofs.Lent.{lent-reads}
 use Rattle.making.proofs.Shorter.{made-shorter}
 use Rattle.writing.proofs.Places.{place-is}
@@ -38,24 +39,10 @@ position-in x y h =
 
 -- ---- the square
 
--- the level of a power of two is its exponent
-level-from : (n k : ℕ) → k ≤ n → levelFrom n (2 ^ k) ≡ k
-level-from zero zero h = refl
-level-from zero (suc k) h = absurd (omega arith)
-level-from (suc n) zero h = refl
-level-from (suc n) (suc k) h =
-    let e : 2 ^ suc k / 2 ≡ 2 ^ k = omega (arith, two-pow-succ k) in
-    let l : 1 < 2 ^ suc k = omega (arith, two-pow-succ k, one-le-pow k 2 (omega arith)) in
-    rw (lt-leb (2 ^ suc k) 1 l, e) (ap suc (level-from n k (omega arith)))
-
 -- a leaf on the square, with an empty stream, has no other number that could be out of range
 pub square-alone : (s : Square) → cellRange (leafOn s) 1 2 0 ≡ squareFits s
 unfolding cellRange squareFits
 square-alone s = and-true (squareRange (leafOn s))
-  where
-    and-true : (b : Bool) → (b && true) ≡ b
-    and-true true = refl
-    and-true false = refl
 
 module _ (s : Square) (h : squareFits s ≡ true) where
   abbrev corner : Bool

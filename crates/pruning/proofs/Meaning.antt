@@ -2,12 +2,13 @@
 use mathlib.Core.Path.{_≡_, refl, ap, sym, _∙_}
 use mathlib.Core.Bool.{Bool, true, false, _||_, _&&_, cond, false≢true}
 use mathlib.Core.List.{List, [], _∷_, _++_, append-nil, append-assoc, map}
+use Rattle.laws.proofs.Booleans.{or-false, or-or}
 use Rattle.pruning.specs.Sides.{Kind, paint, clip, Side, end, leaf, group, mapSide}
 use Rattle.pruning.specs.Meaning.{clipPasses, shownAll, upTo, shown}
 use Rattle.pruning.specs.Items.{Items, Class, fails, passes, other, isPasses}
 use Rattle.pruning.specs.Normal.{mixed, normal, put, groupOf, oneGroup, oneLeaf, status, always-side, join, cutLeaf, seal, hasOne}
 use Rattle.pruning.proofs.Sides.{map-append}
-use Rattle.pruning.proofs.Normal.{or-or, or-true, status-cases}
+use Rattle.pruning.proofs.Normal.{or-true, status-cases}
 
 -- what a side shows in front of z: nothing behind an opaque item counts
 module _ {A : Type 0} (pass opaque : A → Bool) where
@@ -107,10 +108,6 @@ module _ (I : Items) (pass opaque : I .Item → Bool)
         go : (b : Bool) → hasOne I clip s ≡ b → cp (cond b (always-side I) s) ≡ cp s
         go true e = bare-passes-here ∙ sym (one-passes s e)
         go false e = refl
-
-    or-false : (a : Bool) → (a || false) ≡ a
-    or-false true = refl
-    or-false false = refl
 
     and-false : (a : Bool) → (a && false) ≡ false
     and-false true = refl

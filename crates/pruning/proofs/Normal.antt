@@ -1,13 +1,10 @@
 -- The algebra of the normal form: it takes one side behind another to a sealed join. Assumes nothing.
 use mathlib.Core.Path.{_≡_, refl, ap, sym, _∙_}
 use mathlib.Core.Bool.{Bool, true, false, _||_, cond}
+use Rattle.laws.proofs.Booleans.{or-or}
 use Rattle.pruning.specs.Sides.{isEnd, Kind, paint, clip, Side, end, leaf, group, append}
 use Rattle.pruning.specs.Items.{Items, Class, fails, passes, other, isPasses}
 use Rattle.pruning.specs.Normal.{Status, empty, always, mixed, hasOne, cutLeaf, join, always-side, seal, mark, oneLeaf, statusOf, status, oneGroup, put, normal, groupOf}
-
-pub or-or : (a b c : Bool) → (a || b || c) ≡ (a || (b || c))
-or-or true b c = refl
-or-or false b c = refl
 
 pub or-true : (a : Bool) → (a || true) ≡ true
 or-true true = refl

@@ -4,7 +4,6 @@ use celltable::Leaf;
 use paint::area;
 use paint::colour;
 use refusals::Refusal;
-use stream::Bounds;
 ghost use mathlib.Core.Path.{_≡_};
 ghost use Prim.Native.Nat.{_≤_, _<_};
 ghost use lib.ListN.{length, getD};
@@ -39,19 +38,6 @@ pub enum Shown {
 }
 
 // ---- a leaf that was found
-// The areas and corners in use, and the rows of a leaf.
-pub fn bounds_of(plan: &[u32], l: Leaf) -> Bounds
-    requires { ⌜ 3 ≤ length (now plan) ⌝ }
-    ensures { λ r. ⌜ r ≡ bounds (getD (now (plan .entry)) 1 0) (getD (now (plan .entry)) 2 0) (l .y) (l .side) ⌝ }
-{
-    Bounds {
-        areas: laws::wide(plan[1]),
-        corners: laws::wide(plan[2]),
-        low: l.y,
-        side: l.side,
-    }
-}
-
 // The shown set at (x, y), read from the stream of a leaf.
 pub fn set_in(
     plan: &[u32],
@@ -69,7 +55,7 @@ pub fn set_in(
     ensures { λ r. ⌜ r ≡ setAt (now (areas .entry)) (now (xs .entry)) (now (ys .entry)) x y (wordsFrom (now (entries .entry)) (l .first) (l .count)) ⌝ }
     ensures { λ r. ⌜ Painted (now (areas .entry)) r ⌝ }
 {
-    let b = bounds_of(plan, l);
+    let b = tree::bounds_in(plan, l.y, l.side);
     let first = l.first as usize;
     let count = l.count as usize;
     reading::read_stream(entries, first, count, areas, xs, ys, b, x, y)

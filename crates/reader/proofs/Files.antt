@@ -8,7 +8,6 @@ use lib.ListN.{length, set, length-map}
 use lib.Seq.{sets}
 use lib.Dec.{eqb, leb}
 use borrow.Author.Tests.{leb-true, eqb-true}
-use Rattle.refusals.specs.declared.Refusal.{Refusal}
 use Rattle.refusals.specs.declared.Refusal.the-variants.{Length}
 use Rattle.records.specs.declared.Record.{Record}
 use Rattle.records.specs.declared.Record.the-variants.{Area, First, Next, Open, Bar, Close}
@@ -20,7 +19,7 @@ use Rattle.grammar.specs.declared.Counts.{Counts}
 use Rattle.grammar.specs.declared.Verdict.the-variants.{Accepted, Refused}
 use Rattle.grammar.specs.Grammar.{checked}
 use Rattle.grammar.specs.Lists.{goods, areasIn, cornersIn}
-use Rattle.grammar.proofs.Laws.{sound}
+use Rattle.grammar.proofs.Laws.{sound, refused-not}
 use Rattle.reader.specs.Words.{kindW, areaW, xW, yW, wordsOf, spread, planWords}
 use Rattle.reader.specs.Reading.{decodedFrom, decodedIn, recordsIn, verdictOf, holds, Filed}
 
@@ -31,9 +30,6 @@ length-from b i (suc n) = ap suc (length-from b (i + 1) n)
 
 pub length-good : (ds : List Decoded) → ds ≡ map Good (goods ds) → length ds ≡ length (goods ds)
 length-good ds e = ap length e ∙ length-map (goods ds) Good
-
-refused-not : {A : Type 0} (x : Refusal) (i : ℕ) (k : Counts) → Refused x i ≡ Accepted k → A
-refused-not x i k e = absurd (let z : _≡_ {A = ℕ} 0 1 = cc in omega arith)
 
 pub filed-checked : (b : List ℕ) (k : Counts) → verdictOf b ≡ Accepted k → checked (decodedIn b) ≡ Accepted k
 unfolding verdictOf

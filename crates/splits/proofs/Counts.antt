@@ -1,5 +1,5 @@
 -- What it says that the numbers in use pass. Assumes nothing.
-use mathlib.Core.Path.{_≡_, refl, ap}
+use mathlib.Core.Path.{_≡_}
 use mathlib.Core.Bool.{Bool, true, false, cond, _&&_}
 use mathlib.Core.List.{List}
 use Prim.Native.Nat.{ℕ, _*_, _/_, _≤_}
@@ -7,24 +7,14 @@ use native.Mathlib.Omega.{arith}
 use lib.Dec.{leb}
 use lib.ListN.{length, getD}
 use borrow.Author.Tests.{le-leb}
-use Rattle.laws.proofs.Booleans.{clash, and-right, and-both}
+use Rattle.laws.proofs.Booleans.{and-right, and-both, cond-left, cond-right}
 use Rattle.stream.specs.declared.Bounds.{Bounds}
 use Rattle.stream.specs.Grammar.{bounds, usedRange}
 use Rattle.celltable.specs.Ranges.{headRange}
 use Rattle.celltable.proofs.Ranges.{head-long, head-cells, head-entries}
 use Rattle.tree.specs.Tables.{Tree, cellsUsed, entriesUsed, boundsOf, countsIn}
 use Rattle.tree.specs.Split.{words}
-
-pub cond-left : (a b : Bool) → cond a b false ≡ true → a ≡ true
-cond-left true b h = refl
-cond-left false b h = h
-
-pub cond-right : (a b : Bool) → cond a b false ≡ true → b ≡ true
-cond-right true b h = h
-cond-right false b h = clash h
-
-pub used-is : (head : List ℕ) → 2 ≤ length head → cellsUsed head ≡ getD head 0 0
-used-is head h = ap (λ (b : Bool). cond b (getD head 0 0) 0) (le-leb 2 (length head) h)
+use Rattle.tree.proofs.Heads.{used-is}
 
 module _ (t : Tree) where
   abbrev inHead : Bool

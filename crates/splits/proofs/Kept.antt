@@ -19,8 +19,9 @@ use Rattle.children.proofs.Filled.{entries-at}
 use Rattle.tree.specs.declared.Answer.the-variants.{Split}
 use Rattle.tree.specs.Tables.{Tree, cellsUsed, entriesUsed}
 use Rattle.tree.specs.Split.{words, drawing, stream, made, splitAnswer, headAfter, cellsAfter, entriesAfter}
+use Rattle.tree.proofs.Heads.{used-is}
 use Rattle.splits.specs.After.{Accepted}
-use Rattle.splits.proofs.Counts.{used-is, counts-long}
+use Rattle.splits.proofs.Counts.{counts-long}
 use Rattle.splits.proofs.Accepted.{split-accepted}
 use Rattle.splits.proofs.Rows.{length-cells-by, cells-by-keeps, cells-by-child, first-is, streams-read}
 

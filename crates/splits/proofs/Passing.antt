@@ -1,13 +1,13 @@
 -- What passed before a split passes after it. Assumes nothing.
-use mathlib.Core.Path.{_≡_, refl, sym, ap, subst, _∙_}
-use mathlib.Core.Bool.{Bool, true, false, cond, _&&_, _||_}
+use mathlib.Core.Path.{_≡_, sym, ap, subst, _∙_}
+use mathlib.Core.Bool.{Bool, true, false, cond, _&&_}
 use mathlib.Core.List.{List}
 use Prim.Native.Nat.{ℕ, _+_, _*_, _-_, _≤_, _<_}
 use native.Mathlib.Omega.{arith}
 use lib.Dec.{eqb, ltb, leb}
 use lib.ListN.{length}
 use borrow.Author.Tests.{leb-true, le-leb, lt-ltb}
-use Rattle.laws.proofs.Booleans.{and-left, and-right, and-both}
+use Rattle.laws.proofs.Booleans.{and-left, and-right, and-both, or-right, cond-left, cond-right}
 use Rattle.stream.specs.Table.{wordsFrom}
 use Rattle.stream.specs.Grammar.{Env, usedRange, runRange, accepts, checkStream}
 use Rattle.celltable.specs.declared.CellWords.{CellWords}
@@ -18,13 +18,9 @@ use Rattle.tree.specs.declared.Answer.the-variants.{Split}
 use Rattle.tree.specs.Tables.{Tree, cellsUsed, entriesUsed}
 use Rattle.tree.specs.Split.{words, splitAnswer}
 use Rattle.splits.specs.After.{Accepted, splitTree}
-use Rattle.splits.proofs.Counts.{cond-left, cond-right, used-more}
+use Rattle.splits.proofs.Counts.{used-more}
 use Rattle.splits.proofs.Accepted.{split-accepted}
 use Rattle.splits.proofs.Trees.{tree-used, tree-free, tree-length-entries, tree-keeps-cell, tree-cell, tree-stream}
-
-or-true : (a b : Bool) → b ≡ true → (a || b) ≡ true
-or-true true b e = refl
-or-true false b e = e
 
 -- a cell in range, with its first child among the cells in use, and as many entries in use or more
 pub child-range : (w : CellWords) (i used free child used′ free′ : ℕ) → child + 3 < used′ → free ≤ free′ → cellRange w i used free ≡ true → cellRange (withChild w child) i used′ free′ ≡ true
@@ -32,7 +28,7 @@ unfolding cellRange
 child-range w i used free child used′ free′ c f h =
     and-both (squareRange w) (numbersRange (withChild w child) used′ free′ && rootRange w i) (and-left (squareRange w) (numbersRange w used free && rootRange w i) h)
     (and-both (numbersRange (withChild w child) used′ free′) (rootRange w i)
-    (and-both (childRange child used′) (entryRange (w .first) (w .count) free′) (or-true (eqb child 0) (ltb (child + 3) used′) (lt-ltb (child + 3) used′ c)) (le-leb (w .first + w .count) free′ (omega (arith, old))))
+    (and-both (childRange child used′) (entryRange (w .first) (w .count) free′) (or-right (eqb child 0) (ltb (child + 3) used′) (lt-ltb (child + 3) used′ c)) (le-leb (w .first + w .count) free′ (omega (arith, old))))
     (and-right (numbersRange w used free) (rootRange w i) rest))
   where
     rest : (numbersRange w used free && rootRange w i) ≡ true

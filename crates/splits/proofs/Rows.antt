@@ -4,7 +4,7 @@ use mathlib.Core.List.{List}
 use Prim.Native.Nat.{ℕ, zero, suc, _+_, _*_, _≤_, _<_}
 use native.Mathlib.Omega.{arith}
 use native.Mathlib.Decide.{ℕ-discrete}
-use lib.ListN.{length, getD, length-append}
+use lib.ListN.{length, getD}
 use Rattle.cells.specs.Cells.{Cell, child}
 use Rattle.cells.specs.Drawings.{Drawing}
 use Rattle.stream.specs.declared.Words.{Words}
@@ -16,7 +16,7 @@ use Rattle.celltable.specs.Descent.{quarterAt}
 use Rattle.celltable.proofs.Table.{length-put-cell, put-cell-same, put-cell-other}
 use Rattle.children.specs.declared.Tally.{Tally}
 use Rattle.children.specs.Children.{noTally, firstBy, wordsWith, cellsBy, wordsOfChild, entriesOfChild, fourTallies, streamsTo}
-use Rattle.children.proofs.Filled.{length-child, entries-at}
+use Rattle.children.proofs.Filled.{length-child, entries-at, streams-more}
 
 -- ---- the rows
 module _ (c : Cell) (ts : List Tally) (t : List ℕ) (used free : ℕ) where
@@ -46,31 +46,26 @@ module _ (c : Cell) (ts : List Tally) (t : List ℕ) (used free : ℕ) where
 
 -- ---- the streams
 module _ (D : Drawing) (c : Cell) (ws : List Words) where
-  -- a child more is so many entries more
-  pub streams-more : (n : ℕ) → length (streamsTo D c ws (suc n)) ≡ length (streamsTo D c ws n) + entriesOfChild D c ws n
-  unfolding streamsTo
-  streams-more n = length-append (streamsTo D c ws n) (wordsOfChild D c ws n) ∙ ap (λ (k : ℕ). length (streamsTo D c ws n) + k) (length-child D c ws n)
-
   pub streams-up : (q n : ℕ) → q ≤ n → length (streamsTo D c ws q) ≤ length (streamsTo D c ws n)
   streams-up q zero h = let e : q ≡ 0 = omega arith in rw e (omega arith)
   streams-up q (suc n) h = go (ℕ-discrete q (suc n)) (λ l. streams-up q n l)
     where
       go : Dec (q ≡ suc n) → (q ≤ n → length (streamsTo D c ws q) ≤ length (streamsTo D c ws n)) → length (streamsTo D c ws q) ≤ length (streamsTo D c ws (suc n))
       go (yes e) f = rw e (omega arith)
-      go (no e) f = omega (arith, f (omega arith), streams-more n)
+      go (no e) f = omega (arith, f (omega arith), streams-more D c ws n)
 
   -- where the stream of child q begins
   pub first-is : (free q : ℕ) → q ≤ 4 → firstBy (fourTallies D c ws) free q ≡ free + length (streamsTo D c ws q)
   unfolding streamsTo
   first-is free zero h = omega arith
-  first-is free (suc q) h = omega (arith, first-is free q (omega arith), entries-at D c ws (fourTallies D c ws) q (omega arith) refl, streams-more q)
+  first-is free (suc q) h = omega (arith, first-is free q (omega arith), entries-at D c ws (fourTallies D c ws) q (omega arith) refl, streams-more D c ws q)
 
   -- the stream of child q is read back
   pub streams-read : (t : List ℕ) (free n q : ℕ) → q < n → (free + length (streamsTo D c ws n)) * 4 ≤ length t
       → wordsFrom (written t free (streamsTo D c ws n)) (free + length (streamsTo D c ws q)) (entriesOfChild D c ws q) ≡ wordsOfChild D c ws q
   unfolding streamsTo
   streams-read t free zero q h r = absurd (omega arith)
-  streams-read t free (suc n) q h r = go (ℕ-discrete q n) (λ l. streams-read t free n q l (omega (arith, streams-more n)))
+  streams-read t free (suc n) q h r = go (ℕ-discrete q n) (λ l. streams-read t free n q l (omega (arith, streams-more D c ws n)))
     where
       S : List Words
       S = streamsTo D c ws n
@@ -88,12 +83,12 @@ module _ (D : Drawing) (c : Cell) (ws : List Words) where
       two = sym (written-append t free S W)
 
       last : wordsFrom (written u at W) at (length W) ≡ W
-      last = written-read u at W (omega (arith, length-written t free S, streams-more n, length-child D c ws n, r))
+      last = written-read u at W (omega (arith, length-written t free S, streams-more D c ws n, length-child D c ws n, r))
 
       go : Dec (q ≡ n) → (q < n → wordsFrom u (free + length (streamsTo D c ws q)) (entriesOfChild D c ws q) ≡ wordsOfChild D c ws q)
           → wordsFrom (written t free (streamsTo D c ws (suc n))) (free + length (streamsTo D c ws q)) (entriesOfChild D c ws q) ≡ wordsOfChild D c ws q
       go (yes e) f = rw (e, two) (subst (λ (k : ℕ). wordsFrom (written u at W) at k ≡ W) (length-child D c ws n) last)
       go (no e) f =
           ap (λ (x : List ℕ). wordsFrom x (free + length (streamsTo D c ws q)) (entriesOfChild D c ws q)) two
-          ∙ (from-agree (written u at W) u (at * 4) (free + length (streamsTo D c ws q)) (entriesOfChild D c ws q) (written-keeps u (at * 4) at W (omega arith)) (omega (arith, streams-more q, streams-up (suc q) n (omega arith)))
+          ∙ (from-agree (written u at W) u (at * 4) (free + length (streamsTo D c ws q)) (entriesOfChild D c ws q) (written-keeps u (at * 4) at W (omega arith)) (omega (arith, streams-more D c ws q, streams-up (suc q) n (omega arith)))
           ∙ f (omega arith))

@@ -1,5 +1,5 @@
 -- The state that the code holds says what the grammar of streams says. Assumes nothing.
-use Prim.Native.Nat.{ℕ, _+_, _≤_}
+use Prim.Native.Nat.{ℕ, _+_}
 use mathlib.Core.Path.{_≡_, refl}
 use mathlib.Core.Bool.{Bool, true, false, cond, not, _&&_}
 use mathlib.Core.List.{List, [], _∷_}
@@ -9,7 +9,7 @@ use lib.Dec.{eqb, ltb}
 use borrow.Author.Tests.{ne-eqb}
 use Rattle.groups.specs.Sides.{Frame, isPaint, onLeft, onRight, toOuter}
 use Rattle.groups.specs.Stack.{num, closeN}
-use Rattle.groups.proofs.Stack.{paint-is, left-is, right-is, room-is, bar-is, close-is, open-is, empty-is}
+use Rattle.groups.proofs.Stack.{paint-is, left-is, right-is, room-is, bar-is, close-is, open-is, empty-is, num-pos}
 use Rattle.records.specs.declared.Decoded.{Decoded}
 use Rattle.records.specs.declared.Decoded.the-variants.{Good, Bad}
 use Rattle.stream.specs.declared.Words.{Words}
@@ -26,10 +26,6 @@ enc off = offN
 both : {A B : Type 0} (f : A → B) (b : Bool) (x y : A) (X Y : B) → X ≡ f x → Y ≡ f y → cond b X Y ≡ f (cond b x y)
 both f true x y X Y p q = p
 both f false x y X Y p q = q
-
-num-pos : (fs : List Frame) → 1 ≤ num fs
-num-pos [] = omega arith
-num-pos (f ∷ fs) = omega (arith, num-pos fs)
 
 not-off : (fs : List Frame) → eqb (num fs) 0 ≡ false
 not-off fs = ne-eqb (num fs) 0 (λ e. omega (arith, num-pos fs))

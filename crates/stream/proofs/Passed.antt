@@ -8,30 +8,22 @@ use native.Mathlib.Nat.{add-zero, not-suc-le-zero, le-of-suc-le-suc}
 use lib.ListN.{length}
 use lib.Dec.{leb}
 use borrow.Author.Tests.{leb-true}
-use Rattle.laws.proofs.Booleans.{clash}
+use Rattle.laws.proofs.Booleans.{clash, cond-left, cond-right}
 use Rattle.stream.specs.declared.Words.{Words}
 use Rattle.stream.specs.Entry.{decode}
 use Rattle.stream.specs.Table.{wordsAt, wordsFrom}
 use Rattle.stream.specs.Grammar.{Env, inRange, Course, at, off, met, course, begin, isWhole, accepts, usedRange, runRange, Passed, checkStream}
 use Rattle.stream.proofs.Laws.{used-entries, used-few, used-ready, run-fits}
 
-test : (a b : Bool) → cond a b false ≡ true → a ≡ true
-test true b h = refl
-test false b h = h
-
-then : (a b : Bool) → cond a b false ≡ true → b ≡ true
-then true b h = h
-then false b h = clash h
-
 -- ---- where it lies
 pub passed : (t : List ℕ) (first count used : ℕ) (v : Env) → checkStream t first count used v ≡ true → Passed t first count v
 passed t first count used v h =
     record {
-      within = run-fits first count used (length t) (used-entries (length t) used (length (v .areas)) (length (v .xs)) (length (v .ys)) (v .used) inUse) (leb-true count used (test countOk rest run)) (leb-true first (used - count) (test firstOk fewOk firstAndFew));
+      within = run-fits first count used (length t) (used-entries (length t) used (length (v .areas)) (length (v .xs)) (length (v .ys)) (v .used) inUse) (leb-true count used (cond-left countOk rest run)) (leb-true first (used - count) (cond-left firstOk fewOk firstAndFew));
       few-areas = used-few (length t) used (length (v .areas)) (length (v .xs)) (length (v .ys)) (v .used) inUse;
-      few = leb-true count 4096 (then firstOk fewOk firstAndFew);
+      few = leb-true count 4096 (cond-right firstOk fewOk firstAndFew);
       ready = used-ready (length t) used (v .areas) (v .xs) (v .ys) (v .used) inUse;
-      grammar = then (runRange first count used) good runAndGood;
+      grammar = cond-right (runRange first count used) good runAndGood;
     }
   where
     U : Bool
@@ -53,19 +45,19 @@ passed t first count used v h =
     rest = cond firstOk fewOk false
 
     inUse : U ≡ true
-    inUse = test U (cond (runRange first count used) good false) h
+    inUse = cond-left U (cond (runRange first count used) good false) h
 
     runAndGood : cond (runRange first count used) good false ≡ true
-    runAndGood = then U (cond (runRange first count used) good false) h
+    runAndGood = cond-right U (cond (runRange first count used) good false) h
 
     run : runRange first count used ≡ true
-    run = test (runRange first count used) good runAndGood
+    run = cond-left (runRange first count used) good runAndGood
 
     firstAndFew : rest ≡ true
-    firstAndFew = then countOk rest run
+    firstAndFew = cond-right countOk rest run
 
 -- ---- each entry is in range
-off-stays : (v : Env) (ws : List Words) → isWhole (course v off ws) ≡ false
+pub off-stays : (v : Env) (ws : List Words) → isWhole (course v off ws) ≡ false
 unfolding course
 off-stays v [] = refl
 off-stays v (w ∷ ws) = off-stays v ws

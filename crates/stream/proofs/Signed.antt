@@ -7,6 +7,7 @@ use lib.Dec.{eqb, ltb, leb}
 use lib.IntN.{pos, negsuc}
 use lib.Signed.{leZ}
 use Rattle.laws.specs.Integers.{eqZ}
+use Rattle.laws.proofs.Booleans.{and-true}
 use mir.Syntax.{w32}
 use mir.Val.{toZ}
 use mir.ValLaws.{toZ-pos}
@@ -20,10 +21,6 @@ upper w h = rw (le-ltb w 2147483648 h)
 or-false : (b : Bool) → (b || false) ≡ b
 or-false true = refl
 or-false false = refl
-
-and-true : (b : Bool) → (b && true) ≡ b
-and-true true = refl
-and-true false = refl
 
 -- two comparisons that say the same
 same : (a b m n : ℕ) → (a ≤ b → m ≤ n) → (b < a → n < m) → leb a b ≡ leb m n

@@ -10,7 +10,7 @@ use Rattle.celltable.specs.Ranges.{headRange}
 use Rattle.celltable.proofs.Ranges.{head-long, head-cells, head-entries}
 use Rattle.tree.specs.Tables.{cellsUsed, entriesUsed}
 
-used-is : (head : List ℕ) → 2 ≤ length head → cellsUsed head ≡ getD head 0 0
+pub used-is : (head : List ℕ) → 2 ≤ length head → cellsUsed head ≡ getD head 0 0
 used-is head h = ap (λ (b : Bool). cond b (getD head 0 0) 0) (le-leb 2 (length head) h)
 
 pub head-passes : (head t : List ℕ) (entries : ℕ) → headRange head (length t) entries ≡ true

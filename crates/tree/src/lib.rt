@@ -8,7 +8,7 @@ ghost use mathlib.Core.Bool.{true};
 ghost use Prim.Native.Nat.{_+_, _*_, _≤_, _<_};
 ghost use lib.ListN.{length, getD, set};
 ghost use Rattle.stream.specs.Table.{wordsFrom, written};
-ghost use Rattle.stream.specs.Grammar.{env, Passed};
+ghost use Rattle.stream.specs.Grammar.{env, bounds, Passed};
 ghost use Rattle.celltable.specs.Table.{putChildAt};
 ghost use Rattle.celltable.specs.Ranges.{squareRange, cellOf, cellsHeld, entriesHeld};
 ghost use Rattle.ranges.specs.Held.{lent};
@@ -31,7 +31,7 @@ pub fn cells_used(head: &[u32]) -> u32
     0
 }
 
-fn cells_held(n: u32, len: usize) -> bool
+pub fn cells_held(n: u32, len: usize) -> bool
     ensures { λ r. ⌜ r ≡ cellsHeld n len ⌝ }
 {
     (1 <= n) & (((n as usize) <= len / 8) & (n <= 4096))
@@ -56,7 +56,7 @@ fn entries_of(ts: [Tally; 4]) -> usize
 }
 
 // The numbers in use.
-fn put_head(head: &mut [u32], cells: u32, entries: u32)
+pub fn put_head(head: &mut [u32], cells: u32, entries: u32)
     requires { ⌜ 2 ≤ length (now head) ⌝ }
     ensures { λ _. ⌜ now (head .exit) ≡ set (set (now (head .entry)) 0 cells) 1 entries ⌝ }
 {
@@ -244,10 +244,17 @@ fn split_cell(
     Answer::Not(Refusal::Broken)
 }
 
-fn wide(n: u32) -> usize
-    ensures { λ r. ⌜ r ≡ n ⌝ }
+// The areas and corners in use, and the rows of a cell.
+pub fn bounds_in(plan: &[u32], low: u32, side: u32) -> Bounds
+    requires { ⌜ 3 ≤ length (now plan) ⌝ }
+    ensures { λ r. ⌜ r ≡ bounds (getD (now (plan .entry)) 1 0) (getD (now (plan .entry)) 2 0) low side ⌝ }
 {
-    n as usize
+    Bounds {
+        areas: laws::wide(plan[1]),
+        corners: laws::wide(plan[2]),
+        low: low,
+        side: side,
+    }
 }
 
 // 12 over the areas and corners in use, and then the cell. The head has passed.
@@ -273,12 +280,7 @@ fn split_counted(
     ensures { λ r. ⌜ now (entries .exit) ≡ entriesAfter (tree (now (plan .entry)) (now (areas .entry)) (now (xs .entry)) (now (ys .entry)) (now (head .entry)) (now (cells .entry)) (now (entries .entry))) i r ⌝ }
 {
     let w = celltable::read_cell(cells, i);
-    let b = Bounds {
-        areas: wide(plan[1]),
-        corners: wide(plan[2]),
-        low: w.y,
-        side: w.side,
-    };
+    let b = bounds_in(plan, w.y, w.side);
     let n = entries.len();
     if stream::used_range(n, free as usize, areas.len(), xs.len(), ys.len(), b) {
         return split_cell(head, cells, entries, areas, xs, ys, b, i, used, free, w);

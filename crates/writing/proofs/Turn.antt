@@ -45,7 +45,7 @@ use Rattle.making.specs.Numbers.{leftSign, leftClass, waitingN, settledN, prune
 use Rattle.making.proofs.Follows.{stateOf, settle-counts, settle-fits, settle-short, kept-size}
 use Rattle.making.proofs.Grammar.{Passes, one-passes}
 use Rattle.making.proofs.Standing.{Reads, Standing, by-kind}
-use Rattle.making.proofs.Turn.{standing-rows}
+use Rattle.making.proofs.Turn.{standing-rows, length-is}
 use Rattle.writing.specs.Numbers.{putBelow, placeOf, segmentPut, settledPut, onePut}
 use Rattle.writing.proofs.Agree.{Agree}
 use Rattle.writing.proofs.Same.{Same, same-then, same-settled, same-one}
@@ -57,9 +57,6 @@ pub record Writing (v : Env) (D : Drawing) (c : Cell) (k : ℕ) (mk : Maker) (ws
   pub standing : Standing v D c k (mk .pruner) (mk .waiting) ws whole
   pub writes : Writes limit t (standing .rows)
   pub same : Same limit t₀ t
-
-length-is : (x : Pruning.State Row) → lengthOf (weighed rowSize x) ≡ total rowSize (outOf x)
-length-is (st out b w fs) = refl
 
 going-is : (x : Pruning.State Row) → eqb (skipIn (weighed rowSize x)) 0 ≡ isGoing x
 going-is (st out b going fs) = refl

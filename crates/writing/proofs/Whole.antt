@@ -1,7 +1,7 @@
 -- A table whose front is what was made: as a whole. Assumes nothing.
 use mathlib.Core.Path.{_≡_, refl, sym, ap, ap₂, subst, _∙_}
 use mathlib.Core.Bool.{true}
-use mathlib.Core.List.{List, [], _∷_, _++_, map}
+use mathlib.Core.List.{List, [], _∷_, _++_}
 use Prim.Native.Nat.{ℕ, zero, suc, _+_, _*_, _-_, _≤_, _<_}
 use native.Mathlib.Omega.{arith}
 use lib.ListN.{length, getD, take, drop, take-append-drop}
@@ -15,9 +15,9 @@ use Rattle.stream.specs.declared.Words.{Words}
 use Rattle.stream.specs.Table.{wordsFrom, flat}
 use Rattle.stream.specs.Grammar.{Env, accepts}
 use Rattle.reading.specs.Reading.{rowsIn}
-use Rattle.reading.specs.Words.{wordsOf}
 use Rattle.making.specs.declared.Maker.{Maker}
 use Rattle.making.specs.Made.{rowsMade, wordsMade}
+use Rattle.making.proofs.Made.{made-length}
 use Rattle.making.proofs.Standing.{Reads}
 use Rattle.making.proofs.Whole.{allOf, rows-all}
 use Rattle.writing.specs.Numbers.{settledPut}
@@ -69,15 +69,11 @@ module _ (v : Env) (D : Drawing) (c : Cell) (R : Reads v D) (all : List Words) (
       subst (λ (x : List Row). Agree limit (settledPut limit (v .areas) t mk) 0 x) (ap (λ (m : Making). outOf (settle D c m)) rows-end ∙ rows-all v D c R all accepted)
       (settle-agrees limit (v .areas) D c (R .agrees) k mk (s .standing .rows) t l room (s .standing .follows) (s .writes))
 
-  length-map : (x : List Row) → length (map wordsOf x) ≡ length x
-  length-map [] = refl
-  length-map (r ∷ x) = ap suc (length-map x)
-
   pub written-end : settledPut limit (v .areas) t mk ≡ flat (wordsMade D c all) ++ drop (limit * 4) t₀
   unfolding wordsMade
   written-end =
       let a : Same limit t₀ (settledPut limit (v .areas) t mk) = same-then limit (s .same) (same-settled limit (v .areas) t mk) in
-      table-is t₀ (settledPut limit (v .areas) t mk) limit (wordsMade D c all) (omega (arith, room, same-settled limit (v .areas) t mk .size)) (exact ∙ sym (length-map (rowsMade D c all))) a
+      table-is t₀ (settledPut limit (v .areas) t mk) limit (wordsMade D c all) (omega (arith, room, same-settled limit (v .areas) t mk .size)) (exact ∙ sym (made-length D c all)) a
       (subst (λ (n : ℕ). wordsFrom (settledPut limit (v .areas) t mk) 0 n ≡ wordsMade D c all) (sym exact) (agree-all limit (settledPut limit (v .areas) t mk) 0 (rowsMade D c all) (omega arith) agrees-end))
 
   pub size-end : length (settledPut limit (v .areas) t mk) ≡ length t

@@ -6,7 +6,7 @@ use Prim.Native.Nat.{ℕ, suc, _+_, _*_, _≤_, _<_}
 use native.Mathlib.Omega.{arith}
 use native.Mathlib.Nat.{zero-add}
 use lib.Dec.{eqb, ltb}
-use lib.ListN.{length, getD, take}
+use lib.ListN.{length, getD, take, length-map}
 use lib.Seq.{length-take-le}
 use lib.IntN.{ℤ, _+ℤ_}
 use mir.Syntax.{w32}
@@ -138,14 +138,10 @@ module _ (limit : ℕ) where
     segments-more [] g = refl
     segments-more (h ∷ gs) g = ap (λ (rs : List Row). segment h ∷ rs) (segments-more gs g)
 
-    length-segments : (gs : List Segment) → length (map segment gs) ≡ length gs
-    length-segments [] = refl
-    length-segments (g ∷ gs) = ap suc (length-segments gs)
-
     one-more : (t : List ℕ) (out : List Row) (b : ℕ) (fs : List Frame) (n : ℕ) (z : ℤ) (gs : List Segment) (g : Segment) (at : ℕ) → at ≡ length out + 1 + length gs → limit * 4 ≤ length t
         → Writes limit t (making (st out b going fs) (held n z gs)) → (z′ : ℤ) → Writes limit (putBelow limit t at (wordsOf (segment g))) (making (st out b going fs) (held n z′ (gs ++ (g ∷ []))))
     one-more t out b fs n z gs g at e h w z′ =
-        let e′ : at ≡ length out + 1 + length (map segment gs) = omega (arith, length-segments gs) in
+        let e′ : at ≡ length out + 1 + length (map segment gs) = omega (arith, length-map {B = Row} gs segment) in
         record {
           done = agree-behind limit t 0 out at (wordsOf (segment g)) (omega arith) (w .done);
           behind = λ s. rw (segments-more gs g, e′) (agree-more limit t (length out + 1) (map segment gs) (segment g) h (w .behind refl));
@@ -178,6 +174,6 @@ module _ (limit : ℕ) where
         (shut-writes t out b s fs n z (startBy (D .xs) (D .ys) (classIn (D .xs) (D .ys) c g) g z) gs (gs ++ keptBy (D .xs) (D .ys) (classIn (D .xs) (D .ys) c g) g []) w)
     segment-writes k mk (making (st out b going fs) (held n z gs)) t g wd l h e f w =
         let small : length out < 65536 = omega (arith, f .short) in
-        let few : length (itemRows (area n z gs)) < 65536 = omega (arith, f .short, length-segments gs) in
+        let few : length (itemRows (area n z gs)) < 65536 = omega (arith, f .short, length-map {B = Row} gs segment) in
         rw (f .waits, skip-is (mk .pruner) (st out b going fs) (f .counts), length-place (mk .pruner) (st out b going fs) (f .counts) small, place-is (itemRows (area n z gs)) few)
-        (kept-writes t out b fs n z gs g wd (length out + length (itemRows (area n z gs))) (classIn (D .xs) (D .ys) c g) (omega (arith, length-segments gs)) h e w)
+        (kept-writes t out b fs n z gs g wd (length out + length (itemRows (area n z gs))) (classIn (D .xs) (D .ys) c g) (omega (arith, length-map {B = Row} gs segment)) h e w)

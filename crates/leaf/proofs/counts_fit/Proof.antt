@@ -18,23 +18,14 @@ shared-slice-read-wide c = let a = c .before .before .before .before .before .be
 wide-requires : tie.Need-wide-requires
 wide-requires c κs = search needs
 
-shared-slice-read-wide-2 : tie.Need-shared-slice-read-wide-2
-shared-slice-read-wide-2 c = search needs
-
-wide-requires-2 : tie.Need-wide-requires-2
-wide-requires-2 c κs = search needs
-
-shared-slice-read-wide-3 : tie.Need-shared-slice-read-wide-3
-shared-slice-read-wide-3 c = search needs
-
-wide-requires-3 : tie.Need-wide-requires-3
-wide-requires-3 c κs = search needs
+bounds-in-requires : tie.Need-bounds-in-requires
+bounds-in-requires c κs = search needs
 
 used-range-requires : tie.Need-used-range-requires
 used-range-requires c κs = search needs
 
 returns : tie.Need-returns
-returns c = let a = c .before .before .before .before .before .before .before .before .before .before .before .before .before .before .before .before .before .args in let T = tree (now (a .plan)) (now (a .areas)) (now (a .xs)) (now (a .ys)) (now (a .head)) (now (a .cells)) (now (a .entries)) in counts-yes T (c .used-range .result) (c .before .before .before .before .before .wide .result) (c .before .before .before .wide2 .result) (c .before .wide3 .result) (sym (c .before .before .before .before .before .before .before .before .before .head-fits .ensures) ∙ c .before .before .before .before .before .before .before .before .if1 .taken) (c .before .before .before .before .before .before .before .if2 .taken) (c .before .before .before .before .before .wide .ensures) (c .before .before .before .wide2 .ensures) (c .before .wide3 .ensures) (c .used-range .ensures)
+returns c = let a = c .before .before .before .before .before .before .before .before .before .before .before .before .before .before .args in let T = tree (now (a .plan)) (now (a .areas)) (now (a .xs)) (now (a .ys)) (now (a .head)) (now (a .cells)) (now (a .entries)) in counts-yes T (c .used-range .result) (c .before .before .wide .result) (c .before .bounds-in .result) (sym (c .before .before .before .before .before .before .head-fits .ensures) ∙ c .before .before .before .before .before .if1 .taken) (c .before .before .before .before .if2 .taken) (c .before .before .wide .ensures) (c .before .bounds-in .ensures) (c .used-range .ensures)
 
 returns-2 : tie.Need-returns-2
 returns-2 c = let a = c .before .before .before .before .before .before .before .before .before .before .args in let T = tree (now (a .plan)) (now (a .areas)) (now (a .xs)) (now (a .ys)) (now (a .head)) (now (a .cells)) (now (a .entries)) in counts-short T (sym (c .before .before .head-fits .ensures) ∙ c .before .if1 .taken) (c .if2 .left)
@@ -49,10 +40,7 @@ counts-fit-spec =
     head-fits-requires
     shared-slice-read-wide
     wide-requires
-    shared-slice-read-wide-2
-    wide-requires-2
-    shared-slice-read-wide-3
-    wide-requires-3
+    bounds-in-requires
     used-range-requires
     returns
     returns-2

@@ -8,8 +8,8 @@ use borrow.Author.Needs.{needs}
 use Rattle.query.proofs.set_in.Statement.{statement}
 use Rattle.query.proofs.set_in.Tie as tie
 
-bounds-of-requires : tie.Need-bounds-of-requires
-bounds-of-requires c κs = search needs
+bounds-in-requires : tie.Need-bounds-in-requires
+bounds-in-requires c κs = search needs
 
 cast-first : tie.Need-cast-first
 cast-first c = search needs
@@ -18,11 +18,11 @@ cast-count : tie.Need-cast-count
 cast-count c = search needs
 
 read-stream-requires : tie.Need-read-stream-requires
-read-stream-requires c κs = let p = c .before .before .before .before .before .before .before .before .pre in rw (c .before .before .bounds-of .ensures) (p .1 .0, record { position-x = omega (arith, p .1 .1); position-y = omega (arith, p .1 .1) })
+read-stream-requires c κs = let p = c .before .before .before .before .before .before .before .before .pre in rw (c .before .before .bounds-in .ensures) (p .1 .0, record { position-x = omega (arith, p .1 .1); position-y = omega (arith, p .1 .1) })
 
 returns : tie.Need-returns
 returns c = let a = c .before .before .before .before .before .before .before .before .before .args in let p = c .before .before .before .before .before .before .before .before .before .pre in (c .read-stream .ensures, rw (c .read-stream .ensures) (set-painted (now (a .entries)) (a .l .first) (a .l .count) (env (now (a .areas)) (now (a .xs)) (now (a .ys)) (bounds (getD (now (a .plan)) 1 0) (getD (now (a .plan)) 2 0) (a .l .y) (a .l .side))) (a .x) (a .y) (p .1 .0)))
 
 pub set-in-spec : {M : Type 1} → statement M
 set-in-spec =
-    tie.close (tie.spec bounds-of-requires cast-first cast-count read-stream-requires returns)
+    tie.close (tie.spec bounds-in-requires cast-first cast-count read-stream-requires returns)

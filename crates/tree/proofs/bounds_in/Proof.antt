@@ -1,7 +1,7 @@
--- `query::bounds_of` meets its contract. Assumes nothing.
+-- `tree::bounds_in` meets its contract. Assumes nothing.
 use borrow.Author.Needs.{needs}
-use Rattle.query.proofs.bounds_of.Statement.{statement}
-use Rattle.query.proofs.bounds_of.Tie as tie
+use Rattle.tree.proofs.bounds_in.Statement.{statement}
+use Rattle.tree.proofs.bounds_in.Tie as tie
 
 shared-slice-read-wide : tie.Need-shared-slice-read-wide
 shared-slice-read-wide c = search needs
@@ -18,8 +18,8 @@ wide-requires-2 c κs = search needs
 returns : tie.Need-returns
 returns c = rw (c .wide2 .ensures, c .before .before .wide .ensures)
 
-pub bounds-of-spec : {M : Type 1} → statement M
-bounds-of-spec =
+pub bounds-in-spec : {M : Type 1} → statement M
+bounds-in-spec =
     tie.close
     (tie.spec
     shared-slice-read-wide
