@@ -655,9 +655,8 @@ fn time_rows(name: &str, tables: &Tables, tree: Tree, rows: &[(u32, u32)]) {
     compare(name, rows.len() * ROW_PIXELS, readings);
 }
 
-fn time_layout(name: &str, layout: &Layout) {
-    let random = &mut Random::new(1);
-    let tables = samples::tables(&layout.drawing(random));
+fn time_drawing(name: &str, random: &mut Random, records: &[Record]) {
+    let tables = samples::tables(records);
     let mut tree = TreeTables::new(MOST_CELLS, MOST_ENTRIES);
     let opened = zones::open(Drawing::of(&tables), &mut tree.lend());
     assert!(matches!(opened, Answer::Accepted(_)), "{opened:?}");
@@ -681,6 +680,9 @@ fn time_layout(name: &str, layout: &Layout) {
 
 fn main() {
     println!("In brackets: times the library's.");
+    let random = &mut Random::new(1);
+    let zigzags = scenes::zigzags(random);
+    time_drawing("of zigzags", random, &zigzags);
     let layouts = [
         ("one above the other", 1, 64, 3_000.0, 430.0),
         ("in eight rows of eight", 8, 8, 4_000.0, 4_000.0),
@@ -693,6 +695,7 @@ fn main() {
             wide,
             high,
         };
-        time_layout(name, &layout);
+        let records = layout.drawing(random);
+        time_drawing(name, random, &records);
     }
 }
