@@ -25,7 +25,7 @@ use Rattle.cells.proofs.Rows as Rows
 use Rattle.stream.specs.declared.Bounds.{Bounds}
 use Rattle.reading.specs.Reading.{rowsIn}
 use Rattle.reading.specs.Words.{wordsOf, EachFits}
-use Rattle.reading.proofs.Words.{rows-back}
+use Rattle.reading.proofs.Words.{rows-back, fits-rows}
 use Rattle.ranges.specs.Valid.{Valid}
 use Rattle.ranges.specs.Held.{Held, lent}
 use Rattle.making.specs.Made.{rowsMade, wordsMade}
@@ -68,27 +68,6 @@ module _ (E D : Drawing) (f : E .fields ≡ D .fields) (x : E .xs ≡ D .xs) (y 
   same-role = fun-ext (λ n. rw (same-fields n))
 
 -- ---- the words of a cell's stream say the stream
-small-fits : (z : ℤ) (m : ℕ) → natAbs z ≤ m → m ≤ 2048 → SFits w32 z
-small-fits z m h k = record { sfits = mag-abs z (omega arith) }
-
-fits-append : (x y : List Row) → EachFits x → EachFits y → EachFits (x ++ y)
-fits-append [] y h g = g
-fits-append (w ∷ x) y h g = (h .0, fits-append x y (h .1) g)
-
-fits-segments : (xs ys : List ℕ) (gs : List Segment) → SignsIn xs ys gs → EachFits (map segment gs)
-fits-segments xs ys [] s = tt
-fits-segments xs ys (drawn l ∷ gs) s = (tt, fits-segments xs ys gs (s .1))
-fits-segments xs ys (shortcut z lo hi ∷ gs) s = (small-fits z 1 (s .0) (omega arith), fits-segments xs ys gs (s .1))
-
-fits-rows : (D : Drawing) (es : List (Entry Item)) → Each (Small D 2048) es → EachFits (rowsOf es)
-fits-rows D [] h = tt
-fits-rows D (item k always ∷ es) h = (tt, fits-rows D es (h .1))
-fits-rows D (item k (area n z gs) ∷ es) h =
-    (small-fits z 2048 (omega (arith, h .0 .0)) (omega arith), fits-append (map segment gs) (rowsOf es) (fits-segments (D .xs) (D .ys) gs (h .0 .1)) (fits-rows D es (h .1)))
-fits-rows D (push ∷ es) h = (tt, fits-rows D es h)
-fits-rows D (activate ∷ es) h = (tt, fits-rows D es h)
-fits-rows D (pop ∷ es) h = (tt, fits-rows D es h)
-
 module _ (D : Drawing) (ok : Valid D) where
   pub words-say : (c : Cell) → rowsIn (wordsOfCell D c) ≡ rowsOf (flat paint (made D c (source D)))
   words-say c = rows-back (rowsOf (flat paint (made D c (source D)))) (fits-rows D (flat paint (made D c (source D))) (made-small D 2048 (ok .few-each) c))

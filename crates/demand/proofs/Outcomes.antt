@@ -21,7 +21,7 @@ use Rattle.tree.specs.Tables.{Tree, cellsUsed, entriesUsed, boundsOf}
 use Rattle.tree.specs.Split.{words, against, made, roomAnswer, drawingSplit, cellSplit, countsSplit, splitAnswer}
 use Rattle.splits.specs.After.{Splittable, splitTree}
 use Rattle.splits.proofs.Counts.{counts-head, counts-plan, counts-used}
-use Rattle.splits.proofs.Accepted.{able-answer}
+use Rattle.splits.proofs.Accepted.{able-answer, chosen}
 use Rattle.demand.specs.History.{Node, cellIn, splitAt, Leaf}
 use Rattle.demand.proofs.Sound.{Sound}
 use Rattle.demand.proofs.Passing.{cell-passes, leaf-passes}
@@ -40,9 +40,6 @@ pub data Roomed (t : Tree) (H : List Node) (i : ℕ) : Answer → Type 0 where
 -- refusals have numbers of their own
 pub other : (r : Refusal) → (numberOf r ≡ 12 → ⊥) → r ≡ Broken → ⊥
 other r f e = f (ap numberOf e)
-
-chosen : (b : Bool) (x y : Answer) → b ≡ true → cond b x y ≡ x
-chosen b x y e = ap (λ (c : Bool). cond c x y) e
 
 wide : (c : Cell) → (side c ≡ 1 → ⊥) → 0 < level c
 wide (cell x y zero) f = absurd (f refl)

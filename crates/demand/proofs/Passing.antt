@@ -8,7 +8,7 @@ use native.Mathlib.Decide.{ℕ-discrete}
 use lib.Dec.{eqb, ltb}
 use lib.ListN.{length}
 use borrow.Author.Tests.{lt-ltb, le-leb}
-use Rattle.laws.proofs.Booleans.{and-both}
+use Rattle.laws.proofs.Booleans.{and-both, or-right}
 use Rattle.cells.specs.Cells.{Cell, cell, side, root}
 use Rattle.stream.specs.Grammar.{checkStream}
 use Rattle.ranges.proofs.Streams.{made-checks}
@@ -28,10 +28,6 @@ use Rattle.demand.proofs.Sound.{Sound}
 pub says-is : (w : CellWords) (c : Cell) → Gridded c → SaysCell w c → cellOf w ≡ c
 says-is w (cell x y k) g s = λ d. cell (s .same-x d) (s .same-y d) ((ap levelOf (s .same-side) ∙ level-of 16 k (g .few)) d)
 
-or-true : (a b : Bool) → b ≡ true → (a || b) ≡ true
-or-true true b e = refl
-or-true false b e = e
-
 module _ (t : Tree) (H : List Node) (s : Sound t H) where
   abbrev used : ℕ
   used = cellsUsed (t .head)
@@ -50,7 +46,7 @@ module _ (t : Tree) (H : List Node) (s : Sound t H) where
       go (no z) =
           let d = s .grown .divided i h z in
           and-both (childRange (words t i .child) used) (entryRange (words t i .first) (words t i .count) free)
-          (or-true (eqb (words t i .child) 0) (ltb (words t i .child + 3) used) (lt-ltb (words t i .child + 3) used (omega (arith, d .in-use, s .firsts i h, s .in-use))))
+          (or-right (eqb (words t i .child) 0) (ltb (words t i .child + 3) used) (lt-ltb (words t i .child + 3) used (omega (arith, d .in-use, s .firsts i h, s .in-use))))
           (le-leb (words t i .first + words t i .count) free (s .entries i h))
 
   first-root : (i : ℕ) → i ≡ 0 → cellIn H i ≡ root

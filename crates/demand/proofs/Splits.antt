@@ -29,12 +29,7 @@ use Rattle.demand.proofs.History.{From, kept, divides, new, comes, few-
 use Rattle.demand.proofs.Made.{split-made}
 use Rattle.demand.proofs.Sound.{Drawn, Sound}
 use Rattle.demand.proofs.Passing.{cell-is}
-
-pub quarter-place : (q : Quarter) → quarterAt (placeOf q) ≡ q
-quarter-place lowLow = refl
-quarter-place highLow = refl
-quarter-place lowHigh = refl
-quarter-place highHigh = refl
+use Rattle.celltable.proofs.Quarters.{place-quarter}
 
 -- ---- the drawing stays
 pub tables-split : (t : Tree) (i : ℕ) → drawingTables (splitTree t i) ≡ drawingTables t
@@ -79,13 +74,13 @@ module _ (t : Tree) (H : List Node) (i n : ℕ) (s : Sound t H) (e : splitAnswer
   new-words q =
       ap (λ (k : ℕ). words u (k + placeOf q)) (sym used-is)
       ∙ (tree-child t i n e (placeOf q) (few-places q)
-      ∙ ap (λ (c : Cell). wordsWith c (streamFirst (placeOf q)) (streamCount (placeOf q))) (λ d. child (cell-is t H s i h d) (quarter-place q d)))
+      ∙ ap (λ (c : Cell). wordsWith c (streamFirst (placeOf q)) (streamCount (placeOf q))) (λ d. child (cell-is t H s i h d) (place-quarter q d)))
 
   new-stream : (q : Quarter) → stream u (length H + placeOf q) ≡ wordsOfCell (drawingOf t) (child (cellIn H i) q)
   new-stream q =
       ap (λ (x : CellWords). wordsFrom (u .entries) (x .first) (x .count)) (new-words q)
       ∙ (tree-child-stream t i n e (placeOf q) (few-places q)
-      ∙ ((λ d. wordsMade (drawing t i) (child (cell-is t H s i h d) (quarter-place q d)) (s .streams i l d))
+      ∙ ((λ d. wordsMade (drawing t i) (child (cell-is t H s i h d) (place-quarter q d)) (s .streams i l d))
       ∙ split-made (drawingOf t) (s .drawn .valid) (t .areas) (t .xs) (t .ys) (boundsOf (t .plan) w) (s .drawn .held (w .y) (w .side)) (cellIn H i) q))
 
   new-entries : (q : Quarter) → streamFirst (placeOf q) + streamCount (placeOf q) ≤ entriesUsed (u .head)

@@ -10,7 +10,7 @@ use lib.ListN.{length, getD, length-set}
 use lib.ListN as ListN
 use lib.Seq.{sets}
 use borrow.Author.Tests.{ltb-true}
-use Rattle.laws.proofs.Booleans.{clash}
+use Rattle.laws.proofs.Booleans.{clash, and-true}
 use Rattle.paint.specs.Areas.{paintAt, materialOf}
 use Rattle.celltable.specs.declared.Found.{Found}
 use Rattle.tree.specs.Tables.{Tree}
@@ -40,10 +40,6 @@ and-word false b c = refl
 word-more : (i : ℕ) (l : List ℕ) (f : Bool) → ((f && ltb i 4294967296) && eachWord l) ≡ (f && eachWord (i ∷ l))
 unfolding eachWord
 word-more i l f = and-word f (ltb i 4294967296) (eachWord l)
-
-and-true : (a : Bool) → (a && true) ≡ a
-and-true true = refl
-and-true false = refl
 
 module _ (t : Tree) (px py : List ℕ) where
   abbrev at : ℕ → ℕ

@@ -92,7 +92,7 @@ fits-segments xs ys [] s = tt
 fits-segments xs ys (drawn l ∷ gs) s = (tt, fits-segments xs ys gs (s .1))
 fits-segments xs ys (shortcut z lo hi ∷ gs) s = (small-fits z 1 (s .0) (omega arith), fits-segments xs ys gs (s .1))
 
-fits-rows : (D : Drawing) (es : List (Entry Item)) → Each (Small D 2048) es → EachFits (rowsOf es)
+pub fits-rows : (D : Drawing) (es : List (Entry Item)) → Each (Small D 2048) es → EachFits (rowsOf es)
 fits-rows D [] h = tt
 fits-rows D (item k always ∷ es) h = (tt, fits-rows D es (h .1))
 fits-rows D (item k (area n z gs) ∷ es) h =

@@ -38,7 +38,7 @@ passed-by : (b : Bool) (x : Answer) (r : Refusal) (n : ℕ) → cond b (Not r) x
 passed-by true x r n e = not-split n r e
 passed-by false x r n e = (refl, e)
 
-chosen : (b : Bool) (x y : Answer) → b ≡ true → cond b x y ≡ x
+pub chosen : (b : Bool) (x y : Answer) → b ≡ true → cond b x y ≡ x
 chosen b x y e = ap (λ (c : Bool). cond c x y) e
 
 abbrev numberIn : Answer → ℕ
