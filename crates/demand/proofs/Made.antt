@@ -2,29 +2,25 @@
 -- makes of a cell's stream the streams of its quarters that are made from the drawing. Assumes nothing.
 use mathlib.Core.Path.{_≡_, refl, ap, _∙_, fun-ext}
 use mathlib.Core.Bool.{cond}
-use mathlib.Core.List.{List, [], _∷_, _++_, map}
-use Prim.Native.Nat.{ℕ, _≤_}
-use native.Mathlib.Omega.{arith}
+use mathlib.Core.List.{List, [], _∷_, map}
+use Prim.Native.Nat.{ℕ}
 use lib.ListN.{getD}
-use lib.IntN.{ℤ, natAbs}
-use mir.Syntax.{w32}
-use mir.Val.{SFits}
-use Rattle.laws.proofs.Differences.{mag-abs}
+use lib.IntN.{ℤ}
 use Rattle.records.specs.declared.Fields.{Fields}
-use Rattle.pruning.specs.Sides.{Kind, paint, clip, Side, Entry, item, push, activate, pop, flat, mapSide}
+use Rattle.pruning.specs.Sides.{Kind, paint, clip, Side, flat, mapSide}
 use Rattle.pruning.specs.Items.{fails}
 use Rattle.pruning.specs.Order.{pruned}
 use Rattle.cells.specs.Cells.{Cell, Quarter, child}
-use Rattle.cells.specs.Segments.{Segment, drawn, shortcut, keptIn, startIn}
+use Rattle.cells.specs.Segments.{keptIn, startIn}
 use Rattle.cells.specs.Drawings.{Drawing, noFields, fieldsOf, passesBy, isOpaque}
-use Rattle.cells.specs.Streams.{Item, always, area, Each, SignsIn, Small, passing, classOf, items, within, source, made}
-use Rattle.cells.specs.Rows.{Row, segment, rowsOf, roleIn, streamOf}
+use Rattle.cells.specs.Streams.{Item, always, area, passing, classOf, items, within, source, made}
+use Rattle.cells.specs.Rows.{rowsOf, roleIn, streamOf}
 use Rattle.cells.proofs.Streams.{child-made}
 use Rattle.cells.proofs.Bounds.{made-small}
 use Rattle.cells.proofs.Rows as Rows
 use Rattle.stream.specs.declared.Bounds.{Bounds}
 use Rattle.reading.specs.Reading.{rowsIn}
-use Rattle.reading.specs.Words.{wordsOf, EachFits}
+use Rattle.reading.specs.Words.{wordsOf}
 use Rattle.reading.proofs.Words.{rows-back, fits-rows}
 use Rattle.ranges.specs.Valid.{Valid}
 use Rattle.ranges.specs.Held.{Held, lent}

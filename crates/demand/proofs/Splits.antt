@@ -4,13 +4,13 @@ use mathlib.Core.List.{List}
 use Prim.Native.Nat.{ℕ, suc, _+_, _≤_, _<_}
 use native.Mathlib.Omega.{arith}
 use lib.ListN.{length}
-use Rattle.cells.specs.Cells.{Cell, level, side, Quarter, lowLow, highLow, lowHigh, highHigh, child}
+use Rattle.cells.specs.Cells.{Cell, level, side, Quarter, child}
 use Rattle.cells.specs.Drawings.{Drawing}
 use Rattle.stream.specs.Table.{wordsFrom}
 use Rattle.celltable.specs.declared.CellWords.{CellWords}
 use Rattle.celltable.specs.Table.{withChild}
 use Rattle.celltable.specs.Ranges.{cellOf}
-use Rattle.celltable.specs.Descent.{placeOf, quarterAt}
+use Rattle.celltable.specs.Descent.{placeOf}
 use Rattle.celltable.proofs.Grid.{SaysCell}
 use Rattle.making.specs.Made.{wordsMade}
 use Rattle.children.specs.Children.{wordsWith, entriesOfChild, streamsTo}

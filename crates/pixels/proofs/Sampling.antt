@@ -8,7 +8,7 @@ use Rattle.paint.specs.declared.colour.Channels.{Channels}
 use Rattle.paint.specs.declared.colour.Colour.{Colour}
 use Rattle.paint.specs.Areas.{paintAt}
 use Rattle.paint.specs.Colours.{colourOf, ColourIn}
-use Rattle.paint.specs.Pixels.{sampleX, sampleY, plus, samples, sixteenth, pixelOf, SamplesIn}
+use Rattle.paint.specs.Pixels.{sampleX, sampleY, plus, sixteenth, pixelOf, SamplesIn}
 use Rattle.celltable.specs.declared.Found.{Found}
 use Rattle.tree.specs.Tables.{Tree}
 use Rattle.tree.proofs.Choices.{pick-true, pick-false}

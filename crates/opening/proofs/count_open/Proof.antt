@@ -1,16 +1,6 @@
 -- `opening::count_open` meets its contract. Assumes nothing.
 use Rattle.opening.proofs.count_open.Statement.{statement}
 use Rattle.opening.proofs.count_open.Tie as tie
-use Rattle.opening.proofs.count_open.Reads as reads
-use Rattle.opening.proofs.count_open.Lts as lts
-use Rattle.making.proofs.begun.Reads as begun-reads
-use Rattle.making.proofs.left_of.Reads as left-of-reads
-use Rattle.making.proofs.made_after.Reads as made-after-reads
-use Rattle.making.proofs.made_size.Reads as made-size-reads
-use Rattle.opening.proofs.root_square.Reads as root-square-reads
-use Rattle.opening.proofs.source_after.Reads as source-after-reads
-use Rattle.opening.proofs.source_begin.Reads as source-begin-reads
-use Rattle.opening.proofs.source_entry.Reads as source-entry-reads
 use mathlib.Core.Path.{ap, _∙_}
 use Prim.Native.Nat.{_-_}
 use native.Mathlib.Omega.{arith}

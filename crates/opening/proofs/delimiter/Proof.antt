@@ -2,9 +2,6 @@
 use borrow.Author.Needs.{needs}
 use Rattle.opening.proofs.delimiter.Statement.{statement}
 use Rattle.opening.proofs.delimiter.Tie as tie
-use Rattle.opening.proofs.delimiter.Reads as reads
-use Rattle.opening.proofs.delimiter.Lts as lts
-use Rattle.opening.proofs.mark.Reads as mark-reads
 use Rattle.laws.proofs.Tests.{tests}
 
 mark-requires : tie.Need-mark-requires

@@ -2,8 +2,6 @@
 use borrow.Author.Needs.{needs}
 use Rattle.opening.proofs.edge_end.Statement.{statement}
 use Rattle.opening.proofs.edge_end.Tie as tie
-use Rattle.opening.proofs.edge_end.Reads as reads
-use Rattle.opening.proofs.edge_end.Lts as lts
 use Rattle.laws.proofs.Tests.{tests}
 
 add-if1 : tie.Need-add-if1

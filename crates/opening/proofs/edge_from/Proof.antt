@@ -2,9 +2,6 @@
 use borrow.Author.Needs.{needs}
 use Rattle.opening.proofs.edge_from.Statement.{statement}
 use Rattle.opening.proofs.edge_from.Tie as tie
-use Rattle.opening.proofs.edge_from.Reads as reads
-use Rattle.opening.proofs.edge_from.Lts as lts
-use Rattle.opening.proofs.edge_end.Reads as edge-end-reads
 use mathlib.Core.Path.{ap}
 use Prim.Native.Nat.{ℕ}
 use Rattle.reading.specs.Words.{words}

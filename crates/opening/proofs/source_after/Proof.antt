@@ -2,8 +2,6 @@
 use borrow.Author.Needs.{needs}
 use Rattle.opening.proofs.source_after.Statement.{statement}
 use Rattle.opening.proofs.source_after.Tie as tie
-use Rattle.opening.proofs.source_after.Reads as reads
-use Rattle.opening.proofs.source_after.Lts as lts
 use Rattle.laws.proofs.Tests.{tests}
 
 add-t4 : tie.Need-add-t4

@@ -2,10 +2,6 @@
 use borrow.Author.Needs.{needs}
 use Rattle.opening.proofs.source_entry.Statement.{statement}
 use Rattle.opening.proofs.source_entry.Tie as tie
-use Rattle.opening.proofs.source_entry.Reads as reads
-use Rattle.opening.proofs.source_entry.Lts as lts
-use Rattle.opening.proofs.delimiter.Reads as delimiter-reads
-use Rattle.opening.proofs.edge_from.Reads as edge-from-reads
 use Rattle.laws.proofs.Tests.{tests}
 
 add-kind : tie.Need-add-kind

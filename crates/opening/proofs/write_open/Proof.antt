@@ -1,16 +1,6 @@
 -- `opening::write_open` meets its contract. Assumes nothing.
 use Rattle.opening.proofs.write_open.Statement.{statement}
 use Rattle.opening.proofs.write_open.Tie as tie
-use Rattle.opening.proofs.write_open.Reads as reads
-use Rattle.opening.proofs.write_open.Lts as lts
-use Rattle.making.proofs.begun.Reads as begun-reads
-use Rattle.making.proofs.left_of.Reads as left-of-reads
-use Rattle.opening.proofs.root_square.Reads as root-square-reads
-use Rattle.opening.proofs.source_after.Reads as source-after-reads
-use Rattle.opening.proofs.source_begin.Reads as source-begin-reads
-use Rattle.opening.proofs.source_entry.Reads as source-entry-reads
-use Rattle.writing.proofs.put_settled.Reads as put-settled-reads
-use Rattle.writing.proofs.write_one.Reads as write-one-reads
 use mathlib.Core.Path.{sym, ap, _∙_}
 use Prim.Native.Nat.{_-_}
 use native.Mathlib.Omega.{arith}
