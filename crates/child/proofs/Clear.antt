@@ -1,12 +1,12 @@
 -- The array of start numbers in the end: those of what is made, and zeros. Assumes nothing.
 use mathlib.Core.Path.{_≡_, refl, sym, ap, _∙_}
 use mathlib.Core.Bool.{Bool, true, false}
-use mathlib.Core.List.{List, [], _∷_, map}
+use mathlib.Core.List.{List, [], _∷_}
 use Prim.Native.Nat.{ℕ, zero, suc, _+_, _≤_, _<_}
 use native.Mathlib.Omega.{arith}
 use native.Mathlib.Nat.{not-suc-le-zero, le-of-suc-le-suc}
 use lib.Dec.{ltb}
-use lib.ListN.{length, getD, set, length-set, length-map}
+use lib.ListN.{length, getD, set, length-set}
 use lib.Seq.{getD-set-same, getD-set-other, ext-getD}
 use lib.IntN.{ℤ, pos}
 use borrow.Author.Tests.{ltb-true, ltb-false}
@@ -41,7 +41,7 @@ first-rest (suc n) (z ∷ l) (suc i) h = first-rest n l i (le-of-suc-le-suc h)
 
 -- ---- n numbers with zeros behind them
 
-pub length-filled : (n : ℕ) (l : List ℤ) → length (filled n l) ≡ n
+length-filled : (n : ℕ) (l : List ℤ) → length (filled n l) ≡ n
 unfolding filled
 length-filled zero l = refl
 length-filled (suc n) [] = ap suc (length-filled n [])
@@ -76,10 +76,6 @@ first-filled at zs e s = ext-getD (pos 0) (firstOf (length zs) at) (filled 64 zs
         go false t =
             let n : length zs ≤ i = ltb-false i (length zs) t in
             first-rest (length zs) at i n ∙ (sym (beyond zs i n) ∙ sym (filled-at 64 zs i low))
-
--- the array has 64 numbers: so the caller's record of it says, of the numbers taken one by one
-pub array-long : {B : Type 0} (g : ℤ → B) (l : List ℤ) → length (map g l) ≡ 64 → length l ≡ 64
-array-long g l e = sym (length-map l g) ∙ e
 
 -- ---- the loop: the numbers from `count` to i - 1 are zeros, those before them as they were
 pub record Cleared (zs₀ : List ℤ) (count i : ℕ) (zs : List ℤ) : Type 0 where

@@ -20,8 +20,8 @@ unfoldable pub putStart : List ℤ → (k : ℕ) → ℤ → List ℤ
 putStart zs k z = cond (ltb k 64) (set zs k z) zs
 
 -- the start number of the area that waits, behind those of the areas that stand
-abbrev pub notedN : Starts → Maker → Starts
-notedN s m = starts (areasIn (m .pruner .length)) (putStart (s .at) (areasIn (m .pruner .length)) (m .waiting .start))
+abbrev pub notedN : List ℤ → Maker → List ℤ
+notedN zs m = putStart zs (areasIn (m .pruner .length)) (m .waiting .start)
 
 -- the first n numbers, and zeros in place of the others
 unfoldable pub firstOf : ℕ → List ℤ → List ℤ

@@ -3,7 +3,6 @@ use geometry::class::Square;
 use making::Maker;
 use stream::Bounds;
 ghost use mathlib.Core.Path.{_≡_};
-ghost use mathlib.Core.List.{[]};
 ghost use Prim.Native.Nat.{_+_, _*_, _≤_, _<_};
 ghost use lib.ListN.{length};
 ghost use lib.IntN.{natAbs};
@@ -25,38 +24,26 @@ pub struct Starts {
     pub at: [i64; 64],
 }
 
-// No area, and zeros.
-fn none() -> Starts
-    ensures { λ r. ⌜ r ≡ startsIn [] ⌝ }
-{
-    Starts {
-        count: 0,
-        at: [0; 64],
-    }
-}
-
 // The start number of the area that waits, behind those of the areas that stand. An area that goes again makes place for the next.
-fn noted(s: Starts, m: Maker) -> Starts
+fn note(at: &mut [i64], m: Maker)
+    requires { ⌜ length (now at) ≡ 64 ⌝ }
     requires { ⌜ natAbs (m .waiting .start) ≤ 8192 ⌝ }
-    ensures { λ r. ⌜ r ≡ notedN s m ⌝ }
+    ensures { λ _. ⌜ now (at .exit) ≡ notedN (now (at .entry)) m ⌝ }
 {
     let p = m.pruner;
     let a = m.waiting;
     let k = (p.length / 4294967296) as usize;
     let z = a.start;
-    let mut at = s.at;
     if k < 64 {
         at[k] = z;
-        return Starts { count: k, at: at };
     }
-    Starts { count: k, at: at }
 }
 
 // The first `count` of them, with zeros behind them.
-fn ended(s: Starts, count: usize) -> Starts
-    ensures { λ r. ⌜ r ≡ starts count (firstOf count (s .at)) ⌝ }
+fn ended(zs: [i64; 64], count: usize) -> Starts
+    ensures { λ r. ⌜ r ≡ starts count (firstOf count zs) ⌝ }
 {
-    let mut at = s.at;
+    let mut at = zs;
     let mut i = count;
     while i < 64 {
         at[i] = 0;
@@ -94,20 +81,19 @@ pub fn count_child(
 {
     let end = first + count;
     let mut m = making::begun();
-    let mut z = none();
+    let mut at = [0i64; 64];
     let mut i = first;
     while i < end {
         let w = stream::read_entry(entries, i);
         let l = making::left_of(xs, ys, b.corners, s, w);
-        let y = noted(z, m);
+        note(&mut at, m);
         let n = making::made_after(areas, m, l, w);
-        z = y;
         m = n;
         i += 1;
     }
-    let last = noted(z, m);
+    note(&mut at, m);
     let size = making::made_size(areas, m);
-    let made = ended(last, (size / 4294967296) as usize);
+    let made = ended(at, (size / 4294967296) as usize);
     Count {
         size: size,
         starts: made,
