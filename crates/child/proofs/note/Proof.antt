@@ -3,7 +3,6 @@ use borrow.Author.Needs.{needs}
 use Rattle.child.proofs.note.Statement.{statement}
 use Rattle.child.proofs.note.Tie as tie
 use Prim.Native.Nat.{_/_}
-use native.Mathlib.Omega.{arith}
 use borrow.Author.Tests.{lt-ltb, le-ltb}
 use Rattle.child.specs.Numbers.{putStart}
 use Rattle.reading.proofs.Laws.{small-back}
