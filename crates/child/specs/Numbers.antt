@@ -5,7 +5,8 @@ use Prim.Native.Nat.{ℕ, zero, suc, _/_}
 use lib.Dec.{ltb}
 use lib.ListN.{set}
 use lib.IntN.{ℤ, pos}
-use Rattle.making.specs.declared.Maker.{Maker}
+use Rattle.pruner.specs.declared.Pruner.{Pruner}
+use Rattle.making.specs.declared.Waiting.{Waiting}
 use Rattle.child.specs.declared.Starts.{Starts}
 
 abbrev pub starts : ℕ → List ℤ → Starts
@@ -20,8 +21,8 @@ unfoldable pub putStart : List ℤ → (k : ℕ) → ℤ → List ℤ
 putStart zs k z = cond (ltb k 64) (set zs k z) zs
 
 -- the start number of the area that waits, behind those of the areas that stand
-abbrev pub notedN : List ℤ → Maker → List ℤ
-notedN zs m = putStart zs (areasIn (m .pruner .length)) (m .waiting .start)
+abbrev pub notedN : List ℤ → Pruner → Waiting → List ℤ
+notedN zs p a = putStart zs (areasIn (p .length)) (a .start)
 
 -- the first n numbers, and zeros in place of the others
 unfoldable pub firstOf : ℕ → List ℤ → List ℤ

@@ -1,6 +1,8 @@
 // The stream of a child, made from its parent's stream in the same table: counted, and then written to the free end.
 use geometry::class::Square;
 use making::Maker;
+use making::Waiting;
+use pruner::Pruner;
 use stream::Bounds;
 ghost use mathlib.Core.Path.{_≡_};
 ghost use Prim.Native.Nat.{_+_, _*_, _≤_, _<_};
@@ -25,13 +27,11 @@ pub struct Starts {
 }
 
 // The start number of the area that waits, behind those of the areas that stand. An area that goes again makes place for the next.
-fn note(at: &mut [i64], m: Maker)
+fn note(at: &mut [i64], p: Pruner, a: Waiting)
     requires { ⌜ length (now at) ≡ 64 ⌝ }
-    requires { ⌜ natAbs (m .waiting .start) ≤ 8192 ⌝ }
-    ensures { λ _. ⌜ now (at .exit) ≡ notedN (now (at .entry)) m ⌝ }
+    requires { ⌜ natAbs (a .start) ≤ 8192 ⌝ }
+    ensures { λ _. ⌜ now (at .exit) ≡ notedN (now (at .entry)) p a ⌝ }
 {
-    let p = m.pruner;
-    let a = m.waiting;
     let k = (p.length / 4294967296) as usize;
     let z = a.start;
     if k < 64 {
@@ -80,19 +80,30 @@ pub fn count_child(
     ensures { λ r. ⌜ r .starts ≡ startsIn (rowsMade (lent (now (areas .entry)) (now (xs .entry)) (now (ys .entry)) b) (cellIn s) (wordsFrom (now (entries .entry)) first count)) ⌝ }
 {
     let end = first + count;
-    let mut m = making::begun();
+    let mut p = pruner::begun();
+    let mut a = making::rest();
     let mut at = [0i64; 64];
     let mut i = first;
     while i < end {
         let w = stream::read_entry(entries, i);
         let l = making::left_of(xs, ys, b.corners, s, w);
-        note(&mut at, m);
-        let n = making::made_after(areas, m, l, w);
-        m = n;
+        note(&mut at, p, a);
+        if making::prunes(w.kind) {
+            let q = making::pruner_after(areas, p, a, w.kind);
+            p = q;
+        }
+        let n = making::waiting_after(a, l, w);
+        a = n;
         i += 1;
     }
-    note(&mut at, m);
-    let size = making::made_size(areas, m);
+    note(&mut at, p, a);
+    let size = making::made_size(
+        areas,
+        Maker {
+            pruner: p,
+            waiting: a,
+        },
+    );
     let made = ended(at, (size / 4294967296) as usize);
     Count {
         size: size,
@@ -123,14 +134,25 @@ pub fn write_child(
 {
     let end = first + count;
     let base = free * 4;
-    let mut m = making::begun();
+    let mut p = pruner::begun();
+    let mut a = making::rest();
     let mut i = first;
     while i < end {
         let w = stream::read_entry(entries, i);
         let l = making::left_of(xs, ys, b.corners, s, w);
-        let n = writing::write_one(&mut entries[base..], made, areas, m, l, w);
-        m = n;
+        if making::prunes(w.kind) {
+            let q = writing::write_other(&mut entries[base..], made, areas, p, a, w.kind);
+            p = q;
+        } else {
+            writing::put_segment(&mut entries[base..], made, p, a, l, w);
+        }
+        let n = making::waiting_after(a, l, w);
+        a = n;
         i += 1;
     }
-    writing::put_settled(&mut entries[base..], made, areas, m);
+    let last = Maker {
+        pruner: p,
+        waiting: a,
+    };
+    writing::put_settled(&mut entries[base..], made, areas, last);
 }

@@ -9,3 +9,4 @@ pub mod Turn
 pub mod Lent
 pub mod Whole
 pub mod Shorter
+pub mod Stays

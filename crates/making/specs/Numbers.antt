@@ -1,7 +1,7 @@
 -- The making of a stream, one entry at a time, as the numbers that the code holds. `Rattle.making.proofs` says that they go as the rows do
 -- (`Rattle.cells.specs.Making`). Assumes nothing.
 use mathlib.Core.Path.{_≡_}
-use mathlib.Core.Bool.{Bool, true, false, cond}
+use mathlib.Core.Bool.{Bool, true, false, cond, not}
 use mathlib.Core.List.{List}
 use Prim.Native.Nat.{ℕ, _+_, _*_, _^_, _<_, _≤_}
 use lib.Dec.{eqb}
@@ -26,6 +26,7 @@ use Rattle.stream.specs.Entry.{startRange, signRange}
 use Rattle.stream.specs.Grammar.{lineRange}
 use Rattle.reading.specs.Reading.{roleAt, passAt, opaqueAt}
 use Rattle.making.specs.declared.Waiting.{Waiting}
+use Rattle.making.specs.declared.Maker.{Maker}
 
 -- ---- what is left of a line or a shortcut in a square
 
@@ -81,8 +82,15 @@ movedN kind c =
     (cond (eqb kind 3) (countStep sizedItems sizeOf c pop)
     (cond (eqb kind 7) (countStep sizedItems sizeOf c (item clip (sized passes 1))) c)))
 
+-- an entry that is neither a line nor a shortcut
+abbrev pub prunesN : ℕ → Bool
+prunesN kind = cond (eqb kind 5) false (not (eqb kind 6))
+
 abbrev pub prunedN : List ℕ → Count → Waiting → ℕ → Count
 prunedN areas c a kind = cond (eqb kind 5) c (cond (eqb kind 6) c (movedN kind (settledN areas c a)))
+
+abbrev pub maker : Pruner → Waiting → Maker
+maker p a = record { pruner = p; waiting = a }
 
 -- the numbers are far from their ends
 pub record Room (p : Pruner) (a : Waiting) (kind : ℕ) : Type 0 where

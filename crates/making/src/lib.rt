@@ -8,7 +8,6 @@ use pruner::Pruner;
 use stream::Words;
 ghost use mathlib.Core.Path.{_≡_};
 ghost use mathlib.Core.Bool.{true};
-ghost use mathlib.Core.List.{[]};
 ghost use Prim.Native.Nat.{_+_, _*_, _^_, _≤_, _<_};
 ghost use lib.ListN.{length, getD};
 ghost use lib.IntN.{natAbs};
@@ -19,10 +18,9 @@ ghost use Rattle.geometry.specs.Windings.{edgeBetween};
 ghost use Rattle.geometry.specs.Classes.{edgeClass, cut};
 ghost use Rattle.geometry.specs.Reach.{EndsIn, SquareIn};
 ghost use Rattle.stream.specs.Entry.{startRange, signRange};
-ghost use Rattle.pruning.specs.Pruner.{going};
-ghost use Rattle.pruning.specs.Counters.{ct, lengthOf};
+ghost use Rattle.pruning.specs.Counters.{lengthOf};
 ghost use Rattle.pruner.specs.Numbers.{counted};
-ghost use Rattle.making.specs.Numbers.{leftSign, leftClass, leftRange, waiting, resting, withLeft, waitingN, classN, settledN, movedN, prunedN, Room, Inside, Asks};
+ghost use Rattle.making.specs.Numbers.{leftSign, leftClass, leftRange, waiting, resting, withLeft, waitingN, classN, settledN, movedN, prunesN, prunedN, Room, Inside};
 
 // ---- what is left of a line or a shortcut in a square
 pub struct Left {
@@ -222,6 +220,16 @@ fn moved(p: Pruner, kind: u32) -> Pruner
     }
 }
 
+// Whether an entry of this kind is for the pruner: a line and a shortcut leave it as it is.
+pub fn prunes(kind: u32) -> bool
+    ensures { λ r. ⌜ r ≡ prunesN kind ⌝ }
+{
+    if kind == 5 {
+        return false;
+    }
+    kind != 6
+}
+
 // After an entry.
 pub fn pruner_after(areas: &[u32], p: Pruner, a: Waiting, kind: u32) -> Pruner
     requires { ⌜ Inside (length (now areas)) a ⌝ }
@@ -243,34 +251,6 @@ pub fn pruner_after(areas: &[u32], p: Pruner, a: Waiting, kind: u32) -> Pruner
 pub struct Maker {
     pub pruner: Pruner,
     pub waiting: Waiting,
-}
-
-// Nothing is made, and no area waits.
-pub fn begun() -> Maker
-    ensures { λ r. ⌜ (counted (r .pruner) ≡ ct 0 0 going []) × (r .waiting ≡ resting) ⌝ }
-{
-    let p = pruner::begun();
-    let a = rest();
-    Maker {
-        pruner: p,
-        waiting: a,
-    }
-}
-
-// After entry w, of which l is left.
-pub fn made_after(areas: &[u32], m: Maker, l: Left, w: Words) -> Maker
-    requires { ⌜ Asks (length (now areas)) (m .pruner) (m .waiting) w ⌝ }
-    requires { ⌜ natAbs (l .sign) ≤ 1 ⌝ }
-    ensures { λ r. ⌜ (counted (r .pruner) ≡ prunedN (now (areas .entry)) (counted (m .pruner)) (m .waiting) (w .kind)) × (r .waiting ≡ waitingN (m .waiting) (l .class) (l .sign) w) ⌝ }
-{
-    let p = m.pruner;
-    let a = m.waiting;
-    let q = pruner_after(areas, p, a, w.kind);
-    let b = waiting_after(a, l, w);
-    Maker {
-        pruner: q,
-        waiting: b,
-    }
 }
 
 // What is made weighs so much once the area that waits has settled.

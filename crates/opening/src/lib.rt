@@ -1,5 +1,6 @@
 // The stream of cell 0, made from the drawing in lent tables: counted, and then written.
 use geometry::class::Square;
+use making::Maker;
 use stream::Bounds;
 use stream::Words;
 ghost use mathlib.Core.Path.{_≡_};
@@ -158,18 +159,29 @@ pub fn count_open(
     ensures { λ r. ⌜ r ≡ total rowSize (rowsOpened (tables (now (plan .entry)) (now (areas .entry)) (now (xs .entry)) (now (ys .entry)))) ⌝ }
 {
     let s = root_square();
-    let mut m = making::begun();
+    let mut p = pruner::begun();
+    let mut a = making::rest();
     let mut c = source_begin();
     let mut i = 0;
     while i < records {
         let w = source_entry(plan, i, records, c);
         let l = making::left_of(xs, ys, b.corners, s, w);
-        let n = making::made_after(areas, m, l, w);
-        m = n;
+        if making::prunes(w.kind) {
+            let q = making::pruner_after(areas, p, a, w.kind);
+            p = q;
+        }
+        let n = making::waiting_after(a, l, w);
+        a = n;
         c = source_after(c, plan[i + 3]);
         i += 1;
     }
-    making::made_size(areas, m)
+    making::made_size(
+        areas,
+        Maker {
+            pruner: p,
+            waiting: a,
+        },
+    )
 }
 
 // Writes cell 0's stream to the table's first entries. It has `made` of them. Beyond them the table stays as it was.
@@ -189,16 +201,27 @@ pub fn write_open(
     ensures { λ _. ⌜ now (entries .exit) ≡ written (now (entries .entry)) 0 (wordsOpened (tables (now (plan .entry)) (now (areas .entry)) (now (xs .entry)) (now (ys .entry)))) ⌝ }
 {
     let s = root_square();
-    let mut m = making::begun();
+    let mut p = pruner::begun();
+    let mut a = making::rest();
     let mut c = source_begin();
     let mut i = 0;
     while i < records {
         let w = source_entry(plan, i, records, c);
         let l = making::left_of(xs, ys, b.corners, s, w);
-        let n = writing::write_one(entries, made, areas, m, l, w);
-        m = n;
+        if making::prunes(w.kind) {
+            let q = writing::write_other(entries, made, areas, p, a, w.kind);
+            p = q;
+        } else {
+            writing::put_segment(entries, made, p, a, l, w);
+        }
+        let n = making::waiting_after(a, l, w);
+        a = n;
         c = source_after(c, plan[i + 3]);
         i += 1;
     }
-    writing::put_settled(entries, made, areas, m);
+    let last = Maker {
+        pruner: p,
+        waiting: a,
+    };
+    writing::put_settled(entries, made, areas, last);
 }

@@ -7,3 +7,4 @@ pub mod Written
 pub mod Same
 pub mod Turn
 pub mod Whole
+pub mod Stays

@@ -3,18 +3,18 @@
 use geometry::class::Class;
 use making::Left;
 use making::Maker;
+use making::Waiting;
 use pruner::Pruner;
 use stream::Words;
 ghost use mathlib.Core.Path.{_≡_};
-ghost use mathlib.Core.Bool.{true};
 ghost use Prim.Native.Nat.{_+_, _*_, _^_, _≤_, _<_};
 ghost use lib.ListN.{length};
 ghost use lib.IntN.{natAbs};
 ghost use mir.Syntax.{w32};
 ghost use mir.Val.{ofZ};
 ghost use Rattle.pruner.specs.Numbers.{counted};
-ghost use Rattle.making.specs.Numbers.{settledN, prunedN, waitingN, Inside, Asks};
-ghost use Rattle.writing.specs.Numbers.{putBelow, placeOf, keptPut, segmentPut, namedPut, barePut, classPut, settledPut, markPut, markOn, onePut};
+ghost use Rattle.making.specs.Numbers.{settledN, prunedN, maker, Inside, Room};
+ghost use Rattle.writing.specs.Numbers.{putBelow, placeOf, keptPut, segmentPut, namedPut, barePut, classPut, settledPut, markPut, markOn};
 
 // A signed number as a word in two's complement.
 fn word_of(z: i64) -> u32
@@ -83,13 +83,11 @@ fn put_kept(out: &mut [u32], limit: usize, at: usize, l: Left, w: Words)
 }
 
 // The line or the shortcut of entry w, behind what waits.
-fn put_segment(out: &mut [u32], limit: usize, m: Maker, l: Left, w: Words)
+pub fn put_segment(out: &mut [u32], limit: usize, p: Pruner, a: Waiting, l: Left, w: Words)
     requires { ⌜ limit * 4 ≤ length (now out) ⌝ }
     requires { ⌜ natAbs (l .sign) ≤ 1 ⌝ }
-    ensures { λ _. ⌜ now (out .exit) ≡ segmentPut limit (now (out .entry)) m (l .class) (l .sign) w ⌝ }
+    ensures { λ _. ⌜ now (out .exit) ≡ segmentPut limit (now (out .entry)) (maker p a) (l .class) (l .sign) w ⌝ }
 {
-    let p = m.pruner;
-    let a = m.waiting;
     if p.skip == 0 {
         if a.waits {
             let n = place_of(p.length);
@@ -222,34 +220,32 @@ fn put_other(out: &mut [u32], limit: usize, areas: &[u32], m: Maker, made: u64, 
     put_mark(out, limit, q, made, kind);
 }
 
-// Entry w, of which l is left and after which so much is made.
-fn put_made(out: &mut [u32], limit: usize, areas: &[u32], m: Maker, l: Left, w: Words, made: u64)
+// An entry more that is neither a line nor a shortcut: what it makes is written, and the pruner goes on.
+pub fn write_other(
+    out: &mut [u32],
+    limit: usize,
+    areas: &[u32],
+    p: Pruner,
+    a: Waiting,
+    kind: u32,
+) -> Pruner
     requires { ⌜ limit * 4 ≤ length (now out) ⌝ }
-    requires { ⌜ Asks (length (now areas)) (m .pruner) (m .waiting) w ⌝ }
-    requires { ⌜ natAbs (l .sign) ≤ 1 ⌝ }
-    ensures { λ _. ⌜ now (out .exit) ≡ onePut limit (now (areas .entry)) (now (out .entry)) m (l .class) (l .sign) w made ⌝ }
+    requires { ⌜ Inside (length (now areas)) a ⌝ }
+    requires { ⌜ Room p a kind ⌝ }
+    ensures { λ r. ⌜ counted r ≡ prunedN (now (areas .entry)) (counted p) a kind ⌝ }
+    ensures { λ r. ⌜ now (out .exit) ≡ markOn limit (settledPut limit (now (areas .entry)) (now (out .entry)) (maker p a)) (settledN (now (areas .entry)) (counted p) a) (r .length) kind ⌝ }
 {
-    if w.kind == 5 {
-        put_segment(out, limit, m, l, w);
-        return;
-    }
-    if w.kind == 6 {
-        put_segment(out, limit, m, l, w);
-        return;
-    }
-    put_other(out, limit, areas, m, made, w.kind);
-}
-
-// One entry more: what it makes is written, and the making goes on.
-pub fn write_one(out: &mut [u32], limit: usize, areas: &[u32], m: Maker, l: Left, w: Words) -> Maker
-    requires { ⌜ limit * 4 ≤ length (now out) ⌝ }
-    requires { ⌜ Asks (length (now areas)) (m .pruner) (m .waiting) w ⌝ }
-    requires { ⌜ natAbs (l .sign) ≤ 1 ⌝ }
-    ensures { λ r. ⌜ (counted (r .pruner) ≡ prunedN (now (areas .entry)) (counted (m .pruner)) (m .waiting) (w .kind)) × (r .waiting ≡ waitingN (m .waiting) (l .class) (l .sign) w) ⌝ }
-    ensures { λ r. ⌜ now (out .exit) ≡ onePut limit (now (areas .entry)) (now (out .entry)) m (l .class) (l .sign) w (r .pruner .length) ⌝ }
-{
-    let n = making::made_after(areas, m, l, w);
-    let r = n.pruner;
-    put_made(out, limit, areas, m, l, w, r.length);
-    n
+    let q = making::pruner_after(areas, p, a, kind);
+    put_other(
+        out,
+        limit,
+        areas,
+        Maker {
+            pruner: p,
+            waiting: a,
+        },
+        q.length,
+        kind,
+    );
+    q
 }
