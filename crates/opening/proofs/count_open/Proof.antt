@@ -1,12 +1,8 @@
 -- `opening::count_open` meets its contract. Assumes nothing.
 use Rattle.opening.proofs.count_open.Statement.{statement}
 use Rattle.opening.proofs.count_open.Tie as tie
-<<<<<<< HEAD
-use mathlib.Core.Path.{ap, _∙_}
-=======
 use mathlib.Core.Path.{sym, ap, _∙_}
 use mathlib.Core.Logic.{⊎-elim}
->>>>>>> 72182fad383a8f7eb7a20bfc1d2e499ab9840fe9
 use Prim.Native.Nat.{_-_}
 use native.Mathlib.Omega.{arith}
 use denote.Ref.{now}
