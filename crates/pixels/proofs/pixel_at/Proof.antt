@@ -29,7 +29,7 @@ enum-known-s : tie.Need-enum-known-s Inv-loop μ-loop
 enum-known-s c = search needs
 
 colour-of-requires : tie.Need-colour-of-requires Inv-loop μ-loop
-colour-of-requires c κs = let a = c .before .before .before .before .before .before .before .before .before .before .before .before .before .before .args in let p = c .before .before .before .before .before .before .before .before .before .before .before .before .before .before .pre in let T = tree (now (a .plan)) (now (a .areas)) (now (a .xs)) (now (a .ys)) (now (a .head)) (now (a .cells)) (now (a .entries)) in let i = c .before .before .before .before .before .before .loop .i in let k = c .before .before .before .before .before .loop-test .taken in let q = c .before .before .before .before .sample-at .result in let e = c .before .before .before .before .sample-at .ensures in let g = known-at T (q .x) (q .y) (sampleX (a .column) i) (sampleY (a .row) i) (c .before .s .given .0 .0) (c .before .s .given .0 .1 .0) (e .0) (e .1 .0) (known-set T (q .x) (q .y) (c .before .before .before .shown-at .result) (c .before .s .given .0 .0) (c .before .s .given .0 .1 .0) (c .before .before .before .shown-at .ensures) (c .before .s .given .1)) in rw (g .is-set) (in-painted T (sampleX (a .column) i) (sampleY (a .row) i))
+colour-of-requires c κs = let a = c .before .before .before .before .before .before .before .before .before .before .before .before .before .before .args in let T = tree (now (a .plan)) (now (a .areas)) (now (a .xs)) (now (a .ys)) (now (a .head)) (now (a .cells)) (now (a .entries)) in let q = c .before .before .before .before .sample-at .result in let g = known-set T (q .x) (q .y) (c .before .before .before .shown-at .result) (c .before .s .given .0 .0) (c .before .s .given .0 .1 .0) (c .before .before .before .shown-at .ensures) (c .before .s .given .1) in rw (g .is-set) (in-painted T (q .x) (q .y))
 
 add-sample-requires : tie.Need-add-sample-requires Inv-loop μ-loop
 add-sample-requires c κs = let a = c .before .before .before .before .before .before .before .before .before .before .before .before .before .before .before .args in let p = c .before .before .before .before .before .before .before .before .before .before .before .before .before .before .before .pre in let T = tree (now (a .plan)) (now (a .areas)) (now (a .xs)) (now (a .ys)) (now (a .head)) (now (a .cells)) (now (a .entries)) in let i = c .before .before .before .before .before .before .before .loop .i in let k = c .before .before .before .before .before .before .loop-test .taken in (fewer-in i 15 (c .before .before .before .before .before .before .before .loop .sum) (omega (arith, k)) (c .before .before .before .before .before .before .before .loop .inv .small), c .colour-of .ensures .1)
