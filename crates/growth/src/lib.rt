@@ -179,8 +179,8 @@ fn split_wanted(
     let a = tree::split_in_room(head, cells, entries, areas, xs, ys, b, i, s.used, s.free, w);
     match a {
         tree::Answer::Split(n) => {
-            let next = split_past(s, head);
-            return Turn::Further(next);
+            let after = split_past(s, head);
+            return Turn::Further(after);
         }
         tree::Answer::Not(r) => {
             return Turn::NoRoom;
