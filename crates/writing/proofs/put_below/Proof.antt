@@ -2,7 +2,8 @@
 use borrow.Author.Needs.{needs}
 use Rattle.writing.proofs.put_below.Statement.{statement}
 use Rattle.writing.proofs.put_below.Tie as tie
-use Rattle.laws.proofs.Tests.{tests}
+use native.Mathlib.Omega.{arith}
+use borrow.Author.Tests.{lt-ltb, le-ltb}
 use Rattle.writing.specs.Numbers.{putBelow}
 
 put-entry-requires : tie.Need-put-entry-requires
@@ -13,11 +14,13 @@ same-length c = search needs
 
 returns : tie.Need-returns
 unfolding putBelow
-returns c = search tests
+returns c =
+    let a = c .before .before .before .before .before .before .args in
+    rw (lt-ltb (a .at) (a .limit) (omega (arith, c .before .before .before .before .if1 .taken))) (c .before .before .put-entry .ensures)
 
 returns-2 : tie.Need-returns-2
 unfolding putBelow
-returns-2 c = search tests
+returns-2 c = let a = c .before .before .args in rw (le-ltb (a .at) (a .limit) (omega (arith, c .if1 .left)))
 
 pub put-below-spec : {M : Type 1} → statement M
 put-below-spec = tie.close (tie.spec put-entry-requires same-length returns returns-2)
