@@ -23,8 +23,8 @@ use Rattle.stream.specs.declared.Words.{Words}
 use Rattle.stream.specs.Entry.{opens, bar, closes, line, shortcut, passes, bad, decode, startRange, signRange}
 use Rattle.stream.specs.Grammar.{Env, isGood, areaMet, inRange}
 use Rattle.reading.specs.declared.Reading.{Reading}
-use Rattle.reading.specs.Reading.{roleAt, passAt, opaqueAt, oneEntry}
-use Rattle.reading.specs.Numbers.{stateOf, machineOf, settledBy, addedTo, movedBy, segmentAdds, segmentRange, Grown}
+use Rattle.reading.specs.Reading.{roleAt, passAt, opaqueAt}
+use Rattle.reading.specs.Numbers.{stateOf, machineOf, settledBy, addedTo, movedBy, segmentAdds, segmentRange, oneEntry, Grown}
 use Rattle.reading.proofs.Laws.{both}
 
 module _ (areas xs ys : List ℕ) (x y : ℕ) where

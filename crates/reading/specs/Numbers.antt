@@ -1,7 +1,7 @@
 -- A reading as the numbers that the code holds. `Rattle.reading.proofs` says that they go as the rows do (`Rattle.cells.specs.Rows`). Assumes nothing.
 use mathlib.Core.Path.{_≡_}
-use mathlib.Core.Bool.{Bool, true, false, cond}
-use mathlib.Core.List.{List}
+use mathlib.Core.Bool.{Bool, true, false, cond, not}
+use mathlib.Core.List.{List, []}
 use Prim.Native.Nat.{ℕ, _+_, _*_, _<_, _≤_, max}
 use lib.Dec.{eqb}
 use lib.IntN.{ℤ, pos, _+ℤ_, natAbs}
@@ -13,14 +13,16 @@ use Rattle.paint.specs.Sets.{withArea}
 use Rattle.pruning.specs.Sides.{clip}
 use Rattle.pruning.specs.Registers.{Registers, onItem, onPush, onActivate, onPop}
 use Rattle.stream.specs.declared.Words.{Words}
-use Rattle.stream.specs.Entry.{signRange}
+use Rattle.stream.specs.Entry.{Entry, signRange}
 use Rattle.stream.specs.Grammar.{lineRange}
 use Rattle.machine.specs.declared.Machine.{Machine}
 use Rattle.machine.specs.Registers.{machine, meant}
-use Rattle.cells.specs.Rows.{Pending, settled, State, state}
+use Rattle.cells.specs.Cells.{at}
+use Rattle.cells.specs.Segments.{addsAt}
+use Rattle.cells.specs.Rows.{Pending, settled, State, state, onRows}
 use Rattle.cells.specs.Rows as Rows
 use Rattle.reading.specs.declared.Reading.{Reading}
-use Rattle.reading.specs.Reading.{roleAt, passAt, opaqueAt}
+use Rattle.reading.specs.Reading.{roleAt, passAt, opaqueAt, rowFor}
 
 abbrev pub machineOf : Reading → Machine
 machineOf r = machine (r .state) (r .depth) (r .stop) (r .set)
@@ -68,3 +70,11 @@ pub record Grown (words : ℕ) (r s : Reading) : Type 0 where
   pub larger : natAbs (s .sum) ≤ max 2048 (natAbs (r .sum) + 1)
   pub few : s .waits ≡ true → s .number < 64
   pub inside : s .waits ≡ true → s .number * 8 + 8 ≤ words
+
+-- one entry read
+abbrev pub oneEntry : (areas xs ys : List ℕ) → (x y : ℕ) → Entry → State → State
+oneEntry areas xs ys x y e st = onRows (roleAt areas) (passAt areas) (opaqueAt areas) (addsAt xs ys (at x y)) (rowFor e []) st
+
+-- in a state (0 is P), an entry of a kind is read: lines (5) and shortcuts (6) only in P
+abbrev pub readIn : (state kind : ℕ) → Bool
+readIn c kind = cond (eqb c 0) true (cond (eqb kind 5) false (not (eqb kind 6)))

@@ -16,7 +16,7 @@ use Rattle.cells.specs.Cells.{at}
 use Rattle.cells.specs.Segments.{drawn, addsAt}
 use Rattle.cells.specs.Segments as Segments
 use Rattle.cells.specs.Drawings.{ruleOf, kindOf}
-use Rattle.cells.specs.Rows.{Row, named, segment, bare, State, onRows, readRows}
+use Rattle.cells.specs.Rows.{Row, named, segment, bare, readRows}
 use Rattle.cells.specs.Rows as Rows
 
 -- what the words of an entry say, in front of the rows behind it
@@ -48,7 +48,3 @@ opaqueAt areas n = eqb (getD areas (n * 8 + 2) 0) 255
 -- the shown set at (x, y)
 unfoldable pub setAt : (areas xs ys : List ℕ) → (x y : ℕ) → List Words → ℕ
 setAt areas xs ys x y ws = readRows (roleAt areas) (passAt areas) (opaqueAt areas) (addsAt xs ys (at x y)) (rowsIn ws)
-
--- one entry read
-abbrev pub oneEntry : (areas xs ys : List ℕ) → (x y : ℕ) → Entry → State → State
-oneEntry areas xs ys x y e st = onRows (roleAt areas) (passAt areas) (opaqueAt areas) (addsAt xs ys (at x y)) (rowFor e []) st

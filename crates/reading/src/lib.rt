@@ -23,8 +23,8 @@ ghost use Rattle.cells.specs.Rows.{state, settled, waits};
 ghost use Rattle.stream.specs.Entry.{decode, startRange, signRange};
 ghost use Rattle.stream.specs.Table.{wordsFrom};
 ghost use Rattle.stream.specs.Grammar.{env, inRange, Ready, Passed};
-ghost use Rattle.reading.specs.Reading.{roleAt, passAt, opaqueAt, oneEntry, setAt};
-ghost use Rattle.reading.specs.Numbers.{machineOf, restingAt, waitingAt, addedTo, settledBy, movedBy, segmentRange, segmentAdds, stateOf, Named, Grown};
+ghost use Rattle.reading.specs.Reading.{roleAt, passAt, opaqueAt, setAt};
+ghost use Rattle.reading.specs.Numbers.{machineOf, restingAt, waitingAt, addedTo, settledBy, movedBy, segmentRange, segmentAdds, stateOf, oneEntry, readIn, Named, Grown};
 
 // What a shortcut adds in row y.
 fn shortcut_adds(w: Words, y: u32) -> i64
@@ -273,7 +273,21 @@ fn read_one(
     after_delimiter(areas, r, w.kind)
 }
 
-// The shown set at (x, y) of the stream of count entries from first on. It has passed `stream::check_stream`.
+// Whether an entry of this kind is read in this state: a line or a shortcut only in P, where the area that it belongs to is looked at.
+fn is_read(state: u32, kind: u32) -> bool
+    ensures { λ r. ⌜ r ≡ readIn state kind ⌝ }
+{
+    if state == 0 {
+        return true;
+    }
+    if kind == 5 {
+        return false;
+    }
+    kind != 6
+}
+
+// The shown set at (x, y) of the stream of count entries from first on, up to the area that stops the machine. It has passed
+// `stream::check_stream`.
 pub fn read_stream(
     entries: &[u32],
     first: usize,
@@ -293,8 +307,14 @@ pub fn read_stream(
     let mut r = resting(machine::begun());
     let mut i = first;
     while i < end {
+        if r.state == 3 {
+            return r.set;
+        }
         let w = stream::read_entry(entries, i);
-        r = read_one(areas, xs, ys, b, r, w, x, y);
+        if is_read(r.state, w.kind) {
+            let s = read_one(areas, xs, ys, b, r, w, x, y);
+            r = s;
+        }
         i += 1;
     }
     let m = settled(areas, r);
