@@ -129,12 +129,16 @@ module _ (D : Drawing) where
   opaque-same p always = refl
   opaque-same p (area n z gs) = refl
 
-  -- the rows of a stream whose areas stand on sides of their roles, read at a position: the set that the stream shows
-  pub rows-read : (p : Position) (x : Side Item) → Each (OnSide (roleIn D)) (flat paint x) → readAt D p (rowsOf (flat paint x)) ≡ setOf (shownIn D p x)
-  rows-read p x h =
-      read-side (roleIn D) (passesBy D) (isOpaque D) (addsAt (D .xs) (D .ys) p) (rowsOf (flat paint x)) x (ap entriesOf (decode-rows (roleIn D) (flat paint x) h))
+  -- rows whose entries are those of a stream, read at a position: the set that the stream shows
+  pub side-read : (p : Position) (ws : List Row) (x : Side Item) → entriesOf (decode (roleIn D) ws) ≡ flat paint x → readAt D p ws ≡ setOf (shownIn D p x)
+  side-read p ws x h =
+      read-side (roleIn D) (passesBy D) (isOpaque D) (addsAt (D .xs) (D .ys) p) ws x h
       ∙ (ap (λ f. setOf (map numberOf (shown f (opaqueItem (roleIn D) (passesBy D) (isOpaque D) (addsAt (D .xs) (D .ys) p)) x))) (fun-ext (pass-same p))
       ∙ ap (λ f. setOf (map numberOf (shown (passesIn D p) f x))) (fun-ext (opaque-same p)))
+
+  -- the rows of a stream whose areas stand on sides of their roles
+  pub rows-read : (p : Position) (x : Side Item) → Each (OnSide (roleIn D)) (flat paint x) → readAt D p (rowsOf (flat paint x)) ≡ setOf (shownIn D p x)
+  rows-read p x h = side-read p (rowsOf (flat paint x)) x (ap entriesOf (decode-rows (roleIn D) (flat paint x) h))
 
   pub made-on-side : Fitted D → (c : Cell) → Each (OnSide (roleIn D)) (flat paint (made D c (source D)))
   made-on-side f c =

@@ -7,6 +7,7 @@ pub mod Grammar
 pub mod Standing
 pub mod Turn
 pub mod Lent
+pub mod Meaning
 pub mod Whole
 pub mod Shorter
 pub mod Stays

@@ -15,6 +15,7 @@ use Rattle.celltable.specs.declared.Leaf.{Leaf}
 use Rattle.celltable.specs.declared.Found.{Found}
 use Rattle.celltable.specs.declared.Found.the-variants.{At, Broken}
 use Rattle.reading.specs.Reading.{setAt}
+use Rattle.making.proofs.Meaning.{lent-meaning}
 use Rattle.tree.specs.Tables.{Tree}
 use Rattle.tree.proofs.Choices.{pick-true, pick-false}
 use Rattle.leaf.specs.Leaf.{positionRange, leafStream, leafBounds, leafIn}
@@ -25,7 +26,7 @@ use Rattle.query.specs.declared.Answer.the-variants as Answers
 use Rattle.query.specs.declared.Shown.{Shown}
 use Rattle.query.specs.declared.Shown.the-variants.{Set}
 use Rattle.query.specs.declared.Shown.the-variants as Seen
-use Rattle.query.specs.Spots.{isFound, spotOf, setBy, known, setIn, spotIn, positionAnswer}
+use Rattle.query.specs.Spots.{isFound, spotOf, setBy, setMeant, known, setIn, spotIn, positionAnswer}
 use Rattle.query.specs.Numbers.{between, inSquare, LeafIn, LastIn, shownIn}
 use Rattle.query.proofs.Painted.{set-painted, none-painted}
 
@@ -71,6 +72,10 @@ module _ (t : Tree) where
       pub leaf-set : setAt (t .areas) (t .xs) (t .ys) x y (leafStream t l) ≡ setIn t x y
       unfolding setIn
       leaf-set = sym (ap (setBy t x y) e)
+
+      -- any leaf that passes 12 is read by "Winding and meaning" over its stream
+      pub leaf-meaning : setIn t x y ≡ setMeant t x y l
+      leaf-meaning = sym leaf-set ∙ lent-meaning (t .areas) (t .xs) (t .ys) (leafBounds t l) x y (leafStream t l) (leaf-stream .grammar)
 
     pub broken-known : leafIn t x y ≡ Broken → known t x y ≡ false
     unfolding known

@@ -6,13 +6,20 @@ use lib.Dec.{eqb}
 use lib.ListN.{length}
 use Rattle.refusals.specs.declared.Refusal.the-variants as Refusals
 use Rattle.paint.specs.declared.colour.Colour.{Colour}
+use Rattle.paint.specs.Sets.{setOf}
 use Rattle.paint.specs.Areas.{paintAt, materialOf}
 use Rattle.paint.specs.Colours.{colourOf}
+use Rattle.celltable.specs.declared.Leaf.{Leaf}
 use Rattle.celltable.specs.declared.Found.{Found}
 use Rattle.celltable.specs.declared.Found.the-variants.{At, Broken}
-use Rattle.reading.specs.Reading.{setAt}
+use Rattle.cells.specs.Cells.{at}
+use Rattle.cells.specs.Drawings.{Drawing}
+use Rattle.cells.specs.Streams.{shownIn}
+use Rattle.cells.specs.Rows.{streamOf, roleIn}
+use Rattle.reading.specs.Reading.{rowsIn, setAt}
+use Rattle.ranges.specs.Held.{lent}
 use Rattle.tree.specs.Tables.{Tree}
-use Rattle.leaf.specs.Leaf.{positionRange, leafStream, leafIn}
+use Rattle.leaf.specs.Leaf.{positionRange, leafBounds, leafStream, leafIn}
 use Rattle.query.specs.declared.Spot.{Spot}
 use Rattle.query.specs.declared.Answer.{Answer}
 use Rattle.query.specs.declared.Answer.the-variants as Answers
@@ -34,10 +41,19 @@ spotOf areas set =
     }
 
 module _ (t : Tree) where
-  -- "Read there" is by "Winding and meaning" over the leaf's stream; where 12 is met there is no leaf, and nothing is read
+  -- "A stream is read in one pass as in document 000's flat clipping"; where 12 is met there is no leaf, and nothing is read
   abbrev pub setBy : (x y : ℕ) → Found → ℕ
   setBy x y (At l) = setAt (t .areas) (t .xs) (t .ys) x y (leafStream t l)
   setBy x y Broken = 0
+
+  -- the areas and corners in use, against which the stream of a leaf is read
+  abbrev pub lentTo : Leaf → Drawing
+  lentTo l = lent (t .areas) (t .xs) (t .ys) (leafBounds t l)
+
+  -- "'Read there' is by 'Winding and meaning' over the leaf's stream": `Rattle.query.proofs.Known.leaf-meaning` says that the pass gives this set,
+  -- whoever wrote the tables
+  abbrev pub setMeant : (x y : ℕ) → Leaf → ℕ
+  setMeant x y l = setOf (shownIn (lentTo l) (at x y) (streamOf (roleIn (lentTo l)) (rowsIn (leafStream t l))))
 
   module _ (x y : ℕ) where
     unfoldable pub known : Bool

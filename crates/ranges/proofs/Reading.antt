@@ -61,7 +61,7 @@ held-agrees D areas xs ys b H ok =
 
 -- rows are read by what their lines and shortcuts add, and by nothing else of them
 module _ (role : ℕ → Kind) (pass : ℕ → ℤ → Bool) (opaque : ℕ → Bool) (f g : Segment → ℤ) where
-  abbrev SameOn : List Row → Type 0
+  abbrev pub SameOn : List Row → Type 0
   SameOn [] = Unit {0}
   SameOn (opens ∷ ws) = SameOn ws
   SameOn (bar ∷ ws) = SameOn ws
@@ -90,7 +90,7 @@ module _ (role : ℕ → Kind) (pass : ℕ → ℤ → Bool) (opaque : ℕ → B
   rows-same [] h st = refl
   rows-same (w ∷ ws) h st = let q = row-same w ws h st in rows-same ws (q .1) (onRow role pass opaque f w st) ∙ ap (onRows role pass opaque g ws) (q .0)
 
-  read-same : (ws : List Row) → SameOn ws → readRows role pass opaque f ws ≡ readRows role pass opaque g ws
+  pub read-same : (ws : List Row) → SameOn ws → readRows role pass opaque f ws ≡ readRows role pass opaque g ws
   read-same ws h =
       let st = state (reg P 0 0 0) settled in
       ap (λ x. outOf (settle role pass opaque f x)) (rows-same ws h st) ∙ ap outOf (settle-same (onRows role pass opaque g ws st))

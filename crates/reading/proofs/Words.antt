@@ -14,7 +14,7 @@ use Rattle.paint.specs.Sets.{setOf}
 use Rattle.pruning.specs.Sides.{Kind, paint, Entry, item, push, activate, pop, flat, mapSide}
 use Rattle.pruning.specs.Registers.{P, Registers, reg, outOf, onPush, onActivate, onPop}
 use Rattle.stream.specs.Entry.{decode}
-use Rattle.cells.specs.Cells.{at, Cell, Holds}
+use Rattle.cells.specs.Cells.{Position, at, Cell, Holds}
 use Rattle.cells.specs.Segments.{Segment, drawn, shortcut, addsAt}
 use Rattle.cells.specs.Drawings.{Drawing, passesBy, isOpaque, shownAt}
 use Rattle.pruning.proofs.Sides.{map-map}
@@ -71,12 +71,17 @@ module _ (areas : List ℕ) (D : Drawing) (f : Segment → ℤ) where
   read-same (segment g ∷ ws) (state r settled) a e = read-same ws (state r settled) tt e
   read-same (segment g ∷ ws) (state r (waits n z)) a e = read-same ws (addTo (roleIn D) (passesBy D) (isOpaque D) f g (state r (waits n z))) a e
 
+-- rows on whose areas the tables and the drawing agree show the same set with both
+pub agreed-read : (areas : List ℕ) (D : Drawing) (p : Position) (ws : List Row) → EachAgrees areas D ws
+    → readRows (roleAt areas) (passAt areas) (opaqueAt areas) (addsAt (D .xs) (D .ys) p) ws ≡ readAt D p ws
+agreed-read areas D p ws e = ap outOf (read-same areas D (addsAt (D .xs) (D .ys) p) ws (state (reg P 0 0 0) settled) tt e)
+
 -- the words of rows, read in the tables at a position, give the set that the rows show with the drawing
 pub words-read : (areas : List ℕ) (D : Drawing) (x y : ℕ) (ws : List Row) → EachFits ws → EachAgrees areas D ws → setAt areas (D .xs) (D .ys) x y (map wordsOf ws) ≡ readAt D (at x y) ws
 unfolding setAt
 words-read areas D x y ws h e =
     ap (readRows (roleAt areas) (passAt areas) (opaqueAt areas) (addsAt (D .xs) (D .ys) (at x y))) (rows-back ws h)
-    ∙ ap outOf (read-same areas D (addsAt (D .xs) (D .ys) (at x y)) ws (state (reg P 0 0 0) settled) tt e)
+    ∙ agreed-read areas D (at x y) ws e
 
 -- ---- the rows of a cell's stream
 

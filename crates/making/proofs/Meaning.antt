@@ -1,0 +1,69 @@
+-- "Tables that pass 12 but were written by others are read for what they say": the shown set of a stream that passes, whoever wrote it, is by "Winding and
+-- meaning" over that stream. Assumes nothing.
+use mathlib.Core.Path.{_≡_, refl, sym, ap, _∙_}
+use mathlib.Core.Bool.{true, false, cond}
+use mathlib.Core.List.{List, [], _∷_}
+use Prim.Native.Nat.{ℕ}
+use native.Mathlib.Omega.{arith}
+use lib.IntN.{pos}
+use Rattle.laws.proofs.Booleans.{clash}
+use Rattle.geometry.specs.Edges.{counts, sign}
+use Rattle.geometry.specs.declared.edge.Edge.{Edge}
+use Rattle.paint.specs.Sets.{setOf}
+use Rattle.cells.specs.Cells as Cells
+use Rattle.cells.specs.Segments.{addsAt}
+use Rattle.cells.specs.Drawings.{Drawing}
+use Rattle.cells.specs.Streams.{shownIn}
+use Rattle.cells.specs.Rows.{Row, streamOf, roleIn}
+use Rattle.cells.proofs.Rows.{side-read}
+use Rattle.stream.specs.declared.Words.{Words}
+use Rattle.stream.specs.declared.Bounds.{Bounds}
+use Rattle.stream.specs.Entry as Entries
+use Rattle.stream.specs.Entry.{area, line, shortcut, bad, startRange}
+use Rattle.stream.specs.Grammar as Stream
+use Rattle.stream.specs.Grammar.{Env, env, Place, at, isGood, areaMet, after, course, isWhole, accepts}
+use Rattle.reading.specs.Reading.{rowFor, rowsIn, roleAt, passAt, opaqueAt, setAt}
+use Rattle.reading.specs.Words.{EachAgrees}
+use Rattle.reading.proofs.Laws.{both, area-below, line-used}
+use Rattle.reading.proofs.Words.{agreed-read}
+use Rattle.ranges.specs.Held.{lent}
+use Rattle.ranges.proofs.Reading.{SameOn, read-same}
+use Rattle.making.proofs.Grammar.{one-passes, entries-flat}
+use Rattle.making.proofs.Standing.{Reads}
+use Rattle.making.proofs.Lent.{lent-reads}
+
+module _ (v : Env) (D : Drawing) (R : Reads v D) (x y : ℕ) where
+  -- the tables and the drawing agree on the areas, lines and shortcuts of rows
+  abbrev Same : List Row → Type 0
+  Same ws = EachAgrees (v .areas) D ws × SameOn (roleAt (v .areas)) (passAt (v .areas)) (opaqueAt (v .areas)) (addsAt (v .xs) (v .ys) (Cells.at x y)) (addsAt (D .xs) (D .ys) (Cells.at x y)) ws
+
+  one-same : (e : Entries.Entry) (ws : List Row) → Stream.inRange v e ≡ true → Same ws → Same (rowFor e ws)
+  one-same Entries.opens ws h s = s
+  one-same Entries.bar ws h s = s
+  one-same Entries.closes ws h s = s
+  one-same (area n q) ws h s = ((R .agrees n (omega (arith, R .fields, area-below (v .areas) (v .used .areas) n (both (isGood (areaMet v n)) (startRange q) h .0))), s .0), s .1)
+  one-same (line a b) ws h s =
+      let l = line-used (v .xs) (v .ys) (v .used .corners) a b h in
+      (s .0, (ap (λ (e : Edge). cond (counts e x y) (sign e) (pos 0)) (sym (R .edges a b (l .0) (l .1))), s .1))
+  one-same (shortcut z a b) ws h s = (s .0, (refl, s .1))
+  one-same Entries.passes ws h s = s
+  one-same bad ws h s = clash h
+
+  all-same : (ws : List Words) (p : Place) → isWhole (course v (at p) ws) ≡ true → Same (rowsIn ws)
+  unfolding course rowsIn
+  all-same [] p h = (tt, tt)
+  all-same (w ∷ ws) p h = let q = one-passes v p w ws h in one-same (Entries.decode w) (rowsIn ws) (q .range) (all-same ws (after p (Entries.decode w)) (q .rest))
+
+  -- of tables that say of their areas and corners what a drawing says
+  pub accepted-meaning : (ws : List Words) → accepts v ws ≡ true → setAt (v .areas) (v .xs) (v .ys) x y ws ≡ setOf (shownIn D (Cells.at x y) (streamOf (roleIn D) (rowsIn ws)))
+  unfolding accepts setAt
+  accepted-meaning ws h =
+      let s = all-same ws (Stream.place [] false 0 0) h in
+      read-same (roleAt (v .areas)) (passAt (v .areas)) (opaqueAt (v .areas)) (addsAt (v .xs) (v .ys) (Cells.at x y)) (addsAt (D .xs) (D .ys) (Cells.at x y)) (rowsIn ws) (s .1)
+      ∙ (agreed-read (v .areas) D (Cells.at x y) (rowsIn ws) (s .0)
+      ∙ side-read D (Cells.at x y) (rowsIn ws) (streamOf (roleIn D) (rowsIn ws)) (entries-flat v (roleIn D) (λ n l. R .agrees n (omega (arith, R .fields)) .role) ws h))
+
+-- the drawing is that of the lent tables: the areas and corners in use
+pub lent-meaning : (areas xs ys : List ℕ) (b : Bounds) (x y : ℕ) (ws : List Words) → accepts (env areas xs ys b) ws ≡ true
+    → setAt areas xs ys x y ws ≡ setOf (shownIn (lent areas xs ys b) (Cells.at x y) (streamOf (roleIn (lent areas xs ys b)) (rowsIn ws)))
+lent-meaning areas xs ys b x y ws h = accepted-meaning (env areas xs ys b) (lent areas xs ys b) (lent-reads areas xs ys b) x y ws h
