@@ -1,16 +1,13 @@
--- A machine that is not in P leaves lines and shortcuts unread, and one that has stopped is at its end: the set in the end is the same. Assumes nothing.
-use mathlib.Core.Path.{_≡_, refl, sym, ap, _∙_}
-use mathlib.Core.Bool.{Bool, true, false, cond, not}
+-- Outside P no area is looked at, and a machine that has stopped is at its end: what follows gives the same set. Assumes nothing.
+use mathlib.Core.Path.{_≡_, refl, ap, _∙_}
+use mathlib.Core.Bool.{Bool, true}
 use mathlib.Core.List.{List, [], _∷_}
 use Prim.Native.Nat.{ℕ}
-use lib.Dec.{eqb}
 use lib.IntN.{ℤ, _+ℤ_}
-use borrow.Author.Tests.{eqb-true}
-use Rattle.laws.proofs.Booleans.{clash}
-use Rattle.pruning.specs.Sides.{Kind, paint, clip}
-use Rattle.pruning.specs.Registers.{P, S, SA, Registers, reg, halted, outOf, onItem, onPush, onActivate, onPop}
+use Rattle.pruning.specs.Sides.{Kind, clip}
+use Rattle.pruning.specs.Registers.{P, S, SA, Registers, reg, halted, onItem, onPush, onActivate, onPop}
 use Rattle.cells.specs.Segments.{Segment}
-use Rattle.cells.specs.Rows.{Row, opens, bar, closes, bare, named, segment, Pending, settled, waits, State, state, settle, onRows}
+use Rattle.cells.specs.Rows.{Row, opens, bar, closes, bare, named, segment, settled, waits, State, state, settle, onRows}
 
 -- not in P
 abbrev pub Idle : Registers ℕ → Type 0
@@ -29,30 +26,25 @@ module _ (role : ℕ → Kind) (pass : ℕ → ℤ → Bool) (opaque : ℕ → B
   abbrev end : List Row → State → Registers ℕ
   end ws st = settle role pass opaque adds (onRows role pass opaque adds ws st)
 
-  settle-idle : (g : Registers ℕ) (w : Pending) → Idle g → settle role pass opaque adds (state g w) ≡ g
-  settle-idle g settled h = refl
-  settle-idle g (waits n z) h = item-idle (role n) (pass n z) (opaque n) _ g h
+  settle-idle : (g : Registers ℕ) → Idle g → (n : ℕ) (z : ℤ) → settle role pass opaque adds (state g (waits n z)) ≡ g
+  settle-idle g h n z = item-idle (role n) (pass n z) (opaque n) _ g h
 
-  -- the sum of an area that is not looked at does not matter
-  pub sum-idle : (g : Registers ℕ) → Idle g → (ws : List Row) (n : ℕ) (z y : ℤ) → end ws (state g (waits n z)) ≡ end ws (state g (waits n y))
-  sum-idle g h [] n z y = settle-idle g (waits n z) h ∙ sym (settle-idle g (waits n y) h)
-  sum-idle g h (opens ∷ ws) n z y = ap (λ r. end ws (state (onPush r) settled)) (settle-idle g (waits n z) h ∙ sym (settle-idle g (waits n y) h))
-  sum-idle g h (bar ∷ ws) n z y = ap (λ r. end ws (state (onActivate r) settled)) (settle-idle g (waits n z) h ∙ sym (settle-idle g (waits n y) h))
-  sum-idle g h (closes ∷ ws) n z y = ap (λ r. end ws (state (onPop r) settled)) (settle-idle g (waits n z) h ∙ sym (settle-idle g (waits n y) h))
-  sum-idle g h (bare ∷ ws) n z y = ap (λ r. end ws (state (onItem clip true true (λ s. s) r) settled)) (settle-idle g (waits n z) h ∙ sym (settle-idle g (waits n y) h))
-  sum-idle g h (named m x ∷ ws) n z y = ap (λ r. end ws (state r (waits m x))) (settle-idle g (waits n z) h ∙ sym (settle-idle g (waits n y) h))
-  sum-idle g h (segment e ∷ ws) n z y = sum-idle g h ws n (z +ℤ adds e) (y +ℤ adds e)
-
-  pub segment-idle : (g : Registers ℕ) (w : Pending) → Idle g → (e : Segment) (ws : List Row) → end (segment e ∷ ws) (state g w) ≡ end ws (state g w)
-  segment-idle g settled h e ws = refl
-  segment-idle g (waits n z) h e ws = sum-idle g h ws n (z +ℤ adds e) z
+  -- the area that waits does not matter
+  pub pending-idle : (g : Registers ℕ) → Idle g → (ws : List Row) (n : ℕ) (z : ℤ) → end ws (state g (waits n z)) ≡ end ws (state g settled)
+  pending-idle g h [] n z = settle-idle g h n z
+  pending-idle g h (opens ∷ ws) n z = ap (λ r. end ws (state (onPush r) settled)) (settle-idle g h n z)
+  pending-idle g h (bar ∷ ws) n z = ap (λ r. end ws (state (onActivate r) settled)) (settle-idle g h n z)
+  pending-idle g h (closes ∷ ws) n z = ap (λ r. end ws (state (onPop r) settled)) (settle-idle g h n z)
+  pending-idle g h (bare ∷ ws) n z = ap (λ r. end ws (state (onItem clip true true (λ s. s) r) settled)) (settle-idle g h n z)
+  pending-idle g h (named m y ∷ ws) n z = ap (λ r. end ws (state r (waits m y))) (settle-idle g h n z)
+  pending-idle g h (segment e ∷ ws) n z = pending-idle g h ws n (z +ℤ adds e)
 
   -- "it stops on an alpha of 255"
-  pub stopped : (o : ℕ) (ws : List Row) (w : Pending) → end ws (state (halted o) w) ≡ halted o
-  stopped o [] w = settle-idle (halted o) w tt
-  stopped o (opens ∷ ws) w = ap (λ r. end ws (state (onPush r) settled)) (settle-idle (halted o) w tt) ∙ stopped o ws settled
-  stopped o (bar ∷ ws) w = ap (λ r. end ws (state (onActivate r) settled)) (settle-idle (halted o) w tt) ∙ stopped o ws settled
-  stopped o (closes ∷ ws) w = ap (λ r. end ws (state (onPop r) settled)) (settle-idle (halted o) w tt) ∙ stopped o ws settled
-  stopped o (bare ∷ ws) w = ap (λ r. end ws (state (onItem clip true true (λ s. s) r) settled)) (settle-idle (halted o) w tt) ∙ stopped o ws settled
-  stopped o (named m x ∷ ws) w = ap (λ r. end ws (state r (waits m x))) (settle-idle (halted o) w tt) ∙ stopped o ws (waits m x)
-  stopped o (segment e ∷ ws) w = segment-idle (halted o) w tt e ws ∙ stopped o ws w
+  pub stopped : (o : ℕ) (ws : List Row) → end ws (state (halted o) settled) ≡ halted o
+  stopped o [] = refl
+  stopped o (opens ∷ ws) = stopped o ws
+  stopped o (bar ∷ ws) = stopped o ws
+  stopped o (closes ∷ ws) = stopped o ws
+  stopped o (bare ∷ ws) = stopped o ws
+  stopped o (named m y ∷ ws) = pending-idle (halted o) tt ws m y ∙ stopped o ws
+  stopped o (segment e ∷ ws) = stopped o ws

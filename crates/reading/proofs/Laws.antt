@@ -18,11 +18,7 @@ use Rattle.pruning.specs.Registers.{Registers, onItem}
 use Rattle.pruning.proofs.Registers.{clip-shows}
 use Rattle.laws.proofs.Booleans.{clash}
 use Rattle.geometry.specs.Reach.{EndsIn}
-use Rattle.geometry.specs.Edges.{isRow}
-use Rattle.geometry.specs.Windings.{adds, edgeBetween}
-use Rattle.geometry.proofs.Windings.{adds-abs}
-use Rattle.stream.specs.declared.Words.{Words}
-use Rattle.reading.specs.Numbers.{segmentRange, segmentAdds}
+use Rattle.geometry.specs.Windings.{adds}
 use Rattle.records.specs.Record.{cornerRange, ranged}
 use Rattle.records.specs.declared.Record.the-variants.{Area}
 use Rattle.records.specs.declared.Decoded.the-variants.{Bad}
@@ -137,11 +133,3 @@ area-below areas used n h = go (ltb n used) refl h
     go : (b : Bool) → ltb n used ≡ b → isGood (cond b (cond (eqb (getD areas (n * 8 + 7) 0) 0) (ranged (Area (fieldsAt areas n))) (Bad Field)) (Bad Field)) ≡ true → n < used
     go true e t = ltb-true n used e
     go false e t = clash t
-
-pub segment-small : (xs ys : List ℕ) (corners x y : ℕ) (w : Words) → segmentRange xs ys corners w ≡ true → natAbs (segmentAdds xs ys x y w) ≤ 1
-segment-small xs ys corners x y w h = go (eqb (w .kind) 5) h
-  where
-    go : (b : Bool) → cond b (lineRange xs ys corners (w .p) (w .q)) (signRange (w .p)) ≡ true
-        → natAbs (cond b (adds (edgeBetween xs ys (w .p) (w .q)) x y) (cond (isRow (w .q) (w .r) y) (toZ w32 (w .p)) (pos 0))) ≤ 1
-    go true t = adds-abs (edgeBetween xs ys (w .p) (w .q)) x y
-    go false t = shortcut-small (w .p) (isRow (w .q) (w .r) y) t

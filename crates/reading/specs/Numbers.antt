@@ -1,62 +1,37 @@
 -- A reading as the numbers that the code holds. `Rattle.reading.proofs` says that they go as the rows do (`Rattle.cells.specs.Rows`). Assumes nothing.
 use mathlib.Core.Path.{_≡_}
-use mathlib.Core.Bool.{Bool, true, false, cond, not}
-use mathlib.Core.List.{List, []}
-use Prim.Native.Nat.{ℕ, _+_, _*_, _<_, _≤_, max}
+use mathlib.Core.Bool.{Bool, true, cond, _||_}
+use mathlib.Core.List.{List, [], _∷_}
+use Prim.Native.Nat.{ℕ, suc, _+_, _*_, _-_, _<_, _≤_}
 use lib.Dec.{eqb}
-use lib.IntN.{ℤ, pos, _+ℤ_, natAbs}
+use lib.ListN.{length}
+use lib.IntN.{ℤ, pos, _+ℤ_}
 use mir.Syntax.{w32}
 use mir.Val.{toZ}
 use Rattle.geometry.specs.Edges.{isRow}
 use Rattle.geometry.specs.Windings as Windings
-use Rattle.paint.specs.Sets.{withArea}
 use Rattle.pruning.specs.Sides.{clip}
-use Rattle.pruning.specs.Registers.{Registers, onItem, onPush, onActivate, onPop}
+use Rattle.pruning.specs.Registers.{Registers, outOf, onItem, onPush, onActivate, onPop}
 use Rattle.stream.specs.declared.Words.{Words}
-use Rattle.stream.specs.Entry.{Entry, signRange}
-use Rattle.stream.specs.Grammar.{lineRange}
+use Rattle.stream.specs.declared.Bounds.{Bounds}
+use Rattle.stream.specs.Entry.{signRange, decode}
+use Rattle.stream.specs.Table.{wordsAt, wordsFrom}
+use Rattle.stream.specs.Grammar.{Env, lineRange, inRange, Ready}
 use Rattle.machine.specs.declared.Machine.{Machine}
-use Rattle.machine.specs.Registers.{machine, meant}
+use Rattle.machine.specs.Registers.{meant}
 use Rattle.cells.specs.Cells.{at}
 use Rattle.cells.specs.Segments.{addsAt}
-use Rattle.cells.specs.Rows.{Pending, settled, State, state, onRows}
-use Rattle.cells.specs.Rows as Rows
+use Rattle.cells.specs.Rows.{settled, State, state, settle, onRows}
 use Rattle.reading.specs.declared.Reading.{Reading}
-use Rattle.reading.specs.Reading.{roleAt, passAt, opaqueAt, rowFor}
+use Rattle.reading.specs.Reading.{roleAt, passAt, opaqueAt, rowsIn}
 
-abbrev pub machineOf : Reading → Machine
-machineOf r = machine (r .state) (r .depth) (r .stop) (r .set)
+-- ---- the lines and shortcuts of an area
 
-abbrev pub restingAt : Machine → Reading
-restingAt m = record { state = m .state; depth = m .depth; stop = m .stop; set = m .set; waits = false; number = 0; sum = pos 0 }
+-- the kind of a line or of a shortcut
+abbrev pub isSegment : (kind : ℕ) → Bool
+isSegment k = eqb k 5 || eqb k 6
 
-abbrev pub waitingAt : Machine → ℕ → ℤ → Reading
-waitingAt m n z = record { state = m .state; depth = m .depth; stop = m .stop; set = m .set; waits = true; number = n; sum = z }
-
-abbrev pub pendingOf : Reading → Pending
-pendingOf r = cond (r .waits) (Rows.waits (r .number) (r .sum)) settled
-
-abbrev pub stateOf : Reading → State
-stateOf r = state (meant (machineOf r)) (pendingOf r)
-
--- the area that waits is one of a table of so many words, and its sum is small
-pub record Named (words : ℕ) (r : Reading) : Type 0 where
-  pub small : natAbs (r .sum) ≤ 8192
-  pub few : r .waits ≡ true → r .number < 64
-  pub inside : r .waits ≡ true → r .number * 8 + 8 ≤ words
-
-abbrev pub settledBy : List ℕ → Reading → Registers ℕ
-settledBy areas r =
-    cond (r .waits) (onItem (roleAt areas (r .number)) (passAt areas (r .number) (r .sum)) (opaqueAt areas (r .number)) (λ s. withArea s (r .number)) (meant (machineOf r))) (meant (machineOf r))
-
-abbrev pub addedTo : Reading → ℤ → Reading
-addedTo r a = cond (r .waits) (waitingAt (machineOf r) (r .number) (r .sum +ℤ a)) r
-
--- the machine after an entry of kind 1, 2, 3 or 7
-abbrev pub movedBy : ℕ → Registers ℕ → Registers ℕ
-movedBy kind m = cond (eqb kind 1) (onPush m) (cond (eqb kind 2) (onActivate m) (cond (eqb kind 3) (onPop m) (onItem clip true true (λ s. s) m)))
-
--- a line or a shortcut: its numbers are in range; what it adds
+-- its numbers are in range; what it adds
 abbrev pub segmentRange : List ℕ → List ℕ → ℕ → Words → Bool
 segmentRange xs ys corners w = cond (eqb (w .kind) 5) (lineRange xs ys corners (w .p) (w .q)) (signRange (w .p))
 
@@ -64,17 +39,50 @@ abbrev pub segmentAdds : List ℕ → List ℕ → ℕ → ℕ → Words → ℤ
 segmentAdds xs ys x y w =
     cond (eqb (w .kind) 5) (Windings.adds (Windings.edgeBetween xs ys (w .p) (w .q)) x y) (cond (isRow (w .q) (w .r) y) (toZ w32 (w .p)) (pos 0))
 
--- how far one entry changes the numbers
-pub record Grown (words : ℕ) (r s : Reading) : Type 0 where
-  pub deeper : s .depth ≤ r .depth + 1
-  pub larger : natAbs (s .sum) ≤ max 2048 (natAbs (r .sum) + 1)
-  pub few : s .waits ≡ true → s .number < 64
-  pub inside : s .waits ≡ true → s .number * 8 + 8 ≤ words
+-- how many lines and shortcuts stand in front
+unfoldable pub segmentsIn : List Words → ℕ
+segmentsIn [] = 0
+segmentsIn (w ∷ ws) = cond (isSegment (w .kind)) (suc (segmentsIn ws)) 0
 
--- one entry read
-abbrev pub oneEntry : (areas xs ys : List ℕ) → (x y : ℕ) → Entry → State → State
-oneEntry areas xs ys x y e st = onRows (roleAt areas) (passAt areas) (opaqueAt areas) (addsAt xs ys (at x y)) (rowFor e []) st
+-- what they add
+unfoldable pub segmentsSum : (xs ys : List ℕ) (x y : ℕ) → List Words → ℤ
+segmentsSum xs ys x y [] = pos 0
+segmentsSum xs ys x y (w ∷ ws) = cond (isSegment (w .kind)) (segmentAdds xs ys x y w +ℤ segmentsSum xs ys x y ws) (pos 0)
 
--- in a state (0 is P), an entry of a kind is read: lines (5) and shortcuts (6) only in P
-abbrev pub readIn : (state kind : ℕ) → Bool
-readIn c kind = cond (eqb c 0) true (cond (eqb kind 5) false (not (eqb kind 6)))
+-- the lines and shortcuts of the entries from `from` up to `end` are in range
+pub record SegmentsIn (t : List ℕ) (from end : ℕ) (xs ys : List ℕ) (b : Bounds) : Type 0 where
+  pub ordered : from ≤ end
+  pub within : end * 4 ≤ length t
+  pub few : end ≤ from + 4096
+  pub corners-x : b .corners ≤ length xs
+  pub corners-y : b .corners ≤ length ys
+  pub range : (i : ℕ) → from ≤ i → i < end → isSegment (wordsAt t i .kind) ≡ true → segmentRange xs ys (b .corners) (wordsAt t i) ≡ true
+
+-- ---- the machine
+
+-- after an entry that is no area; a line or a shortcut leaves it as it is
+abbrev pub movedBy : ℕ → Registers ℕ → Registers ℕ
+movedBy kind m =
+    cond (eqb kind 1) (onPush m) (cond (eqb kind 2) (onActivate m) (cond (eqb kind 3) (onPop m) (cond (isSegment kind) m (onItem clip true true (λ s. s) m))))
+
+-- the entries from i up to `end`, one at least, are in range
+pub record Ranged (t : List ℕ) (i end : ℕ) (v : Env) : Type 0 where
+  pub some : i < end
+  pub within : end * 4 ≤ length t
+  pub few : end ≤ i + 4096
+  pub few-areas : v .used .areas ≤ 64
+  pub ready : Ready (v .areas) (v .xs) (v .ys) (v .used)
+  pub range : (k : ℕ) → i ≤ k → k < end → inRange v (decode (wordsAt t k)) ≡ true
+
+module _ (areas xs ys : List ℕ) (x y : ℕ) where
+  -- the set in the end, from a state of the rows on
+  abbrev pub setFrom : State → List Words → ℕ
+  setFrom st ws =
+      outOf (settle (roleAt areas) (passAt areas) (opaqueAt areas) (addsAt xs ys (at x y)) (onRows (roleAt areas) (passAt areas) (opaqueAt areas) (addsAt xs ys (at x y)) (rowsIn ws) st))
+
+  -- from entry i the machine m has come to another entry: what is left gives the same set
+  pub record Onward (t : List ℕ) (i end : ℕ) (m : Machine) (r : Reading) : Type 0 where
+    pub later : i < r .next
+    pub inside : r .next ≤ end
+    pub deeper : r .machine .depth ≤ m .depth + 1
+    pub same : setFrom (state (meant (r .machine)) settled) (wordsFrom t (r .next) (end - r .next)) ≡ setFrom (state (meant m) settled) (wordsFrom t i (end - i))

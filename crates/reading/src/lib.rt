@@ -7,10 +7,10 @@ use machine::Machine;
 use stream::Bounds;
 use stream::Words;
 ghost use mathlib.Core.Path.{_≡_};
-ghost use mathlib.Core.Bool.{true, false, cond};
-ghost use Prim.Native.Nat.{_+_, _*_, _≤_, _<_};
+ghost use mathlib.Core.Bool.{true, cond};
+ghost use Prim.Native.Nat.{_+_, _*_, _-_, _≤_, _<_};
 ghost use lib.ListN.{length, getD};
-ghost use lib.IntN.{pos, natAbs};
+ghost use lib.IntN.{pos, _+ℤ_, natAbs};
 ghost use mir.Syntax.{w32};
 ghost use mir.Val.{toZ};
 ghost use Rattle.geometry.specs.Edges.{isRow};
@@ -19,26 +19,22 @@ ghost use Rattle.geometry.specs.Windings.{edgeBetween, adds};
 ghost use Rattle.paint.specs.Sets.{withArea};
 ghost use Rattle.pruning.specs.Registers.{onItem};
 ghost use Rattle.machine.specs.Registers.{meant};
-ghost use Rattle.cells.specs.Rows.{state, settled, waits};
-ghost use Rattle.stream.specs.Entry.{decode, startRange, signRange};
-ghost use Rattle.stream.specs.Table.{wordsFrom};
-ghost use Rattle.stream.specs.Grammar.{env, inRange, Ready, Passed};
+ghost use Rattle.stream.specs.Entry.{startRange, signRange};
+ghost use Rattle.stream.specs.Table.{wordsAt, wordsFrom};
+ghost use Rattle.stream.specs.Grammar.{env, Passed};
 ghost use Rattle.reading.specs.Reading.{roleAt, passAt, opaqueAt, setAt};
-ghost use Rattle.reading.specs.Numbers.{machineOf, restingAt, waitingAt, addedTo, settledBy, movedBy, segmentRange, segmentAdds, stateOf, oneEntry, readIn, Named, Grown};
+ghost use Rattle.reading.specs.Numbers.{isSegment, segmentRange, segmentAdds, segmentsIn, segmentsSum, movedBy, SegmentsIn, Ranged, Onward};
 
 // What a shortcut adds in row y.
 fn shortcut_adds(w: Words, y: u32) -> i64
     requires { ⌜ signRange (w .p) ≡ true ⌝ }
     ensures { λ r. ⌜ r ≡ cond (isRow (w .q) (w .r) y) (toZ w32 (w .p)) (pos 0) ⌝ }
 {
-    if w.q <= y {
-        if y < w.r {
-            if w.p == 1 {
-                return 1;
-            }
-            return -1;
+    if (w.q <= y) & (y < w.r) {
+        if w.p == 1 {
+            return 1;
         }
-        return 0;
+        return -1;
     }
     0
 }
@@ -91,122 +87,11 @@ pub fn start_of(w: Words) -> i64
     laws::difference(w.q, 4294967295) + laws::difference(0, 1)
 }
 
-// Where a reading stands: the machine's numbers; whether an area waits for its lines and shortcuts, its number, and its sum so far.
-pub struct Reading {
-    pub state: u32,
-    pub depth: u32,
-    pub stop: u32,
-    pub set: u64,
-    pub waits: bool,
-    pub number: u32,
-    pub sum: i64,
-}
-
-fn machine_of(r: Reading) -> Machine
-    ensures { λ m. ⌜ m ≡ machineOf r ⌝ }
+// ---- an area and its lines and shortcuts
+fn is_segment(kind: u32) -> bool
+    ensures { λ r. ⌜ r ≡ isSegment kind ⌝ }
 {
-    Machine {
-        state: r.state,
-        depth: r.depth,
-        stop: r.stop,
-        set: r.set,
-    }
-}
-
-// No area waits.
-fn resting(m: Machine) -> Reading
-    ensures { λ r. ⌜ r ≡ restingAt m ⌝ }
-{
-    Reading {
-        state: m.state,
-        depth: m.depth,
-        stop: m.stop,
-        set: m.set,
-        waits: false,
-        number: 0,
-        sum: 0,
-    }
-}
-
-// An area waits, with its start number.
-fn waiting(m: Machine, n: u32, sum: i64) -> Reading
-    ensures { λ r. ⌜ r ≡ waitingAt m n sum ⌝ }
-{
-    Reading {
-        state: m.state,
-        depth: m.depth,
-        stop: m.stop,
-        set: m.set,
-        waits: true,
-        number: n,
-        sum: sum,
-    }
-}
-
-// The machine after the area that waits, if one does.
-fn settled(areas: &[u32], r: Reading) -> Machine
-    requires { ⌜ Named (length (now areas)) r ⌝ }
-    ensures { λ m. ⌜ (meant m ≡ settledBy (now (areas .entry)) r) × (m .depth ≡ r .depth) ⌝ }
-{
-    let m = machine_of(r);
-    if r.waits {
-        return after_area(areas, m, r.number, r.sum);
-    }
-    m
-}
-
-// What a line or a shortcut adds is added to the sum of the area that waits.
-fn added(r: Reading, a: i64) -> Reading
-    requires { ⌜ (natAbs (r .sum) ≤ 8192) × (natAbs a ≤ 1) ⌝ }
-    ensures { λ s. ⌜ s ≡ addedTo r a ⌝ }
-{
-    if r.waits {
-        return Reading {
-            state: r.state,
-            depth: r.depth,
-            stop: r.stop,
-            set: r.set,
-            waits: true,
-            number: r.number,
-            sum: r.sum + a,
-        };
-    }
-    r
-}
-
-// The machine after a delimiter or "passes".
-fn moved(m: Machine, kind: u32) -> Machine
-    requires { ⌜ m .depth < 4096 ⌝ }
-    ensures { λ r. ⌜ (meant r ≡ movedBy kind (meant m)) × (r .depth ≤ m .depth + 1) ⌝ }
-{
-    match kind {
-        1 => machine::after_open(m),
-        2 => machine::after_bar(m),
-        3 => machine::after_close(m),
-        _ => machine::after_clip(m, true),
-    }
-}
-
-// After a delimiter or "passes": the area before it has all its lines and shortcuts.
-fn after_delimiter(areas: &[u32], r: Reading, kind: u32) -> Reading
-    requires { ⌜ Named (length (now areas)) r ⌝ }
-    requires { ⌜ r .depth < 4096 ⌝ }
-    ensures { λ s. ⌜ (stateOf s ≡ state (movedBy kind (settledBy (now (areas .entry)) r)) settled) × (s .depth ≤ r .depth + 1) × (s .waits ≡ false) × (s .sum ≡ pos 0) ⌝ }
-{
-    let m = settled(areas, r);
-    let n = moved(m, kind);
-    resting(n)
-}
-
-// After an area: it waits with its start number.
-fn after_name(areas: &[u32], r: Reading, w: Words) -> Reading
-    requires { ⌜ Named (length (now areas)) r ⌝ }
-    requires { ⌜ startRange (w .q) ≡ true ⌝ }
-    ensures { λ s. ⌜ (stateOf s ≡ state (settledBy (now (areas .entry)) r) (waits (w .p) (toZ w32 (w .q)))) × (s .depth ≡ r .depth) × (s .number ≡ w .p) × (s .sum ≡ toZ w32 (w .q)) ⌝ }
-{
-    let m = settled(areas, r);
-    let z = start_of(w);
-    waiting(m, w.p, z)
+    (kind == 5) | (kind == 6)
 }
 
 // What a line or a shortcut adds at (x, y).
@@ -222,68 +107,128 @@ fn segment_adds(xs: &[u32], ys: &[u32], corners: usize, w: Words, x: u32, y: u32
     shortcut_adds(w, y)
 }
 
-// After a line or a shortcut.
-fn after_segment(
-    xs: &[u32],
-    ys: &[u32],
-    corners: usize,
-    r: Reading,
-    w: Words,
-    x: u32,
-    y: u32,
-) -> Reading
-    requires { ⌜ (corners ≤ length (now xs)) × (corners ≤ length (now ys)) ⌝ }
-    requires { ⌜ segmentRange (now xs) (now ys) corners w ≡ true ⌝ }
-    requires { ⌜ PositionIn x y ⌝ }
-    requires { ⌜ natAbs (r .sum) ≤ 8192 ⌝ }
-    ensures { λ s. ⌜ s ≡ addedTo r (segmentAdds (now (xs .entry)) (now (ys .entry)) x y w) ⌝ }
-{
-    let a = segment_adds(xs, ys, corners, w, x, y);
-    added(r, a)
+// The winding of an area, and the entry behind its lines and shortcuts.
+pub struct Winding {
+    pub sum: i64,
+    pub next: usize,
 }
 
-// One entry of a stream that passes the check.
-fn read_one(
+// The winding at (x, y) of an area with this start number, whose lines and shortcuts begin at entry `from`.
+fn winding_from(
+    entries: &[u32],
+    from: usize,
+    end: usize,
+    xs: &[u32],
+    ys: &[u32],
+    b: Bounds,
+    start: i64,
+    x: u32,
+    y: u32,
+) -> Winding
+    requires { ⌜ SegmentsIn (now entries) from end (now xs) (now ys) b ⌝ }
+    requires { ⌜ PositionIn x y ⌝ }
+    requires { ⌜ natAbs start ≤ 2048 ⌝ }
+    ensures { λ r. ⌜ r .sum ≡ start +ℤ segmentsSum (now (xs .entry)) (now (ys .entry)) x y (wordsFrom (now (entries .entry)) from (end - from)) ⌝ }
+    ensures { λ r. ⌜ r .next ≡ from + segmentsIn (wordsFrom (now (entries .entry)) from (end - from)) ⌝ }
+{
+    let mut sum = start;
+    let mut i = from;
+    while i < end {
+        let w = stream::read_entry(entries, i);
+        if is_segment(w.kind) {
+            let a = segment_adds(xs, ys, b.corners, w, x, y);
+            sum += a;
+            i += 1;
+        } else {
+            return Winding { sum: sum, next: i };
+        }
+    }
+    Winding { sum: sum, next: i }
+}
+
+// ---- one entry, and a stream
+// The machine, and the entry from which it goes on.
+pub struct Reading {
+    pub machine: Machine,
+    pub next: usize,
+}
+
+// The machine after a delimiter or "passes". A line or a shortcut of an area that is not looked at leaves it as it is.
+fn moved(m: Machine, kind: u32) -> Machine
+    requires { ⌜ m .depth < 4096 ⌝ }
+    ensures { λ r. ⌜ (meant r ≡ movedBy kind (meant m)) × (r .depth ≤ m .depth + 1) ⌝ }
+{
+    match kind {
+        1 => machine::after_open(m),
+        2 => machine::after_bar(m),
+        3 => machine::after_close(m),
+        5 => m,
+        6 => m,
+        _ => machine::after_clip(m, true),
+    }
+}
+
+// After the area of entry i, whose words are w. It is looked at in P only.
+fn read_area(
+    entries: &[u32],
+    i: usize,
+    end: usize,
     areas: &[u32],
     xs: &[u32],
     ys: &[u32],
     b: Bounds,
-    r: Reading,
+    m: Machine,
     w: Words,
     x: u32,
     y: u32,
 ) -> Reading
-    requires { ⌜ Ready (now areas) (now xs) (now ys) b ⌝ }
-    requires { ⌜ b .areas ≤ 64 ⌝ }
-    requires { ⌜ inRange (env (now areas) (now xs) (now ys) b) (decode w) ≡ true ⌝ }
-    requires { ⌜ Named (length (now areas)) r ⌝ }
-    requires { ⌜ r .depth < 4096 ⌝ }
+    requires { ⌜ Ranged (now entries) i end (env (now areas) (now xs) (now ys) b) ⌝ }
+    requires { ⌜ (w ≡ wordsAt (now entries) i) × (w .kind ≡ 4) ⌝ }
     requires { ⌜ PositionIn x y ⌝ }
-    ensures { λ s. ⌜ (stateOf s ≡ oneEntry (now (areas .entry)) (now (xs .entry)) (now (ys .entry)) x y (decode w) (stateOf r)) × Grown (length (now (areas .entry))) r s ⌝ }
+    ensures { λ r. ⌜ Onward (now (areas .entry)) (now (xs .entry)) (now (ys .entry)) x y (now (entries .entry)) i end m r ⌝ }
 {
-    if w.kind == 4 {
-        return after_name(areas, r, w);
+    if m.state == 0 {
+        let z = start_of(w);
+        let s = winding_from(entries, i + 1, end, xs, ys, b, z, x, y);
+        let n = after_area(areas, m, w.p, s.sum);
+        return Reading {
+            machine: n,
+            next: s.next,
+        };
     }
-    if w.kind == 5 {
-        return after_segment(xs, ys, b.corners, r, w, x, y);
+    Reading {
+        machine: m,
+        next: i + 1,
     }
-    if w.kind == 6 {
-        return after_segment(xs, ys, b.corners, r, w, x, y);
-    }
-    after_delimiter(areas, r, w.kind)
 }
 
-// Whether an entry of this kind is read in this state: a line or a shortcut only in P, where the area that it belongs to is looked at.
-fn is_read(state: u32, kind: u32) -> bool
-    ensures { λ r. ⌜ r ≡ readIn state kind ⌝ }
+// After entry i and, if it is an area that is looked at, its lines and shortcuts.
+fn read_next(
+    entries: &[u32],
+    i: usize,
+    end: usize,
+    areas: &[u32],
+    xs: &[u32],
+    ys: &[u32],
+    b: Bounds,
+    m: Machine,
+    x: u32,
+    y: u32,
+) -> Reading
+    requires { ⌜ Ranged (now entries) i end (env (now areas) (now xs) (now ys) b) ⌝ }
+    requires { ⌜ m .depth < 4096 ⌝ }
+    requires { ⌜ PositionIn x y ⌝ }
+    ensures { λ r. ⌜ Onward (now (areas .entry)) (now (xs .entry)) (now (ys .entry)) x y (now (entries .entry)) i end m r ⌝ }
 {
-    if state == 0 {
-        return true;
+    let w = stream::read_entry(entries, i);
+    if w.kind == 4 {
+        return read_area(entries, i, end, areas, xs, ys, b, m, w, x, y);
     }
-    if kind == 5 {
-        return false;
+    let n = moved(m, w.kind);
+    Reading {
+        machine: n,
+        next: i + 1,
     }
-    kind != 6
 }
 
 // The shown set at (x, y) of the stream of count entries from first on, up to the area that stops the machine. It has passed
@@ -304,19 +249,16 @@ pub fn read_stream(
     ensures { λ r. ⌜ r ≡ setAt (now (areas .entry)) (now (xs .entry)) (now (ys .entry)) x y (wordsFrom (now (entries .entry)) first count) ⌝ }
 {
     let end = first + count;
-    let mut r = resting(machine::begun());
+    let mut m = machine::begun();
     let mut i = first;
     while i < end {
-        if r.state == 3 {
-            return r.set;
+        if m.state == 3 {
+            return m.set;
         }
-        let w = stream::read_entry(entries, i);
-        if is_read(r.state, w.kind) {
-            let s = read_one(areas, xs, ys, b, r, w, x, y);
-            r = s;
-        }
-        i += 1;
+        let r = read_next(entries, i, end, areas, xs, ys, b, m, x, y);
+        let n = r.machine;
+        m = n;
+        i = r.next;
     }
-    let m = settled(areas, r);
     m.set
 }

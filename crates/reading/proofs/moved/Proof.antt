@@ -27,7 +27,13 @@ returns-3 : tie.Need-returns-3
 returns-3 c = (rw (c .before .match .keys3) (c .after-close .ensures .0), omega (arith, c .after-close .ensures .1))
 
 returns-4 : tie.Need-returns-4
-returns-4 c = (search (tests, c .after-clip .ensures .0), omega (arith, c .after-clip .ensures .1))
+returns-4 c = (rw (c .match .keys4), omega arith)
+
+returns-5 : tie.Need-returns-5
+returns-5 c = (rw (c .match .keys5), omega arith)
+
+returns-6 : tie.Need-returns-6
+returns-6 c = (search (tests, c .after-clip .ensures .0), omega (arith, c .after-clip .ensures .1))
 
 pub moved-spec : {M : Type 1} → statement M
 moved-spec =
@@ -40,4 +46,6 @@ moved-spec =
     returns
     returns-2
     returns-3
-    returns-4)
+    returns-4
+    returns-5
+    returns-6)
