@@ -21,6 +21,7 @@ pub mod random;
 #[allow(unsafe_code)]
 pub mod readings;
 pub mod record;
+pub mod sample;
 pub mod samples;
 pub mod scenes;
 pub mod stream;

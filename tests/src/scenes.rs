@@ -133,6 +133,15 @@ pub fn tables(random: &mut Random) -> Tables {
     samples::tables(&records)
 }
 
+/// Those of any look, once in `rare` of one of the largest.
+pub fn any_tables(random: &mut Random, rare: usize) -> Tables {
+    if random.one_in(rare) {
+        let look = Look::fullest(random);
+        return samples::tables(&of(random, &look));
+    }
+    tables(random)
+}
+
 /// A drawing of a look: always accepted.
 pub fn of(random: &mut Random, look: &Look) -> Vec<Record> {
     let mut maker = Maker {
@@ -340,6 +349,14 @@ pub fn position_on_edge(random: &mut Random, tables: &Tables) -> (u32, u32) {
         beside.clamp(0, i64::from(MOST_POSITION)) as u32
     };
     (between(&tables.xs), between(&tables.ys))
+}
+
+/// On a line, a corner or a border of cells, or one beside it, or anywhere.
+pub fn any_position(random: &mut Random, tables: &Tables) -> (u32, u32) {
+    match random.below(3) {
+        0 => position_on_edge(random, tables),
+        _ => position(random, tables),
+    }
 }
 
 /// A run of positions: steps along a line, or jumps.

@@ -4,6 +4,14 @@ use std::collections::BTreeMap;
 
 use crate::zones::Answer;
 
+/// "accepted", or the number of the refusal.
+fn outcome(answer: Answer) -> String {
+    match answer {
+        Answer::Accepted(_) => "accepted".to_string(),
+        Answer::Refused { number, .. } => format!("{number}"),
+    }
+}
+
 /// Counts by name.
 #[derive(Default)]
 pub struct Tally(BTreeMap<String, usize>);
@@ -14,10 +22,12 @@ impl Tally {
     }
 
     pub fn note_answer(&mut self, answer: Answer) {
-        self.note(match answer {
-            Answer::Accepted(_) => "accepted".to_string(),
-            Answer::Refused { number, .. } => format!("{number}"),
-        });
+        self.note(outcome(answer));
+    }
+
+    /// The answer of one of several calls.
+    pub fn note_call(&mut self, call: &str, answer: Answer) {
+        self.note(format!("{call} {}", outcome(answer)));
     }
 
     /// Seen only with --nocapture.

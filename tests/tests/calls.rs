@@ -10,159 +10,85 @@ use zones_tests::foreign;
 use zones_tests::lent::{lent_words, LentTables, LentTree};
 use zones_tests::meaning::Drawing;
 use zones_tests::random::Random;
+use zones_tests::sample::{grown, Sample};
 use zones_tests::samples::{self, Tables};
-use zones_tests::scenes::{self, Look};
+use zones_tests::scenes;
 use zones_tests::stream::{Entry, ENTRY_WORDS, MOST_START};
 use zones_tests::tally::Tally;
 use zones_tests::tree::{self, TreeTables, CELL_WORDS, CHILD_WORD, MOST_CELLS, MOST_ENTRIES};
-use zones_tests::tree_damage::{damage_tree, TREE_DAMAGES};
+use zones_tests::tree_damage::TREE_DAMAGES;
 use zones_tests::zones::{self, Answer, FULL};
 
-fn note(tally: &mut Tally, call: &str, answer: Answer) {
-    tally.note(match answer {
-        Answer::Accepted(_) => format!("{call} accepted"),
-        Answer::Refused { number, .. } => format!("{call} {number}"),
+/// A cell to split: mostly a leaf near what is drawn, else any number.
+fn pick_cell(random: &mut Random, sample: &Sample) -> u32 {
+    let cells = sample.tree.head.table().first().copied().unwrap_or(0);
+    let near = match random.below(4) {
+        0 | 1 => sample.leaf_at(scenes::any_position(random, &sample.tables)),
+        _ => None,
+    };
+    match (near, random.below(8)) {
+        (Some(leaf), _) => leaf.cell,
+        (None, 0) => random.pick(&[cells, cells.wrapping_add(1), 4_096, u32::MAX]),
+        (None, 1) => cells.wrapping_sub(1),
+        (None, _) => random.below(cells.clamp(1, 5_000) as usize) as u32,
+    }
+}
+
+fn split(random: &mut Random, sample: &mut Sample, tally: &mut Tally) {
+    let cell = pick_cell(random, sample);
+    tally.note_call("split", sample.split(cell));
+}
+
+fn grow(random: &mut Random, sample: &mut Sample, tally: &mut Tally) {
+    let threshold = random.pick(&[0, 0, 1, 2, 5, 20, u32::MAX]);
+    let limit = random.pick(&[0, 1, 2, 3, 4, 6, 16, 16, 17, u32::MAX]);
+    let before = sample.tree.clone();
+    tally.note(match sample.grow(threshold, limit) {
+        Answer::Accepted(splits) if splits < FULL => "grow done".to_string(),
+        Answer::Accepted(_) => "grow full".to_string(),
+        Answer::Refused { number, .. } if sample.tree == before => format!("grow {number}"),
+        Answer::Refused { number, .. } => format!("grow {number} behind splits"),
     });
 }
 
-/// A drawing and a tree over it, both lent.
-struct Sample {
-    tables: Tables,
-    drawing: LentTables,
-    tree: LentTree,
+/// Finds a leaf at a position, now and then at none, with room for its words or too little.
+fn find(random: &mut Random, sample: &Sample, tally: &mut Tally) {
+    let (mut x, mut y) = scenes::any_position(random, &sample.tables);
+    match random.below(40) {
+        0 => x = random.pick(&[65_536, 65_537, u32::MAX]),
+        1 => y = random.pick(&[65_536, 131_071, u32::MAX]),
+        _ => {}
+    }
+    let words = random.pick(&[7, 7, 7, 8, 10, 6, 5, 0]);
+    let words: Vec<u32> = (0..words).map(|_| random.word()).collect();
+    let blank = lent_words(random, &words);
+    tally.note_call("find", sample.find_leaf((x, y), &blank).0);
 }
 
-impl Sample {
-    fn new(random: &mut Random, tables: Tables, tree: &TreeTables) -> Sample {
-        Sample {
-            drawing: LentTables::longer(random, tables.clone()),
-            tree: LentTree::new(random, tree),
-            tables,
-        }
-    }
-
-    /// The tables just as they are, for damage to their lengths.
-    fn exact(random: &mut Random, tables: Tables, tree: &TreeTables) -> Sample {
-        Sample {
-            drawing: LentTables::new(random, &tables),
-            tree: LentTree::new(random, tree),
-            tables,
-        }
-    }
-
-    fn cells_said(&self) -> u32 {
-        self.tree.head.table().first().copied().unwrap_or(0)
-    }
-
-    /// The leaf at a position, if one is found.
-    fn leaf_at(&self, (x, y): (u32, u32)) -> Option<u32> {
-        let found = tree::find_leaf(self.drawing.drawing(), self.tree.view(), x, y);
-        found.ok().map(|leaf| leaf.cell)
-    }
-
-    /// A cell to split: mostly a leaf near what is drawn, else any number.
-    fn pick_cell(&self, random: &mut Random) -> u32 {
-        let cells = self.cells_said();
-        let near = match random.below(4) {
-            0 | 1 => self.leaf_at(position(random, &self.tables)),
-            _ => None,
-        };
-        match (near, random.below(8)) {
-            (Some(leaf), _) => leaf,
-            (None, 0) => random.pick(&[cells, cells.wrapping_add(1), 4_096, u32::MAX]),
-            (None, 1) => cells.wrapping_sub(1),
-            (None, _) => random.below(cells.clamp(1, 5_000) as usize) as u32,
-        }
-    }
-
-    fn open(&mut self, tally: &mut Tally) -> Answer {
-        let (answer, after) = compare::open(&self.drawing, &self.tree);
-        note(tally, "open", answer);
-        self.tree = after;
-        answer
-    }
-
-    fn split(&mut self, tally: &mut Tally, cell: u32) -> Answer {
-        let (answer, after) = compare::split(&self.drawing, &self.tree, cell);
-        note(tally, "split", answer);
-        self.tree = after;
-        answer
-    }
-
-    fn grow(&mut self, random: &mut Random, tally: &mut Tally) {
-        let threshold = random.pick(&[0, 0, 1, 2, 5, 20, u32::MAX]);
-        let limit = random.pick(&[0, 1, 2, 3, 4, 6, 16, 16, 17, u32::MAX]);
-        let (answer, after) = compare::grow(&self.drawing, &self.tree, threshold, limit);
-        tally.note(match answer {
-            Answer::Accepted(splits) if splits < FULL => "grow done".to_string(),
-            Answer::Accepted(_) => "grow full".to_string(),
-            Answer::Refused { number, .. } if after == self.tree => format!("grow {number}"),
-            Answer::Refused { number, .. } => format!("grow {number} behind splits"),
-        });
-        self.tree = after;
-    }
-
-    /// Finds a leaf at a position, now and then at none, with room for its words or too little.
-    fn find(&mut self, random: &mut Random, tally: &mut Tally) {
-        let (mut x, mut y) = position(random, &self.tables);
-        match random.below(40) {
-            0 => x = random.pick(&[65_536, 65_537, u32::MAX]),
-            1 => y = random.pick(&[65_536, 131_071, u32::MAX]),
-            _ => {}
-        }
-        let words = random.pick(&[7, 7, 7, 8, 10, 6, 5, 0]);
-        let words: Vec<u32> = (0..words).map(|_| random.word()).collect();
-        let blank = lent_words(random, &words);
-        let (answer, _) = compare::find_leaf(&self.drawing, &self.tree, (x, y), &blank);
-        note(tally, "find", answer);
-    }
-
-    /// One call; what it changed stays.
-    fn call(&mut self, random: &mut Random, tally: &mut Tally) {
-        match random.below(20) {
-            0 => _ = self.open(tally),
-            1..7 => self.find(random, tally),
-            7..10 => self.grow(random, tally),
-            _ => {
-                let cell = self.pick_cell(random);
-                self.split(tally, cell);
-            }
-        }
-    }
-
-    /// Each call on tables that may be damaged, all on the same ones but for what they change.
-    fn calls(&mut self, random: &mut Random, tally: &mut Tally, splits: usize) {
-        let before = self.tree.clone();
-        for _ in 0..splits {
-            let cell = self.pick_cell(random);
-            self.split(tally, cell);
-            self.tree = before.clone();
-            self.find(random, tally);
-        }
-        for _ in 0..splits.div_ceil(2) {
-            self.grow(random, tally);
-            self.tree = before.clone();
-        }
-        self.open(tally);
-        self.tree = before;
+/// One call; what it changed stays.
+fn call(random: &mut Random, sample: &mut Sample, tally: &mut Tally) {
+    match random.below(20) {
+        0 => tally.note_call("open", sample.open()),
+        1..7 => find(random, sample, tally),
+        7..10 => grow(random, sample, tally),
+        _ => split(random, sample, tally),
     }
 }
 
-/// On a line, a corner or a border of cells, or one beside it, or anywhere.
-fn position(random: &mut Random, tables: &Tables) -> (u32, u32) {
-    match random.below(3) {
-        0 => scenes::position_on_edge(random, tables),
-        _ => scenes::position(random, tables),
+/// Each call on tables that may be damaged, all on the same ones but for what they change.
+fn calls(random: &mut Random, sample: &mut Sample, tally: &mut Tally, splits: usize) {
+    let before = sample.tree.clone();
+    for _ in 0..splits {
+        split(random, sample, tally);
+        sample.tree = before.clone();
+        find(random, sample, tally);
     }
-}
-
-/// A drawing of any look, now and then one of the largest.
-fn any_tables(random: &mut Random) -> Tables {
-    if random.one_in(150) {
-        let look = Look::fullest(random);
-        return samples::tables(&scenes::of(random, &look));
+    for _ in 0..splits.div_ceil(2) {
+        grow(random, sample, tally);
+        sample.tree = before.clone();
     }
-    scenes::tables(random)
+    tally.note_call("open", sample.open());
+    sample.tree = before;
 }
 
 /// How many cells and entries the tables have: often too few.
@@ -177,26 +103,26 @@ fn lists_of_calls_on_random_drawings() {
     let random = &mut Random::for_test(90);
     let mut tally = Tally::default();
     for _ in 0..6_000 {
-        let tables = any_tables(random);
+        let tables = scenes::any_tables(random, 150);
         let (cells, entries) = any_room(random);
-        let mut sample = Sample {
-            drawing: LentTables::longer(random, tables.clone()),
-            tree: LentTree::blank(random, cells, entries),
-            tables,
-        };
-        if let Answer::Refused { number, .. } = sample.open(&mut tally) {
+        let mut sample = Sample::unopened(random, tables, cells, entries);
+        let opened = sample.open();
+        tally.note_call("open", opened);
+        if let Answer::Refused { number, .. } = opened {
             assert_eq!(number, 11);
             continue;
         }
         for _ in 0..random.within(1..=16) {
-            sample.call(random, &mut tally);
+            call(random, &mut sample, &mut tally);
         }
         // Down to side 1 at one position.
         if random.one_in(10) {
-            let at = position(random, &sample.tables);
+            let at = scenes::any_position(random, &sample.tables);
             for _ in 0..18 {
                 let leaf = sample.leaf_at(at).expect("a leaf is found");
-                if let Answer::Refused { number: 10, .. } = sample.split(&mut tally, leaf) {
+                let answer = sample.split(leaf.cell);
+                tally.note_call("split", answer);
+                if let Answer::Refused { number: 10, .. } = answer {
                     break;
                 }
             }
@@ -245,13 +171,13 @@ fn cells_and_entries_up_to_their_limits() {
             1 => MOST_ENTRIES as u32 + random.below(3) as u32,
             _ => (MOST_ENTRIES as u32).saturating_sub(more).max(used),
         };
-        let mut sample = Sample::new(random, tables, &tree);
+        let mut sample = Sample::longer(random, tables, &tree);
         let before = sample.tree.clone();
         for _ in 0..3 {
-            sample.split(&mut tally, 0);
+            tally.note_call("split", sample.split(0));
         }
         sample.tree = before;
-        sample.grow(random, &mut tally);
+        grow(random, &mut sample, &mut tally);
     }
     tally.print("limits");
     for what in ["split accepted", "split 9", "split 11", "split 12"] {
@@ -281,9 +207,9 @@ fn the_largest_tree() {
         if limit == 16 {
             assert!(expected >= FULL && by_library.head[0] == 4_093);
         }
-        let mut sample = Sample::new(random, tables.clone(), &by_library);
+        let sample = Sample::longer(random, tables.clone(), &by_library);
         for _ in 0..20 {
-            sample.find(random, &mut Tally::default());
+            find(random, &sample, &mut Tally::default());
         }
     }
 }
@@ -309,29 +235,12 @@ fn opening_of_damaged_drawings() {
         let entries = entries + random.pick(&[0, 0, 5_000]);
         let tree = LentTree::blank(random, cells, entries);
         let (answer, _) = compare::open(&drawing, &tree);
-        note(&mut tally, "open", answer);
+        tally.note_call("open", answer);
     }
     tally.print("opening");
     for what in ["accepted", "7", "11", "12"] {
         tally.reached(&format!("open {what}"), 100);
     }
-}
-
-/// A drawing and a tree that was opened and split a few times.
-fn grown(random: &mut Random) -> (Tables, TreeTables) {
-    let tables = scenes::tables(random);
-    let (cells, entries) = (random.pick(&[9, 30, 60]), random.pick(&[900, 2_000]));
-    let mut tree = TreeTables::new(cells, entries);
-    let drawing = Drawing::of(&tables);
-    if tree::open(drawing, &mut tree.lend()).is_err() {
-        return grown(random);
-    }
-    for _ in 0..random.below(6) {
-        let (x, y) = position(random, &tables);
-        let leaf = tree::find_leaf(drawing, tree.view(), x, y).expect("a leaf is found");
-        _ = tree::split(drawing, &mut tree.lend(), leaf.cell);
-    }
-    (tables, tree)
 }
 
 #[test]
@@ -341,11 +250,9 @@ fn calls_on_damaged_tables() {
     for damage in TREE_DAMAGES {
         let mut tally = Tally::default();
         for _ in 0..150 {
-            let (mut tables, mut tree) = grown(random);
-            damage_tree(random, &mut tables, &mut tree, damage);
-            let mut sample = Sample::exact(random, tables, &tree);
-            sample.calls(random, &mut tally, 8);
-            sample.calls(random, &mut all, 2);
+            let mut sample = Sample::damaged(random, damage);
+            calls(random, &mut sample, &mut tally, 8);
+            calls(random, &mut sample, &mut all, 2);
         }
         tally.print(&format!("{damage:?}"));
     }
@@ -550,10 +457,10 @@ fn each_range_of_12_at_its_end_and_beyond() {
             tally.note(format!("{name} {}", if is_12 { "12" } else { "passed" }));
             // Found at a position of the leaf, the same is met.
             let blank = lent_words(random, &[0; 8]);
-            let (answer, _) = compare::find_leaf(&sample.drawing, &sample.tree, low, &blank);
+            let (answer, _) = sample.find_leaf(low, &blank);
             let is_12 = matches!(answer, Answer::Refused { number: 12, .. });
             assert!(is_12 || !beyond, "{name}: {answer:?} {tree:?}");
-            sample.calls(random, &mut Tally::default(), 2);
+            calls(random, &mut sample, &mut Tally::default(), 2);
         }
     }
     tally.print("ranges");
@@ -598,10 +505,10 @@ fn calls_on_trees_written_by_others() {
         let tables = scenes::tables(random);
         let splits = random.below(12);
         let tree = foreign::tree(random, &tables, splits);
-        let mut sample = Sample::new(random, tables, &tree);
-        sample.calls(random, &mut tally, 4);
+        let mut sample = Sample::longer(random, tables, &tree);
+        calls(random, &mut sample, &mut tally, 4);
         for _ in 0..4 {
-            sample.call(random, &mut tally);
+            call(random, &mut sample, &mut tally);
         }
     }
     tally.print("others");
@@ -648,11 +555,11 @@ fn shortcuts_over_all_rows() {
         tree.head = vec![1, stream.len() as u32];
         let cell = [0, 0, 65_536, 0, 0, stream.len() as u32, 0, 0];
         tree.cells[..CELL_WORDS].copy_from_slice(&cell);
-        let mut sample = Sample::new(random, tables, &tree);
-        sample.split(&mut tally, 0);
+        let mut sample = Sample::longer(random, tables, &tree);
+        tally.note_call("split", sample.split(0));
         // A start number beyond its range is written, and refused when it is met.
         for cell in 1..5 {
-            sample.split(&mut tally, cell);
+            tally.note_call("split", sample.split(cell));
         }
     }
     tally.print("shortcuts");

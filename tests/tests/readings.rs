@@ -8,72 +8,37 @@ use zones_tests::lent::{any_bytes, lent_bytes, lent_words, LentTables, LentTree}
 use zones_tests::meaning::{Drawing, Scene, PIXEL};
 use zones_tests::query::{CHANNELS, PIXELS};
 use zones_tests::random::Random;
-use zones_tests::readings::{spot_words, Reader, SPOT_WORDS};
+use zones_tests::readings::{spot_words, SPOT_WORDS};
 use zones_tests::record::{letters, Record};
-use zones_tests::samples::{self, Tables};
-use zones_tests::scenes::{self, painted, square_at, Look};
+use zones_tests::sample::{grown, Sample};
+use zones_tests::samples;
+use zones_tests::scenes::{self, painted, square_at};
 use zones_tests::tally::Tally;
-use zones_tests::tree::{self, TreeTables, CELL_WORDS};
-use zones_tests::tree_damage::{damage_tree, TREE_DAMAGES};
+use zones_tests::tree::CELL_WORDS;
+use zones_tests::tree_damage::TREE_DAMAGES;
 use zones_tests::zones::Answer;
 
-fn note(tally: &mut Tally, call: &str, answer: Answer) {
-    tally.note(match answer {
-        Answer::Accepted(_) => format!("{call} accepted"),
-        Answer::Refused { number, .. } => format!("{call} {number}"),
-    });
+/// A coordinate of a border of a leaf, or one beside it.
+fn on_border(random: &mut Random, low: u32, side: u32) -> u32 {
+    let at = random.pick(&[low, low + side]) + random.pick(&[0, 0, 1]);
+    at.saturating_sub(random.pick(&[0, 1])).min(65_535)
 }
 
-/// A drawing and a tree over it, both lent.
-struct Sample {
-    tables: Tables,
-    drawing: LentTables,
-    tree: LentTree,
-}
-
-impl Sample {
-    /// The tables just as they are.
-    fn exact(random: &mut Random, tables: Tables, tree: &TreeTables) -> Sample {
-        Sample {
-            drawing: LentTables::new(random, &tables),
-            tree: LentTree::new(random, tree),
-            tables,
+/// On a line, a corner or a border of the sample's cells, or one beside it, or anywhere.
+fn any_position(random: &mut Random, sample: &Sample) -> (u32, u32) {
+    let (mut x, mut y) = scenes::any_position(random, &sample.tables);
+    if random.one_in(4) {
+        if let Some(leaf) = sample.leaf_at((x, y)) {
+            let border = random.below(3);
+            if border != 1 {
+                x = on_border(random, leaf.square.x, leaf.square.side);
+            }
+            if border != 0 {
+                y = on_border(random, leaf.square.y, leaf.square.side);
+            }
         }
     }
-
-    /// A coordinate of a border of a leaf, or one beside it.
-    fn on_border(random: &mut Random, low: u32, side: u32) -> u32 {
-        let at = random.pick(&[low, low + side]) + random.pick(&[0, 0, 1]);
-        at.saturating_sub(random.pick(&[0, 1])).min(65_535)
-    }
-
-    /// On a line, a corner or a border of cells, or one beside it, or anywhere.
-    fn position(&self, random: &mut Random) -> (u32, u32) {
-        let (x, y) = match random.below(3) {
-            0 => scenes::position_on_edge(random, &self.tables),
-            _ => scenes::position(random, &self.tables),
-        };
-        if !random.one_in(4) {
-            return (x, y);
-        }
-        match tree::find_leaf(self.drawing.drawing(), self.tree.view(), x, y) {
-            Ok(leaf) => match random.below(3) {
-                0 => (
-                    Sample::on_border(random, leaf.square.x, leaf.square.side),
-                    y,
-                ),
-                1 => (
-                    x,
-                    Sample::on_border(random, leaf.square.y, leaf.square.side),
-                ),
-                _ => (
-                    Sample::on_border(random, leaf.square.x, leaf.square.side),
-                    Sample::on_border(random, leaf.square.y, leaf.square.side),
-                ),
-            },
-            Err(_) => (x, y),
-        }
-    }
+    (x, y)
 }
 
 // ---- the readings, one by one ----
@@ -87,9 +52,9 @@ fn positions(
     tally: &mut Tally,
     times: usize,
 ) {
-    let mut reader = Reader::new(&sample.drawing, &sample.tree);
+    let mut reader = sample.reader();
     for _ in 0..times {
-        let (mut x, mut y) = sample.position(random);
+        let (mut x, mut y) = any_position(random, sample);
         match random.below(80) {
             0 => x = random.pick(&[65_536, 65_537, u32::MAX]),
             1 => y = random.pick(&[65_536, 131_071, u32::MAX]),
@@ -102,7 +67,7 @@ fn positions(
         let words: Vec<u32> = (0..words).map(|_| random.word()).collect();
         let blank = lent_words(random, &words);
         let (answer, out) = reader.position((x, y), &blank);
-        note(tally, "position", answer);
+        tally.note_call("position", answer);
         if let (Answer::Accepted(material), Some(scene)) = (answer, scene) {
             let reading = scene.position(x, y);
             assert_eq!(out.table()[..SPOT_WORDS], spot_words(reading));
@@ -121,9 +86,9 @@ fn rows(
     tally: &mut Tally,
     times: usize,
 ) {
-    let mut reader = Reader::new(&sample.drawing, &sample.tree);
+    let mut reader = sample.reader();
     for _ in 0..times {
-        let (x, y) = sample.position(random);
+        let (x, y) = any_position(random, sample);
         let pixels = random.pick(&[0, 1, 2, 3, 5, 20]);
         let most = PIXELS - pixels as u32;
         // The pixel of a position is not always the first, so that a row passes borders of cells.
@@ -140,7 +105,7 @@ fn rows(
         let bytes = any_bytes(random, bytes);
         let blank = lent_bytes(random, &bytes);
         let (answer, out) = reader.pixel_row(row, first, &blank);
-        note(tally, "row", answer);
+        tally.note_call("row", answer);
         let drawn = match answer {
             Answer::Accepted(result) => {
                 assert_eq!(result, 0);
@@ -167,7 +132,7 @@ fn logs(
     tally: &mut Tally,
     times: usize,
 ) {
-    let mut reader = Reader::new(&sample.drawing, &sample.tree);
+    let mut reader = sample.reader();
     for _ in 0..times {
         let len = random.pick(&[0, 1, 2, 5, 20, 60]);
         let (mut px, mut py) = scenes::run(random, &sample.tables, len);
@@ -189,7 +154,7 @@ fn logs(
         let blank = lent_words(random, &words);
         let (px, py) = (lent_words(random, &px), lent_words(random, &py));
         let (answer, out) = reader.zone_log(&px, &py, &blank);
-        note(tally, "log", answer);
+        tally.note_call("log", answer);
         match (answer, scene) {
             (Answer::Accepted(indices), Some(scene)) => {
                 let expected = scene.zone_log(px.table(), py.table());
@@ -209,15 +174,6 @@ fn logs(
 
 // ---- lists of calls ----
 
-/// A drawing of any look, now and then one of the largest.
-fn any_tables(random: &mut Random) -> Tables {
-    if random.one_in(100) {
-        let look = Look::fullest(random);
-        return samples::tables(&scenes::of(random, &look));
-    }
-    scenes::tables(random)
-}
-
 /// One call that splits, grows, opens or finds; what it changed stays.
 fn change(random: &mut Random, sample: &mut Sample, tally: &mut Tally) {
     match random.below(8) {
@@ -225,23 +181,16 @@ fn change(random: &mut Random, sample: &mut Sample, tally: &mut Tally) {
         1 => grow(random, sample, tally),
         2 => {
             let blank = lent_words(random, &[7; 9]);
-            let at = sample.position(random);
-            let (answer, _) = compare::find_leaf(&sample.drawing, &sample.tree, at, &blank);
-            note(tally, "find", answer);
+            let at = any_position(random, sample);
+            tally.note_call("find", sample.find_leaf(at, &blank).0);
         }
         _ => {
-            let at = sample.position(random);
-            let (drawing, view) = (sample.drawing.drawing(), sample.tree.view());
+            let at = any_position(random, sample);
             let cell = match random.below(8) {
-                0 => random.below(view.head[0] as usize + 1) as u32,
-                _ => {
-                    let leaf = tree::find_leaf(drawing, view, at.0, at.1);
-                    leaf.expect("a leaf is found").cell
-                }
+                0 => random.below(sample.tree.head.table()[0] as usize + 1) as u32,
+                _ => sample.leaf_at(at).expect("a leaf is found").cell,
             };
-            let (answer, after) = compare::split(&sample.drawing, &sample.tree, cell);
-            note(tally, "split", answer);
-            sample.tree = after;
+            tally.note_call("split", sample.split(cell));
         }
     }
 }
@@ -261,7 +210,7 @@ fn refused_open(random: &mut Random, sample: &mut Sample, tally: &mut Tally) {
     }
     let (answer, after) = compare::open(&drawing, &sample.tree);
     assert!(matches!(answer, Answer::Refused { .. }), "{answer:?}");
-    note(tally, "open", answer);
+    tally.note_call("open", answer);
     sample.tree = after;
 }
 
@@ -269,25 +218,18 @@ fn refused_open(random: &mut Random, sample: &mut Sample, tally: &mut Tally) {
 fn grow(random: &mut Random, sample: &mut Sample, tally: &mut Tally) {
     let threshold = random.pick(&[0, 0, 1, 2, 5, 20]);
     let limit = random.pick(&[1, 2, 3, 4, 6, 16, 17]);
-    let (answer, after) = compare::grow(&sample.drawing, &sample.tree, threshold, limit);
-    note(tally, "grow", answer);
-    sample.tree = after;
+    tally.note_call("grow", sample.grow(threshold, limit));
 }
 
 /// A tree opened by both in tables that are full of other words; None where they have no room.
 fn opened(random: &mut Random, tally: &mut Tally) -> Option<Sample> {
-    let tables = any_tables(random);
+    let tables = scenes::any_tables(random, 100);
     let cells = random.pick(&[1, 5, 9, 30, 100, 100, 300]);
     let entries = random.pick(&[50, 300, 300, 3_000, 3_000]);
-    let blank = LentTree::blank(random, cells, entries);
-    let drawing = LentTables::longer(random, tables.clone());
-    let (answer, tree) = compare::open(&drawing, &blank);
-    note(tally, "open", answer);
-    matches!(answer, Answer::Accepted(_)).then_some(Sample {
-        tables,
-        drawing,
-        tree,
-    })
+    let mut sample = Sample::unopened(random, tables, cells, entries);
+    let answer = sample.open();
+    tally.note_call("open", answer);
+    matches!(answer, Answer::Accepted(_)).then_some(sample)
 }
 
 #[test]
@@ -337,23 +279,6 @@ fn readings_in_lists_of_calls() {
 
 // ---- damaged tables ----
 
-/// A drawing and a tree that was opened and split a few times.
-fn grown(random: &mut Random) -> (Tables, TreeTables) {
-    let tables = scenes::tables(random);
-    let (cells, entries) = (random.pick(&[9, 30, 60]), random.pick(&[900, 2_000]));
-    let mut tree = TreeTables::new(cells, entries);
-    let drawing = Drawing::of(&tables);
-    if tree::open(drawing, &mut tree.lend()).is_err() {
-        return grown(random);
-    }
-    for _ in 0..random.below(6) {
-        let (x, y) = scenes::position(random, &tables);
-        let leaf = tree::find_leaf(drawing, tree.view(), x, y).expect("a leaf is found");
-        _ = tree::split(drawing, &mut tree.lend(), leaf.cell);
-    }
-    (tables, tree)
-}
-
 #[test]
 fn readings_of_damaged_tables() {
     let random = &mut Random::for_test(111);
@@ -361,9 +286,7 @@ fn readings_of_damaged_tables() {
     for damage in TREE_DAMAGES {
         let mut tally = Tally::default();
         for _ in 0..150 {
-            let (mut tables, mut tree) = grown(random);
-            damage_tree(random, &mut tables, &mut tree, damage);
-            let sample = Sample::exact(random, tables, &tree);
+            let sample = Sample::damaged(random, damage);
             for tally in [&mut tally, &mut all] {
                 positions(random, &sample, None, tally, 10);
                 rows(random, &sample, None, tally, 10);
@@ -398,7 +321,7 @@ fn pixels_before_a_broken_leaf_stand() {
         }
         tree.cells[CELL_WORDS * leaf as usize + 2] = random.pick(&[0, 3, 131_072]);
         let sample = Sample::exact(random, tables.clone(), &tree);
-        let mut reader = Reader::new(&sample.drawing, &sample.tree);
+        let mut reader = sample.reader();
         let before = random.within(1..=(square.x / PIXEL).min(6) as usize) as u32;
         let (x, y) = (
             square.x - PIXEL * before,
@@ -476,15 +399,14 @@ fn read_and_open(random: &mut Random, records: &[Record]) -> Sample {
     let bytes = lent_bytes(random, &records.concat());
     let (answer, drawing) = compare::read(&bytes, &blank);
     assert_eq!(answer, Answer::Accepted(records.len() as u32));
-    let blank = LentTree::blank(random, 30, 8_000);
-    let (answer, tree) = compare::open(&drawing, &blank);
-    assert!(matches!(answer, Answer::Accepted(_)), "{answer:?}");
-    let tables = samples::tables(records);
-    Sample {
-        tables,
+    let mut sample = Sample {
+        tables: samples::tables(records),
         drawing,
-        tree,
-    }
+        tree: LentTree::blank(random, 30, 8_000),
+    };
+    let answer = sample.open();
+    assert!(matches!(answer, Answer::Accepted(_)), "{answer:?}");
+    sample
 }
 
 /// "4,096 records read, 4,097 give 1".
@@ -514,7 +436,7 @@ fn as_many_areas_as_a_drawing_may_have() {
     let mut sample = read_and_open(random, &records);
     for cell in 0..2 {
         let blank = lent_words(random, &[77; SPOT_WORDS]);
-        let mut reader = Reader::new(&sample.drawing, &sample.tree);
+        let mut reader = sample.reader();
         let (answer, out) = reader.position((2_000, 3_000), &blank);
         assert_eq!(answer, Answer::Accepted(7));
         assert_eq!(out.table()[..2], [u32::MAX; 2]);
@@ -523,9 +445,8 @@ fn as_many_areas_as_a_drawing_may_have() {
         assert_eq!(answer, Answer::Accepted(7));
         assert_eq!(out.table()[..2], [u32::MAX, (1 << 9) - 1]);
         reader.finish();
-        let (answer, after) = compare::split(&sample.drawing, &sample.tree, cell);
+        let answer = sample.split(cell);
         assert!(matches!(answer, Answer::Accepted(_)), "{answer:?}");
-        sample.tree = after;
     }
 }
 
@@ -537,7 +458,7 @@ fn the_last_position() {
     let mut sample = read_and_open(random, &records);
     for cell in 0..2 {
         let blank = lent_words(random, &[77; SPOT_WORDS]);
-        let mut reader = Reader::new(&sample.drawing, &sample.tree);
+        let mut reader = sample.reader();
         for at in [(65_535, 65_535), (65_535, 0), (0, 65_535)] {
             let (answer, out) = reader.position(at, &blank);
             assert_eq!(answer, Answer::Accepted(7));
@@ -564,8 +485,7 @@ fn the_last_position() {
             assert_eq!(reader.pixel_row(row, first, &bytes).0, SEVEN_AT_0);
         }
         reader.finish();
-        let (answer, after) = compare::split(&sample.drawing, &sample.tree, cell);
+        let answer = sample.split(cell);
         assert!(matches!(answer, Answer::Accepted(_)), "{answer:?}");
-        sample.tree = after;
     }
 }
