@@ -72,13 +72,7 @@ pub fn write(drawing: &LentTables, before: &Lent<u8>) -> (Answer, Lent<u8>) {
     let mut by_library = before.clone();
     let mut by_second = before.clone();
     black_box((&mut given, &mut by_library));
-    let answer = zones::write(
-        given.plan.table(),
-        given.areas.table(),
-        given.xs.table(),
-        given.ys.table(),
-        by_library.table_mut(),
-    );
+    let answer = zones::write(given.drawing(), by_library.table_mut());
     black_box((&mut given, &mut by_library));
     let second = drawing::write(
         drawing.plan.table(),

@@ -18,7 +18,6 @@ pub mod probe;
 pub mod prune;
 pub mod query;
 pub mod random;
-#[allow(unsafe_code)]
 pub mod readings;
 pub mod record;
 pub mod sample;

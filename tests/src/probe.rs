@@ -77,89 +77,52 @@ pub struct Lent<'a> {
     pub square: Square,
 }
 
+/// A call on a lent stream, whose entries' pointer is `as_ptr` or `as_mut_ptr`, and what else the
+/// function takes. Each pointer comes with the length of its own slice.
+macro_rules! on_stream {
+    ($function:ident, $lent:expr, $pointer:ident $entries:expr $(, $more:expr)*) => {
+        unsafe {
+            $function(
+                $entries.$pointer(),
+                $entries.len(),
+                $lent.first,
+                $lent.count,
+                $lent.in_use.entries,
+                $lent.tables.areas.as_ptr(),
+                $lent.tables.areas.len(),
+                $lent.tables.xs.as_ptr(),
+                $lent.tables.xs.len(),
+                $lent.tables.ys.as_ptr(),
+                $lent.tables.ys.len(),
+                $lent.in_use.areas,
+                $lent.in_use.corners,
+                $lent.square.y,
+                $lent.square.side
+                $(, $more)*
+            )
+        }
+    };
+}
+
 impl Lent<'_> {
     /// Whether the stream passes 12.
     pub fn check(&self, entries: &[u32]) -> bool {
-        let Tables { areas, xs, ys, .. } = self.tables;
-        // Each pointer comes with the length of its own slice.
-        let answer = unsafe {
-            probe_check(
-                entries.as_ptr(),
-                entries.len(),
-                self.first,
-                self.count,
-                self.in_use.entries,
-                areas.as_ptr(),
-                areas.len(),
-                xs.as_ptr(),
-                xs.len(),
-                ys.as_ptr(),
-                ys.len(),
-                self.in_use.areas,
-                self.in_use.corners,
-                self.square.y,
-                self.square.side,
-            )
-        };
+        let answer = on_stream!(probe_check, self, as_ptr entries);
         assert!(answer <= 1, "{answer}");
         answer == 1
     }
 
     /// The shown set at a position; 0 if the stream does not pass or this is no position.
     pub fn read(&self, entries: &[u32], x: u32, y: u32) -> u64 {
-        let Tables { areas, xs, ys, .. } = self.tables;
-        // Each pointer comes with the length of its own slice.
-        unsafe {
-            probe_read(
-                entries.as_ptr(),
-                entries.len(),
-                self.first,
-                self.count,
-                self.in_use.entries,
-                areas.as_ptr(),
-                areas.len(),
-                xs.as_ptr(),
-                xs.len(),
-                ys.as_ptr(),
-                ys.len(),
-                self.in_use.areas,
-                self.in_use.corners,
-                self.square.y,
-                self.square.side,
-                x,
-                y,
-            )
-        }
+        on_stream!(probe_read, self, as_ptr entries, x, y)
     }
 
     /// Writes the stream of a square behind the entries in use: how many entries it has. None, and
     /// nothing is written, if the stream does not pass, the square is not that of a cell, or there
     /// is no room.
     pub fn child(&self, entries: &mut [u32], square: Square) -> Option<usize> {
-        let Tables { areas, xs, ys, .. } = self.tables;
-        // Each pointer comes with the length of its own slice.
-        let answer = unsafe {
-            probe_child(
-                entries.as_mut_ptr(),
-                entries.len(),
-                self.first,
-                self.count,
-                self.in_use.entries,
-                areas.as_ptr(),
-                areas.len(),
-                xs.as_ptr(),
-                xs.len(),
-                ys.as_ptr(),
-                ys.len(),
-                self.in_use.areas,
-                self.in_use.corners,
-                self.square.y,
-                self.square.side,
-                square.x,
-                square.y,
-                square.side,
-            )
-        };
+        let Square { x, y, side } = square;
+        let answer = on_stream!(probe_child, self, as_mut_ptr entries, x, y, side);
         (answer as usize).checked_sub(1)
     }
 }

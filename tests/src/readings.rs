@@ -1,5 +1,5 @@
-//! The calls that answer from a tree: the library's C functions, safe functions on slices over
-//! them, and each call compared with the second implementation.
+//! The calls that answer from a tree, each by the library and by the second implementation,
+//! compared in all that can be seen.
 
 use std::fmt::Debug;
 use std::hint::black_box;
@@ -10,159 +10,7 @@ use crate::lent::{Lent, LentTables, LentTree};
 use crate::meaning::{Drawing, Reading};
 use crate::query;
 use crate::tree::Tree;
-use crate::zones::Answer;
-
-extern "C" {
-    fn zones_position(
-        plan: *const u32,
-        plan_len: usize,
-        areas: *const u32,
-        areas_len: usize,
-        xs: *const u32,
-        xs_len: usize,
-        ys: *const u32,
-        ys_len: usize,
-        head: *const u32,
-        head_len: usize,
-        cells: *const u32,
-        cells_len: usize,
-        entries: *const u32,
-        entries_len: usize,
-        x: u32,
-        y: u32,
-        out: *mut u32,
-        out_len: usize,
-    ) -> u64;
-
-    fn zones_zone_log(
-        plan: *const u32,
-        plan_len: usize,
-        areas: *const u32,
-        areas_len: usize,
-        xs: *const u32,
-        xs_len: usize,
-        ys: *const u32,
-        ys_len: usize,
-        head: *const u32,
-        head_len: usize,
-        cells: *const u32,
-        cells_len: usize,
-        entries: *const u32,
-        entries_len: usize,
-        px: *const u32,
-        px_len: usize,
-        py: *const u32,
-        py_len: usize,
-        out: *mut u32,
-        out_len: usize,
-    ) -> u64;
-
-    fn zones_pixel_row(
-        plan: *const u32,
-        plan_len: usize,
-        areas: *const u32,
-        areas_len: usize,
-        xs: *const u32,
-        xs_len: usize,
-        ys: *const u32,
-        ys_len: usize,
-        head: *const u32,
-        head_len: usize,
-        cells: *const u32,
-        cells_len: usize,
-        entries: *const u32,
-        entries_len: usize,
-        row: u32,
-        first: u32,
-        out: *mut u8,
-        out_len: usize,
-    ) -> u64;
-}
-
-/// Reads at a position and writes six words; accepted: the material.
-pub fn position(drawing: Drawing, tree: Tree, x: u32, y: u32, out: &mut [u32]) -> Answer {
-    // Each pointer comes with the length of its own slice.
-    Answer::from_number(unsafe {
-        zones_position(
-            drawing.plan.as_ptr(),
-            drawing.plan.len(),
-            drawing.areas.as_ptr(),
-            drawing.areas.len(),
-            drawing.xs.as_ptr(),
-            drawing.xs.len(),
-            drawing.ys.as_ptr(),
-            drawing.ys.len(),
-            tree.head.as_ptr(),
-            tree.head.len(),
-            tree.cells.as_ptr(),
-            tree.cells.len(),
-            tree.entries.as_ptr(),
-            tree.entries.len(),
-            x,
-            y,
-            out.as_mut_ptr(),
-            out.len(),
-        )
-    })
-}
-
-/// Writes the zone log of a run of positions; accepted: how many indices.
-pub fn zone_log(drawing: Drawing, tree: Tree, px: &[u32], py: &[u32], out: &mut [u32]) -> Answer {
-    // Each pointer comes with the length of its own slice.
-    Answer::from_number(unsafe {
-        zones_zone_log(
-            drawing.plan.as_ptr(),
-            drawing.plan.len(),
-            drawing.areas.as_ptr(),
-            drawing.areas.len(),
-            drawing.xs.as_ptr(),
-            drawing.xs.len(),
-            drawing.ys.as_ptr(),
-            drawing.ys.len(),
-            tree.head.as_ptr(),
-            tree.head.len(),
-            tree.cells.as_ptr(),
-            tree.cells.len(),
-            tree.entries.as_ptr(),
-            tree.entries.len(),
-            px.as_ptr(),
-            px.len(),
-            py.as_ptr(),
-            py.len(),
-            out.as_mut_ptr(),
-            out.len(),
-        )
-    })
-}
-
-/// Fills red, green, blue for each pixel of `out`, from pixel `first` of a row on; accepted: 0.
-pub fn pixel_row(drawing: Drawing, tree: Tree, row: u32, first: u32, out: &mut [u8]) -> Answer {
-    // Each pointer comes with the length of its own slice.
-    Answer::from_number(unsafe {
-        zones_pixel_row(
-            drawing.plan.as_ptr(),
-            drawing.plan.len(),
-            drawing.areas.as_ptr(),
-            drawing.areas.len(),
-            drawing.xs.as_ptr(),
-            drawing.xs.len(),
-            drawing.ys.as_ptr(),
-            drawing.ys.len(),
-            tree.head.as_ptr(),
-            tree.head.len(),
-            tree.cells.as_ptr(),
-            tree.cells.len(),
-            tree.entries.as_ptr(),
-            tree.entries.len(),
-            row,
-            first,
-            out.as_mut_ptr(),
-            out.len(),
-        )
-    })
-}
-
-// ---- compared with the second implementation ----
+use crate::zones::{self, Answer};
 
 /// Words that a reading is written to.
 pub const SPOT_WORDS: usize = 6;
@@ -227,7 +75,7 @@ impl Reader<'_> {
     pub fn position(&mut self, (x, y): (u32, u32), blank: &Lent<u32>) -> (Answer, Lent<u32>) {
         let (answer, out) = self.by_both(
             blank,
-            |drawing, tree, out| position(drawing, tree, x, y, out),
+            |drawing, tree, out| zones::position(drawing, tree, x, y, out),
             |drawing, tree, out| {
                 let reading = query::position(drawing, tree, x, y)?;
                 // "another output table too short for the whole result"
@@ -255,7 +103,7 @@ impl Reader<'_> {
             blank,
             |drawing, tree, out| {
                 black_box(&mut run);
-                let answer = zone_log(drawing, tree, run.0.table(), run.1.table(), out);
+                let answer = zones::zone_log(drawing, tree, run.0.table(), run.1.table(), out);
                 black_box(&mut run);
                 answer
             },
@@ -280,7 +128,7 @@ impl Reader<'_> {
     pub fn pixel_row(&mut self, row: u32, first: u32, blank: &Lent<u8>) -> (Answer, Lent<u8>) {
         let (answer, out) = self.by_both(
             blank,
-            |drawing, tree, out| pixel_row(drawing, tree, row, first, out),
+            |drawing, tree, out| zones::pixel_row(drawing, tree, row, first, out),
             |drawing, tree, out| query::pixel_row(drawing, tree, row, first, out).map(|()| 0),
         );
         if let Answer::Refused { number, place } = answer {

@@ -13,7 +13,7 @@ use zones_tests::drawing::{
 use zones_tests::meaning::{fill_passes, pixel, samples, Drawing, OPAQUE};
 use zones_tests::query::CHANNELS;
 use zones_tests::random::Random;
-use zones_tests::readings::{self, SPOT_WORDS};
+use zones_tests::readings::SPOT_WORDS;
 use zones_tests::record::{area, clip, corner, delimiter, Record};
 use zones_tests::samples::{self, Tables};
 use zones_tests::scenes;
@@ -551,7 +551,7 @@ fn time_positions(name: &str, tables: &Tables, tree: Tree, positions: &[(u32, u3
     let (scan, plain) = (Scan::new(tables), Plain::new(tables, tree));
     let by_library = |x, y| {
         let mut out = [0; SPOT_WORDS];
-        let answer = readings::position(black_box(drawing), black_box(tree), x, y, &mut out);
+        let answer = zones::position(black_box(drawing), black_box(tree), x, y, &mut out);
         assert!(matches!(answer, Answer::Accepted(_)));
         out
     };
@@ -613,7 +613,7 @@ fn time_rows(name: &str, tables: &Tables, tree: Tree, rows: &[(u32, u32)]) {
     let drawing = Drawing::of(tables);
     let (scan, plain) = (Scan::new(tables), Plain::new(tables, tree));
     let by_library = |row: (u32, u32), out: &mut [u8]| {
-        let answer = readings::pixel_row(black_box(drawing), black_box(tree), row.0, row.1, out);
+        let answer = zones::pixel_row(black_box(drawing), black_box(tree), row.0, row.1, out);
         assert_eq!(answer, Answer::Accepted(0));
     };
     let by_scan = |row: (u32, u32), out: &mut [u8]| {

@@ -7,6 +7,7 @@ use std::hint::black_box;
 
 use timing::compare;
 use zones_tests::drawing::{self, RECORD_BYTES};
+use zones_tests::meaning::Drawing;
 use zones_tests::random::Random;
 use zones_tests::samples::{self, Tables};
 use zones_tests::zones::{self, Answer};
@@ -52,7 +53,7 @@ fn tables() {
         Answer::Accepted(n * RECORD_BYTES as u32),
         || {
             let (t, out) = (black_box(&tables), black_box(&mut by_library));
-            zones::write(&t.plan, &t.areas, &t.xs, &t.ys, out)
+            zones::write(Drawing::of(t), out)
         },
         || {
             let (t, out) = (black_box(&tables), black_box(&mut by_second));
