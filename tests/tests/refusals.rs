@@ -1,23 +1,154 @@
-//! The refusals of the second implementation: their order and places, damaged tables, and the check
-//! of streams and of what they name.
+//! The refusals: their order and places, damaged tables, the check of streams and of what they name.
+//! Each chosen case is called by the library and by the second implementation, which agree in all
+//! that can be seen, and its answer is the one that is named.
 
-use zones_tests::drawing::{refusal, CLIP};
+use zones_tests::compare::LEAF_WORDS;
+use zones_tests::drawing::CLIP;
 use zones_tests::expect;
-use zones_tests::meaning::Drawing;
-use zones_tests::query;
+use zones_tests::lent::{lent_bytes, lent_words};
+use zones_tests::meaning::{self, Drawing, Scene, PIXEL};
+use zones_tests::query::CHANNELS;
 use zones_tests::random::Random;
+use zones_tests::readings::{spot_words, SPOT_WORDS};
 use zones_tests::record::{area, delimiter, letters};
+use zones_tests::sample::Sample;
 use zones_tests::samples::{self, Tables};
 use zones_tests::scenes::{self, contour, painted, square_at};
-use zones_tests::stream::{self, Entry};
+use zones_tests::stream::{self, Entry, ENTRY_WORDS};
 use zones_tests::tally::Tally;
-use zones_tests::tree::{self, End, Growth, TreeTables, CELL_WORDS};
+use zones_tests::tree::{self, TreeTables, CELL_WORDS};
 use zones_tests::tree_damage::{damage_tree, TREE_DAMAGES};
+use zones_tests::zones::{Answer, FULL};
 
-// ---- damaged trees ----
+// ---- a case, called by both ----
 
-/// A tree of a few splits over a drawing of a clip group and two areas.
-fn small_tree() -> (Tables, TreeTables) {
+/// A result, or the refusal's number and place.
+type Outcome = Result<u32, (u32, u32)>;
+
+fn outcome(answer: Answer) -> Outcome {
+    match answer {
+        Answer::Accepted(result) => Ok(result),
+        Answer::Refused { number, place } => Err((number, place)),
+    }
+}
+
+/// A drawing and a tree. Every call is made by both on copies of them.
+#[derive(Clone, PartialEq, Debug)]
+struct Case {
+    tables: Tables,
+    tree: TreeTables,
+}
+
+impl Case {
+    /// A tree that was opened in tables for so many cells and entries.
+    fn opened(tables: Tables, cells: usize, entries: usize) -> Case {
+        let tree = TreeTables::new(cells, entries);
+        let (opened, case) = Case { tables, tree }.open();
+        assert_eq!(opened, Ok(case.tree.head[1]));
+        case
+    }
+
+    fn changed(&self, change: impl FnOnce(&mut Case)) -> Case {
+        let mut case = self.clone();
+        change(&mut case);
+        case
+    }
+
+    /// Lent just as long as they are.
+    fn lent(&self) -> Sample {
+        Sample::exact(&mut Random::new(1), self.tables.clone(), &self.tree)
+    }
+
+    /// A call that may change the tree, and what it leaves.
+    fn call(&self, call: impl FnOnce(&mut Sample) -> Answer) -> (Outcome, Case) {
+        let mut sample = self.lent();
+        let answer = outcome(call(&mut sample));
+        let (tables, tree) = (self.tables.clone(), sample.tree.tables());
+        (answer, Case { tables, tree })
+    }
+
+    fn open(&self) -> (Outcome, Case) {
+        self.call(Sample::open)
+    }
+
+    fn split(&self, cell: u32) -> Outcome {
+        self.call(|sample| sample.split(cell)).0
+    }
+
+    /// What accepted splits leave.
+    fn divided(&self, cells: &[u32]) -> Case {
+        cells.iter().fold(self.clone(), |case, cell| {
+            let (answer, after) = case.call(|sample| sample.split(*cell));
+            assert_eq!(answer, Ok(case.tree.head[0]));
+            after
+        })
+    }
+
+    fn grow(&self, threshold: u32, limit: u32) -> (Outcome, Case) {
+        self.call(|sample| sample.grow(threshold, limit))
+    }
+
+    /// The words of the leaf that is found.
+    fn leaf(&self, x: u32, y: u32) -> (Outcome, Vec<u32>) {
+        let blank = lent_words(&mut Random::new(2), &[77; LEAF_WORDS]);
+        let (answer, out) = self.lent().find_leaf((x, y), &blank);
+        (outcome(answer), out.table().to_vec())
+    }
+
+    fn find(&self, x: u32, y: u32) -> Outcome {
+        self.leaf(x, y).0
+    }
+
+    fn position(&self, x: u32, y: u32) -> (Outcome, Vec<u32>) {
+        let blank = lent_words(&mut Random::new(3), &[77; SPOT_WORDS]);
+        let (answer, out) = self.lent().reader().position((x, y), &blank);
+        (outcome(answer), out.table().to_vec())
+    }
+
+    fn row(&self, row: u32, first: u32, bytes: usize) -> (Outcome, Vec<u8>) {
+        let blank = lent_bytes(&mut Random::new(4), &vec![0xA5; bytes]);
+        let (answer, out) = self.lent().reader().pixel_row(row, first, &blank);
+        (outcome(answer), out.table().to_vec())
+    }
+
+    fn log(&self, px: &[u32], py: &[u32], room: usize) -> (Outcome, Vec<u32>) {
+        let random = &mut Random::new(5);
+        let [px, py] = [px, py].map(|run| lent_words(random, run));
+        let blank = lent_words(random, &vec![77; room]);
+        let (answer, out) = self.lent().reader().zone_log(&px, &py, &blank);
+        (outcome(answer), out.table().to_vec())
+    }
+
+    /// Every reading at a position: a leaf found, the position, a log of it alone, and its pixel if
+    /// it is one of the sixteen samples.
+    fn readings(&self, x: u32, y: u32) -> Vec<Outcome> {
+        let mut answers = vec![
+            self.find(x, y),
+            self.position(x, y).0,
+            self.log(&[x], &[y], 1).0,
+        ];
+        let (row, pixel) = (y / PIXEL, x / PIXEL);
+        if meaning::samples(row, pixel).contains(&(x, y)) {
+            answers.push(self.row(row, pixel, CHANNELS).0);
+        }
+        answers
+    }
+
+    #[track_caller]
+    fn readings_refused(&self, x: u32, y: u32, number: u32) {
+        for answer in self.readings(x, y) {
+            assert_eq!(answer, Err((number, 0)));
+        }
+    }
+}
+
+/// Which word of the cells.
+fn at(cell: u32, word: usize) -> usize {
+    CELL_WORDS * cell as usize + word
+}
+
+/// A drawing of a clip group and two areas.
+fn small_drawing() -> Tables {
     let records = [
         vec![delimiter(4), area(CLIP, 0, 0, [0; 3], 0)],
         contour(&[(1_000, 1_000), (60_000, 2_000), (30_000, 60_000)]),
@@ -27,14 +158,15 @@ fn small_tree() -> (Tables, TreeTables) {
         painted(100, [3; 3], square_at(16_384, 16_384, 32_768)),
     ]
     .concat();
-    let tables = samples::tables(&records);
-    let mut tree = TreeTables::new(40, 1_000);
-    let drawing = Drawing::of(&tables);
-    assert_eq!(tree::open(drawing, &mut tree.lend()), Ok(()));
-    assert_eq!(tree::split(drawing, &mut tree.lend(), 0), Ok(1));
-    assert_eq!(tree::split(drawing, &mut tree.lend(), 1), Ok(5));
-    (tables, tree)
+    samples::tables(&records)
 }
+
+/// Its tree of a few splits.
+fn small_tree() -> Case {
+    Case::opened(small_drawing(), 40, 1_000).divided(&[0, 1])
+}
+
+// ---- damaged trees ----
 
 #[test]
 fn refusals_over_damaged_tables_change_nothing() {
@@ -44,7 +176,10 @@ fn refusals_over_damaged_tables_change_nothing() {
         let mut counts = Tally::default();
         for _ in 0..60 {
             let (mut tables, mut tree) = match random.one_in(2) {
-                true => small_tree(),
+                true => {
+                    let Case { tables, tree } = small_tree();
+                    (tables, tree)
+                }
                 false => {
                     let tables = scenes::tables(random);
                     let drawing = Drawing::of(&tables);
@@ -114,36 +249,33 @@ fn three_areas() -> Tables {
     samples::tables(&letters("p233(c233|p233)"))
 }
 
-/// A tree of cell 0 alone, with a stream and room for more.
-fn lone_cell(stream: &[Entry]) -> TreeTables {
+/// A tree of cell 0 alone over three areas, with a stream and room for more.
+fn lone_cell(stream: &[Entry]) -> Case {
     let mut tree = TreeTables::new(9, stream.len());
     tree.head = vec![1, stream.len() as u32];
     tree.cells[..6].copy_from_slice(&[0, 0, 65_536, 0, 0, stream.len() as u32]);
     tree.entries = stream::words(stream);
-    tree.entries.extend(vec![0; 4 * 20_000]);
-    tree
+    tree.entries.extend(vec![0; ENTRY_WORDS * 20_000]);
+    let tables = three_areas();
+    Case { tables, tree }
 }
 
-/// Whether the leaf passes 12, as every call that reads it says.
+/// Whether cell 0, a leaf, passes 12, as every call that reads it says.
 #[track_caller]
-fn passes(tables: &Tables, tree: &TreeTables) -> bool {
-    let drawing = Drawing::of(tables);
-    let found = tree::find_leaf(drawing, tree.view(), 3, 4).is_ok();
-    let split = tree::split(drawing, &mut tree.clone().lend(), 0);
-    let grown = tree::grow(drawing, &mut tree.clone().lend(), u32::MAX, 16);
-    assert_eq!(split.is_ok(), found);
-    assert_eq!(grown.is_ok(), found);
-    for refused in [split.err(), grown.err()].into_iter().flatten() {
-        assert_eq!(refused, refusal(12, 0));
+fn passes(case: &Case) -> bool {
+    let grown = case.grow(u32::MAX, 16).0;
+    let answers = [case.find(3, 4), case.position(3, 4).0, case.split(0), grown];
+    let passes = grown.is_ok();
+    for answer in answers {
+        assert!(answer.is_ok() == passes && (passes || answer == Err((12, 0))));
     }
-    found
+    passes
 }
 
 #[test]
 fn streams_that_pass_and_streams_that_do_not() {
-    let tables = three_areas();
     let expect = |expected: bool, stream: &[Entry]| {
-        assert_eq!(passes(&tables, &lone_cell(stream)), expected, "{stream:?}");
+        assert_eq!(passes(&lone_cell(stream)), expected, "{stream:?}");
     };
     let (open, bar, close, bare) = (Entry::Open, Entry::Bar, Entry::Close, Entry::Passes);
     let (paint, clip) = (area_entry(0, 0), area_entry(1, 0));
@@ -236,9 +368,9 @@ fn streams_that_pass_and_streams_that_do_not() {
     expect(false, &bares(4_094));
     // Kinds.
     for kind in [0, 8, 256 + 4, u32::MAX] {
-        let mut tree = lone_cell(&[paint]);
-        tree.entries[0] = kind;
-        assert!(!passes(&tables, &tree));
+        assert!(!passes(&lone_cell(&[paint]).changed(|case| {
+            case.tree.entries[0] = kind;
+        })));
     }
 }
 
@@ -246,9 +378,8 @@ fn streams_that_pass_and_streams_that_do_not() {
 fn what_a_leaf_names_of_the_drawing() {
     let stream = [area_entry(0, 0), line(0, 1)];
     let expect = |expected: bool, change: &dyn Fn(&mut Tables)| {
-        let mut tables = three_areas();
-        change(&mut tables);
-        assert_eq!(passes(&tables, &lone_cell(&stream)), expected);
+        let case = lone_cell(&stream).changed(|case| change(&mut case.tables));
+        assert_eq!(passes(&case), expected);
     };
     expect(true, &|_| {});
     // The area that it names, all its fields; no other.
@@ -299,142 +430,103 @@ fn what_a_leaf_names_of_the_drawing() {
 /// A start number outside its range is written by a split, and reading it later is 12.
 #[test]
 fn a_start_number_beyond_its_range() {
-    let tables = three_areas();
-    let drawing = Drawing::of(&tables);
     let whole_rows = shortcut(1, 0, 32_768);
-    let mut tree = lone_cell(&[area_entry(0, 2_048), whole_rows, shortcut(-1, 5, 6)]);
-    assert_eq!(tree::split(drawing, &mut tree.lend(), 0), Ok(1));
-    assert_eq!(tree.stream(1), [area_entry(0, 2_049), shortcut(-1, 5, 6)]);
-    assert_eq!(tree.stream(3), [area_entry(0, 2_048)]);
-    for (y, found) in [(0, false), (40_000, true)] {
-        assert_eq!(tree::find_leaf(drawing, tree.view(), 0, y).is_ok(), found);
-    }
-    let refused = tree::split(drawing, &mut tree.lend(), 1);
-    assert_eq!(refused, Err(refusal(12, 0)));
+    let case = lone_cell(&[area_entry(0, 2_048), whole_rows, shortcut(-1, 5, 6)]).divided(&[0]);
+    assert_eq!(
+        case.tree.stream(1),
+        [area_entry(0, 2_049), shortcut(-1, 5, 6)]
+    );
+    assert_eq!(case.tree.stream(3), [area_entry(0, 2_048)]);
+    assert_eq!(case.find(0, 0), Err((12, 0)));
+    assert_eq!(case.find(0, 40_000), Ok(3));
+    assert_eq!(case.split(1), Err((12, 0)));
 }
 
 // ---- order and places ----
 
 #[test]
-fn order_and_places_of_refusals() {
-    let (tables, tree) = small_tree();
-    let drawing = Drawing::of(&tables);
-    let at = |cell: usize, word: usize| CELL_WORDS * cell + word;
-    let changed = |change: &dyn Fn(&mut TreeTables)| {
-        let mut tree = tree.clone();
-        change(&mut tree);
-        tree
-    };
-    let split = |tree: &TreeTables, number: u32| {
-        let mut after = tree.clone();
-        let answer = tree::split(drawing, &mut after.lend(), number);
-        assert!(answer.is_ok() || after == *tree);
-        answer.map_err(|refusal| (refusal.number, refusal.place))
-    };
-    let find = |tree: &TreeTables, x: u32, y: u32| {
-        let found = tree::find_leaf(drawing, tree.view(), x, y);
-        found
-            .map(|leaf| leaf.cell)
-            .map_err(|refusal| refusal.number)
-    };
-    assert_eq!(tree.head[0], 9);
-    assert_eq!(split(&tree, 2), Ok(9));
-    assert_eq!(split(&tree, 9), Err((8, 0)));
-    assert_eq!(split(&tree, u32::MAX), Err((8, 0)));
-    assert_eq!(split(&tree, 0), Err((9, 0)));
-    assert_eq!(split(&tree, 1), Err((9, 0)));
+fn order_of_7_8_12_and_9() {
+    let case = small_tree();
+    assert_eq!(case.tree.head[0], 9);
+    assert_eq!(case.split(2), Ok(9));
+    assert_eq!(case.split(9), Err((8, 0)));
+    assert_eq!(case.split(u32::MAX), Err((8, 0)));
+    assert_eq!(case.split(0), Err((9, 0)));
+    assert_eq!(case.split(1), Err((9, 0)));
 
     // 7, unequal tables, before all else.
-    let mut unequal = tables.clone();
-    unequal.xs.push(0);
-    let broken = changed(&|tree| tree.head.clear());
-    for tree in [&tree, &broken] {
-        let drawing = Drawing::of(&unequal);
-        let view = tree.view();
-        let refused = refusal(7, 0);
-        assert_eq!(tree::open(drawing, &mut tree.clone().lend()), Err(refused));
-        assert_eq!(
-            tree::split(drawing, &mut tree.clone().lend(), 99),
-            Err(refused)
-        );
-        assert_eq!(
-            tree::grow(drawing, &mut tree.clone().lend(), 0, 3),
-            Err(refused)
-        );
-        assert_eq!(tree::find_leaf(drawing, view, 0, 0), Err(refused));
-        assert_eq!(query::position(drawing, view, 0, 0), Err(refused));
-        assert_eq!(query::pixel_row(drawing, view, 0, 0, &mut []), Err(refused));
-        let (px, py) = ([65_536], [0]);
-        assert_eq!(
-            query::zone_log(drawing, view, &px, &py, &mut []),
-            Err(refused)
-        );
-        assert_eq!(
-            query::zone_log(drawing, view, &[], &[], &mut []),
-            Err(refused)
-        );
+    let broken = case.changed(|case| case.tree.head.clear());
+    for case in [&case, &broken] {
+        let unequal = case.changed(|case| case.tables.xs.push(0));
+        for answer in [
+            unequal.open().0,
+            unequal.split(99),
+            unequal.grow(0, 3).0,
+            unequal.find(0, 0),
+            unequal.position(0, 0).0,
+            unequal.row(0, 0, 0).0,
+            unequal.log(&[65_536], &[0], 0).0,
+            unequal.log(&[], &[], 0).0,
+        ] {
+            assert_eq!(answer, Err((7, 0)));
+        }
     }
     // A head too short, or none in use: 8, or 12 where no cell number is given.
-    for tree in [
-        changed(&|tree| tree.head.truncate(1)),
-        changed(&|tree| tree.head.clear()),
-        changed(&|tree| tree.head[0] = 0),
+    for case in [
+        case.changed(|case| case.tree.head.truncate(1)),
+        case.changed(|case| case.tree.head.clear()),
+        case.changed(|case| case.tree.head[0] = 0),
     ] {
-        assert_eq!(split(&tree, 0), Err((8, 0)));
-        assert_eq!(find(&tree, 0, 0), Err(12));
-        let grown = tree::grow(drawing, &mut tree.clone().lend(), 0, 3);
-        assert_eq!(grown, Err(refusal(12, 0)));
+        assert_eq!(case.split(0), Err((8, 0)));
+        assert_eq!(case.grow(0, 3).0, Err((12, 0)));
+        case.readings_refused(0, 0, 12);
     }
     // 7 before 12.
-    assert_eq!(find(&broken, 65_536, 0), Err(7));
-    assert_eq!(find(&broken, 0, 65_536), Err(7));
-    assert_eq!(find(&broken, 65_535, 65_535), Err(12));
-    let grown = tree::grow(drawing, &mut broken.clone().lend(), 0, 17);
-    assert_eq!(grown, Err(refusal(7, 0)));
+    assert_eq!(broken.find(65_536, 0), Err((7, 0)));
+    assert_eq!(broken.find(0, 65_536), Err((7, 0)));
+    assert_eq!(broken.find(65_535, 65_535), Err((12, 0)));
+    assert_eq!(broken.grow(0, 17).0, Err((7, 0)));
     // 8 before 12, 12 before 9.
-    let many = changed(&|tree| tree.head[0] = 41);
-    assert_eq!(split(&many, 41), Err((8, 0)));
-    assert_eq!(split(&many, 40), Err((12, 0)));
-    assert_eq!(split(&many, 0), Err((12, 0)));
-    let odd = changed(&|tree| tree.cells[at(1, 2)] = 3);
-    assert_eq!(split(&odd, 1), Err((12, 0)));
-    assert_eq!(split(&odd, 2), Ok(9));
-    assert_eq!((find(&odd, 0, 0), find(&odd, 40_000, 0)), (Err(12), Ok(2)));
-    // A split cell's stream is not met, its entry numbers are.
-    let unread = changed(&|tree| tree.entries[0] = 99);
-    assert_eq!(
-        (split(&unread, 0), find(&unread, 0, 0)),
-        (Err((9, 0)), Ok(5))
-    );
-    let out = changed(&|tree| tree.cells[at(0, 5)] = tree.head[1] + 1);
-    assert_eq!((split(&out, 0), find(&out, 0, 0)), (Err((12, 0)), Err(12)));
-    let far = changed(&|tree| tree.cells[at(0, 4)] = u32::MAX);
-    assert_eq!((split(&far, 0), find(&far, 0, 0)), (Err((12, 0)), Err(12)));
-    // Children: the last one too is in use; 0 is a leaf.
-    let last = changed(&|tree| tree.cells[at(1, 3)] = 5);
-    assert_eq!(split(&last, 1), Err((9, 0)));
-    let over = changed(&|tree| tree.cells[at(1, 3)] = 6);
-    assert_eq!(
-        (split(&over, 1), find(&over, 0, 0)),
-        (Err((12, 0)), Err(12))
-    );
-    let wraps = changed(&|tree| tree.cells[at(1, 3)] = u32::MAX - 2);
-    assert_eq!(
-        (split(&wraps, 1), find(&wraps, 0, 0)),
-        (Err((12, 0)), Err(12))
-    );
-    // Children that are not on their own squares are met on the way down.
-    let others = changed(&|tree| tree.cells[at(0, 3)] = 5);
-    assert_eq!(
-        (split(&others, 0), find(&others, 0, 0)),
-        (Err((9, 0)), Err(12))
-    );
-    let moved = changed(&|tree| tree.cells[at(2, 0)] = 0);
-    assert_eq!(
-        (split(&moved, 2), find(&moved, 40_000, 0)),
-        (Ok(9), Err(12))
-    );
-    // Squares: a power of two, on its grid, cell 0 on its own.
+    let many = case.changed(|case| case.tree.head[0] = 41);
+    assert_eq!(many.split(41), Err((8, 0)));
+    assert_eq!(many.split(40), Err((12, 0)));
+    assert_eq!(many.split(0), Err((12, 0)));
+    let odd = case.changed(|case| case.tree.cells[at(1, 2)] = 3);
+    assert_eq!(odd.split(1), Err((12, 0)));
+    assert_eq!(odd.split(2), Ok(9));
+    assert_eq!(odd.find(0, 0), Err((12, 0)));
+    assert_eq!(odd.find(40_000, 0), Ok(2));
+}
+
+/// What a split of a cell and a descent through it answer, where one number of a cell is another.
+#[test]
+fn numbers_of_cells() {
+    let case = small_tree();
+    let (nine, twelve) = (Err((9, 0)), Err((12, 0)));
+    let entries = case.tree.head[1];
+    for (cell, word, value, split, found) in [
+        // The entry numbers of a split cell are met.
+        (0, 5, entries + 1, twelve, twelve),
+        (0, 4, u32::MAX, twelve, twelve),
+        // Children: the last one too is in use.
+        (1, 3, 5, nine, Ok(5)),
+        (1, 3, 6, twelve, twelve),
+        (1, 3, u32::MAX - 2, twelve, twelve),
+        // Children that are not on their own squares are met on the way down.
+        (0, 3, 5, nine, twelve),
+        // Cell 0 on its own square.
+        (0, 2, 32_768, twelve, twelve),
+    ] {
+        let case = case.changed(|case| case.tree.cells[at(cell, word)] = value);
+        assert_eq!(case.split(cell), split, "{cell} {word} {value}");
+        assert_eq!(case.find(0, 0), found, "{cell} {word} {value}");
+    }
+    // A split cell's stream is not met.
+    let unread = case.changed(|case| case.tree.entries[0] = 99);
+    assert_eq!((unread.split(0), unread.find(0, 0)), (nine, Ok(5)));
+    let moved = case.changed(|case| case.tree.cells[at(2, 0)] = 0);
+    assert_eq!((moved.split(2), moved.find(40_000, 0)), (Ok(9), twelve));
+    // Squares: a power of two, on its grid.
     for (x, y, side, passes) in [
         (32_768, 0, 0, false),
         (32_768, 0, 131_072, false),
@@ -444,214 +536,290 @@ fn order_and_places_of_refusals() {
         (32_768, 8_192, 8_192, true),
         (0, 0, 65_536, true),
     ] {
-        let moved = changed(&|tree| {
-            tree.cells[at(2, 0)..at(2, 3)].copy_from_slice(&[x, y, side]);
+        let moved = case.changed(|case| {
+            case.tree.cells[at(2, 0)..at(2, 3)].copy_from_slice(&[x, y, side]);
             // Without entries, so that no row is outside.
-            tree.cells[at(2, 5)] = 0;
+            case.tree.cells[at(2, 5)] = 0;
         });
-        assert_eq!(split(&moved, 2).is_ok(), passes, "{x} {y} {side}");
+        let expected = if passes { Ok(9) } else { twelve };
+        assert_eq!(moved.split(2), expected, "{x} {y} {side}");
     }
-    let small = changed(&|tree| tree.cells[at(0, 2)] = 32_768);
-    assert_eq!(
-        (split(&small, 0), find(&small, 0, 0)),
-        (Err((12, 0)), Err(12))
-    );
+    // A descent meets the cells on its path and the leaf's stream, and nothing else.
+    let bad_leaf = case.changed(|case| case.tree.cells[at(4, 5)] = entries);
+    assert_eq!(bad_leaf.find(0, 0), Ok(5));
+    assert_eq!(bad_leaf.find(40_000, 40_000), twelve);
+}
 
-    // Side 1: 12 before 10, 9 before 10, 9 and 10 before 11.
-    let side_one = changed(&|tree| {
-        tree.cells[at(2, 0)..at(2, 3)].copy_from_slice(&[7, 9, 1]);
-        tree.cells[at(2, 5)] = 0;
-    });
-    assert_eq!(split(&side_one, 2), Err((10, 0)));
-    let full = |tree: &TreeTables| {
-        let mut tree = tree.clone();
-        tree.cells.truncate(CELL_WORDS * 9);
-        tree.entries.truncate(4 * tree.head[1] as usize);
-        tree
-    };
-    assert_eq!(split(&full(&side_one), 2), Err((10, 0)));
-    assert_eq!(split(&full(&tree), 0), Err((9, 0)));
-    assert_eq!(split(&full(&tree), 2), Err((11, 0)));
-    let mut divided = side_one.clone();
-    divided.cells[at(2, 3)] = 5;
-    assert_eq!(split(&divided, 2), Err((9, 0)));
-    let mut bad = side_one.clone();
-    (bad.cells[at(2, 4)], bad.cells[at(2, 5)]) = (1, 1);
-    assert_eq!(split(&bad, 2), Err((12, 0)));
-
-    // 11 exactly where the whole result does not fit.
-    let after = {
-        let mut after = tree.clone();
-        assert!(tree::split(drawing, &mut after.lend(), 2).is_ok());
-        after
-    };
+/// 11 exactly where the whole result does not fit; 9 and 12 before it.
+#[test]
+fn room_for_the_whole_result() {
+    let case = small_tree();
     let lent = |cells: usize, entries: usize| {
-        let mut tree = tree.clone();
-        tree.cells.truncate(cells);
-        tree.entries.truncate(entries);
-        split(&tree, 2)
+        case.changed(|case| {
+            case.tree.cells.truncate(cells);
+            case.tree.entries.truncate(entries);
+        })
     };
-    let entries = 4 * after.head[1] as usize;
-    assert!(entries > 4 * tree.head[1] as usize);
-    assert_eq!(lent(CELL_WORDS * 13, entries), Ok(9));
-    assert_eq!(lent(CELL_WORDS * 13 - 1, entries), Err((11, 0)));
-    assert_eq!(lent(CELL_WORDS * 13, entries - 1), Err((11, 0)));
+    let used = ENTRY_WORDS * case.tree.head[1] as usize;
+    assert_eq!(lent(CELL_WORDS * 9, used).split(0), Err((9, 0)));
+    assert_eq!(lent(CELL_WORDS * 9, used).split(2), Err((11, 0)));
+    let entries = ENTRY_WORDS * case.divided(&[2]).tree.head[1] as usize;
+    assert!(entries > used);
+    assert_eq!(lent(CELL_WORDS * 13, entries).split(2), Ok(9));
+    assert_eq!(lent(CELL_WORDS * 13 - 1, entries).split(2), Err((11, 0)));
+    assert_eq!(lent(CELL_WORDS * 13, entries - 1).split(2), Err((11, 0)));
 
     // Opening does not look at what the tree's tables held; 12 before 11.
-    for (head, cells, entries, opens) in [
-        (2, 8, 4 * tree.view().cell(0).count as usize, true),
-        (1, 8, 400, false),
-        (2, 7, 400, false),
-        (2, 8, 4 * tree.view().cell(0).count as usize - 1, false),
+    let count = case.tree.view().cell(0).count;
+    let entries = ENTRY_WORDS * count as usize;
+    for (head, cells, entries, expected) in [
+        (2, 8, entries, Ok(count)),
+        (1, 8, 400, Err((11, 0))),
+        (2, 7, 400, Err((11, 0))),
+        (2, 8, entries - 1, Err((11, 0))),
     ] {
-        let mut blank = TreeTables {
-            head: vec![u32::MAX; head],
-            cells: vec![u32::MAX; cells],
-            entries: vec![u32::MAX; entries],
-        };
-        let before = blank.clone();
-        let opened = tree::open(drawing, &mut blank.lend());
-        assert_eq!(opened, if opens { Ok(()) } else { Err(refusal(11, 0)) });
-        assert!(opens || blank == before);
-        let mut no_drawing = tables.clone();
-        no_drawing.plan[0] -= 1;
-        let mut blank = before.clone();
-        let opened = tree::open(Drawing::of(&no_drawing), &mut blank.lend());
-        assert_eq!(opened, Err(refusal(12, 0)));
-        assert!(blank == before);
+        let blank = case.changed(|case| {
+            case.tree = TreeTables {
+                head: vec![u32::MAX; head],
+                cells: vec![u32::MAX; cells],
+                entries: vec![u32::MAX; entries],
+            }
+        });
+        assert_eq!(blank.open().0, expected);
+        let no_drawing = blank.changed(|case| case.tables.plan[0] -= 1);
+        assert_eq!(no_drawing.open().0, Err((12, 0)));
     }
-
-    // A descent meets the cells on its path and the leaf's stream, and nothing else.
-    let bad_leaf = changed(&|tree| tree.cells[at(4, 5)] = tree.head[1]);
-    assert_eq!(find(&bad_leaf, 0, 0), Ok(5));
-    assert_eq!(find(&bad_leaf, 40_000, 40_000), Err(12));
-    // A cell of side 1 that says it is split has no child on its own square.
-    let mut deep = TreeTables::new(80, 1_000);
-    assert_eq!(tree::open(drawing, &mut deep.lend()), Ok(()));
-    for _ in 0..16 {
-        let leaf = tree::find_leaf(drawing, deep.view(), 0, 0).unwrap().cell;
-        assert!(tree::split(drawing, &mut deep.lend(), leaf).is_ok());
-    }
-    let leaf = tree::find_leaf(drawing, deep.view(), 0, 0).unwrap();
-    assert_eq!((leaf.square.side, leaf.steps), (1, 16));
-    deep.cells[at(leaf.cell as usize, 3)] = 5;
-    assert_eq!(find(&deep, 0, 0), Err(12));
-    assert_eq!(split(&deep, leaf.cell), Err((9, 0)));
 }
+
+// ---- cells of side 1 ----
+
+/// A tree that is split down to side 1 at a position, and its leaf there.
+fn deep_tree(x: u32, y: u32) -> (Case, u32) {
+    let mut case = Case::opened(small_drawing(), 80, 1_000);
+    for depth in 0..16 {
+        let (found, words) = case.leaf(x, y);
+        let leaf = found.expect("a leaf is found");
+        assert_eq!((words[3], words[4]), (65_536 >> depth, depth));
+        case = case.divided(&[leaf]);
+    }
+    let (found, words) = case.leaf(x, y);
+    let leaf = found.expect("a leaf is found");
+    let count = case.tree.view().cell(leaf).count;
+    assert_eq!(words, [leaf, x, y, 1, 16, count, 0]);
+    (case, leaf)
+}
+
+/// On lines and corners of the drawing, beside them, and at the ends of the grid; the last is a sample
+/// of its pixel.
+const DEEP: [(u32, u32); 8] = [
+    (0, 0),
+    (65_535, 65_535),
+    (16_384, 16_384),
+    (16_383, 16_384),
+    (49_151, 49_151),
+    (49_152, 20_000),
+    (25_000, 25_000),
+    (20_000, 29_987),
+];
+
+/// What is read in a leaf of side 1 is what the drawing says with no tree.
+#[test]
+fn readings_at_side_1() {
+    let tables = small_drawing();
+    let scene = Scene::of(Drawing::of(&tables));
+    let mut shown = 0;
+    for (x, y) in DEEP {
+        let (case, leaf) = deep_tree(x, y);
+        let reading = scene.position(x, y);
+        let expected = (Ok(reading.material), spot_words(reading).to_vec());
+        assert_eq!(case.position(x, y), expected, "{x} {y}");
+        assert_eq!(case.log(&[x, x], &[y, y], 2), (Ok(1), vec![0, 77]));
+        let pixel = scene.pixel(y / PIXEL, x / PIXEL).to_vec();
+        let drawn = case.row(y / PIXEL, x / PIXEL, CHANNELS);
+        assert_eq!(drawn, (Ok(0), pixel), "{x} {y}");
+        shown += u32::from(reading.shown != 0);
+        assert_eq!(reading.shown == 0, case.tree.stream(leaf).is_empty());
+    }
+    assert!((4..DEEP.len() as u32).contains(&shown), "{shown}");
+}
+
+/// "Order: ... 12, 9, 10, 11": a leaf of side 1 is refused with 10, whatever room there is.
+#[test]
+fn refusals_at_side_1() {
+    let (nine, ten, twelve) = (Err((9, 0)), Err((10, 0)), Err((12, 0)));
+    for (x, y) in DEEP {
+        let (case, leaf) = deep_tree(x, y);
+        let [cells, entries] = [0, 1].map(|word| case.tree.head[word]);
+        assert_eq!(cells, 65);
+        assert_eq!(case.split(leaf), ten, "{x} {y}");
+        assert_eq!(case.split(cells), Err((8, 0)));
+        // 10 before 11, where the same tables have no room for another leaf's children.
+        let full_cells = |case: &mut Case| case.tree.cells.truncate(CELL_WORDS * cells as usize);
+        let full_entries =
+            |case: &mut Case| case.tree.entries.truncate(ENTRY_WORDS * entries as usize);
+        let full = case.changed(full_cells);
+        let other = (1..5).find(|cell| full.tree.view().cell(*cell).is_leaf());
+        assert_eq!(full.split(other.expect("three are leaves")), Err((11, 0)));
+        for full in [
+            &full,
+            &case.changed(full_entries),
+            &full.changed(full_entries),
+        ] {
+            assert_eq!(full.split(leaf), ten);
+        }
+        // A number out of its range: 12 before 10, and by every reading.
+        for (word, value) in [(0, x ^ 1), (1, y ^ 1), (2, 0), (2, 3), (4, entries + 1)] {
+            let moved = case.changed(|case| case.tree.cells[at(leaf, word)] = value);
+            // Another square of side 1 is a cell's too, but not the one on this path.
+            let split = if word < 2 { ten } else { twelve };
+            assert_eq!(moved.split(leaf), split, "{word} {value}");
+            moved.readings_refused(x, y, 12);
+        }
+        // A first child: split already, before 10; its children's number before that. No child of it
+        // is on its own square.
+        for (child, split) in [(1, nine), (61, nine), (62, twelve), (u32::MAX, twelve)] {
+            let divided = case.changed(|case| case.tree.cells[at(leaf, 3)] = child);
+            assert_eq!(divided.split(leaf), split, "{child}");
+            divided.readings_refused(x, y, 12);
+            let full = divided.changed(full_cells).changed(full_entries);
+            assert_eq!(full.split(leaf), split, "{child}");
+        }
+    }
+}
+
+/// A stream that others wrote to a leaf of side 1.
+#[test]
+fn streams_at_side_1() {
+    let (x, y) = (20_000, 29_987);
+    let (deep, leaf) = deep_tree(x, y);
+    let with = |stream: &[Entry]| {
+        deep.changed(|case| {
+            let first = case.tree.head[1];
+            let words = stream::words(stream);
+            case.tree.entries[ENTRY_WORDS * first as usize..][..words.len()]
+                .copy_from_slice(&words);
+            let count = stream.len() as u32;
+            case.tree.cells[at(leaf, 4)..at(leaf, 6)].copy_from_slice(&[first, count]);
+            case.tree.head[1] += count;
+        })
+    };
+    let paint = area_entry(2, 0);
+    for (stream, passes) in [
+        (vec![], true),
+        (vec![paint, line(0, 1), shortcut(-1, y, y + 1)], true),
+        (vec![paint, shortcut(1, y, y + 2)], false),
+        (vec![paint, shortcut(1, y, y)], false),
+        (vec![paint, shortcut(1, y - 1, y)], false),
+        (vec![paint, line(0, 10)], false),
+        (vec![area_entry(3, 0)], false),
+        (vec![area_entry(2, 2_049)], false),
+        (vec![Entry::Passes], false),
+        (vec![Entry::Open], false),
+    ] {
+        let case = with(&stream);
+        let number = if passes { 10 } else { 12 };
+        let full = case.changed(|case| {
+            case.tree.cells.truncate(CELL_WORDS * 65);
+            let entries = case.tree.head[1] as usize;
+            case.tree.entries.truncate(ENTRY_WORDS * entries);
+        });
+        for case in [&case, &full] {
+            assert_eq!(case.split(leaf), Err((number, 0)), "{stream:?}");
+            for answer in case.readings(x, y) {
+                assert_eq!(answer.is_ok(), passes, "{stream:?}");
+                assert!(passes || answer == Err((12, 0)), "{stream:?}");
+            }
+        }
+        // A split cell's stream is not met.
+        let divided = case.changed(|case| case.tree.cells[at(leaf, 3)] = 1);
+        assert_eq!(divided.split(leaf), Err((9, 0)), "{stream:?}");
+    }
+    // Growing leaves it alone, however many lines it has: its depth is not below 16.
+    let lines = |cell: &u32| stream::lines(&deep.tree.stream(*cell));
+    let most = deep.tree.leaves().iter().map(lines).max().unwrap_or(0);
+    let many = [vec![paint], vec![line(0, 1); most as usize + 1]].concat();
+    assert_eq!(with(&many).grow(most, 16), (Ok(0), with(&many)));
+}
+
+// ---- limits ----
 
 /// "The caller's tables hold so many whole cells (up to 4,096) and entries (up to 65,536)."
 #[test]
 fn tables_longer_than_their_limits() {
-    let (tables, tree) = small_tree();
-    let drawing = Drawing::of(&tables);
+    let small = small_tree();
+    let more = small.divided(&[2]).tree.head[1] - small.tree.head[1];
     let with = |cells: u32, entries: u32| {
-        let mut tree = tree.clone();
-        tree.cells.resize(CELL_WORDS * 4_200, 0);
-        tree.entries.resize(4 * 70_000, 0);
-        tree.head = vec![cells, entries];
-        tree
+        small.changed(|case| {
+            case.tree.cells.resize(CELL_WORDS * 4_200, 0);
+            case.tree.entries.resize(ENTRY_WORDS * 70_000, 0);
+            case.tree.head = vec![cells, entries];
+        })
     };
-    let split = |tree: &TreeTables| {
-        let mut after = tree.clone();
-        let answer = tree::split(drawing, &mut after.lend(), 2);
-        assert!(answer.is_ok() || after == *tree);
-        answer.map_err(|refusal| refusal.number)
-    };
-    let find = |tree: &TreeTables| tree::find_leaf(drawing, tree.view(), 0, 0).is_ok();
-    let mut after = tree.clone();
-    assert!(tree::split(drawing, &mut after.lend(), 2).is_ok());
-    let more = after.head[1] - tree.head[1];
     for (cells, entries, answer) in [
         (4_092, 1_000, Ok(4_092)),
-        (4_093, 1_000, Err(11)),
-        (4_096, 1_000, Err(11)),
-        (4_097, 1_000, Err(12)),
+        (4_093, 1_000, Err((11, 0))),
+        (4_096, 1_000, Err((11, 0))),
+        (4_097, 1_000, Err((12, 0))),
         (9, 65_536 - more, Ok(9)),
-        (9, 65_536 - more + 1, Err(11)),
-        (9, 65_536, Err(11)),
-        (9, 65_537, Err(12)),
+        (9, 65_536 - more + 1, Err((11, 0))),
+        (9, 65_536, Err((11, 0))),
+        (9, 65_537, Err((12, 0))),
     ] {
-        let tree = with(cells, entries);
-        assert_eq!(split(&tree), answer, "{cells} {entries}");
-        assert_eq!(find(&tree), answer != Err(12));
+        let case = with(cells, entries);
+        assert_eq!(case.split(2), answer, "{cells} {entries}");
+        let found = if answer == Err((12, 0)) {
+            answer
+        } else {
+            Ok(5)
+        };
+        assert_eq!(case.find(0, 0), found, "{cells} {entries}");
     }
     // Words that make no whole cell or entry do not count.
-    let mut tree = tree.clone();
-    tree.cells.truncate(CELL_WORDS * 9 - 1);
-    assert!(!find(&tree));
-    tree.head[0] = 8;
-    assert_eq!(split(&tree), Err(11));
+    let mut less = small.clone();
+    less.tree.cells.truncate(CELL_WORDS * 9 - 1);
+    assert_eq!(less.find(0, 0), Err((12, 0)));
+    less.tree.head[0] = 8;
+    assert_eq!(less.split(2), Err((11, 0)));
 }
 
 #[test]
 fn growing_and_its_refusals() {
-    let (tables, tree) = small_tree();
-    let drawing = Drawing::of(&tables);
+    let case = small_tree();
     // A leaf that does not pass is met after the splits of lower cells, which remain.
-    let mut damaged = tree.clone();
-    damaged.cells[CELL_WORDS * 4 + 5] = damaged.head[1] + 1;
-    let mut after = damaged.clone();
-    let grown = tree::grow(drawing, &mut after.lend(), 0, 2);
-    assert_eq!(grown, Err(refusal(12, 0)));
-    let mut by_hand = damaged.clone();
-    for leaf in [2, 3] {
-        assert!(tree::split(drawing, &mut by_hand.lend(), leaf).is_ok());
-    }
-    assert!(after == by_hand);
+    let damaged = case.changed(|case| case.tree.cells[at(4, 5)] = case.tree.head[1] + 1);
+    let expected = (Err((12, 0)), damaged.divided(&[2, 3]));
+    assert_eq!(damaged.grow(0, 2), expected);
     // Thin and deep leaves are read too.
     for (threshold, limit) in [(u32::MAX, 16), (0, 0)] {
-        let mut after = damaged.clone();
-        let grown = tree::grow(drawing, &mut after.lend(), threshold, limit);
-        assert_eq!(grown, Err(refusal(12, 0)));
-        assert!(after == damaged);
+        let grown = damaged.grow(threshold, limit);
+        assert_eq!(grown, (Err((12, 0)), damaged.clone()));
     }
     // Depth 0 splits nothing, depth 1 cell 0 alone.
-    let mut fresh = TreeTables::new(40, 1_000);
-    assert_eq!(tree::open(drawing, &mut fresh.lend()), Ok(()));
-    for (limit, splits) in [(0, 0), (1, 1), (1, 0)] {
-        let end = End::Done;
-        let grown = tree::grow(drawing, &mut fresh.lend(), 0, limit);
-        assert_eq!(grown, Ok(Growth { end, splits }));
-    }
+    let fresh = Case::opened(small_drawing(), 40, 1_000);
+    assert_eq!(fresh.grow(0, 0), (Ok(0), fresh.clone()));
+    let divided = fresh.divided(&[0]);
+    assert_eq!(fresh.grow(0, 1), (Ok(1), divided.clone()));
+    assert_eq!(divided.grow(0, 1), (Ok(0), divided.clone()));
     // As many lines as the threshold are not more.
-    let lines = |tree: &TreeTables, number| stream::lines(&tree.stream(number));
-    let mut fresh = TreeTables::new(40, 1_000);
-    assert_eq!(tree::open(drawing, &mut fresh.lend()), Ok(()));
-    let most = lines(&fresh, 0);
-    for (threshold, splits) in [(most, 0), (most - 1, 1)] {
-        let end = End::Done;
-        let grown = tree::grow(drawing, &mut fresh.lend(), threshold, 1);
-        assert_eq!(grown, Ok(Growth { end, splits }));
-    }
+    let most = stream::lines(&fresh.tree.stream(0));
+    assert_eq!(fresh.grow(most, 1), (Ok(0), fresh.clone()));
+    assert_eq!(fresh.grow(most - 1, 1), (Ok(1), divided));
     // Full at once, and full after some.
     for (cells, splits) in [(1, 0), (4, 0), (5, 1), (12, 2), (13, 3)] {
-        let mut tree = TreeTables::new(cells, 1_000);
-        assert_eq!(tree::open(drawing, &mut tree.lend()), Ok(()));
-        let end = End::Full;
-        let grown = tree::grow(drawing, &mut tree.lend(), 0, 16);
-        assert_eq!(grown, Ok(Growth { end, splits }));
+        let case = Case::opened(small_drawing(), cells, 1_000);
+        assert_eq!(case.grow(0, 16).0, Ok(FULL + splits));
     }
 }
 
 #[test]
-fn pixel_rows_and_logs_and_their_refusals() {
-    let (tables, tree) = small_tree();
-    let drawing = Drawing::of(&tables);
-    let mut broken = tree.clone();
-    broken.head[0] = 0;
-    let row = |tree: &TreeTables, row: u32, first: u32, bytes: usize| {
-        let mut out = vec![0xA5; bytes];
-        let answer = query::pixel_row(drawing, tree.view(), row, first, &mut out);
-        (
-            answer.map_err(|refusal| (refusal.number, refusal.place)),
-            out,
-        )
-    };
+fn pixel_rows_and_their_refusals() {
+    let case = small_tree();
+    let broken = case.changed(|case| case.tree.head[0] = 0);
     let untouched = |bytes: usize| vec![0xA5; bytes];
     for (number, first, bytes, answer) in [
-        (4_095, 4_095, 3, Ok(())),
-        (4_095, 4_096, 0, Ok(())),
-        (0, 0, 0, Ok(())),
+        (4_095, 4_095, 3, Ok(0)),
+        (4_095, 4_096, 0, Ok(0)),
+        (0, 0, 0, Ok(0)),
         (4_096, 0, 3, Err((7, 0))),
         (4_096, 0, 0, Err((7, 0))),
         (0, 4_096, 3, Err((7, 0))),
@@ -662,57 +830,49 @@ fn pixel_rows_and_logs_and_their_refusals() {
         (0, 0, 4, Err((7, 0))),
         (0, 0, 3 * 4_097, Err((7, 0))),
     ] {
-        let (found, out) = row(&tree, number, first, bytes);
+        let (found, out) = case.row(number, first, bytes);
         assert_eq!(found, answer, "{number} {first} {bytes}");
         assert!(found.is_ok() || out == untouched(bytes));
         // 7 before 12; no pixel meets no number.
         let expected = match answer {
-            Ok(()) if bytes > 0 => Err((12, 0)),
+            Ok(_) if bytes > 0 => Err((12, 0)),
             answer => answer,
         };
-        assert_eq!(
-            row(&broken, number, first, bytes),
-            (expected, untouched(bytes))
-        );
+        let found = broken.row(number, first, bytes);
+        assert_eq!(found, (expected, untouched(bytes)));
     }
     // 12 at a pixel: earlier ones stand, the rest are untouched.
-    let mut bad_leaf = tree.clone();
-    bad_leaf.cells[CELL_WORDS * 2 + 2] = 16_384;
-    let (answer, out) = row(&bad_leaf, 100, 2_040, 3 * 20);
-    assert_eq!(answer, Err((12, 8)));
-    let (answer, whole) = row(&tree, 100, 2_040, 3 * 20);
-    assert_eq!(answer, Ok(()));
-    assert_eq!(out, [&whole[..24], &untouched(36)[..]].concat());
+    let bad_leaf = case.changed(|case| case.tree.cells[at(2, 2)] = 16_384);
+    let (answer, whole) = case.row(100, 2_040, 3 * 20);
+    assert_eq!(answer, Ok(0));
+    let stand = [&whole[..24], &untouched(36)[..]].concat();
+    assert_eq!(bad_leaf.row(100, 2_040, 3 * 20), (Err((12, 8)), stand));
+}
 
-    let log = |tree: &TreeTables, px: &[u32], py: &[u32], room: usize| {
-        let mut out = vec![77; room];
-        let answer = query::zone_log(drawing, tree.view(), px, py, &mut out);
-        (
-            answer.map_err(|refusal| (refusal.number, refusal.place)),
-            out,
-        )
-    };
-    assert_eq!(log(&tree, &[], &[], 1), (Ok(0), vec![77]));
-    assert_eq!(log(&broken, &[], &[], 1), (Ok(0), vec![77]));
-    assert_eq!(log(&broken, &[], &[0], 1), (Err((7, 0)), vec![77]));
-    assert_eq!(log(&tree, &[0, 65_536], &[0], 1), (Err((7, 0)), vec![77]));
+#[test]
+fn logs_and_their_refusals() {
+    let case = small_tree();
+    let broken = case.changed(|case| case.tree.head[0] = 0);
+    let bad_leaf = case.changed(|case| case.tree.cells[at(2, 2)] = 16_384);
+    assert_eq!(case.log(&[], &[], 1), (Ok(0), vec![77]));
+    assert_eq!(broken.log(&[], &[], 1), (Ok(0), vec![77]));
+    assert_eq!(broken.log(&[], &[0], 1), (Err((7, 0)), vec![77]));
+    assert_eq!(case.log(&[0, 65_536], &[0], 1), (Err((7, 0)), vec![77]));
     let (px, py) = ([0, 1, 65_536, 65_536], [0, 65_535, 0, 65_536]);
-    for tree in [&tree, &broken, &bad_leaf] {
-        assert_eq!(log(tree, &px, &py, 0), (Err((7, 2)), vec![]));
+    for case in [&case, &broken, &bad_leaf] {
+        assert_eq!(case.log(&px, &py, 0), (Err((7, 2)), vec![]));
     }
     // Outside, in the square, in the square, outside again.
     let (px, py) = (
         [65_000, 40_000, 41_000, 65_000],
         [65_000, 40_000, 40_000, 65_000],
     );
-    assert_eq!(log(&tree, &px, &py, 4), (Ok(3), vec![0, 1, 3, 77]));
-    assert_eq!(log(&tree, &px, &py, 2), (Err((11, 0)), vec![77; 2]));
+    assert_eq!(case.log(&px, &py, 4), (Ok(3), vec![0, 1, 3, 77]));
+    assert_eq!(case.log(&px, &py, 2), (Err((11, 0)), vec![77; 2]));
     // All positions by 12 before 11, and before any index is written; its place is 0.
     let (px, py) = ([0, 0, 40_000], [0; 3]);
-    assert_eq!(log(&bad_leaf, &px, &py, 0), (Err((12, 0)), vec![]));
-    assert_eq!(log(&bad_leaf, &px, &py, 3), (Err((12, 0)), vec![77; 3]));
-    assert_eq!(
-        log(&bad_leaf, &px[..2], &py[..2], 0),
-        (Err((11, 0)), vec![])
-    );
+    assert_eq!(bad_leaf.log(&px, &py, 0), (Err((12, 0)), vec![]));
+    assert_eq!(bad_leaf.log(&px, &py, 3), (Err((12, 0)), vec![77; 3]));
+    let refused = bad_leaf.log(&px[..2], &py[..2], 0);
+    assert_eq!(refused, (Err((11, 0)), vec![]));
 }
