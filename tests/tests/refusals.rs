@@ -2,8 +2,8 @@
 //! Each chosen case is called by the library and by the second implementation, which agree in all
 //! that can be seen, and its answer is the one that is named.
 
-use zones_tests::compare::LEAF_WORDS;
-use zones_tests::drawing::CLIP;
+use zones_tests::compare::{self, LEAF_WORDS};
+use zones_tests::drawing::{AREA_WORDS, CLIP};
 use zones_tests::expect;
 use zones_tests::lent::{lent_bytes, lent_words};
 use zones_tests::meaning::{self, Drawing, Scene, PIXEL};
@@ -65,6 +65,12 @@ impl Case {
         let answer = outcome(call(&mut sample));
         let (tables, tree) = (self.tables.clone(), sample.tree.tables());
         (answer, Case { tables, tree })
+    }
+
+    /// Writes the drawing out, with room for so many bytes.
+    fn write(&self, room: usize) -> Outcome {
+        let blank = lent_bytes(&mut Random::new(6), &vec![0xA5; room]);
+        outcome(compare::write(&self.lent().drawing, &blank).0)
     }
 
     fn open(&self) -> (Outcome, Case) {
@@ -781,6 +787,106 @@ fn tables_longer_than_their_limits() {
     less.tree.head[0] = 8;
     assert_eq!(less.split(2), Err((11, 0)));
 }
+
+/// "areas, corners and entries in use at most what their tables and limits hold": in tables that
+/// hold more, so that the limit refuses and not the length.
+#[test]
+fn numbers_in_use_at_their_limits_and_beyond() {
+    let ample = small_tree().changed(|case| {
+        let Case { tables, tree } = case;
+        tables.areas.resize(AREA_WORDS * 70, 0);
+        tables.xs.resize(2_060, 0);
+        tables.ys.resize(2_060, 0);
+        // The other cells are leaves, so that growing passes them.
+        let leaf = [0, 0, 1, 0, 0, 0, 0, 0];
+        tree.cells.truncate(at(9, 0));
+        tree.cells.extend(leaf.repeat(4_200 - 9));
+        tree.entries.resize(ENTRY_WORDS * 70_000, 0);
+    });
+    let leaf = ample.find(40_000, 40_000).expect("a leaf is found");
+    type Word = fn(&mut Case) -> &mut u32;
+    let words: [(Word, u32, u32); 4] = [
+        (|case| &mut case.tables.plan[1], 64, 4),
+        (|case| &mut case.tables.plan[2], 2_048, 4),
+        (|case| &mut case.tree.head[0], 4_096, 0),
+        (|case| &mut case.tree.head[1], 65_536, 4),
+    ];
+    for (word, limit, room) in words {
+        let most = ample.changed(|case| *word(case) = limit);
+        for answer in most.readings(40_000, 40_000) {
+            assert!(answer.is_ok(), "{limit}: {answer:?}");
+        }
+        assert_eq!(most.split(0), Err((9, 0)), "{limit}");
+        assert_eq!(most.grow(u32::MAX, 16), (Ok(0), most.clone()), "{limit}");
+        // A leaf without entries asks for no entry, and four cells.
+        let empty = most.changed(|case| case.tree.cells[at(leaf, 5)] = 0);
+        let cells = empty.tree.head[0];
+        let expected = if room > 0 { Ok(cells) } else { Err((11, 0)) };
+        assert_eq!(empty.split(leaf), expected, "{limit}");
+
+        let beyond = ample.changed(|case| *word(case) = limit + 1);
+        beyond.readings_refused(40_000, 40_000, 12);
+        for cell in [0, leaf] {
+            assert_eq!(beyond.split(cell), Err((12, 0)), "{limit}");
+        }
+        assert_eq!(beyond.grow(u32::MAX, 16), (Err((12, 0)), beyond.clone()));
+        // 7 and 8 come before, and no position or pixel meets no number.
+        assert_eq!(beyond.split(beyond.tree.head[0]), Err((8, 0)), "{limit}");
+        assert_eq!(beyond.grow(0, 17).0, Err((7, 0)), "{limit}");
+        beyond.readings_refused(65_536, 0, 7);
+        assert_eq!(beyond.log(&[], &[], 0).0, Ok(0), "{limit}");
+        assert_eq!(beyond.row(0, 0, 0).0, Ok(0), "{limit}");
+    }
+    // The last split that there is room for.
+    let last = ample.changed(|case| {
+        case.tree.head = vec![4_092, 65_536];
+        case.tree.cells[at(leaf, 5)] = 0;
+    });
+    let after = last.divided(&[leaf]);
+    assert_eq!(after.tree.head, [4_096, 65_536]);
+    assert_eq!(after.find(40_000, 40_000), Ok(4_092));
+    assert_eq!(after.find(20_000, 20_000), Ok(8));
+    assert_eq!(after.split(4_095), Err((11, 0)));
+}
+
+/// A drawing as large as it may be is written out and opened; one with another area, corner, record or
+/// open group is refused, though the tables have room for it.
+#[test]
+fn drawings_at_their_limits_and_beyond() {
+    let contour = |corners: usize| format!("p2{}", "3".repeat(corners - 1));
+    let groups = |deep: usize| "(".repeat(deep) + &"|)".repeat(deep);
+    let records = |paints: usize| "p".repeat(paints) + &"(|)".repeat(1_365);
+    for (most, beyond, met_by_trees) in [
+        ("p".repeat(64), "p".repeat(65), true),
+        (contour(2_048), contour(2_049), true),
+        (records(1), records(2), false),
+        (groups(8), groups(9), false),
+    ] {
+        let longer = |text: &str| {
+            let mut tables = samples::tables(&letters(text));
+            tables.plan.resize(5_000, 4);
+            tables.areas.resize(AREA_WORDS * 70, 0);
+            tables.xs.resize(2_060, 0);
+            tables.ys.resize(2_060, 0);
+            tables
+        };
+        let records = most.len() as u32;
+        let most = Case::opened(longer(&most), 9, 4_096);
+        assert_eq!(most.write(16 * records as usize), Ok(16 * records));
+        assert!(most.readings(9, 9).iter().all(Result::is_ok));
+        let beyond = most.changed(|case| case.tables = longer(&beyond));
+        assert_eq!(beyond.open(), (Err((12, 0)), beyond.clone()));
+        assert_eq!(beyond.write(16 * records as usize + 32), Err((12, 0)));
+        // 12 before 11.
+        assert_eq!(beyond.write(0), Err((12, 0)));
+        match met_by_trees {
+            true => beyond.readings_refused(9, 9, 12),
+            false => assert_eq!(beyond.readings(9, 9), most.readings(9, 9)),
+        }
+    }
+}
+
+// ---- growing, pixel rows, logs ----
 
 #[test]
 fn growing_and_its_refusals() {
