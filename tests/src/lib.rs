@@ -2,6 +2,7 @@
 
 #![deny(unsafe_code)]
 
+pub mod c_program;
 pub mod class;
 pub mod compare;
 pub mod damage;

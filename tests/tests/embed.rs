@@ -1,37 +1,17 @@
 //! The C program of samples/: it compiles with include/zones.h, links the archive, and says what the second implementation says.
 
 use std::collections::BTreeSet;
-use std::env;
 use std::fs;
 use std::path::{Path, PathBuf};
 use std::process::Command;
 
+use zones_tests::c_program::compiled;
 use zones_tests::meaning::{Drawing, Scene};
 use zones_tests::samples;
 use zones_tests::words;
 
 fn top() -> PathBuf {
     Path::new(env!("CARGO_MANIFEST_DIR")).join("..")
-}
-
-/// Compiles samples/where.c with every warning as an error.
-fn program() -> PathBuf {
-    let folder = env::var_os("ZONES_LIB_DIR").unwrap_or("../target/staticlib".into());
-    let archive = Path::new(env!("CARGO_MANIFEST_DIR"))
-        .join(folder)
-        .join("libzones.a");
-    let program = Path::new(env!("CARGO_TARGET_TMPDIR")).join("where");
-    let compiled = Command::new("cc")
-        .args(["-std=c99", "-O2", "-Wall", "-Wextra", "-Werror", "-I"])
-        .arg(top().join("include"))
-        .arg(top().join("samples/where.c"))
-        .arg(archive)
-        .arg("-o")
-        .arg(&program)
-        .status()
-        .expect("a C compiler, which linking these tests needs too");
-    assert!(compiled.success());
-    program
 }
 
 /// What the program prints of a sample at a position.
@@ -46,7 +26,8 @@ fn printed(program: &Path, sample: &Path, x: u32, y: u32) -> String {
 
 #[test]
 fn positions_of_the_pit() {
-    let program = program();
+    let tmp = Path::new(env!("CARGO_TARGET_TMPDIR"));
+    let program = compiled(&top().join("samples/where.c"), tmp);
     let sample = |name: &str| top().join("samples").join(name);
     let text = fs::read_to_string(sample("pit.txt")).expect("the sample");
     let tables = samples::tables(&words::records(&text).expect("the words of a drawing"));
