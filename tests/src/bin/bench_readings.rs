@@ -1,4 +1,4 @@
-//! Times positions and pixel rows of the library on drawings of 64 areas and 2,048 corners, each with a
+//! Times positions, pixel rows and zone logs of the library on drawings of 64 areas and 2,048 corners, each with a
 //! tree grown until it is full, against three plain readings in Rust: with no tree, with the same
 //! tree and nothing checked, and with the same tree and all checked that 12 asks for.
 
@@ -10,7 +10,7 @@ use zones_tests::drawing::{
     AREA, AREA_WORDS, BAR, CLIP, CLOSE, FIRST, MOST_AREAS, MOST_CORNERS, MOST_GROUPS, MOST_RECORDS,
     NEXT, OPEN, PAINT,
 };
-use zones_tests::meaning::{fill_passes, pixel, samples, Drawing, OPAQUE};
+use zones_tests::meaning::{fill_passes, pixel, samples, Drawing, MOST_POSITION, OPAQUE};
 use zones_tests::query::CHANNELS;
 use zones_tests::random::Random;
 use zones_tests::readings::SPOT_WORDS;
@@ -142,12 +142,16 @@ impl Machine {
 
 /// The words of a reading: the set, its material and its colour.
 fn words(areas: &[[u32; AREA_WORDS]], set: u64) -> [u32; SPOT_WORDS] {
-    let material = match set {
+    let [red, green, blue] = colour(areas, set);
+    let (low, high) = (set as u32, (set >> 32) as u32);
+    [low, high, material(areas, set), red, green, blue]
+}
+
+fn material(areas: &[[u32; AREA_WORDS]], set: u64) -> u32 {
+    match set {
         0 => 0,
         _ => areas[set.trailing_zeros() as usize][6],
-    };
-    let [red, green, blue] = colour(areas, set);
-    [set as u32, (set >> 32) as u32, material, red, green, blue]
+    }
 }
 
 fn colour(areas: &[[u32; AREA_WORDS]], set: u64) -> [u32; CHANNELS] {
@@ -508,6 +512,26 @@ fn fill_row(
     }
 }
 
+/// Positions one after the other: their x and their y.
+type Run = (Vec<u32>, Vec<u32>);
+
+/// The indices of a run where the material changes, in one pass; `shown` gives the set at a position.
+fn log_of(
+    areas: &[[u32; AREA_WORDS]],
+    (px, py): &Run,
+    mut shown: impl FnMut(u32, u32) -> u64,
+) -> Vec<u32> {
+    let (mut indices, mut before) = (Vec::with_capacity(px.len()), None);
+    for ((x, y), index) in px.iter().zip(py).zip(0..) {
+        let here = Some(material(areas, shown(*x, *y)));
+        if here != before {
+            indices.push(index);
+        }
+        before = here;
+    }
+    indices
+}
+
 // ---- timing ----
 
 /// Pixels drawn by one call.
@@ -655,6 +679,78 @@ fn time_rows(name: &str, tables: &Tables, tree: Tree, rows: &[(u32, u32)]) {
     compare(name, rows.len() * ROW_PIXELS, readings);
 }
 
+/// Positions of a run.
+const RUN: usize = 1_024;
+/// Units of one step of a truck, and how far it goes to either side.
+const STEP: f64 = 30.0;
+const ASIDE: f64 = 90.0;
+
+/// A truck's path: in small steps from corner to corner, along the lines and to and fro across them.
+fn path(tables: &Tables) -> Run {
+    let at = |n: usize| (f64::from(tables.xs[n]), f64::from(tables.ys[n]));
+    let lines = (1..tables.xs.len()).map(|n| (at(n - 1), at(n)));
+    let along = lines.flat_map(|((a, b), (c, d))| {
+        let steps = ((c - a).hypot(d - b) / STEP).ceil() as u32;
+        (0..steps).map(move |i| {
+            let part = f64::from(i) / f64::from(steps);
+            (a + (c - a) * part, b + (d - b) * part)
+        })
+    });
+    let on_grid = |at: f64| at.clamp(0.0, f64::from(MOST_POSITION)) as u32;
+    let path = along.zip(0..).map(|((x, y), i)| {
+        let turn = f64::from(i) / 8.0;
+        let (x, y) = (x + ASIDE * turn.sin(), y + ASIDE * turn.cos());
+        (on_grid(x), on_grid(y))
+    });
+    path.take(RUN).unzip()
+}
+
+fn time_logs(name: &str, tables: &Tables, tree: Tree, run: &Run) {
+    let drawing = Drawing::of(tables);
+    let (scan, plain) = (Scan::new(tables), Plain::new(tables, tree));
+    let by_library = || {
+        let (px, py) = black_box(run);
+        let mut out = vec![0; px.len()];
+        let answer = zones::zone_log(black_box(drawing), black_box(tree), px, py, &mut out);
+        let Answer::Accepted(indices) = answer else {
+            panic!("{answer:?}");
+        };
+        out.truncate(indices as usize);
+        black_box(out)
+    };
+    let by_scan = || {
+        let scan = black_box(&scan);
+        black_box(log_of(scan.areas, black_box(run), |x, y| scan.shown(x, y)))
+    };
+    let unchecked = || {
+        let (plain, mut last) = (black_box(&plain), None);
+        black_box(log_of(plain.areas, black_box(run), |x, y| {
+            shown_in_run(plain, &mut last, (x, y), |x, y| plain.leaf(x, y))
+        }))
+    };
+    let checked = || {
+        let (plain, mut last) = (black_box(&plain), None);
+        black_box(log_of(plain.areas, black_box(run), |x, y| {
+            shown_in_run(plain, &mut last, (x, y), |x, y| {
+                let leaf = plain.checked_leaf(black_box(tree.head), x, y);
+                leaf.expect("the tables pass")
+            })
+        }))
+    };
+    let expected = by_library();
+    assert_eq!(expected, by_scan());
+    assert_eq!(expected, unchecked());
+    assert_eq!(expected, checked());
+    let readings: [(&str, &mut dyn FnMut()); 4] = [
+        (LIBRARY, &mut || _ = by_library()),
+        (NO_TREE, &mut || _ = by_scan()),
+        (UNCHECKED, &mut || _ = unchecked()),
+        (CHECKED, &mut || _ = checked()),
+    ];
+    let name = format!("{name} ({} indices)", expected.len());
+    compare(&name, run.0.len(), readings);
+}
+
 fn time_drawing(name: &str, random: &mut Random, records: &[Record]) {
     let tables = samples::tables(records);
     let mut tree = TreeTables::new(MOST_CELLS, MOST_ENTRIES);
@@ -676,6 +772,11 @@ fn time_drawing(name: &str, random: &mut Random, records: &[Record]) {
     // A row and its first pixel.
     let rows = [(300, 0), (1_500, 1_900), (2_048, 3_000)];
     time_rows("ns a pixel of rows", &tables, view, &rows);
+    let jumps: Run = anywhere.into_iter().take(RUN).unzip();
+    let truck = path(&tables);
+    assert_eq!(truck.0.len(), RUN);
+    time_logs("ns a position of logs, a path", &tables, view, &truck);
+    time_logs("ns a position of logs, anywhere", &tables, view, &jumps);
 }
 
 fn main() {
