@@ -110,7 +110,7 @@ pub record Claim (c : Call) (t : Tree) (H : List Node) : Type 0 where
   pub right : Right c t H
   pub unmet : Unmet c t
 
--- each call "on the tables as the one before left them"
+-- each call is lent the tables as the one before left them
 abbrev pub Throughout : List Call → Tree → List Node → Type 0
 Throughout [] t H = Stands t H
 Throughout (c ∷ cs) t H = Allowed c t → Claim c t H × Throughout cs (treeAfter c t) (historyAfter c t H)
