@@ -15,7 +15,8 @@ use Rattle.stream.specs.Grammar.{Env, accepts, Passed}
 use Rattle.stream.proofs.Table.{from-agree, written-nil, written-append, written-keeps, length-written}
 use Rattle.making.proofs.Made.{made-length}
 use Rattle.children.specs.declared.Tally.{Tally}
-use Rattle.children.specs.Children.{tally, cellOfChild, rowsOfChild, wordsOfChild, entriesOfChild, fourTallies, streamsTo, noTally}
+use Rattle.children.specs.Children.{cellOfChild, rowsOfChild, wordsOfChild, entriesOfChild, streamsTo}
+use Rattle.children.specs.Numbers.{tally, fourTallies, noTally}
 
 pub length-child : (D : Drawing) (c : Cell) (ws : List Words) (q : ℕ) → length (wordsOfChild D c ws q) ≡ entriesOfChild D c ws q
 length-child D c ws q = made-length D (cellOfChild D c ws q) ws

@@ -10,7 +10,7 @@ use Rattle.cells.specs.Rows.{Row, opens, bar, closes, bare, named, segment}
 use Rattle.cells.specs.Making.{rowSize}
 use Rattle.child.specs.declared.Count.{Count}
 use Rattle.child.specs.Starts.{startsIn}
-use Rattle.children.specs.Children.{lineOne, sumOf, tally, tallyN}
+use Rattle.children.specs.Numbers.{lineOne, sumOf, tally, tallyN}
 
 abbrev areaOne : Row → ℕ
 areaOne opens = 0

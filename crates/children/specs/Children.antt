@@ -1,62 +1,19 @@
 -- Document 01, "Cells": what a split makes: four cells, "low x low y, high x low y, low x high y, high x high y", and their streams. Assumes nothing.
-use mathlib.Core.List.{List, [], _∷_, _++_}
-use Prim.Native.Nat.{ℕ, zero, suc, _+_, _/_, _%_, _≤_, _<_}
-use lib.ListN.{length, getD}
+use mathlib.Core.List.{List, [], _++_}
+use Prim.Native.Nat.{ℕ, zero, suc, _+_}
+use lib.ListN.{length}
 use Rattle.cells.specs.Cells.{Cell, left, low, side, child}
-use Rattle.cells.specs.Segments.{drawn, shortcut}
 use Rattle.cells.specs.Drawings.{Drawing}
-use Rattle.cells.specs.Rows.{Row, opens, bar, closes, bare, named, segment}
+use Rattle.cells.specs.Rows.{Row}
 use Rattle.stream.specs.declared.Words.{Words}
 use Rattle.celltable.specs.declared.CellWords.{CellWords}
 use Rattle.celltable.specs.Table.{putCellAt}
 use Rattle.celltable.specs.Descent.{quarterAt}
 use Rattle.making.specs.Made.{rowsMade, wordsMade}
-use Rattle.child.specs.declared.Count.{Count}
-use Rattle.child.specs.Starts.{startsIn}
-use Rattle.children.specs.declared.Tally.{Tally}
-
--- how many rows are lines
-abbrev pub lineOne : Row → ℕ
-lineOne opens = 0
-lineOne bar = 0
-lineOne closes = 0
-lineOne bare = 0
-lineOne (named n z) = 0
-lineOne (segment (drawn l)) = 1
-lineOne (segment (shortcut z lo hi)) = 0
-
-abbrev pub sumOf : (Row → ℕ) → List Row → ℕ
-sumOf f [] = 0
-sumOf f (r ∷ rs) = f r + sumOf f rs
-
--- the tally of a stream: its entries, its lines, and the start numbers of its areas
-abbrev pub tally : List Row → Tally
-tally rs = record { entries = length rs; lines = sumOf lineOne rs; starts = startsIn rs }
-
--- the same from a size in one number: 1 for each entry, 65,536 more for a line, 4,294,967,296 more for an area
-abbrev pub tallyN : Count → Tally
-tallyN k = record { entries = k .size % 65536; lines = k .size / 65536 % 65536; starts = k .starts }
 
 -- the words of a leaf: its square, no child, its stream
 abbrev pub wordsWith : Cell → (first count : ℕ) → CellWords
 wordsWith c first count = record { x = left c; y = low c; side = side c; child = 0; first = first; count = count }
-
-abbrev pub noTally : Tally
-noTally = record { entries = 0; lines = 0; starts = record { count = 0; at = [] } }
-
--- where the stream of child n begins, by the tallies
-abbrev pub firstBy : List Tally → (free n : ℕ) → ℕ
-firstBy ts free zero = free
-firstBy ts free (suc n) = firstBy ts free n + getD ts n noTally .entries
-
--- the first n children of cell c, from cell `used` on
-unfoldable pub cellsBy : Cell → List Tally → (t : List ℕ) (used free n : ℕ) → List ℕ
-cellsBy c ts t used free zero = t
-cellsBy c ts t used free (suc n) = putCellAt (cellsBy c ts t used free n) (used + n) (wordsWith (child c (quarterAt n)) (firstBy ts free n) (getD ts n noTally .entries))
-
--- each has at most 4,096 entries
-pub record FewEach (ts : List Tally) : Type 0 where
-  pub few : (n : ℕ) → n < 4 → getD ts n noTally .entries ≤ 4096
 
 -- of cell c with the stream that ws say
 module _ (D : Drawing) (c : Cell) (ws : List Words) where
@@ -73,11 +30,12 @@ module _ (D : Drawing) (c : Cell) (ws : List Words) where
   abbrev pub entriesOfChild : ℕ → ℕ
   entriesOfChild q = length (rowsOfChild q)
 
-  -- "an array of four child tallies"
-  abbrev pub fourTallies : List Tally
-  fourTallies = tally (rowsOfChild 0) ∷ tally (rowsOfChild 1) ∷ tally (rowsOfChild 2) ∷ tally (rowsOfChild 3) ∷ []
-
   -- "child by child": the streams of the first n children
   unfoldable pub streamsTo : ℕ → List Words
   streamsTo zero = []
   streamsTo (suc n) = streamsTo n ++ wordsOfChild n
+
+  -- their cells, "numbered onward from the cells in use", each with its square and where its stream stands: "their entries are written from the first unused entry onward, child by child"
+  unfoldable pub cellsTo : (cells : List ℕ) (used free n : ℕ) → List ℕ
+  cellsTo cells used free zero = cells
+  cellsTo cells used free (suc n) = putCellAt (cellsTo cells used free n) (used + n) (wordsWith (cellOfChild n) (free + length (streamsTo n)) (entriesOfChild n))

@@ -11,7 +11,8 @@ ghost use Rattle.stream.specs.Table.{wordsFrom, written};
 ghost use Rattle.stream.specs.Grammar.{env, Passed};
 ghost use Rattle.celltable.specs.Ranges.{squareRange, cellOf};
 ghost use Rattle.ranges.specs.Held.{lent};
-ghost use Rattle.children.specs.Children.{tally, tallyN, rowsOfChild, wordsOfChild, entriesOfChild, fourTallies, streamsTo, wordsWith, cellsBy, FewEach};
+ghost use Rattle.children.specs.Children.{rowsOfChild, wordsOfChild, entriesOfChild, streamsTo, wordsWith};
+ghost use Rattle.children.specs.Numbers.{tally, tallyN, fourTallies, cellsBy, FewEach};
 ghost use Rattle.cells.specs.Cells.{child};
 ghost use Rattle.celltable.specs.Descent.{quarterAt};
 

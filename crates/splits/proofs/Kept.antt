@@ -1,5 +1,5 @@
 -- An accepted split: what it leaves as it was, and what it makes. Assumes nothing.
-use mathlib.Core.Path.{_≡_, refl, ap, _∙_}
+use mathlib.Core.Path.{_≡_, ap, _∙_}
 use mathlib.Core.List.{List}
 use Prim.Native.Nat.{ℕ, _+_, _*_, _≤_, _<_}
 use native.Mathlib.Omega.{arith}
@@ -13,9 +13,7 @@ use Rattle.celltable.specs.Table.{cellAt, withChild}
 use Rattle.celltable.specs.Ranges.{cellOf}
 use Rattle.celltable.specs.Descent.{quarterAt}
 use Rattle.celltable.proofs.Table.{length-put-child, put-child-same, put-child-other}
-use Rattle.children.specs.declared.Tally.{Tally}
-use Rattle.children.specs.Children.{wordsWith, cellsBy, wordsOfChild, entriesOfChild, fourTallies, streamsTo}
-use Rattle.children.proofs.Filled.{entries-at}
+use Rattle.children.specs.Children.{wordsWith, wordsOfChild, entriesOfChild, streamsTo, cellsTo}
 use Rattle.tree.specs.declared.Answer.the-variants.{Split}
 use Rattle.tree.specs.Tables.{Tree, cellsUsed, entriesUsed}
 use Rattle.tree.specs.Split.{words, drawing, stream, made, splitAnswer, headAfter, cellsAfter, entriesAfter}
@@ -23,7 +21,7 @@ use Rattle.tree.proofs.Heads.{used-is}
 use Rattle.splits.specs.After.{Accepted}
 use Rattle.splits.proofs.Counts.{counts-long}
 use Rattle.splits.proofs.Accepted.{split-accepted}
-use Rattle.splits.proofs.Rows.{length-cells-by, cells-by-keeps, cells-by-child, first-is, streams-read}
+use Rattle.splits.proofs.Rows.{length-cells-to, cells-to-keeps, cells-to-child, streams-read}
 
 module _ (t : Tree) (i n : ℕ) (e : splitAnswer t i ≡ Split n) where
   abbrev used : ℕ
@@ -39,17 +37,14 @@ module _ (t : Tree) (i n : ℕ) (e : splitAnswer t i ≡ Split n) where
   long = counts-long t (A .able .counts)
 
   -- ---- the lengths of the tables
-  abbrev tallies : List Tally
-  tallies = fourTallies (drawing t i) (cellOf (words t i)) (stream t i)
-
   abbrev rows : List ℕ
-  rows = cellsBy (cellOf (words t i)) tallies (t .cells) used free 4
+  rows = cellsTo (drawing t i) (cellOf (words t i)) (stream t i) (t .cells) used free 4
 
   pub split-length-head : length (headAfter t i (Split n)) ≡ length (t .head)
   split-length-head = simp length-set
 
   pub split-length-cells : length (cellsAfter t i (Split n)) ≡ length (t .cells)
-  split-length-cells = length-put-child rows i used ∙ length-cells-by (cellOf (words t i)) tallies (t .cells) used free 4
+  split-length-cells = length-put-child rows i used ∙ length-cells-to (drawing t i) (cellOf (words t i)) (stream t i) (t .cells) used free 4
 
   pub split-length-entries : length (entriesAfter t i (Split n)) ≡ length (t .entries)
   split-length-entries = length-written (t .entries) free (made t i)
@@ -69,21 +64,20 @@ module _ (t : Tree) (i n : ℕ) (e : splitAnswer t i ≡ Split n) where
   -- ---- the cells
   -- each cell but the one that is split is as it was
   pub split-keeps-cell : (j : ℕ) → j < cellsUsed (t .head) → (j ≡ i → ⊥) → cellAt (cellsAfter t i (Split n)) j ≡ cellAt (t .cells) j
-  split-keeps-cell j h f = put-child-other rows i j used f ∙ cells-by-keeps (cellOf (words t i)) tallies (t .cells) used free 4 j h
+  split-keeps-cell j h f = put-child-other rows i j used f ∙ cells-to-keeps (drawing t i) (cellOf (words t i)) (stream t i) (t .cells) used free 4 j h
 
   -- that one has its first child, and nothing else is changed
   pub split-cell : cellAt (cellsAfter t i (Split n)) i ≡ withChild (words t i) (cellsUsed (t .head))
   split-cell =
-      put-child-same rows i used (omega (arith, length-cells-by (cellOf (words t i)) tallies (t .cells) used free 4, A .cells, A .able .in-use))
-      ∙ ap (λ (w : CellWords). withChild w used) (cells-by-keeps (cellOf (words t i)) tallies (t .cells) used free 4 i (A .able .in-use))
+      put-child-same rows i used (omega (arith, length-cells-to (drawing t i) (cellOf (words t i)) (stream t i) (t .cells) used free 4, A .cells, A .able .in-use))
+      ∙ ap (λ (w : CellWords). withChild w used) (cells-to-keeps (drawing t i) (cellOf (words t i)) (stream t i) (t .cells) used free 4 i (A .able .in-use))
 
   -- child q
   pub split-child : (q : ℕ) → q < 4 → cellAt (cellsAfter t i (Split n)) (cellsUsed (t .head) + q)
       ≡ wordsWith (child (cellOf (words t i)) (quarterAt q)) (entriesUsed (t .head) + length (streamsTo (drawing t i) (cellOf (words t i)) (stream t i) q)) (entriesOfChild (drawing t i) (cellOf (words t i)) (stream t i) q)
   split-child q h =
       put-child-other rows i (used + q) used (λ d. omega (arith, A .able .in-use))
-      ∙ (cells-by-child (cellOf (words t i)) tallies (t .cells) used free 4 q h (A .cells)
-      ∙ (λ d. wordsWith (child (cellOf (words t i)) (quarterAt q)) (first-is (drawing t i) (cellOf (words t i)) (stream t i) free q (omega arith) d) (entries-at (drawing t i) (cellOf (words t i)) (stream t i) tallies q h refl d)))
+      ∙ cells-to-child (drawing t i) (cellOf (words t i)) (stream t i) (t .cells) used free 4 q h (A .cells)
 
   -- ---- the streams
   -- those in the entries that were in use are as they were

@@ -4,45 +4,43 @@ use mathlib.Core.List.{List}
 use Prim.Native.Nat.{ℕ, zero, suc, _+_, _*_, _≤_, _<_}
 use native.Mathlib.Omega.{arith}
 use native.Mathlib.Decide.{ℕ-discrete}
-use lib.ListN.{length, getD}
-use Rattle.cells.specs.Cells.{Cell, child}
+use lib.ListN.{length}
+use Rattle.cells.specs.Cells.{Cell}
 use Rattle.cells.specs.Drawings.{Drawing}
 use Rattle.stream.specs.declared.Words.{Words}
 use Rattle.stream.specs.Table.{wordsFrom, written}
 use Rattle.stream.proofs.Table.{from-agree, written-append, written-keeps, written-read, length-written}
 use Rattle.celltable.specs.declared.CellWords.{CellWords}
 use Rattle.celltable.specs.Table.{cellAt}
-use Rattle.celltable.specs.Descent.{quarterAt}
 use Rattle.celltable.proofs.Table.{length-put-cell, put-cell-same, put-cell-other}
-use Rattle.children.specs.declared.Tally.{Tally}
-use Rattle.children.specs.Children.{noTally, firstBy, wordsWith, cellsBy, wordsOfChild, entriesOfChild, fourTallies, streamsTo}
-use Rattle.children.proofs.Filled.{length-child, entries-at, streams-more}
+use Rattle.children.specs.Children.{wordsWith, cellOfChild, wordsOfChild, entriesOfChild, streamsTo, cellsTo}
+use Rattle.children.proofs.Filled.{length-child, streams-more}
 
 -- ---- the rows
-module _ (c : Cell) (ts : List Tally) (t : List ℕ) (used free : ℕ) where
+module _ (D : Drawing) (c : Cell) (ws : List Words) (t : List ℕ) (used free : ℕ) where
   -- the words of child q
-  abbrev pub wordsBy : ℕ → CellWords
-  wordsBy q = wordsWith (child c (quarterAt q)) (firstBy ts free q) (getD ts q noTally .entries)
+  abbrev pub wordsAt : ℕ → CellWords
+  wordsAt q = wordsWith (cellOfChild D c ws q) (free + length (streamsTo D c ws q)) (entriesOfChild D c ws q)
 
-  pub length-cells-by : (n : ℕ) → length (cellsBy c ts t used free n) ≡ length t
-  unfolding cellsBy
-  length-cells-by zero = refl
-  length-cells-by (suc n) = length-put-cell (cellsBy c ts t used free n) (used + n) (wordsBy n) ∙ length-cells-by n
+  pub length-cells-to : (n : ℕ) → length (cellsTo D c ws t used free n) ≡ length t
+  unfolding cellsTo
+  length-cells-to zero = refl
+  length-cells-to (suc n) = length-put-cell (cellsTo D c ws t used free n) (used + n) (wordsAt n) ∙ length-cells-to n
 
   -- the cells before them are as they were
-  pub cells-by-keeps : (n j : ℕ) → j < used → cellAt (cellsBy c ts t used free n) j ≡ cellAt t j
-  unfolding cellsBy
-  cells-by-keeps zero j h = refl
-  cells-by-keeps (suc n) j h = put-cell-other (cellsBy c ts t used free n) (used + n) j (wordsBy n) (λ e. omega arith) ∙ cells-by-keeps n j h
+  pub cells-to-keeps : (n j : ℕ) → j < used → cellAt (cellsTo D c ws t used free n) j ≡ cellAt t j
+  unfolding cellsTo
+  cells-to-keeps zero j h = refl
+  cells-to-keeps (suc n) j h = put-cell-other (cellsTo D c ws t used free n) (used + n) j (wordsAt n) (λ e. omega arith) ∙ cells-to-keeps n j h
 
-  pub cells-by-child : (n q : ℕ) → q < n → (used + n) * 8 ≤ length t → cellAt (cellsBy c ts t used free n) (used + q) ≡ wordsBy q
-  unfolding cellsBy
-  cells-by-child zero q h r = absurd (omega arith)
-  cells-by-child (suc n) q h r = go (ℕ-discrete q n) (λ l. cells-by-child n q l (omega arith))
+  pub cells-to-child : (n q : ℕ) → q < n → (used + n) * 8 ≤ length t → cellAt (cellsTo D c ws t used free n) (used + q) ≡ wordsAt q
+  unfolding cellsTo
+  cells-to-child zero q h r = absurd (omega arith)
+  cells-to-child (suc n) q h r = go (ℕ-discrete q n) (λ l. cells-to-child n q l (omega arith))
     where
-      go : Dec (q ≡ n) → (q < n → cellAt (cellsBy c ts t used free n) (used + q) ≡ wordsBy q) → cellAt (cellsBy c ts t used free (suc n)) (used + q) ≡ wordsBy q
-      go (yes e) f = rw e (put-cell-same (cellsBy c ts t used free n) (used + n) (wordsBy n) (omega (arith, length-cells-by n)))
-      go (no e) f = put-cell-other (cellsBy c ts t used free n) (used + n) (used + q) (wordsBy n) (λ d. e (omega arith)) ∙ f (omega arith)
+      go : Dec (q ≡ n) → (q < n → cellAt (cellsTo D c ws t used free n) (used + q) ≡ wordsAt q) → cellAt (cellsTo D c ws t used free (suc n)) (used + q) ≡ wordsAt q
+      go (yes e) f = rw e (put-cell-same (cellsTo D c ws t used free n) (used + n) (wordsAt n) (omega (arith, length-cells-to n)))
+      go (no e) f = put-cell-other (cellsTo D c ws t used free n) (used + n) (used + q) (wordsAt n) (λ d. e (omega arith)) ∙ f (omega arith)
 
 -- ---- the streams
 module _ (D : Drawing) (c : Cell) (ws : List Words) where
@@ -53,12 +51,6 @@ module _ (D : Drawing) (c : Cell) (ws : List Words) where
       go : Dec (q ≡ suc n) → (q ≤ n → length (streamsTo D c ws q) ≤ length (streamsTo D c ws n)) → length (streamsTo D c ws q) ≤ length (streamsTo D c ws (suc n))
       go (yes e) f = rw e (omega arith)
       go (no e) f = omega (arith, f (omega arith), streams-more D c ws n)
-
-  -- where the stream of child q begins
-  pub first-is : (free q : ℕ) → q ≤ 4 → firstBy (fourTallies D c ws) free q ≡ free + length (streamsTo D c ws q)
-  unfolding streamsTo
-  first-is free zero h = omega arith
-  first-is free (suc q) h = omega (arith, first-is free q (omega arith), entries-at D c ws (fourTallies D c ws) q (omega arith) refl, streams-more D c ws q)
 
   -- the stream of child q is read back
   pub streams-read : (t : List ℕ) (free n q : ℕ) → q < n → (free + length (streamsTo D c ws n)) * 4 ≤ length t

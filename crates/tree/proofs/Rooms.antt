@@ -20,7 +20,8 @@ use Rattle.refusals.specs.declared.Refusal.the-variants.{Room}
 use Rattle.tree.specs.declared.Answer.the-variants.{Split, Not}
 use Rattle.tree.specs.Split.{roomAnswer}
 use Rattle.children.specs.declared.Tally.{Tally}
-use Rattle.children.specs.Children.{noTally, cellOfChild, wordsOfChild, entriesOfChild, fourTallies, streamsTo, FewEach}
+use Rattle.children.specs.Children.{cellOfChild, wordsOfChild, entriesOfChild, streamsTo}
+use Rattle.children.specs.Numbers.{noTally, fourTallies, FewEach}
 use Rattle.children.proofs.Filled.{length-child, entries-at}
 use Rattle.children.proofs.Made.{few-rows}
 

@@ -14,7 +14,7 @@ use Rattle.celltable.specs.Table.{cellAt, putChildAt}
 use Rattle.celltable.specs.Ranges.{cellRange, headRange, cellsHeld, entriesHeld, cellOf}
 use Rattle.cells.specs.Drawings.{Drawing}
 use Rattle.ranges.specs.Held.{lent}
-use Rattle.children.specs.Children.{fourTallies, streamsTo, cellsBy}
+use Rattle.children.specs.Children.{streamsTo, cellsTo}
 use Rattle.tree.specs.Tables.{Tree, cellsUsed, entriesUsed, boundsOf}
 use Rattle.tree.specs.declared.Answer.{Answer}
 use Rattle.tree.specs.declared.Answer.the-variants.{Split, Not}
@@ -45,7 +45,7 @@ headBy (Split n) head used free made = set (set head 0 (used + 4)) 1 (free + len
 headBy (Not r) head used free made = head
 
 abbrev pub cellsOf : Answer → Drawing → CellWords → List Words → (cells : List ℕ) → (i used free : ℕ) → List ℕ
-cellsOf (Split n) D w ws cells i used free = putChildAt (cellsBy (cellOf w) (fourTallies D (cellOf w) ws) cells used free 4) i used
+cellsOf (Split n) D w ws cells i used free = putChildAt (cellsTo D (cellOf w) ws cells used free 4) i used
 cellsOf (Not r) D w ws cells i used free = cells
 
 abbrev pub entriesBy : Answer → (entries : List ℕ) → (free : ℕ) → List Words → List ℕ

@@ -12,7 +12,8 @@ ghost use Rattle.stream.specs.Grammar.{env, bounds, Passed};
 ghost use Rattle.celltable.specs.Table.{putChildAt};
 ghost use Rattle.celltable.specs.Ranges.{squareRange, cellOf, cellsHeld, entriesHeld};
 ghost use Rattle.ranges.specs.Held.{lent};
-ghost use Rattle.children.specs.Children.{noTally, fourTallies, streamsTo, cellsBy, FewEach};
+ghost use Rattle.children.specs.Children.{streamsTo};
+ghost use Rattle.children.specs.Numbers.{noTally, fourTallies, cellsBy, FewEach};
 ghost use Rattle.tree.specs.Tables.{tree, cellsUsed, entriesUsed};
 ghost use Rattle.tree.specs.Split.{roomAnswer, leafAnswer, cellAnswer, madeBy, headBy, cellsOf, entriesBy, drawingSplit, countsSplit, splitAnswer, headAfter, cellsAfter, entriesAfter};
 

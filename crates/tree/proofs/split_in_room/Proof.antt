@@ -2,14 +2,17 @@
 use borrow.Author.Needs.{needs}
 use Rattle.tree.proofs.split_in_room.Statement.{statement}
 use Rattle.tree.proofs.split_in_room.Tie as tie
-use mathlib.Core.Path.{sym, _∙_, refl}
-use Prim.Native.Nat.{_+_}
+use mathlib.Core.Path.{sym, ap, _∙_, refl}
+use mathlib.Core.List.{List}
+use Prim.Native.Nat.{ℕ, _+_}
 use native.Mathlib.Omega.{arith}
 use denote.Ref.{now}
 use lib.ListN.{length}
 use Rattle.stream.specs.Table.{wordsFrom}
 use Rattle.ranges.specs.Held.{lent}
+use Rattle.celltable.specs.Table.{putChildAt}
 use Rattle.celltable.specs.Ranges.{cellOf}
+use Rattle.children.proofs.Placed.{cells-by-four}
 use Rattle.tree.specs.Split.{madeBy}
 use Rattle.tree.proofs.Rooms.{few-each, sum-is, cells-room, entries-room, has-room, no-entries, no-cells}
 
@@ -53,7 +56,7 @@ same-length-3 : tie.Need-same-length-3
 same-length-3 c = search needs
 
 returns : tie.Need-returns
-returns c = let a = c .before .before .before .before .before .before .before .before .before .before .before .before .before .before .before .before .before .before .before .before .before .before .before .before .before .args in let p = c .before .before .before .before .before .before .before .before .before .before .before .before .before .before .before .before .before .before .before .before .before .before .before .before .before .pre in let D = lent (now (a .areas)) (now (a .xs)) (now (a .ys)) (a .b) in let ws = wordsFrom (now (a .entries)) (a .w .first) (a .w .count) in let K = cellOf (a .w) in let n = sum-is D K ws (c .before .before .before .before .before .before .before .before .before .before .before .before .before .before .before .count-four .result) (c .before .before .before .before .before .before .before .before .before .before .before .before .before .before .entries-of .result) (c .before .before .before .before .before .before .before .before .before .before .before .before .before .before .before .count-four .ensures) (c .before .before .before .before .before .before .before .before .before .before .before .before .before .before .entries-of .ensures) in let s = c .before .before .before .before .before .before .put-split .ensures in (has-room (length (now (a .cells))) (length (now (a .entries))) (a .used) (a .free) (c .before .before .before .before .before .before .before .before .before .before .before .before .before .before .entries-of .result) (madeBy (now (a .areas)) (now (a .xs)) (now (a .ys)) (a .b) (a .w) (now (a .entries))) (sym (c .before .before .before .before .before .before .before .before .before .before .before .before .before .cells-held .ensures) ∙ c .before .before .before .before .before .before .before .before .before .before .before .before .if1 .taken) (sym (c .before .before .before .before .before .before .before .before .before .before .before .entries-held .ensures) ∙ c .before .before .before .before .before .before .before .before .before .before .if2 .taken) n, (rw (← n) (s .0), (rw (← c .before .before .before .before .before .before .before .before .before .before .before .before .before .before .before .count-four .ensures) (s .1 .0), s .1 .1)))
+returns c = let a = c .before .before .before .before .before .before .before .before .before .before .before .before .before .before .before .before .before .before .before .before .before .before .before .before .before .args in let p = c .before .before .before .before .before .before .before .before .before .before .before .before .before .before .before .before .before .before .before .before .before .before .before .before .before .pre in let D = lent (now (a .areas)) (now (a .xs)) (now (a .ys)) (a .b) in let ws = wordsFrom (now (a .entries)) (a .w .first) (a .w .count) in let K = cellOf (a .w) in let n = sum-is D K ws (c .before .before .before .before .before .before .before .before .before .before .before .before .before .before .before .count-four .result) (c .before .before .before .before .before .before .before .before .before .before .before .before .before .before .entries-of .result) (c .before .before .before .before .before .before .before .before .before .before .before .before .before .before .before .count-four .ensures) (c .before .before .before .before .before .before .before .before .before .before .before .before .before .before .entries-of .ensures) in let s = c .before .before .before .before .before .before .put-split .ensures in (has-room (length (now (a .cells))) (length (now (a .entries))) (a .used) (a .free) (c .before .before .before .before .before .before .before .before .before .before .before .before .before .before .entries-of .result) (madeBy (now (a .areas)) (now (a .xs)) (now (a .ys)) (a .b) (a .w) (now (a .entries))) (sym (c .before .before .before .before .before .before .before .before .before .before .before .before .before .cells-held .ensures) ∙ c .before .before .before .before .before .before .before .before .before .before .before .before .if1 .taken) (sym (c .before .before .before .before .before .before .before .before .before .before .before .entries-held .ensures) ∙ c .before .before .before .before .before .before .before .before .before .before .if2 .taken) n, (rw (← n) (s .0), (s .1 .0 ∙ ap (λ (u : List ℕ). putChildAt u (a .i) (a .used)) (cells-by-four D K ws (now (a .cells)) (a .used) (a .free) (c .before .before .before .before .before .before .before .before .before .before .before .before .before .before .before .count-four .result) (c .before .before .before .before .before .before .before .before .before .before .before .before .before .before .before .count-four .ensures)), s .1 .1)))
 
 same-length-4 : tie.Need-same-length-4
 same-length-4 c = search needs
