@@ -15,7 +15,8 @@ ghost use Rattle.pruning.specs.Weights.{total};
 ghost use Rattle.stream.specs.Table.{wordsFrom, written};
 ghost use Rattle.stream.specs.Grammar.{env, Passed};
 ghost use Rattle.ranges.specs.Held.{lent};
-ghost use Rattle.making.specs.Made.{rowsMade, wordsMade, cellIn};
+ghost use Rattle.making.specs.Made.{rowsMade, wordsMade};
+ghost use Rattle.making.specs.Numbers.{cellIn};
 ghost use Rattle.child.specs.Starts.{startsIn};
 ghost use Rattle.child.specs.Numbers.{starts, notedN, firstOf};
 

@@ -11,7 +11,7 @@ use Rattle.celltable.specs.declared.CellWords.{CellWords}
 use Rattle.celltable.specs.Ranges.{squareRange, cellOf}
 use Rattle.celltable.specs.Descent.{quarterAt}
 use Rattle.celltable.proofs.Grid.{Gridded, passes-gridded, child-gridded}
-use Rattle.making.specs.Made.{cellIn}
+use Rattle.making.specs.Numbers.{cellIn}
 use Rattle.making.proofs.Made.{level-from}
 
 cell-back : (c : Cell) → Gridded c → cellIn (squareOf c) ≡ c

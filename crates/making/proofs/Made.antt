@@ -10,7 +10,8 @@ use Rattle.cells.specs.Cells.{Cell}
 use Rattle.cells.specs.Drawings.{Drawing}
 use Rattle.stream.specs.declared.Words.{Words}
 use Rattle.reading.specs.Words.{wordsOf}
-use Rattle.making.specs.Made.{rowsMade, wordsMade, levelFrom}
+use Rattle.making.specs.Made.{rowsMade, wordsMade}
+use Rattle.making.specs.Numbers.{levelFrom}
 
 -- the level of a power of two is its exponent
 pub level-from : (n k : ℕ) → k ≤ n → levelFrom n (2 ^ k) ≡ k

@@ -1,11 +1,7 @@
 -- Document 01, "Cells": the words of the stream that is made, in a cell, of the stream that the words of entries say. Assumes nothing.
-use mathlib.Core.Bool.{cond}
 use mathlib.Core.List.{List, map}
-use Prim.Native.Nat.{ℕ, zero, suc, _/_}
-use lib.Dec.{leb}
-use Rattle.geometry.specs.declared.class.Square.{Square}
 use Rattle.pruning.specs.Sides.{paint, flat}
-use Rattle.cells.specs.Cells.{Cell, cell}
+use Rattle.cells.specs.Cells.{Cell}
 use Rattle.cells.specs.Drawings.{Drawing}
 use Rattle.cells.specs.Streams.{made}
 use Rattle.cells.specs.Rows.{Row, rowsOf, streamOf, roleIn}
@@ -19,11 +15,3 @@ rowsMade D c ws = rowsOf (flat paint (made D c (streamOf (roleIn D) (rowsIn ws))
 
 unfoldable pub wordsMade : Drawing → Cell → List Words → List Words
 wordsMade D c ws = map wordsOf (rowsMade D c ws)
-
--- the cell of a square: its side is 2 to the level
-abbrev pub levelFrom : (fuel side : ℕ) → ℕ
-levelFrom zero s = 0
-levelFrom (suc n) s = cond (leb s 1) 0 (suc (levelFrom n (s / 2)))
-
-unfoldable pub cellIn : Square → Cell
-cellIn s = cell (s .x) (s .y) (levelFrom 16 (s .side))

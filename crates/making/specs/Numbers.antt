@@ -3,8 +3,8 @@
 use mathlib.Core.Path.{_≡_}
 use mathlib.Core.Bool.{Bool, true, false, cond, not}
 use mathlib.Core.List.{List}
-use Prim.Native.Nat.{ℕ, _+_, _*_, _^_, _<_, _≤_}
-use lib.Dec.{eqb}
+use Prim.Native.Nat.{ℕ, zero, suc, _+_, _*_, _/_, _^_, _<_, _≤_}
+use lib.Dec.{eqb, leb}
 use lib.ListN.{getD}
 use lib.IntN.{ℤ, pos, _+ℤ_, natAbs}
 use mir.Syntax.{w32}
@@ -19,6 +19,7 @@ use Rattle.pruning.specs.Sides.{clip, item, push, activate, pop}
 use Rattle.pruning.specs.Items.{passes}
 use Rattle.pruning.specs.Counters.{Count, countStep}
 use Rattle.pruning.specs.Weights.{sized, sizedItems, sizeOf}
+use Rattle.cells.specs.Cells.{Cell, cell}
 use Rattle.pruner.specs.declared.Pruner.{Pruner}
 use Rattle.pruner.specs.Numbers.{classOf}
 use Rattle.stream.specs.declared.Words.{Words}
@@ -27,6 +28,15 @@ use Rattle.stream.specs.Grammar.{lineRange}
 use Rattle.reading.specs.Reading.{roleAt, passAt, opaqueAt}
 use Rattle.making.specs.declared.Waiting.{Waiting}
 use Rattle.making.specs.declared.Maker.{Maker}
+
+-- ---- the cell of a square that the code is handed: its side is 2 to the level
+
+abbrev pub levelFrom : (fuel side : ℕ) → ℕ
+levelFrom zero s = 0
+levelFrom (suc n) s = cond (leb s 1) 0 (suc (levelFrom n (s / 2)))
+
+unfoldable pub cellIn : Square → Cell
+cellIn s = cell (s .x) (s .y) (levelFrom 16 (s .side))
 
 -- ---- what is left of a line or a shortcut in a square
 

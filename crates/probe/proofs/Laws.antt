@@ -23,7 +23,7 @@ use Rattle.stream.specs.Grammar.{Env, env, accepts, usedRange, checkStream, Pas
 use Rattle.stream.proofs.Laws.{used-entries}
 use Rattle.ranges.specs.Held.{lent}
 use Rattle.ranges.proofs.Streams.{words-length}
-use Rattle.making.specs.Made.{cellIn, levelFrom}
+use Rattle.making.specs.Numbers.{cellIn, levelFrom}
 use Rattle.making.proofs.Made.{level-from}
 use Rattle.making.proofs.Lent.{lent-reads}
 use Rattle.making.proofs.Shorter.{made-shorter}

@@ -13,7 +13,8 @@ use Rattle.stream.specs.Table.{wordsFrom, written}
 use Rattle.stream.specs.Grammar.{Env, checkStream}
 use Rattle.reading.specs.Reading.{setAt}
 use Rattle.ranges.specs.Held.{lent}
-use Rattle.making.specs.Made.{rowsMade, wordsMade, cellIn}
+use Rattle.making.specs.Made.{rowsMade, wordsMade}
+use Rattle.making.specs.Numbers.{cellIn}
 
 -- "Positions are whole x, y from 0 to 65,535."
 abbrev pub positionRange : (x y : ℕ) → Bool

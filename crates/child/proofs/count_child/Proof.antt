@@ -10,7 +10,7 @@ use borrow.Author.Needs.{needs}
 use Rattle.stream.specs.Grammar.{env}
 use Rattle.ranges.specs.Held.{lent}
 use Rattle.pruner.specs.Numbers.{counted}
-use Rattle.making.specs.Made.{cellIn}
+use Rattle.making.specs.Numbers.{cellIn}
 use Rattle.making.specs.Numbers.{maker}
 use Rattle.making.proofs.Stays.{stays-pruned}
 use Rattle.making.proofs.Lent.{lent-reads}

@@ -11,7 +11,7 @@ use borrow.Author.Needs.{needs}
 use Rattle.pruner.specs.Numbers.{counted}
 use Rattle.stream.specs.Grammar.{env}
 use Rattle.ranges.specs.Held.{lent}
-use Rattle.making.specs.Made.{cellIn}
+use Rattle.making.specs.Numbers.{cellIn}
 use Rattle.making.specs.Numbers.{maker}
 use Rattle.making.proofs.Lent.{lent-reads}
 use Rattle.making.proofs.Stays.{stays-pruned}
