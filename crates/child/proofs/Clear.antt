@@ -10,8 +10,7 @@ use lib.ListN.{length, getD, set, length-set}
 use lib.Seq.{getD-set-same, getD-set-other, ext-getD}
 use lib.IntN.{ℤ, pos}
 use borrow.Author.Tests.{ltb-true, ltb-false}
-use Rattle.child.specs.Starts.{filled}
-use Rattle.child.specs.Numbers.{firstOf}
+use Rattle.child.specs.Numbers.{firstOf, filled}
 use Rattle.child.proofs.Fronts.{Stands}
 
 -- ---- the first n numbers

@@ -32,8 +32,8 @@ use Rattle.making.proofs.Follows.{stateOf, waitingOf, waitingFor, settle-short}
 use Rattle.making.proofs.Standing.{Reads, Standing}
 use Rattle.making.proofs.Turn.{standing-rows, length-is}
 use Rattle.making.proofs.Whole.{allOf, standing-start, rows-all}
-use Rattle.child.specs.Starts.{startsOf, startsIn}
-use Rattle.child.specs.Numbers.{starts, areasIn, putStart, firstOf}
+use Rattle.child.specs.Starts.{startsOf}
+use Rattle.child.specs.Numbers.{starts, areasIn, putStart, firstOf, startsIn}
 use Rattle.child.proofs.Loop.{Looping}
 use Rattle.child.proofs.Fronts.{Stands, stands-front, stands-more, put-length, areas-is, withNext, settle-front, turn-front}
 use Rattle.child.proofs.Clear.{first-filled}

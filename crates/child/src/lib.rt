@@ -17,8 +17,7 @@ ghost use Rattle.stream.specs.Grammar.{env, Passed};
 ghost use Rattle.ranges.specs.Held.{lent};
 ghost use Rattle.making.specs.Made.{rowsMade, wordsMade};
 ghost use Rattle.making.specs.Numbers.{cellIn};
-ghost use Rattle.child.specs.Starts.{startsIn};
-ghost use Rattle.child.specs.Numbers.{starts, notedN, firstOf};
+ghost use Rattle.child.specs.Numbers.{starts, notedN, firstOf, startsIn};
 
 // ---- the start numbers of the areas
 // How many, and the numbers, with zeros behind them.

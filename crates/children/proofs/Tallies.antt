@@ -9,7 +9,7 @@ use Rattle.cells.specs.Segments.{drawn, shortcut}
 use Rattle.cells.specs.Rows.{Row, opens, bar, closes, bare, named, segment}
 use Rattle.cells.specs.Making.{rowSize}
 use Rattle.child.specs.declared.Count.{Count}
-use Rattle.child.specs.Starts.{startsIn}
+use Rattle.child.specs.Numbers.{startsIn}
 use Rattle.children.specs.Numbers.{lineOne, sumOf, tally, tallyN}
 
 abbrev areaOne : Row → ℕ

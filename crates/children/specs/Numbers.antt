@@ -10,7 +10,7 @@ use Rattle.stream.specs.declared.Words.{Words}
 use Rattle.celltable.specs.Table.{putCellAt}
 use Rattle.celltable.specs.Descent.{quarterAt}
 use Rattle.child.specs.declared.Count.{Count}
-use Rattle.child.specs.Starts.{startsIn}
+use Rattle.child.specs.Numbers.{startsIn}
 use Rattle.children.specs.declared.Tally.{Tally}
 use Rattle.children.specs.Children.{wordsWith, rowsOfChild}
 

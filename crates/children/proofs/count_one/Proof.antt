@@ -10,7 +10,7 @@ use Rattle.cells.specs.Making.{rowSize}
 use Rattle.stream.specs.Table.{wordsFrom}
 use Rattle.ranges.specs.Held.{lent}
 use Rattle.making.specs.Made.{rowsMade}
-use Rattle.child.specs.Starts.{startsIn}
+use Rattle.child.specs.Numbers.{startsIn}
 use Rattle.children.specs.Children.{rowsOfChild}
 use Rattle.celltable.specs.Ranges.{cellOf}
 use Rattle.children.proofs.Squares.{kid-square, kid-in, kid-back}
