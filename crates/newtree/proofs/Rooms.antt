@@ -19,7 +19,8 @@ use Rattle.cells.specs.Making.{rowSize}
 use Rattle.celltable.specs.Ranges.{cellsHeld, entriesHeld}
 use Rattle.tree.specs.Tables.{Tree}
 use Rattle.tree.proofs.Rooms.{cells-room, entries-room}
-use Rattle.opening.specs.Opened.{rowsOpened, wordsOpened, Opened}
+use Rattle.opening.specs.Numbers.{Opened}
+use Rattle.opening.specs.Opened.{rowsOpened, wordsOpened}
 use Rattle.opening.proofs.Opened.{accepted-opened, opened-short, opened-count}
 use Rattle.newtree.specs.declared.Answer.the-variants as Answers
 use Rattle.newtree.specs.Open.{roomFor, streamOpened, roomAnswer}

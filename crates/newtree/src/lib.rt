@@ -11,7 +11,8 @@ ghost use Rattle.grammar.specs.declared.Verdict.the-variants.{Accepted};
 ghost use Rattle.drawing.specs.Tables.{tables, drawingOf};
 ghost use Rattle.stream.specs.Table.{written};
 ghost use Rattle.celltable.specs.Table.{putCellAt};
-ghost use Rattle.opening.specs.Opened.{rowsOpened, wordsOpened, Opened};
+ghost use Rattle.opening.specs.Numbers.{Opened};
+ghost use Rattle.opening.specs.Opened.{rowsOpened, wordsOpened};
 ghost use Rattle.tree.specs.Tables.{tree};
 ghost use Rattle.newtree.specs.Open.{rootWords, roomFor, roomAnswer, openAnswer, headOpened, cellsOpened, entriesOpened};
 

@@ -29,8 +29,8 @@ use Rattle.plans.proofs.Runs.{counted}
 use Rattle.plans.proofs.Valid.{accepted-valid}
 use Rattle.plans.proofs.Held.{accepted-held}
 use Rattle.plans.proofs.Source.{source-rows}
-use Rattle.opening.specs.Numbers.{sourceAt}
-use Rattle.opening.specs.Opened.{drawingIn, rowsOpened, Opened}
+use Rattle.opening.specs.Numbers.{sourceAt, Opened}
+use Rattle.opening.specs.Opened.{drawingIn, rowsOpened}
 use Rattle.opening.proofs.Ahead.{Ahead}
 use Rattle.opening.proofs.Whole.{held-reads, source-passes, source-made}
 

@@ -14,8 +14,7 @@ use Rattle.drawing.specs.Held.{Acceptable, Holding}
 use Rattle.drawing.proofs.Theorems.{drawn-records}
 use Rattle.stream.specs.Grammar.{bounds}
 use Rattle.reading.specs.Words.{words}
-use Rattle.opening.specs.Numbers.{sourceAt, entriesN}
-use Rattle.opening.specs.Opened.{Opened}
+use Rattle.opening.specs.Numbers.{sourceAt, entriesN, Opened}
 
 -- ---- one area: the triangle (0, 0) (10, 0) (10, 10)
 

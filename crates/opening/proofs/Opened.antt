@@ -22,8 +22,8 @@ use Rattle.ranges.proofs.Weights.{made-short}
 use Rattle.ranges.proofs.Streams.{made-passes}
 use Rattle.writing.proofs.Places.{place-is}
 use Rattle.plans.specs.Source.{sourceOf}
-use Rattle.opening.specs.Numbers.{sourceAt, entriesN}
-use Rattle.opening.specs.Opened.{drawingIn, rowsOpened, wordsOpened, Opened}
+use Rattle.opening.specs.Numbers.{sourceAt, entriesN, Opened}
+use Rattle.opening.specs.Opened.{drawingIn, rowsOpened, wordsOpened}
 use Rattle.opening.proofs.Ahead.{entries-ahead}
 use Rattle.opening.proofs.Base.{base, valid, held}
 

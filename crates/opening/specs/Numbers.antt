@@ -1,11 +1,17 @@
 -- What cell 0's stream is made from, one entry at a time, as the numbers that the code holds. `Rattle.opening.proofs` says that they go as the rows do
--- (`Rattle.plans.specs.Source`). Assumes nothing.
+-- (`Rattle.plans.specs.Source`). And what the code asks of its caller. Assumes nothing.
+use mathlib.Core.Path.{_≡_}
 use mathlib.Core.Bool.{cond}
 use mathlib.Core.List.{List, [], _∷_}
 use Prim.Native.Nat.{ℕ, zero, suc, _+_}
 use lib.Dec.{eqb, ltb}
 use lib.ListN.{getD}
+use Rattle.grammar.specs.declared.Counts.{Counts}
+use Rattle.drawing.specs.Tables.{Tables, drawnIn}
+use Rattle.drawing.specs.Held.{Acceptable, Holding}
 use Rattle.stream.specs.declared.Words.{Words}
+use Rattle.stream.specs.declared.Bounds.{Bounds}
+use Rattle.stream.specs.Grammar.{bounds}
 use Rattle.reading.specs.Words.{words}
 use Rattle.opening.specs.declared.Source.{Source}
 
@@ -43,3 +49,13 @@ afterN s k =
 abbrev pub entriesN : List ℕ → (i records : ℕ) → Source → (n : ℕ) → List Words
 entriesN plan i records s zero = []
 entriesN plan i records s (suc n) = entryN plan i records s ∷ entriesN plan (i + 1) records (afterN s (getD plan (i + 3) 0)) n
+
+-- ---- what is asked of the lent tables
+
+-- the tables hold accepted records, so many of them; b has the areas and the corners in use, and the rows of the square of side 65,536 at (0, 0)
+pub record Opened (t : Tables) (records : ℕ) (b : Bounds) : Type 0 where
+  pub used : Counts
+  pub accepted : Acceptable (drawnIn t) used
+  pub holding : Holding t (drawnIn t)
+  pub records-used : records ≡ used .records
+  pub bounds-used : b ≡ bounds (used .areas) (used .corners) 0 65536

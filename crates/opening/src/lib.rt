@@ -12,8 +12,8 @@ ghost use Rattle.pruning.specs.Weights.{total};
 ghost use Rattle.drawing.specs.Tables.{tables};
 ghost use Rattle.stream.specs.Table.{written};
 ghost use Rattle.reading.specs.Words.{words};
-ghost use Rattle.opening.specs.Numbers.{sourceAt, endN, edgeN, markN, entryN, afterN};
-ghost use Rattle.opening.specs.Opened.{rowsOpened, wordsOpened, Opened};
+ghost use Rattle.opening.specs.Numbers.{sourceAt, endN, edgeN, markN, entryN, afterN, Opened};
+ghost use Rattle.opening.specs.Opened.{rowsOpened, wordsOpened};
 
 // The areas and the corners before a record, and the first corner of the contour in progress.
 pub struct Source {
