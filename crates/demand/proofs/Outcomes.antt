@@ -19,7 +19,8 @@ use Rattle.tree.specs.declared.Answer.{Answer}
 use Rattle.tree.specs.declared.Answer.the-variants.{Split, Not}
 use Rattle.tree.specs.Tables.{Tree, cellsUsed, entriesUsed, boundsOf}
 use Rattle.tree.specs.Split.{words, against, made, roomAnswer, drawingSplit, cellSplit, countsSplit, splitAnswer}
-use Rattle.splits.specs.After.{Splittable, splitTree}
+use Rattle.splits.specs.After.{splitTree}
+use Rattle.splits.specs.Accepted.{Splittable}
 use Rattle.splits.proofs.Counts.{counts-head, counts-plan, counts-used}
 use Rattle.splits.proofs.Accepted.{able-answer, chosen}
 use Rattle.demand.specs.History.{Node, cellIn, splitAt, Leaf}

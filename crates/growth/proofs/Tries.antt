@@ -19,7 +19,8 @@ use Rattle.tree.specs.declared.Answer as Splitting
 use Rattle.tree.specs.declared.Answer.the-variants.{Split, Not}
 use Rattle.tree.specs.Tables.{Tree, cellsUsed, entriesUsed, boundsOf, countsIn}
 use Rattle.tree.specs.Split.{words, against, made, splitAnswer}
-use Rattle.splits.specs.After.{Splittable, splitTree}
+use Rattle.splits.specs.After.{splitTree}
+use Rattle.splits.specs.Accepted.{Splittable}
 use Rattle.splits.proofs.Counts.{used-some}
 use Rattle.splits.proofs.Accepted.{able-answer, split-able}
 use Rattle.splits.proofs.Trees.{tree-keeps-cell, tree-cell, tree-stream}

@@ -18,7 +18,8 @@ use Rattle.tree.specs.declared.Answer as Splitting
 use Rattle.tree.specs.declared.Answer.the-variants as split
 use Rattle.tree.specs.Tables.{Tree, tree, cellsUsed, entriesUsed, boundsOf, countsIn}
 use Rattle.tree.specs.Split.{words, roomAnswer, madeBy, headBy, cellsOf, entriesBy, splitAnswer, headAfter, cellsAfter, entriesAfter}
-use Rattle.splits.specs.After.{Splittable, splitTree}
+use Rattle.splits.specs.After.{splitTree}
+use Rattle.splits.specs.Accepted.{Splittable}
 use Rattle.splits.proofs.Accepted.{able-answer, able-square, able-entries, able-stream}
 use Rattle.growth.specs.declared.Tried.{Tried}
 use Rattle.growth.specs.declared.Tried.the-variants.{Bad, Past, Wanted}

@@ -18,7 +18,7 @@ use Rattle.tree.specs.declared.Answer.the-variants.{Split, Not}
 use Rattle.tree.specs.Tables.{Tree, cellsUsed, entriesUsed, boundsOf}
 use Rattle.tree.specs.Split.{words, against, made, roomAnswer, cellSplit, drawingSplit, countsSplit, splitAnswer}
 use Rattle.tree.proofs.Rooms.{cells-room, entries-room}
-use Rattle.splits.specs.After.{Splittable, Accepted}
+use Rattle.splits.specs.Accepted.{Splittable, Accepted}
 use Rattle.splits.proofs.Counts.{counts-head, counts-plan, counts-used, counts-of}
 
 abbrev isSplit : Answer → Bool

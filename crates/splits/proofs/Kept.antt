@@ -18,7 +18,7 @@ use Rattle.tree.specs.declared.Answer.the-variants.{Split}
 use Rattle.tree.specs.Tables.{Tree, cellsUsed, entriesUsed}
 use Rattle.tree.specs.Split.{words, drawing, stream, made, splitAnswer, headAfter, cellsAfter, entriesAfter}
 use Rattle.tree.proofs.Heads.{used-is}
-use Rattle.splits.specs.After.{Accepted}
+use Rattle.splits.specs.Accepted.{Accepted}
 use Rattle.splits.proofs.Counts.{counts-long}
 use Rattle.splits.proofs.Accepted.{split-accepted}
 use Rattle.splits.proofs.Rows.{length-cells-to, cells-to-keeps, cells-to-child, streams-read}

@@ -17,7 +17,8 @@ use Rattle.celltable.proofs.Ranges.{range-more}
 use Rattle.tree.specs.declared.Answer.the-variants.{Split}
 use Rattle.tree.specs.Tables.{Tree, cellsUsed, entriesUsed}
 use Rattle.tree.specs.Split.{words, splitAnswer}
-use Rattle.splits.specs.After.{Accepted, splitTree}
+use Rattle.splits.specs.After.{splitTree}
+use Rattle.splits.specs.Accepted.{Accepted}
 use Rattle.splits.proofs.Counts.{used-more}
 use Rattle.splits.proofs.Accepted.{split-accepted}
 use Rattle.splits.proofs.Trees.{tree-used, tree-free, tree-length-entries, tree-keeps-cell, tree-cell, tree-stream}

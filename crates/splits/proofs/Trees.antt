@@ -18,7 +18,8 @@ use Rattle.tree.specs.declared.Answer.the-variants.{Split, Not}
 use Rattle.tree.specs.Tables.{Tree, tree, cellsUsed, entriesUsed, boundsOf, countsIn}
 use Rattle.tree.specs.Split.{words, drawing, stream, made, splitAnswer, headAfter, cellsAfter, entriesAfter}
 use Rattle.tree.proofs.Heads.{used-is}
-use Rattle.splits.specs.After.{Accepted, splitTree}
+use Rattle.splits.specs.After.{splitTree}
+use Rattle.splits.specs.Accepted.{Accepted}
 use Rattle.splits.proofs.Counts.{counts-plan, counts-used, counts-long, counts-of, used-more, head-fits}
 use Rattle.splits.proofs.Accepted.{split-accepted}
 use Rattle.splits.proofs.Kept.{split-length-head, split-length-cells, split-length-entries, split-used, split-free, split-keeps-cell, split-cell, split-child, split-stream, split-child-stream}

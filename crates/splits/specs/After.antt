@@ -1,31 +1,8 @@
 -- Document 01, "Cells": a tree in lent tables after cell i is split. Assumes nothing.
-use mathlib.Core.Bool.{true}
-use mathlib.Core.Path.{_≡_}
-use Prim.Native.Nat.{ℕ, _+_, _*_, _≤_, _<_}
-use lib.ListN.{length}
-use Rattle.celltable.specs.Ranges.{cellRange}
-use Rattle.stream.specs.Grammar.{checkStream}
-use Rattle.tree.specs.Tables.{Tree, tree, cellsUsed, entriesUsed, countsIn}
-use Rattle.tree.specs.Split.{words, against, made, splitAnswer, headAfter, cellsAfter, entriesAfter}
+use Prim.Native.Nat.{ℕ}
+use Rattle.tree.specs.Tables.{Tree, tree}
+use Rattle.tree.specs.Split.{splitAnswer, headAfter, cellsAfter, entriesAfter}
 
 -- "A split makes four cells of half the side, numbered onward": the seven tables afterwards; those before where the split is refused
 unfoldable pub splitTree : Tree → ℕ → Tree
 splitTree t i = tree (t .plan) (t .areas) (t .xs) (t .ys) (headAfter t i (splitAnswer t i)) (cellsAfter t i (splitAnswer t i)) (entriesAfter t i (splitAnswer t i))
-
--- a leaf of a side over 1, in tables whose numbers in use, whose cell i and whose stream pass: of all refusals only 11 is left
-pub record Splittable (t : Tree) (i : ℕ) : Type 0 where
-  pub pair : length (t .xs) ≡ length (t .ys)
-  pub counts : countsIn t ≡ true
-  pub in-use : i < cellsUsed (t .head)
-  pub cell : cellRange (words t i) i (cellsUsed (t .head)) (entriesUsed (t .head)) ≡ true
-  pub leaf : words t i .child ≡ 0
-  pub passes : checkStream (t .entries) (words t i .first) (words t i .count) (entriesUsed (t .head)) (against t i) ≡ true
-  pub halves : 1 < words t i .side
-
--- and there is room
-pub record Accepted (t : Tree) (i : ℕ) : Type 0 where
-  pub able : Splittable t i
-  pub cells : (cellsUsed (t .head) + 4) * 8 ≤ length (t .cells)
-  pub few-cells : cellsUsed (t .head) + 4 ≤ 4096
-  pub entries : (entriesUsed (t .head) + length (made t i)) * 4 ≤ length (t .entries)
-  pub few-entries : entriesUsed (t .head) + length (made t i) ≤ 65536
