@@ -41,11 +41,6 @@ On Q k end = Unit {0}
 On Q k (leaf a t) = Q k a × On Q k t
 On Q k (group l r t) = On Q clip l × On Q k r × On Q k t
 
--- the signs of lines and shortcuts are at most 1 either way
-abbrev pub SignsIn : (xs ys : List ℕ) → List Segment → Type 0
-SignsIn xs ys [] = Unit {0}
-SignsIn xs ys (g ∷ gs) = (natAbs (signOf xs ys g) ≤ 1) × SignsIn xs ys gs
-
 module _ (D : Drawing) where
   -- "F0, C0, F1, C1 are areas with no line or shortcut, whose start number fails or passes; F1 also has alpha 255."
   abbrev pub passing : Kind → ℕ → Class
@@ -110,7 +105,14 @@ module _ (D : Drawing) where
     pub windings : Each (Winds c) (flat paint y)
     pub reading : (p : Position) → Holds c p → readIn p y ≡ shownAt D p
 
-  -- "start −2,048 to 2,048; sign 1 or −1": with m for 2,048
+-- ---- no definition of document 01, but a bound that proofs show of the streams that are made
+-- the signs of lines and shortcuts are at most 1 either way
+abbrev pub SignsIn : (xs ys : List ℕ) → List Segment → Type 0
+SignsIn xs ys [] = Unit {0}
+SignsIn xs ys (g ∷ gs) = (natAbs (signOf xs ys g) ≤ 1) × SignsIn xs ys gs
+
+module _ (D : Drawing) where
+  -- an area's start number and how many lines and shortcuts it has are at most m together
   abbrev pub Small : (m : ℕ) → Kind → Item → Type 0
   Small m k always = Unit {0}
   Small m k (area n z gs) = (natAbs z + length gs ≤ m) × SignsIn (D .xs) (D .ys) gs
