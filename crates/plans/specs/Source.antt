@@ -1,4 +1,5 @@
--- Document 01, "Cells": what cell 0's stream is made from, one row for each record. Assumes nothing.
+-- What cell 0's stream is made from, in the code's order: one row for each record. Document 01's form is `source` (`Rattle.cells.specs.Streams`);
+-- `source-rows` says that the rows are the same. Assumes nothing.
 use mathlib.Core.List.{List, [], _∷_}
 use Prim.Native.Nat.{ℕ, suc}
 use lib.IntN.{pos}

@@ -1,4 +1,4 @@
--- Document 01, "Drawing": what the drawing of accepted records has. Every number is in range, every role fits its side, and nothing is over its limit. Assumes nothing.
+-- What follows for an accepted drawing: used by proofs. Every number is in range, every role fits its side, and nothing is over its limit. Assumes nothing.
 use mathlib.Core.Path.{_≡_}
 use mathlib.Core.Bool.{true}
 use mathlib.Core.List.{List, [], _∷_}
