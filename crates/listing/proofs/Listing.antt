@@ -11,7 +11,8 @@ use Rattle.tree.specs.Tables.{Tree}
 use Rattle.listing.specs.declared.Line.{Line}
 use Rattle.listing.specs.declared.Corner.{Corner}
 use Rattle.listing.specs.declared.Corner.the-variants.{Low, Other}
-use Rattle.listing.specs.Listed.{cornerAt, withCorner, linesFrom, listed, flat, lineAt, linesIn, putAt, written}
+use Rattle.listing.specs.Listed.{cornerAt, withCorner, linesFrom, listed}
+use Rattle.listing.specs.Numbers.{flat, lineAt, linesIn, putAt, written}
 
 pub written-nil : (t : List ℕ) (i : ℕ) → written t i [] ≡ t
 unfolding written flat

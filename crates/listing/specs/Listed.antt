@@ -4,8 +4,6 @@ use mathlib.Core.Bool.{cond, _&&_}
 use mathlib.Core.List.{List, [], _∷_, _++_}
 use Prim.Native.Nat.{ℕ, zero, suc, _+_, _*_, _/_, _%_, _≤_}
 use lib.Dec.{eqb}
-use lib.ListN.{getD, set}
-use lib.Seq.{sets}
 use Rattle.geometry.specs.Keys.{keyOf}
 use Rattle.tree.specs.Tables.{Tree}
 use Rattle.leaf.specs.declared.FoundLeaf.{FoundLeaf}
@@ -52,7 +50,8 @@ unfoldable pub linesFrom : Tree → (k n : ℕ) → List Line
 linesFrom t k zero = []
 linesFrom t k (suc n) = withCorner (cornerAt t k) (linesFrom t (k + 1) n)
 
--- the lines of all leaves of a depth of at most 4; `in-key-order` and `every-leaf` say that this is what the sentence asks
+-- The lines of all leaves of a depth of at most 4, by a sweep over the corners, as the code goes. The sentence "prints each leaf in key order" is the
+-- theorems `in-key-order` and `every-leaf`.
 abbrev pub listed : Tree → List Line
 listed t = linesFrom t 0 256
 
@@ -60,28 +59,6 @@ listed t = linesFrom t 0 256
 abbrev pub keysFrom : (b : ℕ) → List Line → Type 0
 keysFrom b [] = Unit {0}
 keysFrom b (l ∷ ls) = (b ≤ l .key) × keysFrom (suc (l .key)) ls
-
--- ---- a table of five words a line
-unfoldable pub flat : List Line → List ℕ
-flat [] = []
-flat (l ∷ ls) = l .cell ∷ l .key ∷ l .side ∷ l .entries ∷ l .lines ∷ flat ls
-
--- the five words of line i
-abbrev pub lineAt : List ℕ → ℕ → Line
-lineAt t i = record { cell = getD t (i * 5) 0; key = getD t (i * 5 + 1) 0; side = getD t (i * 5 + 2) 0; entries = getD t (i * 5 + 3) 0; lines = getD t (i * 5 + 4) 0 }
-
--- the n lines from line i on
-unfoldable pub linesIn : List ℕ → (i n : ℕ) → List Line
-linesIn t i zero = []
-linesIn t i (suc n) = lineAt t i ∷ linesIn t (i + 1) n
-
--- the table with l at line i, as five stores
-abbrev pub putAt : List ℕ → ℕ → Line → List ℕ
-putAt t i l = set (set (set (set (set t (i * 5) (l .cell)) (i * 5 + 1) (l .key)) (i * 5 + 2) (l .side)) (i * 5 + 3) (l .entries)) (i * 5 + 4) (l .lines)
-
--- the table with ls from line i on
-unfoldable pub written : List ℕ → ℕ → List Line → List ℕ
-written t i ls = sets t (i * 5) (flat ls)
 
 -- a line is one of a list
 abbrev pub Among : Line → List Line → Type 0

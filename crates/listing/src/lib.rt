@@ -5,7 +5,8 @@ ghost use mathlib.Core.List.{[]};
 ghost use Prim.Native.Nat.{_+_, _*_, _≤_, _<_};
 ghost use lib.ListN.{length};
 ghost use Rattle.tree.specs.Tables.{tree};
-ghost use Rattle.listing.specs.Listed.{everyOther, cornerX, cornerY, ifLow, ofAnswer, cornerAt, withCorner, listed, putAt, written, lineAt};
+ghost use Rattle.listing.specs.Listed.{everyOther, cornerX, cornerY, ifLow, ofAnswer, cornerAt, withCorner, listed};
+ghost use Rattle.listing.specs.Numbers.{putAt, written, lineAt};
 
 // A line: a leaf that is listed.
 pub struct Line {
