@@ -166,14 +166,14 @@ pub fn put_four(cells: &mut [u32], used: u32, free: u32, w: CellWords, ts: [Tall
     ensures { λ _. ⌜ now (cells .exit) ≡ cellsBy (cellOf w) ts (now (cells .entry)) used free 4 ⌝ }
 {
     let mut at = free;
-    let mut q: u32 = 0;
-    while q < 4 {
-        let k = q as usize;
+    let mut n: u32 = 0;
+    while n < 4 {
+        let k = n as usize;
         let t = ts[k];
-        let c = child_words(w, q, at, t);
-        let i = (used + q) as usize;
+        let c = child_words(w, n, at, t);
+        let i = (used + n) as usize;
         celltable::put_cell(cells, i, c);
         at += t.entries as u32;
-        q += 1;
+        n += 1;
     }
 }
