@@ -18,7 +18,8 @@ use Rattle.pruning.proofs.Survivors.{normal-sub}
 use Rattle.cells.specs.Cells.{Cell}
 use Rattle.cells.specs.Segments.{Segment, drawn, edgeOf, signOf, classIn, keptBy, keptIn, startBy, startIn}
 use Rattle.cells.specs.Drawings.{Drawing}
-use Rattle.cells.specs.Streams.{Each, items, within, whole, source, made, Small, SignsIn}
+use Rattle.cells.specs.Streams.{Each, items, within, whole, source, made}
+use Rattle.cells.specs.Sizes.{Small, SignsIn}
 use Rattle.cells.proofs.Each.{each-sub, each-mapped, on-any}
 use Rattle.cells.proofs.Streams.{made-normal}
 

@@ -5,3 +5,4 @@ pub mod Drawings
 pub mod Streams
 pub mod Rows
 pub mod Making
+pub mod Sizes

@@ -2,9 +2,9 @@
 use mathlib.Core.Path.{_≡_, refl}
 use mathlib.Core.Bool.{Bool, true, cond}
 use mathlib.Core.List.{List, [], _∷_, map}
-use Prim.Native.Nat.{ℕ, _+_, _≤_}
-use lib.ListN.{length, getD}
-use lib.IntN.{ℤ, pos, _+ℤ_, natAbs}
+use Prim.Native.Nat.{ℕ, _+_}
+use lib.ListN.{getD}
+use lib.IntN.{ℤ, pos, _+ℤ_}
 use Rattle.geometry.specs.Windings.{linesOf}
 use Rattle.pruning.specs.Sides.{Kind, paint, clip, Side, end, leaf, group, Entry, item, push, activate, pop, flat, mapSide}
 use Rattle.pruning.specs.Items.{Class, fails, passes, other, Items}
@@ -12,7 +12,7 @@ use Rattle.pruning.specs.Meaning.{shown}
 use Rattle.pruning.specs.Machine.{scan, processing}
 use Rattle.pruning.specs.Order.{pruned}
 use Rattle.cells.specs.Cells.{Position, Cell, Holds, Quarter, child}
-use Rattle.cells.specs.Segments.{Segment, drawn, signOf, sumAt, keptIn, startIn}
+use Rattle.cells.specs.Segments.{Segment, drawn, sumAt, keptIn, startIn}
 use Rattle.cells.specs.Drawings.{Drawing, winding, passesBy, isOpaque, shownAt}
 
 -- "A stream holds one entry for each delimiter, each area (with its start number), line and shortcut"; "a bare entry "passes", with no area
@@ -98,21 +98,9 @@ module _ (D : Drawing) where
     here : Reached c x c x
     down : {d : Cell} {y : Side Item} → Reached c x d y → (q : Quarter) → Reached c x (child d q) (made (child d q) y)
 
-  -- a cell's stream is right: it is made from the drawing; "each area that a leaf still names has, at every grid point of that leaf, the winding
-  -- of the whole drawing"; what is read there is what the drawing shows
+  -- demand 3 of one cell: its stream is made from the drawing; each area that it names has the winding of the whole drawing at every position of the
+  -- cell; what is read there is what the drawing shows
   pub record Right (c : Cell) (y : Side Item) : Type 0 where
     pub stream : y ≡ made c source
     pub windings : Each (Winds c) (flat paint y)
     pub reading : (p : Position) → Holds c p → readIn p y ≡ shownAt D p
-
--- ---- no definition of document 01, but a bound that proofs show of the streams that are made
--- the signs of lines and shortcuts are at most 1 either way
-abbrev pub SignsIn : (xs ys : List ℕ) → List Segment → Type 0
-SignsIn xs ys [] = Unit {0}
-SignsIn xs ys (g ∷ gs) = (natAbs (signOf xs ys g) ≤ 1) × SignsIn xs ys gs
-
-module _ (D : Drawing) where
-  -- an area's start number and how many lines and shortcuts it has are at most m together
-  abbrev pub Small : (m : ℕ) → Kind → Item → Type 0
-  Small m k always = Unit {0}
-  Small m k (area n z gs) = (natAbs z + length gs ≤ m) × SignsIn (D .xs) (D .ys) gs

@@ -17,7 +17,8 @@ use Rattle.stream.specs.Grammar.{env, isGood, roleFits}
 use Rattle.cells.specs.Cells.{Cell, low, side}
 use Rattle.cells.specs.Segments.{Segment}
 use Rattle.cells.specs.Drawings.{Drawing, fieldsOf}
-use Rattle.cells.specs.Streams.{Item, always, area, Each, On, items, within, whole, source, made, Small}
+use Rattle.cells.specs.Streams.{Item, always, area, Each, On, items, within, whole, source, made}
+use Rattle.cells.specs.Sizes.{Small}
 use Rattle.cells.specs.Rows.{OnSide, roleIn}
 use Rattle.cells.proofs.Each.{each-sub, each-mapped}
 use Rattle.cells.proofs.Streams.{made-normal}

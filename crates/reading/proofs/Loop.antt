@@ -1,8 +1,8 @@
 -- The loops over the lines and shortcuts of an area and over a stream. Assumes nothing.
 use mathlib.Core.Path.{_≡_, refl, sym, ap, ap₂, subst, _∙_}
-use mathlib.Core.Bool.{Bool, true, false, cond}
-use mathlib.Core.List.{List, _∷_}
-use Prim.Native.Nat.{ℕ, zero, suc, _+_, _-_, _≤_, _<_}
+use mathlib.Core.Bool.{true, false, cond}
+use mathlib.Core.List.{List}
+use Prim.Native.Nat.{ℕ, _+_, _-_, _≤_, _<_}
 use native.Mathlib.Omega.{arith}
 use lib.IntN.{ℤ, pos, _+ℤ_, natAbs}
 use mir.Syntax.{w32, w64}
@@ -18,46 +18,29 @@ use Rattle.cells.specs.Rows.{settled, state}
 use Rattle.stream.specs.Entry.{decode, startRange}
 use Rattle.stream.specs.Table.{wordsAt, wordsFrom}
 use Rattle.stream.specs.Grammar.{Env, isGood, areaMet, inRange, Passed}
-use Rattle.stream.proofs.Table.{words-step, words-none}
+use Rattle.stream.specs.Machine.{isSegment, segmentsIn}
+use Rattle.stream.proofs.Table.{words-none}
+use Rattle.stream.proofs.Runs.{words-first, few-segments}
 use Rattle.stream.proofs.Passed.{in-range}
 use Rattle.reading.specs.declared.Reading.{Reading}
 use Rattle.reading.specs.Reading.{roleAt, passAt, opaqueAt, setAt}
-use Rattle.reading.specs.Numbers.{isSegment, segmentAdds, segmentsIn, segmentsSum, SegmentsIn, movedBy, Ranged, setFrom, Onward}
+use Rattle.reading.specs.Numbers.{segmentAdds, segmentsSum, SegmentsIn, movedBy, Ranged, setFrom, Onward}
 use Rattle.reading.proofs.Steps.{in-name, in-segment, area-step, idle-step, other-step}
 
 -- ---- the lines and shortcuts of an area
 
 module _ (t xs ys : List ℕ) (x y i e : ℕ) (w : Words) (q : w ≡ wordsAt t i) (l : i < e) where
-  words-first : wordsFrom t i (e - i) ≡ w ∷ wordsFrom t (i + 1) (e - (i + 1))
-  words-first = words-step t i e l ∙ ap (λ u. u ∷ wordsFrom t (i + 1) (e - (i + 1))) (sym q)
-
   pub sum-more : isSegment (w .kind) ≡ true → segmentsSum xs ys x y (wordsFrom t i (e - i)) ≡ segmentAdds xs ys x y w +ℤ segmentsSum xs ys x y (wordsFrom t (i + 1) (e - (i + 1)))
   unfolding segmentsSum
-  sum-more s = ap (segmentsSum xs ys x y) words-first ∙ ap (λ b. cond b (segmentAdds xs ys x y w +ℤ segmentsSum xs ys x y (wordsFrom t (i + 1) (e - (i + 1)))) (pos 0)) s
-
-  pub count-more : isSegment (w .kind) ≡ true → i + 1 + segmentsIn (wordsFrom t (i + 1) (e - (i + 1))) ≡ i + segmentsIn (wordsFrom t i (e - i))
-  unfolding segmentsIn
-  count-more s =
-      let k : segmentsIn (wordsFrom t i (e - i)) ≡ suc (segmentsIn (wordsFrom t (i + 1) (e - (i + 1)))) = ap segmentsIn words-first ∙ ap (λ b. cond b (suc (segmentsIn (wordsFrom t (i + 1) (e - (i + 1))))) 0) s in
-      omega (arith, k)
+  sum-more s = ap (segmentsSum xs ys x y) (words-first t i e w q l) ∙ ap (λ b. cond b (segmentAdds xs ys x y w +ℤ segmentsSum xs ys x y (wordsFrom t (i + 1) (e - (i + 1)))) (pos 0)) s
 
   pub sum-stop : isSegment (w .kind) ≡ false → segmentsSum xs ys x y (wordsFrom t i (e - i)) ≡ pos 0
   unfolding segmentsSum
-  sum-stop s = ap (segmentsSum xs ys x y) words-first ∙ ap (λ b. cond b (segmentAdds xs ys x y w +ℤ segmentsSum xs ys x y (wordsFrom t (i + 1) (e - (i + 1)))) (pos 0)) s
-
-  pub count-stop : isSegment (w .kind) ≡ false → i ≡ i + segmentsIn (wordsFrom t i (e - i))
-  unfolding segmentsIn
-  count-stop s =
-      let k : segmentsIn (wordsFrom t i (e - i)) ≡ 0 = ap segmentsIn words-first ∙ ap (λ b. cond b (suc (segmentsIn (wordsFrom t (i + 1) (e - (i + 1))))) 0) s in
-      omega (arith, k)
+  sum-stop s = ap (segmentsSum xs ys x y) (words-first t i e w q l) ∙ ap (λ b. cond b (segmentAdds xs ys x y w +ℤ segmentsSum xs ys x y (wordsFrom t (i + 1) (e - (i + 1)))) (pos 0)) s
 
 pub sum-last : (t xs ys : List ℕ) (x y i e : ℕ) → e ≤ i → segmentsSum xs ys x y (wordsFrom t i (e - i)) ≡ pos 0
 unfolding segmentsSum
 sum-last t xs ys x y i e h = ap (segmentsSum xs ys x y) (words-none t i e h)
-
-pub count-last : (t : List ℕ) (i e : ℕ) → e ≤ i → i ≡ i + segmentsIn (wordsFrom t i (e - i))
-unfolding segmentsIn
-count-last t i e h = let k : segmentsIn (wordsFrom t i (e - i)) ≡ 0 = ap segmentsIn (words-none t i e h) in omega (arith, k)
 
 -- ---- ranges
 
@@ -82,15 +65,6 @@ ranged-segments t i e v r =
       corners-y = r .ready .ys;
       range = λ k a l s. in-segment v (wordsAt t k) s (r .range k (omega arith) l);
     }
-
-pub few-segments : (t : List ℕ) (n i : ℕ) → segmentsIn (wordsFrom t i n) ≤ n
-unfolding segmentsIn wordsFrom
-few-segments t zero i = omega arith
-few-segments t (suc n) i = go (isSegment (wordsAt t i .kind)) (few-segments t n (i + 1))
-  where
-    go : (b : Bool) → segmentsIn (wordsFrom t (i + 1) n) ≤ n → cond b (suc (segmentsIn (wordsFrom t (i + 1) n))) 0 ≤ suc n
-    go true h = omega arith
-    go false h = omega arith
 
 -- what an area asks
 pub ranged-name : (t : List ℕ) (i e : ℕ) (v : Env) (w : Words) → Ranged t i e v → w ≡ wordsAt t i → w .kind ≡ 4 → (isGood (areaMet v (w .p)) ≡ true) × (startRange (w .q) ≡ true)

@@ -8,7 +8,7 @@ use lib.Dec.{eqb, ltb, leb}
 use lib.IntN.{ℤ, pos, _+ℤ_, +ℤ-assoc, +ℤ-idr}
 use mir.Syntax.{w32}
 use mir.Val.{toZ}
-use borrow.Author.Tests.{eqb-true, ne-eqb}
+use borrow.Author.Tests.{ne-eqb}
 use Rattle.laws.proofs.Booleans.{clash}
 use Rattle.geometry.specs.Windings.{adds}
 use Rattle.pruning.specs.Sides.{clip}
@@ -22,9 +22,11 @@ use Rattle.stream.specs.declared.Words.{Words}
 use Rattle.stream.specs.Entry.{Entry, opens, bar, closes, area, line, shortcut, passes, bad, decode, startRange, signRange}
 use Rattle.stream.specs.Table.{wordsAt, wordsFrom}
 use Rattle.stream.specs.Grammar.{Env, isGood, areaMet, inRange}
+use Rattle.stream.specs.Machine.{isSegment, segmentsIn}
 use Rattle.stream.proofs.Table.{words-step, words-none}
+use Rattle.stream.proofs.Runs.{by-kind}
 use Rattle.reading.specs.Reading.{roleAt, passAt, opaqueAt, rowFor, rowsIn}
-use Rattle.reading.specs.Numbers.{isSegment, segmentRange, segmentAdds, segmentsIn, segmentsSum, movedBy, setFrom}
+use Rattle.reading.specs.Numbers.{segmentRange, segmentAdds, segmentsSum, movedBy, setFrom}
 use Rattle.reading.proofs.Laws.{both}
 use Rattle.reading.proofs.Idle.{Idle, pending-idle, stopped}
 
@@ -32,15 +34,6 @@ use Rattle.reading.proofs.Idle.{Idle, pending-idle, stopped}
 
 pub in-name : (v : Env) (w : Words) → w .kind ≡ 4 → inRange v (decode w) ≡ true → (isGood (areaMet v (w .p)) ≡ true) × (startRange (w .q) ≡ true)
 in-name v w e h = both (isGood (areaMet v (w .p))) (startRange (w .q)) (rw e at h)
-
-segment-kind : (k : ℕ) (a b : Bool) → eqb k 5 ≡ a → eqb k 6 ≡ b → (a || b) ≡ true → {A : Type 0} → (k ≡ 5 → A) → (k ≡ 6 → A) → A
-segment-kind k true b e f h g i = g (eqb-true k 5 e)
-segment-kind k false true e f h g i = i (eqb-true k 6 f)
-segment-kind k false false e f h g i = clash h
-
--- a line or a shortcut is one of two kinds
-by-kind : (k : ℕ) → isSegment k ≡ true → {A : Type 0} → (k ≡ 5 → A) → (k ≡ 6 → A) → A
-by-kind k h = segment-kind k (eqb k 5) (eqb k 6) refl refl h
 
 pub in-segment : (v : Env) (w : Words) → isSegment (w .kind) ≡ true → inRange v (decode w) ≡ true → segmentRange (v .xs) (v .ys) (v .used .corners) w ≡ true
 in-segment v w s h =

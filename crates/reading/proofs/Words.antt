@@ -19,7 +19,8 @@ use Rattle.cells.specs.Segments.{Segment, drawn, shortcut, addsAt}
 use Rattle.cells.specs.Drawings.{Drawing, passesBy, isOpaque, shownAt}
 use Rattle.pruning.proofs.Sides.{map-map}
 use Rattle.pruning.proofs.Survivors.{normal-sub}
-use Rattle.cells.specs.Streams.{Item, always, area, Each, On, SignsIn, Small, items, within, whole, source, made}
+use Rattle.cells.specs.Streams.{Item, always, area, Each, On, items, within, whole, source, made}
+use Rattle.cells.specs.Sizes.{SignsIn, Small}
 use Rattle.cells.specs.Rows.{Row, opens, bar, closes, bare, named, segment, rowsOf, settled, waits, State, state, settle, addTo, onRow, onRows, readRows, roleIn, readAt, Fitted}
 use Rattle.cells.proofs.Each.{each-sub, each-mapped}
 use Rattle.cells.proofs.Streams.{made-normal}

@@ -1,8 +1,8 @@
 -- A reading as the numbers that the code holds. `Rattle.reading.proofs` says that they go as the rows do (`Rattle.cells.specs.Rows`). Assumes nothing.
 use mathlib.Core.Path.{_≡_}
-use mathlib.Core.Bool.{Bool, true, cond, _||_}
+use mathlib.Core.Bool.{Bool, true, cond}
 use mathlib.Core.List.{List, [], _∷_}
-use Prim.Native.Nat.{ℕ, suc, _+_, _*_, _-_, _<_, _≤_}
+use Prim.Native.Nat.{ℕ, _+_, _*_, _-_, _<_, _≤_}
 use lib.Dec.{eqb}
 use lib.ListN.{length}
 use lib.IntN.{ℤ, pos, _+ℤ_}
@@ -17,6 +17,7 @@ use Rattle.stream.specs.declared.Bounds.{Bounds}
 use Rattle.stream.specs.Entry.{signRange, decode}
 use Rattle.stream.specs.Table.{wordsAt, wordsFrom}
 use Rattle.stream.specs.Grammar.{Env, lineRange, inRange, Ready}
+use Rattle.stream.specs.Machine.{isSegment}
 use Rattle.machine.specs.declared.Machine.{Machine}
 use Rattle.machine.specs.Registers.{meant}
 use Rattle.cells.specs.Cells.{at}
@@ -27,11 +28,7 @@ use Rattle.reading.specs.Reading.{roleAt, passAt, opaqueAt, rowsIn}
 
 -- ---- the lines and shortcuts of an area
 
--- the kind of a line or of a shortcut
-abbrev pub isSegment : (kind : ℕ) → Bool
-isSegment k = eqb k 5 || eqb k 6
-
--- its numbers are in range; what it adds
+-- the numbers of a line or a shortcut are in range; what it adds
 abbrev pub segmentRange : List ℕ → List ℕ → ℕ → Words → Bool
 segmentRange xs ys corners w = cond (eqb (w .kind) 5) (lineRange xs ys corners (w .p) (w .q)) (signRange (w .p))
 
@@ -39,12 +36,7 @@ abbrev pub segmentAdds : List ℕ → List ℕ → ℕ → ℕ → Words → ℤ
 segmentAdds xs ys x y w =
     cond (eqb (w .kind) 5) (Windings.adds (Windings.edgeBetween xs ys (w .p) (w .q)) x y) (cond (isRow (w .q) (w .r) y) (toZ w32 (w .p)) (pos 0))
 
--- how many lines and shortcuts stand in front
-unfoldable pub segmentsIn : List Words → ℕ
-segmentsIn [] = 0
-segmentsIn (w ∷ ws) = cond (isSegment (w .kind)) (suc (segmentsIn ws)) 0
-
--- what they add
+-- what the lines and shortcuts that stand in front add
 unfoldable pub segmentsSum : (xs ys : List ℕ) (x y : ℕ) → List Words → ℤ
 segmentsSum xs ys x y [] = pos 0
 segmentsSum xs ys x y (w ∷ ws) = cond (isSegment (w .kind)) (segmentAdds xs ys x y w +ℤ segmentsSum xs ys x y ws) (pos 0)

@@ -22,8 +22,9 @@ ghost use Rattle.machine.specs.Registers.{meant};
 ghost use Rattle.stream.specs.Entry.{startRange, signRange};
 ghost use Rattle.stream.specs.Table.{wordsAt, wordsFrom};
 ghost use Rattle.stream.specs.Grammar.{env, Passed};
+ghost use Rattle.stream.specs.Machine.{segmentsIn};
 ghost use Rattle.reading.specs.Reading.{roleAt, passAt, opaqueAt, setAt};
-ghost use Rattle.reading.specs.Numbers.{isSegment, segmentRange, segmentAdds, segmentsIn, segmentsSum, movedBy, SegmentsIn, Ranged, Onward};
+ghost use Rattle.reading.specs.Numbers.{segmentRange, segmentAdds, segmentsSum, movedBy, SegmentsIn, Ranged, Onward};
 
 // What a shortcut adds in row y.
 fn shortcut_adds(w: Words, y: u32) -> i64
@@ -88,12 +89,6 @@ pub fn start_of(w: Words) -> i64
 }
 
 // ---- an area and its lines and shortcuts
-fn is_segment(kind: u32) -> bool
-    ensures { λ r. ⌜ r ≡ isSegment kind ⌝ }
-{
-    (kind == 5) | (kind == 6)
-}
-
 // What a line or a shortcut adds at (x, y).
 fn segment_adds(xs: &[u32], ys: &[u32], corners: usize, w: Words, x: u32, y: u32) -> i64
     requires { ⌜ (corners ≤ length (now xs)) × (corners ≤ length (now ys)) ⌝ }
@@ -135,7 +130,7 @@ fn winding_from(
     let mut i = from;
     while i < end {
         let w = stream::read_entry(entries, i);
-        if is_segment(w.kind) {
+        if stream::is_segment(w.kind) {
             let a = segment_adds(xs, ys, b.corners, w, x, y);
             sum += a;
             i += 1;

@@ -1,5 +1,5 @@
 -- The loop over a stream, and what the test of the numbers in use says. Assumes nothing.
-use Prim.Native.Nat.{ℕ, _+_, _*_, _-_, _/_, _≤_, _<_}
+use Prim.Native.Nat.{ℕ, _+_, _*_, _-_, _/_, _≤_}
 use mathlib.Core.Path.{_≡_, ap}
 use mathlib.Core.Bool.{Bool, true, _&&_}
 use mathlib.Core.List.{List}
@@ -8,23 +8,16 @@ use lib.ListN.{length}
 use lib.Dec.{leb}
 use borrow.Author.Tests.{leb-true}
 use Rattle.laws.proofs.Booleans.{and-left, and-right}
-use Rattle.stream.specs.declared.Words.{Words}
 use Rattle.stream.specs.declared.Bounds.{Bounds}
 use Rattle.stream.specs.declared.Scan.{Scan}
-use Rattle.stream.specs.Table.{wordsAt, wordsFrom}
+use Rattle.stream.specs.Table.{wordsFrom}
 use Rattle.stream.specs.Grammar.{Env, usedRange, Ready}
-use Rattle.stream.specs.Machine.{stepN, scanN}
-use Rattle.stream.proofs.Table.{words-step, words-none}
+use Rattle.stream.specs.Machine.{scanN}
+use Rattle.stream.proofs.Table.{words-none}
 
--- where the loop begins, a turn, and where it ends: what is left gives what the whole gives
+-- where the loop begins, and where it ends: what is left gives what the whole gives
 pub scan-begin : (v : Env) (s : Scan) (t : List ℕ) (f n : ℕ) → scanN v s (wordsFrom t f (f + n - f)) ≡ scanN v s (wordsFrom t f n)
 scan-begin v s t f n = ap (λ (k : ℕ). scanN v s (wordsFrom t f k)) (omega arith)
-
-pub scan-turn :
-    (v : Env) (t : List ℕ) (i e : ℕ) (s s′ whole : Scan) (w : Words) → i < e → w ≡ wordsAt t i → s′ ≡ stepN v s w
-    → scanN v s (wordsFrom t i (e - i)) ≡ whole → scanN v s′ (wordsFrom t (i + 1) (e - (i + 1))) ≡ whole
-unfolding scanN
-scan-turn v t i e s s′ whole w h p r inv = rw (r, p) (rw (words-step t i e h) at inv)
 
 pub scan-done : (v : Env) (t : List ℕ) (i e : ℕ) (s whole : Scan) → e ≤ i → scanN v s (wordsFrom t i (e - i)) ≡ whole → s ≡ whole
 unfolding scanN

@@ -1,12 +1,16 @@
 -- The grammar of streams over the state that the code holds. `Rattle.stream.proofs.Meaning` says that it is the same. Assumes nothing.
-use Prim.Native.Nat.{ℕ, _+_}
-use mathlib.Core.Bool.{Bool, true, false, cond, _&&_}
+use Prim.Native.Nat.{ℕ, suc, _+_, _-_, _≤_, _<_}
+use mathlib.Core.Path.{_≡_}
+use mathlib.Core.Bool.{Bool, true, false, cond, _&&_, _||_}
 use mathlib.Core.List.{List, [], _∷_}
 use lib.Dec.{eqb, ltb}
 use Rattle.groups.specs.Stack.{paintN, leftN, rightN, roomN, openN, barN, closeN}
 use Rattle.drawing.specs.Tables.{areaRow}
 use Rattle.stream.specs.declared.Words.{Words}
+use Rattle.stream.specs.declared.Bounds.{Bounds}
 use Rattle.stream.specs.declared.Scan.{Scan}
+use Rattle.stream.specs.declared.Scanned.{Scanned}
+use Rattle.stream.specs.Table.{wordsFrom}
 use Rattle.stream.specs.Entry.{startRange}
 use Rattle.stream.specs.Grammar.{Env, lineRange, shortcutRange, roleFits}
 
@@ -61,3 +65,32 @@ stepN v s w =
 unfoldable pub scanN : Env → Scan → List Words → Scan
 scanN v s [] = s
 scanN v s (w ∷ ws) = scanN v (stepN v s w) ws
+
+-- ---- lines and shortcuts in a row
+
+-- the kind of a line or of a shortcut
+abbrev pub isSegment : (kind : ℕ) → Bool
+isSegment k = eqb k 5 || eqb k 6
+
+-- its numbers are in range
+abbrev pub segmentFits : (xs ys : List ℕ) → Bounds → Words → Bool
+segmentFits xs ys b w = cond (eqb (w .kind) 5) (lineRange xs ys (b .corners) (w .p) (w .q)) (shortcutRange (b .low) (b .side) (w .p) (w .q) (w .r))
+
+-- how many stand in front
+unfoldable pub segmentsIn : List Words → ℕ
+segmentsIn [] = 0
+segmentsIn (w ∷ ws) = cond (isSegment (w .kind)) (suc (segmentsIn ws)) 0
+
+-- they are in range, and at most 2,048 with those before
+unfoldable pub runFits : (xs ys : List ℕ) → Bounds → (lines : ℕ) → List Words → Bool
+runFits xs ys b l [] = true
+runFits xs ys b l (w ∷ ws) = cond (isSegment (w .kind)) ((segmentFits xs ys b w && ltb l 2048) && runFits xs ys b (l + 1) ws) true
+
+abbrev pub afterRunN : Scan → Bool → ℕ → Scan
+afterRunN s fits lines = cond fits (mk (s .stack) true (s .areas) lines) offN
+
+-- from entry i the scan s has come to another entry: what is left gives the same
+pub record Onward (v : Env) (t : List ℕ) (i end : ℕ) (s : Scan) (r : Scanned) : Type 0 where
+  pub later : i < r .next
+  pub inside : r .next ≤ end
+  pub same : scanN v (r .scan) (wordsFrom t (r .next) (end - r .next)) ≡ scanN v s (wordsFrom t i (end - i))

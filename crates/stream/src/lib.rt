@@ -2,11 +2,12 @@
 use records::Decoded;
 use records::Record;
 ghost use mathlib.Core.Path.{_≡_};
-ghost use Prim.Native.Nat.{_+_, _*_, _≤_, _<_};
+ghost use mathlib.Core.Bool.{true};
+ghost use Prim.Native.Nat.{_+_, _*_, _-_, _≤_, _<_};
 ghost use lib.ListN.{length};
 ghost use Rattle.stream.specs.Table.{wordsAt, wordsFrom, putAt};
 ghost use Rattle.stream.specs.Grammar.{env, cornerMet, lineRange, shortcutRange, recordFits, roleFits, usedRange, Ready, checkStream};
-ghost use Rattle.stream.specs.Machine.{offN, startN, inGroups, afterOpenN, afterBarN, afterCloseN, afterPassesN, withAreaN, areaFitsN, withLineN, stepN, scanN};
+ghost use Rattle.stream.specs.Machine.{offN, startN, inGroups, afterOpenN, afterBarN, afterCloseN, afterPassesN, withAreaN, areaFitsN, withLineN, stepN, scanN, isSegment, segmentFits, segmentsIn, runFits, afterRunN, Onward};
 
 // The four words of an entry.
 pub struct Words {
@@ -256,6 +257,134 @@ fn step(areas: &[u32], xs: &[u32], ys: &[u32], b: Bounds, s: Scan, w: Words) -> 
     }
 }
 
+// ---- lines and shortcuts in a row
+// Whether an entry of this kind is a line or a shortcut.
+pub fn is_segment(kind: u32) -> bool
+    ensures { λ r. ⌜ r ≡ isSegment kind ⌝ }
+{
+    (kind == 5) | (kind == 6)
+}
+
+// Whether the numbers of a line or a shortcut are in range.
+fn segment_fits(xs: &[u32], ys: &[u32], b: Bounds, w: Words) -> bool
+    requires { ⌜ (b .corners ≤ length (now xs)) × (b .corners ≤ length (now ys)) ⌝ }
+    ensures { λ r. ⌜ r ≡ segmentFits (now (xs .entry)) (now (ys .entry)) b w ⌝ }
+{
+    if w.kind == 5 {
+        return line_range(xs, ys, b.corners, w);
+    }
+    shortcut_range(b.low, b.side, w)
+}
+
+// Whether they are in range and at most 2,048; how many there are with those before; and the entry behind them.
+pub struct Run {
+    pub fits: bool,
+    pub lines: usize,
+    pub next: usize,
+}
+
+// The lines and shortcuts from entry `from` on, where `lines` stand before.
+fn scan_run(
+    entries: &[u32],
+    from: usize,
+    end: usize,
+    xs: &[u32],
+    ys: &[u32],
+    b: Bounds,
+    lines: usize,
+) -> Run
+    requires { ⌜ (from ≤ end) × (end ≤ from + 4096) × (end * 4 ≤ length (now entries)) ⌝ }
+    requires { ⌜ (b .corners ≤ length (now xs)) × (b .corners ≤ length (now ys)) ⌝ }
+    requires { ⌜ lines < 4294967296 ⌝ }
+    ensures { λ r. ⌜ r .fits ≡ runFits (now (xs .entry)) (now (ys .entry)) b lines (wordsFrom (now (entries .entry)) from (end - from)) ⌝ }
+    ensures { λ r. ⌜ r .lines ≡ lines + segmentsIn (wordsFrom (now (entries .entry)) from (end - from)) ⌝ }
+    ensures { λ r. ⌜ r .next ≡ from + segmentsIn (wordsFrom (now (entries .entry)) from (end - from)) ⌝ }
+{
+    let mut fits = true;
+    let mut n = lines;
+    let mut i = from;
+    while i < end {
+        let w = read_entry(entries, i);
+        if is_segment(w.kind) {
+            let g = segment_fits(xs, ys, b, w);
+            fits = fits & (g & (n < 2048));
+            n += 1;
+            i += 1;
+        } else {
+            return Run {
+                fits: fits,
+                lines: n,
+                next: i,
+            };
+        }
+    }
+    Run {
+        fits: fits,
+        lines: n,
+        next: i,
+    }
+}
+
+// After a run of lines and shortcuts that stands straight after an area, a line or a shortcut.
+fn after_run(s: Scan, r: Run) -> Scan
+    requires { ⌜ (r .fits ≡ true → r .lines < 4294967296) ⌝ }
+    ensures { λ t. ⌜ t ≡ afterRunN s (r .fits) (r .lines) ⌝ }
+{
+    if r.fits {
+        return Scan {
+            stack: s.stack,
+            held: true,
+            areas: s.areas,
+            lines: r.lines as u32,
+        };
+    }
+    off()
+}
+
+// ---- a stream
+// Where a reader stands, and the entry from which it goes on.
+pub struct Scanned {
+    pub scan: Scan,
+    pub next: usize,
+}
+
+// Entry i, and the lines and shortcuts that stand behind it.
+fn scan_next(
+    entries: &[u32],
+    i: usize,
+    end: usize,
+    areas: &[u32],
+    xs: &[u32],
+    ys: &[u32],
+    b: Bounds,
+    s: Scan,
+) -> Scanned
+    requires { ⌜ (i < end) × (end ≤ i + 4096) × (end * 4 ≤ length (now entries)) ⌝ }
+    requires { ⌜ Ready (now areas) (now xs) (now ys) b ⌝ }
+    ensures { λ r. ⌜ Onward (env (now (areas .entry)) (now (xs .entry)) (now (ys .entry)) b) (now (entries .entry)) i end s r ⌝ }
+{
+    let w = read_entry(entries, i);
+    let n = step(areas, xs, ys, b, s, w);
+    if n.stack == 0 {
+        return Scanned {
+            scan: n,
+            next: i + 1,
+        };
+    }
+    if n.held {
+        let r = scan_run(entries, i + 1, end, xs, ys, b, n.lines as usize);
+        let m = after_run(n, r);
+        return Scanned {
+            scan: m,
+            next: r.next,
+        };
+    }
+    Scanned {
+        scan: n,
+        next: i + 1,
+    }
+}
+
 // All the entries of a stream.
 fn scan_all(
     entries: &[u32],
@@ -267,6 +396,7 @@ fn scan_all(
     b: Bounds,
 ) -> Scan
     requires { ⌜ (first + count) * 4 ≤ length (now entries) ⌝ }
+    requires { ⌜ count ≤ 4096 ⌝ }
     requires { ⌜ Ready (now areas) (now xs) (now ys) b ⌝ }
     ensures { λ r. ⌜ r ≡ scanN (env (now (areas .entry)) (now (xs .entry)) (now (ys .entry)) b) startN (wordsFrom (now (entries .entry)) first count) ⌝ }
 {
@@ -279,9 +409,10 @@ fn scan_all(
     };
     let mut i = first;
     while i < end {
-        let w = read_entry(entries, i);
-        s = step(areas, xs, ys, b, s, w);
-        i += 1;
+        let r = scan_next(entries, i, end, areas, xs, ys, b, s);
+        let n = r.scan;
+        s = n;
+        i = r.next;
     }
     s
 }

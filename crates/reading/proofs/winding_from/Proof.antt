@@ -9,9 +9,11 @@ use denote.Ref.{now}
 use borrow.Author.Needs.{needs}
 use Rattle.laws.proofs.Signed.{Running, running-fits, running-more}
 use Rattle.stream.specs.Table.{wordsFrom}
-use Rattle.reading.specs.Numbers.{segmentAdds, segmentsIn, segmentsSum}
+use Rattle.reading.specs.Numbers.{segmentAdds, segmentsSum}
+use Rattle.stream.specs.Machine.{segmentsIn}
+use Rattle.stream.proofs.Runs.{count-more, count-stop, count-last}
 use Rattle.reading.proofs.Laws.{small-back}
-use Rattle.reading.proofs.Loop.{sum-more, count-more, sum-stop, count-stop, sum-last, count-last, running-from, running-done}
+use Rattle.reading.proofs.Loop.{sum-more, sum-stop, sum-last, running-from, running-done}
 use Rattle.reading.proofs.winding_from.Statement.{statement}
 use Rattle.reading.proofs.winding_from.Tie as tie
 
@@ -64,7 +66,7 @@ loop-again c =
       running-more (l .inv .2) (segmentAdds (now (a .xs)) (now (a .ys)) (a .x) (a .y) (w .result)) _ _ (2048 + (l .i + 1 - a .from)) 1
           (sum-more (now (a .entries)) (now (a .xs)) (now (a .ys)) (a .x) (a .y) (l .i) (a .end) (w .result) (w .ensures) t s)
           (c .segment-adds .ensures .0) (subst (λ z. natAbs z ≤ 1) (c .segment-adds .ensures .0) (c .segment-adds .ensures .1)) (omega (arith, l .inv .0)) (omega (arith, p .0 .few, t)),
-      count-more (now (a .entries)) (now (a .xs)) (now (a .ys)) (a .x) (a .y) (l .i) (a .end) (w .result) (w .ensures) t s ∙ l .inv .3,
+      omega (arith, count-more (now (a .entries)) (l .i) (a .end) (w .result) (w .ensures) t s, l .inv .3),
     )
 
 returns : tie.Need-returns Inv-loop μ-loop
@@ -75,7 +77,7 @@ returns c =
     let t = c .before .before .before .loop-test .taken in
     let s = sym (c .before .is-segment .ensures) ∙ c .if1 .left in (
       running-done (sum-stop (now (a .entries)) (now (a .xs)) (now (a .ys)) (a .x) (a .y) (l .i) (a .end) (w .result) (w .ensures) t s) (l .inv .2) ∙ ap (λ z. z +ℤ segmentsSum (now (a .xs)) (now (a .ys)) (a .x) (a .y) (wordsFrom (now (a .entries)) (a .from) (a .end - a .from))) (small-back (a .start) (omega (arith, c .before .before .before .before .before .before .before .before .pre .1 .1))),
-      count-stop (now (a .entries)) (now (a .xs)) (now (a .ys)) (a .x) (a .y) (l .i) (a .end) (w .result) (w .ensures) t s ∙ l .inv .3,
+      omega (arith, count-stop (now (a .entries)) (l .i) (a .end) (w .result) (w .ensures) t s, l .inv .3),
     )
 
 returns-2 : tie.Need-returns-2 Inv-loop μ-loop
@@ -84,7 +86,7 @@ returns-2 c =
     let l = c .before .loop in
     let t = c .loop-test .left in (
       running-done (sum-last (now (a .entries)) (now (a .xs)) (now (a .ys)) (a .x) (a .y) (l .i) (a .end) t) (l .inv .2) ∙ ap (λ z. z +ℤ segmentsSum (now (a .xs)) (now (a .ys)) (a .x) (a .y) (wordsFrom (now (a .entries)) (a .from) (a .end - a .from))) (small-back (a .start) (omega (arith, c .before .before .before .before .before .pre .1 .1))),
-      count-last (now (a .entries)) (l .i) (a .end) t ∙ l .inv .3,
+      omega (arith, count-last (now (a .entries)) (l .i) (a .end) t, l .inv .3),
     )
 
 pub winding-from-spec : {M : Type 1} → statement M

@@ -11,7 +11,7 @@ used-range-requires : tie.Need-used-range-requires
 used-range-requires c κs = search needs
 
 scan-all-requires : tie.Need-scan-all-requires
-scan-all-requires c κs = (run-fits _ _ _ _ (used-entries _ _ _ _ _ _ (sym (c .before .before .before .before .used-range .ensures) ∙ c .before .before .before .if1 .taken)) (c .before .before .if2 .taken) (c .before .if3 .taken), used-ready _ _ _ _ _ _ (sym (c .before .before .before .before .used-range .ensures) ∙ c .before .before .before .if1 .taken))
+scan-all-requires c κs = (run-fits _ _ _ _ (used-entries _ _ _ _ _ _ (sym (c .before .before .before .before .used-range .ensures) ∙ c .before .before .before .if1 .taken)) (c .before .before .if2 .taken) (c .before .if3 .taken), (c .if4 .taken, used-ready _ _ _ _ _ _ (sym (c .before .before .before .before .used-range .ensures) ∙ c .before .before .before .if1 .taken)))
 
 returns : tie.Need-returns
 returns c = rw (sym (c .before .before .before .before .before .before .used-range .ensures) ∙ c .before .before .before .before .before .if1 .taken, le-leb _ _ (c .before .before .before .before .if2 .taken), le-leb _ _ (c .before .before .before .if3 .taken), le-leb _ _ (c .before .before .if4 .taken), c .before .scan-all .ensures) (accepts-is _ _)

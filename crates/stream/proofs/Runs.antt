@@ -1,0 +1,179 @@
+-- Lines and shortcuts in a row: how many there are, and that a scan of the run is a scan of its entries. Assumes nothing.
+use mathlib.Core.Path.{_≡_, refl, sym, ap, ap₂, _∙_}
+use mathlib.Core.Bool.{Bool, true, false, cond, _&&_, _||_}
+use mathlib.Core.List.{List, [], _∷_}
+use Prim.Native.Nat.{ℕ, zero, suc, _+_, _-_, _≤_, _<_}
+use native.Mathlib.Omega.{arith}
+use lib.Dec.{eqb, ltb}
+use borrow.Author.Tests.{eqb-true, ne-eqb, ltb-true}
+use Rattle.laws.proofs.Booleans.{clash, and-left, and-right}
+use Rattle.stream.specs.declared.Words.{Words}
+use Rattle.stream.specs.declared.Bounds.{Bounds}
+use Rattle.stream.specs.declared.Scan.{Scan}
+use Rattle.stream.specs.declared.Scanned.{Scanned}
+use Rattle.stream.specs.Table.{wordsAt, wordsFrom}
+use Rattle.stream.specs.Grammar.{Env, lineRange, shortcutRange}
+use Rattle.stream.specs.Machine.{mk, offN, stepN, scanN, isSegment, segmentFits, segmentsIn, runFits, afterRunN, Onward}
+use Rattle.stream.proofs.Table.{words-step, words-none}
+
+pub and-assoc : (a b c : Bool) → ((a && b) && c) ≡ (a && (b && c))
+and-assoc true b c = refl
+and-assoc false b c = refl
+
+-- a line or a shortcut is one of two kinds
+of-kind : (k : ℕ) (a b : Bool) → eqb k 5 ≡ a → eqb k 6 ≡ b → (a || b) ≡ true → {A : Type 0} → (k ≡ 5 → A) → (k ≡ 6 → A) → A
+of-kind k true b e f h g i = g (eqb-true k 5 e)
+of-kind k false true e f h g i = i (eqb-true k 6 f)
+of-kind k false false e f h g i = clash h
+
+pub by-kind : (k : ℕ) → isSegment k ≡ true → {A : Type 0} → (k ≡ 5 → A) → (k ≡ 6 → A) → A
+by-kind k h = of-kind k (eqb k 5) (eqb k 6) refl refl h
+
+-- ---- how many stand in front
+
+module _ (t : List ℕ) (i e : ℕ) (w : Words) (q : w ≡ wordsAt t i) (l : i < e) where
+  pub words-first : wordsFrom t i (e - i) ≡ w ∷ wordsFrom t (i + 1) (e - (i + 1))
+  words-first = words-step t i e l ∙ ap (λ u. u ∷ wordsFrom t (i + 1) (e - (i + 1))) (sym q)
+
+  pub count-more : isSegment (w .kind) ≡ true → segmentsIn (wordsFrom t i (e - i)) ≡ suc (segmentsIn (wordsFrom t (i + 1) (e - (i + 1))))
+  unfolding segmentsIn
+  count-more s = ap segmentsIn words-first ∙ ap (λ b. cond b (suc (segmentsIn (wordsFrom t (i + 1) (e - (i + 1))))) 0) s
+
+  pub count-stop : isSegment (w .kind) ≡ false → segmentsIn (wordsFrom t i (e - i)) ≡ 0
+  unfolding segmentsIn
+  count-stop s = ap segmentsIn words-first ∙ ap (λ b. cond b (suc (segmentsIn (wordsFrom t (i + 1) (e - (i + 1))))) 0) s
+
+pub count-last : (t : List ℕ) (i e : ℕ) → e ≤ i → segmentsIn (wordsFrom t i (e - i)) ≡ 0
+unfolding segmentsIn
+count-last t i e h = ap segmentsIn (words-none t i e h)
+
+pub few-segments : (t : List ℕ) (n i : ℕ) → segmentsIn (wordsFrom t i n) ≤ n
+unfolding segmentsIn wordsFrom
+few-segments t zero i = omega arith
+few-segments t (suc n) i = go (isSegment (wordsAt t i .kind)) (few-segments t n (i + 1))
+  where
+    go : (b : Bool) → segmentsIn (wordsFrom t (i + 1) n) ≤ n → cond b (suc (segmentsIn (wordsFrom t (i + 1) n))) 0 ≤ suc n
+    go true h = omega arith
+    go false h = omega arith
+
+-- ---- whether they fit
+
+module _ (xs ys : List ℕ) (b : Bounds) where
+  module _ (t : List ℕ) (i e : ℕ) (w : Words) (q : w ≡ wordsAt t i) (l : i < e) where
+    pub fits-more : (n : ℕ) → isSegment (w .kind) ≡ true → runFits xs ys b n (wordsFrom t i (e - i)) ≡ ((segmentFits xs ys b w && ltb n 2048) && runFits xs ys b (n + 1) (wordsFrom t (i + 1) (e - (i + 1))))
+    unfolding runFits
+    fits-more n s =
+        ap (runFits xs ys b n) (words-first t i e w q l) ∙ ap (λ c. cond c ((segmentFits xs ys b w && ltb n 2048) && runFits xs ys b (n + 1) (wordsFrom t (i + 1) (e - (i + 1)))) true) s
+
+    pub fits-stop : (n : ℕ) → isSegment (w .kind) ≡ false → runFits xs ys b n (wordsFrom t i (e - i)) ≡ true
+    unfolding runFits
+    fits-stop n s =
+        ap (runFits xs ys b n) (words-first t i e w q l) ∙ ap (λ c. cond c ((segmentFits xs ys b w && ltb n 2048) && runFits xs ys b (n + 1) (wordsFrom t (i + 1) (e - (i + 1)))) true) s
+
+  pub fits-last : (t : List ℕ) (i e n : ℕ) → e ≤ i → runFits xs ys b n (wordsFrom t i (e - i)) ≡ true
+  unfolding runFits
+  fits-last t i e n h = ap (runFits xs ys b n) (words-none t i e h)
+
+  -- a run that fits makes no more than 2,048
+  pub fits-few : (t : List ℕ) (k i n : ℕ) → runFits xs ys b n (wordsFrom t i k) ≡ true → n < 4294967296 → n + segmentsIn (wordsFrom t i k) < 4294967296
+  unfolding runFits segmentsIn wordsFrom
+  fits-few t zero i n h l = omega arith
+  fits-few t (suc k) i n h l = go (isSegment (wordsAt t i .kind)) h (fits-few t k (i + 1) (n + 1))
+    where
+      f : Bool
+      f = segmentFits xs ys b (wordsAt t i)
+
+      r : Bool
+      r = runFits xs ys b (n + 1) (wordsFrom t (i + 1) k)
+
+      go : (c : Bool) → cond c ((f && ltb n 2048) && r) true ≡ true → (r ≡ true → n + 1 < 4294967296 → n + 1 + segmentsIn (wordsFrom t (i + 1) k) < 4294967296)
+          → n + cond c (suc (segmentsIn (wordsFrom t (i + 1) k))) 0 < 4294967296
+      go true e ih =
+          let p = and-left (f && ltb n 2048) r e in
+          let m = ltb-true n 2048 (and-right f (ltb n 2048) p) in
+          let u = ih (and-right (f && ltb n 2048) r e) (omega arith) in
+          omega (arith, u)
+      go false e ih = omega arith
+
+-- ---- the scan of a run
+
+both-fit : (f g : Bool) (x y : Scan) → cond f (cond g x y) y ≡ cond (f && g) x y
+both-fit true g x y = refl
+both-fit false g x y = refl
+
+pub scan-off : (v : Env) (ws : List Words) → scanN v offN ws ≡ offN
+unfolding scanN
+scan-off v [] = refl
+scan-off v (w ∷ ws) = scan-off v ws
+
+module _ (v : Env) (t : List ℕ) (n a : ℕ) (some : n ≡ 0 → ⊥) where
+  -- a line or a shortcut, with l before it
+  segment-step : (l : ℕ) (w : Words) → isSegment (w .kind) ≡ true → stepN v (mk n true a l) w ≡ cond (segmentFits (v .xs) (v .ys) (v .used) w && ltb l 2048) (mk n true a (l + 1)) offN
+  segment-step l w s =
+      by-kind (w .kind) s
+      (λ e. rw (ne-eqb n 0 some, e) (both-fit (lineRange (v .xs) (v .ys) (v .used .corners) (w .p) (w .q)) (ltb l 2048) (mk n true a (l + 1)) offN))
+      (λ e. rw (ne-eqb n 0 some, e) (both-fit (shortcutRange (v .used .low) (v .used .side) (w .p) (w .q) (w .r)) (ltb l 2048) (mk n true a (l + 1)) offN))
+
+  pub run-step : (k i l : ℕ) → scanN v (cond (runFits (v .xs) (v .ys) (v .used) l (wordsFrom t i k)) (mk n true a (l + segmentsIn (wordsFrom t i k))) offN) (wordsFrom t (i + segmentsIn (wordsFrom t i k)) (k - segmentsIn (wordsFrom t i k)))
+      ≡ scanN v (mk n true a l) (wordsFrom t i k)
+  unfolding runFits segmentsIn wordsFrom scanN
+  run-step zero i l = let e : l + 0 ≡ l = omega arith in ap (λ m. mk n true a m) e
+  run-step (suc k) i l = go (isSegment (wordsAt t i .kind)) refl (run-step k (i + 1) (l + 1))
+    where
+      ws : List Words
+      ws = wordsFrom t (i + 1) k
+
+      m : ℕ
+      m = segmentsIn ws
+
+      r : Bool
+      r = runFits (v .xs) (v .ys) (v .used) (l + 1) ws
+
+      fit : Bool
+      fit = segmentFits (v .xs) (v .ys) (v .used) (wordsAt t i) && ltb l 2048
+
+      more : (d : Bool) → scanN v (cond r (mk n true a (l + 1 + m)) offN) (wordsFrom t (i + 1 + m) (k - m)) ≡ scanN v (mk n true a (l + 1)) ws
+          → scanN v (cond (d && r) (mk n true a (l + suc m)) offN) (wordsFrom t (i + suc m) (suc k - suc m)) ≡ scanN v (cond d (mk n true a (l + 1)) offN) ws
+      more true ih =
+          let x : l + suc m ≡ l + 1 + m = omega arith in
+          let y : i + suc m ≡ i + 1 + m = omega arith in
+          let z : suc k - suc m ≡ k - m = omega arith in
+          ap (λ u. scanN v (cond r (mk n true a u) offN) (wordsFrom t (i + suc m) (suc k - suc m))) x
+          ∙ (ap₂ (λ p q. scanN v (cond r (mk n true a (l + 1 + m)) offN) (wordsFrom t p q)) y z ∙ ih)
+      more false ih = scan-off v (wordsFrom t (i + suc m) (suc k - suc m)) ∙ sym (scan-off v ws)
+
+      go : (c : Bool) → isSegment (wordsAt t i .kind) ≡ c → scanN v (cond r (mk n true a (l + 1 + m)) offN) (wordsFrom t (i + 1 + m) (k - m)) ≡ scanN v (mk n true a (l + 1)) ws
+          → scanN v (cond (cond c (fit && r) true) (mk n true a (l + cond c (suc m) 0)) offN) (wordsFrom t (i + cond c (suc m) 0) (suc k - cond c (suc m) 0)) ≡ scanN v (mk n true a l) (wordsAt t i ∷ ws)
+      go true e ih = more fit ih ∙ sym (ap (λ u. scanN v u ws) (segment-step l (wordsAt t i) e))
+      go false e ih =
+          let x : l + 0 ≡ l = omega arith in
+          let y : i + 0 ≡ i = omega arith in
+          let z : suc k - 0 ≡ suc k = omega arith in
+          ap (λ u. scanN v (mk n true a u) (wordsFrom t (i + 0) (suc k - 0))) x ∙ ap₂ (λ p q. scanN v (mk n true a l) (wordsFrom t p q)) y z
+
+-- ---- one entry, with the run behind it
+
+module _ (v : Env) (t : List ℕ) (i e : ℕ) (s : Scan) (w : Words) (q : w ≡ wordsAt t i) (l : i < e) where
+  scan-step : scanN v (stepN v s w) (wordsFrom t (i + 1) (e - (i + 1))) ≡ scanN v s (wordsFrom t i (e - i))
+  unfolding scanN
+  scan-step = sym (ap (scanN v s) (words-first t i e w q l))
+
+  pub one-onward : (r : Scanned) → r .scan ≡ stepN v s w → r .next ≡ i + 1 → Onward v t i e s r
+  one-onward r g n =
+      record { later = omega (arith, n); inside = omega (arith, n, l); same = ap₂ (λ (u : Scan) j. scanN v u (wordsFrom t j (e - j))) g n ∙ scan-step }
+
+  pub run-onward : (n : Scan) → n ≡ stepN v s w → (n .stack ≡ 0 → ⊥) → n .held ≡ true → (r : Scanned) (fits : Bool) (lines : ℕ)
+      → fits ≡ runFits (v .xs) (v .ys) (v .used) (n .lines) (wordsFrom t (i + 1) (e - (i + 1))) → lines ≡ n .lines + segmentsIn (wordsFrom t (i + 1) (e - (i + 1)))
+      → r .scan ≡ afterRunN n fits lines → r .next ≡ i + 1 + segmentsIn (wordsFrom t (i + 1) (e - (i + 1))) → Onward v t i e s r
+  run-onward n g some held r fits lines f m h k =
+      let ws = wordsFrom t (i + 1) (e - (i + 1)) in
+      let z : e - (i + 1 + segmentsIn ws) ≡ e - (i + 1) - segmentsIn ws = omega arith in
+      record {
+        later = omega (arith, k);
+        inside = omega (arith, k, few-segments t (e - (i + 1)) (i + 1), l);
+        same =
+            ap₂ (λ (u : Scan) j. scanN v u (wordsFrom t j (e - j))) (h ∙ ap₂ (λ b j. cond b (mk (n .stack) true (n .areas) j) offN) f m) k
+            ∙ (ap (λ j. scanN v (cond (runFits (v .xs) (v .ys) (v .used) (n .lines) ws) (mk (n .stack) true (n .areas) (n .lines + segmentsIn ws)) offN) (wordsFrom t (i + 1 + segmentsIn ws) j)) z
+            ∙ (run-step v t (n .stack) (n .areas) some (e - (i + 1)) (i + 1) (n .lines)
+            ∙ (ap (λ b. scanN v (mk (n .stack) b (n .areas) (n .lines)) ws) (sym held) ∙ (ap (λ (u : Scan). scanN v u ws) g ∙ scan-step))));
+      }
