@@ -27,7 +27,7 @@ array-copy-out-t : tie.Need-array-copy-out-t Inv-loop μ-loop
 array-copy-out-t c = search needs
 
 child-words-requires : tie.Need-child-words-requires Inv-loop μ-loop
-child-words-requires c κs = let a = c .before .before .before .before .args in let p = c .before .before .before .before .pre in (p .0, (p .1 .0, p .1 .1 .1 .1 .few (c .before .before .loop .n) (c .before .loop-test .taken)))
+child-words-requires c κs = let a = c .before .before .before .before .args in let p = c .before .before .before .before .pre in (p .0, (p .1 .0, p .1 .1 .1 .1 .few (c .before .before .loop .n) (omega (arith, c .before .loop-test .taken))))
 
 add-i : tie.Need-add-i Inv-loop μ-loop
 add-i c = record { fits = omega (arith, c .before .before .before .before .before .pre .1 .1 .1 .0 .0, c .before .before .loop-test .taken) }
@@ -39,10 +39,10 @@ put-cell-requires : tie.Need-put-cell-requires Inv-loop μ-loop
 put-cell-requires c κs = let a = c .before .before .before .before .before .before .args in let p = c .before .before .before .before .before .before .pre in omega (arith, p .1 .1 .0, c .before .before .before .before .loop .inv .size, c .before .before .before .loop-test .taken)
 
 cast-at : tie.Need-cast-at Inv-loop μ-loop
-cast-at c = record { fits = omega (arith, c .before .before .before .before .before .before .before .before .before .before .pre .1 .1 .1 .1 .few (c .before .before .before .before .before .before .before .before .loop .n) (c .before .before .before .before .before .before .before .loop-test .taken)) }
+cast-at c = record { fits = omega (arith, c .before .before .before .before .before .before .before .before .before .before .pre .1 .1 .1 .1 .few (c .before .before .before .before .before .before .before .before .loop .n) (omega (arith, c .before .before .before .before .before .before .before .loop-test .taken))) }
 
 add-at : tie.Need-add-at Inv-loop μ-loop
-add-at c = record { fits = omega (arith, c .before .before .before .before .before .before .before .before .before .before .pre .1 .1 .1 .1 .few (c .before .before .before .before .before .before .before .before .loop .n) (c .before .before .before .before .before .before .before .loop-test .taken), c .before .before .before .before .before .before .before .before .loop .inv .small, c .before .before .before .before .before .before .before .before .loop .inv .low, c .before .before .before .before .before .before .before .before .before .before .pre .1 .1 .1 .0 .1) }
+add-at c = record { fits = omega (arith, c .before .before .before .before .before .before .before .before .before .before .pre .1 .1 .1 .1 .few (c .before .before .before .before .before .before .before .before .loop .n) (omega (arith, c .before .before .before .before .before .before .before .loop-test .taken)), c .before .before .before .before .before .before .before .before .loop .inv .small, c .before .before .before .before .before .before .before .before .loop .inv .low, c .before .before .before .before .before .before .before .before .before .before .pre .1 .1 .1 .0 .1) }
 
 add-n : tie.Need-add-n Inv-loop μ-loop
 add-n c = search needs
@@ -51,7 +51,7 @@ loop-less : tie.Need-loop-less Inv-loop μ-loop
 loop-less c = search needs
 
 loop-again : tie.Need-loop-again Inv-loop μ-loop
-loop-again c = let a = c .before .before .before .before .before .before .before .before .before .before .args in let p = c .before .before .before .before .before .before .before .before .before .before .pre in placed-turn (cellOf (a .w)) (a .t5) (now (a .cells)) (a .used) (a .free) (p .1 .1 .1 .1) (c .before .before .before .before .before .before .before .before .loop .n) (c .before .before .before .before .before .before .before .before .loop .at) (c .before .before .before .before .before .before .before .before .loop .cells) (c .before .before .before .before .before .before .before .before .loop .inv) (c .before .before .before .before .before .before .before .loop-test .taken) (c .before .before .before .before .before .child-words .result) _ (c .before .before .before .before .before .child-words .ensures) (c .before .before .before .put-cell .ensures)
+loop-again c = let a = c .before .before .before .before .before .before .before .before .before .before .args in let p = c .before .before .before .before .before .before .before .before .before .before .pre in placed-turn (cellOf (a .w)) (a .t5) (now (a .cells)) (a .used) (a .free) (p .1 .1 .1 .1) (c .before .before .before .before .before .before .before .before .loop .n) (c .before .before .before .before .before .before .before .before .loop .at) (c .before .before .before .before .before .before .before .before .loop .cells) (c .before .before .before .before .before .before .before .before .loop .inv) (omega (arith, c .before .before .before .before .before .before .before .loop-test .taken)) (c .before .before .before .before .before .child-words .result) _ (c .before .before .before .before .before .child-words .ensures) (c .before .before .before .put-cell .ensures)
 
 same-length : tie.Need-same-length Inv-loop μ-loop
 same-length c = c .before .loop .inv .size
