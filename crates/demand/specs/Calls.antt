@@ -1,6 +1,6 @@
 -- Document 01, "The list of demand 3": the calls of the list, what each answers, and the tables that it leaves. Each answer and each table is the
 -- definition that the contract of the call cites: `newtree::open`, `tree::split`, `growth::grow`, `leaf::find_leaf`, `query::position`,
--- `pixels::pixel_row`, `logs::zone_log`. The exported calls hand these answers on as numbers and words (`Rattle.zones.specs`), with 11 where the
+-- `pixels::pixel_row`, `logs::zone_log`. The exported calls hand these answers on as numbers and words (`Rattle.answers.specs`), with 11 where the
 -- words of a leaf or of a position have no room. Assumes nothing.
 use mathlib.Core.Bool.{Bool, true, false, cond}
 use mathlib.Core.List.{List, []}

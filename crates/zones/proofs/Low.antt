@@ -21,7 +21,7 @@ use Rattle.tree.specs.Tables.{Tree}
 use Rattle.splits.specs.After.{splitTree}
 use Rattle.growth.specs.Grow.{Round, splits, done, full, broken, round, goOn, growing, Ending, none-left, no-room, not-passed, grown, answerBy, answerOf, growAnswer}
 use Rattle.growth.specs.declared.Answer.the-variants as growth
-use Rattle.zones.specs.Answers.{readLow, writeLow, growSplits}
+use Rattle.answers.specs.Answers.{readLow, writeLow, growSplits}
 
 verdict-place : (b : List ℕ) → Verdict·place (verdictOf b) ≤ 4096
 unfolding verdictOf

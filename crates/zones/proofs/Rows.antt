@@ -11,7 +11,7 @@ use Rattle.refusals.specs.declared.Refusal.the-variants.{Argument, Broken}
 use Rattle.tree.specs.Tables.{Tree}
 use Rattle.pixels.specs.declared.RowAnswer.the-variants.{Not}
 use Rattle.pixels.specs.Rows.{filled, Filled, putPixel, pixelKnown, pixelIn, fillFrom, rowFilled}
-use Rattle.zones.specs.Readings.{rowPlace}
+use Rattle.answers.specs.Readings.{rowPlace}
 
 module _ (t : Tree) (row first : ℕ) where
   fill-place : (i n : ℕ) (out : List ℕ) → rowPlace (fillFrom t row first i n out .answer) ≤ i + n

@@ -4,14 +4,8 @@
 // half is the result.
 pub mod readings;
 
-use drawing::Written;
-use grammar::Verdict;
-use leaf::FoundLeaf;
-use refusals::Refusal;
 ghost use mathlib.Core.Path.{_≡_};
-ghost use Prim.Native.Nat.{_≤_};
 ghost use lib.ListN.{length};
-ghost use Rattle.refusals.specs.Refusals.{numberOf};
 ghost use Rattle.reader.specs.Words.{planWords, areaWords, xWords, yWords, fileOf};
 ghost use Rattle.reader.specs.Reading.{recordsIn, readAnswer, leftBy};
 ghost use Rattle.drawing.specs.Tables.{tables, drawnIn, writeAnswer, outAfter};
@@ -20,109 +14,7 @@ ghost use Rattle.tree.specs.Split.{splitAnswer, headAfter, cellsAfter, entriesA
 ghost use Rattle.newtree.specs.Open.{openAnswer, headOpened, cellsOpened, entriesOpened};
 ghost use Rattle.leaf.specs.Leaf.{findAnswer};
 ghost use Rattle.growth.specs.Grow.{growAnswer, growTree};
-ghost use Rattle.zones.specs.Answers.{packed, readNumber, writeNumber, readLow, writeLow, openNumber, splitNumber, growSplits, growNumber, leafPut, findRoom, findNumber, outFound};
-
-// The refusal's number, or 0, and what goes with it.
-fn pack(number: u32, low: usize) -> u64
-    requires { ⌜ low ≤ 4294967295 ⌝ }
-    ensures { λ r. ⌜ r ≡ packed number low ⌝ }
-{
-    (number as u64) * 4294967296 + (low as u64)
-}
-
-// A refusal from the state, or one that is never about a place.
-fn refused(r: Refusal) -> u64
-    ensures { λ n. ⌜ n ≡ packed (numberOf r) 0 ⌝ }
-{
-    let n = refusals::number(r);
-    pack(n, 0)
-}
-
-fn pack_read(v: Verdict) -> u64
-    requires { ⌜ readLow v ≤ 4096 ⌝ }
-    ensures { λ r. ⌜ r ≡ readNumber v ⌝ }
-{
-    match v {
-        Verdict::Accepted(k) => pack(0, k.records),
-        Verdict::Refused(r, p) => {
-            let n = refusals::number(r);
-            pack(n, p)
-        }
-    }
-}
-
-fn pack_written(w: Written) -> u64
-    requires { ⌜ writeLow w ≤ 65536 ⌝ }
-    ensures { λ r. ⌜ r ≡ writeNumber w ⌝ }
-{
-    match w {
-        Written::Bytes(n) => pack(0, n),
-        Written::Not(r) => refused(r),
-    }
-}
-
-fn pack_open(a: newtree::Answer) -> u64
-    ensures { λ r. ⌜ r ≡ openNumber a ⌝ }
-{
-    match a {
-        newtree::Answer::Opened(entries) => pack(0, entries as usize),
-        newtree::Answer::Not(r) => refused(r),
-    }
-}
-
-fn pack_split(a: tree::Answer) -> u64
-    ensures { λ r. ⌜ r ≡ splitNumber a ⌝ }
-{
-    match a {
-        tree::Answer::Split(child) => pack(0, child as usize),
-        tree::Answer::Not(r) => refused(r),
-    }
-}
-
-// "full" has 2^31 more than "done".
-fn pack_grow(a: growth::Answer) -> u64
-    requires { ⌜ growSplits a ≤ 4096 ⌝ }
-    ensures { λ r. ⌜ r ≡ growNumber a ⌝ }
-{
-    match a {
-        growth::Answer::Done(splits) => pack(0, splits as usize),
-        growth::Answer::Full(splits) => pack(0, 2147483648 + (splits as usize)),
-        growth::Answer::Not(r) => refused(r),
-    }
-}
-
-// Writes the seven words of a leaf.
-fn put_leaf(out: &mut [u32], l: FoundLeaf)
-    requires { ⌜ 7 ≤ length (now out) ⌝ }
-    ensures { λ _. ⌜ now (out .exit) ≡ leafPut l (now (out .entry)) ⌝ }
-{
-    out[0] = l.cell;
-    out[1] = l.x;
-    out[2] = l.y;
-    out[3] = l.side;
-    out[4] = l.steps;
-    out[5] = l.entries;
-    out[6] = l.lines;
-}
-
-// A leaf that was found, or 11.
-fn put_found(out: &mut [u32], a: leaf::Answer) -> u64
-    ensures { λ r. ⌜ r ≡ findNumber (findRoom a (length (now (out .entry)))) ⌝ }
-    ensures { λ r. ⌜ now (out .exit) ≡ outFound (findRoom a (length (now (out .entry)))) (now (out .entry)) ⌝ }
-{
-    match a {
-        leaf::Answer::Found(l) => {
-            if 7 <= out.len() {
-                put_leaf(out, l);
-                return pack(0, l.cell as usize);
-            }
-            return refused(Refusal::Room);
-        }
-        leaf::Answer::Not(r) => {
-            return refused(r);
-        }
-    }
-}
+ghost use Rattle.answers.specs.Answers.{readNumber, writeNumber, openNumber, splitNumber, growNumber, findRoom, findNumber, outFound};
 
 // Reads a file of records into the four tables of a drawing. The result is the number of records.
 // Refusals, in this order: 7 (tables of x and y of unequal length), 1, each record by 2 to 6, the end by 4 and 5, 11.
@@ -141,7 +33,7 @@ pub extern "C" fn zones_read(
     ensures { λ r. ⌜ now (ys .exit) ≡ leftBy (readAnswer (now (records .entry)) (now (plan .entry)) (now (areas .entry)) (now (xs .entry)) (now (ys .entry))) (now (ys .entry)) (yWords (recordsIn (now (records .entry)))) ⌝ }
 {
     let v = reader::read(records, plan, areas, xs, ys);
-    pack_read(v)
+    answers::pack_read(v)
 }
 
 // Writes a drawing in its tables out as a file of records. The result is the number of bytes.
@@ -158,7 +50,7 @@ pub extern "C" fn zones_write(
     ensures { λ r. ⌜ now (out .exit) ≡ outAfter (writeAnswer (tables (now (plan .entry)) (now (areas .entry)) (now (xs .entry)) (now (ys .entry))) (now (out .entry))) (now (out .entry)) (fileOf (drawnIn (tables (now (plan .entry)) (now (areas .entry)) (now (xs .entry)) (now (ys .entry))))) ⌝ }
 {
     let w = drawing::write(plan, areas, xs, ys, out);
-    pack_written(w)
+    answers::pack_written(w)
 }
 
 // Opens a tree over a drawing: cell 0 alone. The result is the number of its entries.
@@ -179,7 +71,7 @@ pub extern "C" fn zones_open(
     ensures { λ r. ⌜ now (entries .exit) ≡ entriesOpened (tree (now (plan .entry)) (now (areas .entry)) (now (xs .entry)) (now (ys .entry)) (now (head .entry)) (now (cells .entry)) (now (entries .entry))) (openAnswer (tree (now (plan .entry)) (now (areas .entry)) (now (xs .entry)) (now (ys .entry)) (now (head .entry)) (now (cells .entry)) (now (entries .entry)))) ⌝ }
 {
     let a = newtree::open(plan, areas, xs, ys, head, cells, entries);
-    pack_open(a)
+    answers::pack_open(a)
 }
 
 // Splits a cell of a tree. The result is the number of its first child.
@@ -201,7 +93,7 @@ pub extern "C" fn zones_split(
     ensures { λ r. ⌜ now (entries .exit) ≡ entriesAfter (tree (now (plan .entry)) (now (areas .entry)) (now (xs .entry)) (now (ys .entry)) (now (head .entry)) (now (cells .entry)) (now (entries .entry))) cell (splitAnswer (tree (now (plan .entry)) (now (areas .entry)) (now (xs .entry)) (now (ys .entry)) (now (head .entry)) (now (cells .entry)) (now (entries .entry))) cell) ⌝ }
 {
     let a = tree::split(plan, areas, xs, ys, head, cells, entries, cell);
-    pack_split(a)
+    answers::pack_split(a)
 }
 
 // Splits the lowest numbered leaf with more lines than the threshold and a depth below the limit, again and again. The result is the splits
@@ -225,7 +117,7 @@ pub extern "C" fn zones_grow(
     ensures { λ r. ⌜ now (entries .exit) ≡ growTree (tree (now (plan .entry)) (now (areas .entry)) (now (xs .entry)) (now (ys .entry)) (now (head .entry)) (now (cells .entry)) (now (entries .entry))) threshold limit .entries ⌝ }
 {
     let a = growth::grow(plan, areas, xs, ys, head, cells, entries, threshold, limit);
-    pack_grow(a)
+    answers::pack_grow(a)
 }
 
 // Finds the leaf that holds (x, y) and writes seven words: its number, x, y, side, steps, entries, lines. The result is its number.
@@ -247,5 +139,5 @@ pub extern "C" fn zones_find_leaf(
     ensures { λ r. ⌜ now (out .exit) ≡ outFound (findRoom (findAnswer (tree (now (plan .entry)) (now (areas .entry)) (now (xs .entry)) (now (ys .entry)) (now (head .entry)) (now (cells .entry)) (now (entries .entry))) x y) (length (now (out .entry)))) (now (out .entry)) ⌝ }
 {
     let a = leaf::find_leaf(plan, areas, xs, ys, head, cells, entries, x, y);
-    put_found(out, a)
+    answers::put_found(out, a)
 }

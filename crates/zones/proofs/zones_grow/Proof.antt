@@ -2,7 +2,7 @@
 use mathlib.Core.Path.{ap, _∙_}
 use denote.Ref.{now}
 use Rattle.tree.specs.Tables.{tree}
-use Rattle.zones.specs.Answers.{growNumber}
+use Rattle.answers.specs.Answers.{growNumber}
 use Rattle.zones.proofs.Low.{grow-low}
 use borrow.Author.Needs.{needs}
 use Rattle.zones.proofs.zones_grow.Statement.{statement}

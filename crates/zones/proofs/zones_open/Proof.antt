@@ -1,6 +1,6 @@
 -- `zones::zones_open` meets its contract. Assumes nothing.
 use mathlib.Core.Path.{ap, _∙_}
-use Rattle.zones.specs.Answers.{openNumber}
+use Rattle.answers.specs.Answers.{openNumber}
 use borrow.Author.Needs.{needs}
 use Rattle.zones.proofs.zones_open.Statement.{statement}
 use Rattle.zones.proofs.zones_open.Tie as tie

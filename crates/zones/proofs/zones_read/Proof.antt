@@ -1,6 +1,6 @@
 -- `zones::zones_read` meets its contract. Assumes nothing.
 use mathlib.Core.Path.{ap, _∙_}
-use Rattle.zones.specs.Answers.{readNumber}
+use Rattle.answers.specs.Answers.{readNumber}
 use Rattle.zones.proofs.Low.{read-low}
 use borrow.Author.Needs.{needs}
 use Rattle.zones.proofs.zones_read.Statement.{statement}

@@ -1,6 +1,6 @@
 -- `zones::zones_split` meets its contract. Assumes nothing.
 use mathlib.Core.Path.{ap, _∙_}
-use Rattle.zones.specs.Answers.{splitNumber}
+use Rattle.answers.specs.Answers.{splitNumber}
 use borrow.Author.Needs.{needs}
 use Rattle.zones.proofs.zones_split.Statement.{statement}
 use Rattle.zones.proofs.zones_split.Tie as tie

@@ -1,6 +1,6 @@
 -- `zones::zones_write` meets its contract. Assumes nothing.
 use mathlib.Core.Path.{ap, _∙_}
-use Rattle.zones.specs.Answers.{writeNumber}
+use Rattle.answers.specs.Answers.{writeNumber}
 use Rattle.zones.proofs.Low.{write-low}
 use borrow.Author.Needs.{needs}
 use Rattle.zones.proofs.zones_write.Statement.{statement}

@@ -2,7 +2,7 @@
 use mathlib.Core.Path.{ap, _∙_}
 use denote.Ref.{now}
 use Rattle.tree.specs.Tables.{tree}
-use Rattle.zones.specs.Readings.{rowNumber}
+use Rattle.answers.specs.Readings.{rowNumber}
 use Rattle.zones.proofs.Rows.{row-place}
 use borrow.Author.Needs.{needs}
 use Rattle.zones.proofs.readings.zones_pixel_row.Statement.{statement}

@@ -1,6 +1,6 @@
 -- `zones::readings::zones_zone_log` meets its contract. Assumes nothing.
 use mathlib.Core.Path.{ap, _∙_}
-use Rattle.zones.specs.Readings.{logNumber}
+use Rattle.answers.specs.Readings.{logNumber}
 use borrow.Author.Needs.{needs}
 use Rattle.zones.proofs.readings.zones_zone_log.Statement.{statement}
 use Rattle.zones.proofs.readings.zones_zone_log.Tie as tie

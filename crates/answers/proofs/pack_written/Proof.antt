@@ -1,0 +1,26 @@
+-- `answers::pack_written` meets its contract. Assumes nothing.
+use native.Mathlib.Omega.{arith}
+use borrow.Author.Needs.{needs}
+use Rattle.answers.proofs.pack_written.Statement.{statement}
+use Rattle.answers.proofs.pack_written.Tie as tie
+
+enum-known-w : tie.Need-enum-known-w
+enum-known-w c = search needs
+
+pack-requires : tie.Need-pack-requires
+pack-requires c κs = let h = rw (c .before .w .given .1) at (c .before .before .before .pre) in omega arith
+
+enum-known-w-2 : tie.Need-enum-known-w-2
+enum-known-w-2 c = search needs
+
+refused-requires : tie.Need-refused-requires
+refused-requires c κs = search needs
+
+returns : tie.Need-returns
+returns c = rw (c .before .before .w .given .1) (c .pack .ensures)
+
+returns-2 : tie.Need-returns-2
+returns-2 c = rw (c .before .before .w2 .given .1) (c .refused .ensures)
+
+pub pack-written-spec : {M : Type 1} → statement M
+pack-written-spec = tie.close (tie.spec enum-known-w pack-requires enum-known-w-2 refused-requires returns returns-2)

@@ -1,0 +1,60 @@
+-- `answers::put_found` meets its contract. Assumes nothing.
+use mathlib.Core.Path.{refl}
+use borrow.Author.Tests.{le-leb, lt-leb}
+use borrow.Author.Needs.{needs}
+use Rattle.answers.proofs.put_found.Statement.{statement}
+use Rattle.answers.proofs.put_found.Tie as tie
+
+enum-known-a : tie.Need-enum-known-a
+enum-known-a c = search needs
+
+put-leaf-requires : tie.Need-put-leaf-requires
+put-leaf-requires c κs = search needs
+
+cast-pack : tie.Need-cast-pack
+cast-pack c = search needs
+
+pack-requires : tie.Need-pack-requires
+pack-requires c κs = search needs
+
+same-length : tie.Need-same-length
+same-length c = search needs
+
+returns : tie.Need-returns
+returns c =
+    rw (
+      c .before .before .before .before .before .before .before .before .a .given .1,
+      le-leb 7 _ (c .before .before .before .before .before .before .if1 .taken),
+    )
+    (c .pack .ensures, c .before .before .before .before .put-leaf .ensures)
+
+refused-requires : tie.Need-refused-requires
+refused-requires c κs = search needs
+
+returns-2 : tie.Need-returns-2
+returns-2 c = rw (c .before .before .before .a .given .1, lt-leb 7 _ (c .before .if1 .left)) (c .refused .ensures, refl)
+
+enum-known-a-2 : tie.Need-enum-known-a-2
+enum-known-a-2 c = search needs
+
+refused-requires-2 : tie.Need-refused-requires-2
+refused-requires-2 c κs = search needs
+
+returns-3 : tie.Need-returns-3
+returns-3 c = rw (c .before .before .a2 .given .1) (c .refused2 .ensures, refl)
+
+pub put-found-spec : {M : Type 1} → statement M
+put-found-spec =
+    tie.close
+    (tie.spec
+    enum-known-a
+    put-leaf-requires
+    cast-pack
+    pack-requires
+    same-length
+    returns
+    refused-requires
+    returns-2
+    enum-known-a-2
+    refused-requires-2
+    returns-3)

@@ -1,0 +1,51 @@
+-- `answers::put_spot` meets its contract. Assumes nothing.
+use lib.ListN.{length-set}
+use native.Mathlib.Omega.{arith}
+use borrow.Author.Needs.{needs}
+use Rattle.answers.proofs.put_spot.Statement.{statement}
+use Rattle.answers.proofs.put_spot.Tie as tie
+
+cast-out : tie.Need-cast-out
+cast-out c = search needs
+
+slice-write-out : tie.Need-slice-write-out
+slice-write-out c = search needs
+
+cast-out-2 : tie.Need-cast-out-2
+cast-out-2 c = search needs
+
+slice-write-out-2 : tie.Need-slice-write-out-2
+slice-write-out-2 c = simp length-set (omega arith)
+
+slice-write-out-3 : tie.Need-slice-write-out-3
+slice-write-out-3 c = simp length-set (omega arith)
+
+slice-write-out-4 : tie.Need-slice-write-out-4
+slice-write-out-4 c = simp length-set (omega arith)
+
+slice-write-out-5 : tie.Need-slice-write-out-5
+slice-write-out-5 c = simp length-set (omega arith)
+
+slice-write-out-6 : tie.Need-slice-write-out-6
+slice-write-out-6 c = search needs
+
+same-length : tie.Need-same-length
+same-length c = search needs
+
+returns : tie.Need-returns
+returns c = search needs
+
+pub put-spot-spec : {M : Type 1} → statement M
+put-spot-spec =
+    tie.close
+    (tie.spec
+    cast-out
+    slice-write-out
+    cast-out-2
+    slice-write-out-2
+    slice-write-out-3
+    slice-write-out-4
+    slice-write-out-5
+    slice-write-out-6
+    same-length
+    returns)

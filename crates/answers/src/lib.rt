@@ -1,0 +1,194 @@
+// The answers of the calls as they are handed to C: one number each, and the words of a leaf and of a position.
+//
+// Each answer is one number: the number of the refusal times 2^32, and its place. Where nothing is refused the high half is 0 and the low
+// half is the result.
+use drawing::Written;
+use grammar::Verdict;
+use leaf::FoundLeaf;
+use logs::LogAnswer;
+use pixels::RowAnswer;
+use query::Spot;
+use refusals::Refusal;
+ghost use mathlib.Core.Path.{_≡_};
+ghost use Prim.Native.Nat.{_≤_};
+ghost use lib.ListN.{length};
+ghost use Rattle.refusals.specs.Refusals.{numberOf};
+ghost use Rattle.answers.specs.Answers.{packed, readNumber, writeNumber, readLow, writeLow, openNumber, splitNumber, growSplits, growNumber, leafPut, findRoom, findNumber, outFound};
+ghost use Rattle.answers.specs.Readings.{spotPut, spotRoom, spotNumber, outSpot, lowHalf, logNumber, rowPlace, rowNumber};
+
+// The refusal's number, or 0, and what goes with it.
+fn pack(number: u32, low: usize) -> u64
+    requires { ⌜ low ≤ 4294967295 ⌝ }
+    ensures { λ r. ⌜ r ≡ packed number low ⌝ }
+{
+    (number as u64) * 4294967296 + (low as u64)
+}
+
+// A refusal from the state, or one that is never about a place.
+fn refused(r: Refusal) -> u64
+    ensures { λ n. ⌜ n ≡ packed (numberOf r) 0 ⌝ }
+{
+    let n = refusals::number(r);
+    pack(n, 0)
+}
+
+pub fn pack_read(v: Verdict) -> u64
+    requires { ⌜ readLow v ≤ 4096 ⌝ }
+    ensures { λ r. ⌜ r ≡ readNumber v ⌝ }
+{
+    match v {
+        Verdict::Accepted(k) => pack(0, k.records),
+        Verdict::Refused(r, p) => {
+            let n = refusals::number(r);
+            pack(n, p)
+        }
+    }
+}
+
+pub fn pack_written(w: Written) -> u64
+    requires { ⌜ writeLow w ≤ 65536 ⌝ }
+    ensures { λ r. ⌜ r ≡ writeNumber w ⌝ }
+{
+    match w {
+        Written::Bytes(n) => pack(0, n),
+        Written::Not(r) => refused(r),
+    }
+}
+
+pub fn pack_open(a: newtree::Answer) -> u64
+    ensures { λ r. ⌜ r ≡ openNumber a ⌝ }
+{
+    match a {
+        newtree::Answer::Opened(entries) => pack(0, entries as usize),
+        newtree::Answer::Not(r) => refused(r),
+    }
+}
+
+pub fn pack_split(a: tree::Answer) -> u64
+    ensures { λ r. ⌜ r ≡ splitNumber a ⌝ }
+{
+    match a {
+        tree::Answer::Split(child) => pack(0, child as usize),
+        tree::Answer::Not(r) => refused(r),
+    }
+}
+
+// "full" has 2^31 more than "done".
+pub fn pack_grow(a: growth::Answer) -> u64
+    requires { ⌜ growSplits a ≤ 4096 ⌝ }
+    ensures { λ r. ⌜ r ≡ growNumber a ⌝ }
+{
+    match a {
+        growth::Answer::Done(splits) => pack(0, splits as usize),
+        growth::Answer::Full(splits) => pack(0, 2147483648 + (splits as usize)),
+        growth::Answer::Not(r) => refused(r),
+    }
+}
+
+// Writes the seven words of a leaf.
+fn put_leaf(out: &mut [u32], l: FoundLeaf)
+    requires { ⌜ 7 ≤ length (now out) ⌝ }
+    ensures { λ _. ⌜ now (out .exit) ≡ leafPut l (now (out .entry)) ⌝ }
+{
+    out[0] = l.cell;
+    out[1] = l.x;
+    out[2] = l.y;
+    out[3] = l.side;
+    out[4] = l.steps;
+    out[5] = l.entries;
+    out[6] = l.lines;
+}
+
+// A leaf that was found, or 11.
+pub fn put_found(out: &mut [u32], a: leaf::Answer) -> u64
+    ensures { λ r. ⌜ r ≡ findNumber (findRoom a (length (now (out .entry)))) ⌝ }
+    ensures { λ r. ⌜ now (out .exit) ≡ outFound (findRoom a (length (now (out .entry)))) (now (out .entry)) ⌝ }
+{
+    match a {
+        leaf::Answer::Found(l) => {
+            if 7 <= out.len() {
+                put_leaf(out, l);
+                return pack(0, l.cell as usize);
+            }
+            return refused(Refusal::Room);
+        }
+        leaf::Answer::Not(r) => {
+            return refused(r);
+        }
+    }
+}
+
+// ---- a position
+// Writes the six words of what shows.
+fn put_spot(out: &mut [u32], s: Spot)
+    requires { ⌜ 6 ≤ length (now out) ⌝ }
+    ensures { λ _. ⌜ now (out .exit) ≡ spotPut s (now (out .entry)) ⌝ }
+{
+    out[0] = (s.set % 4294967296) as u32;
+    out[1] = (s.set / 4294967296) as u32;
+    out[2] = s.material;
+    out[3] = s.red;
+    out[4] = s.green;
+    out[5] = s.blue;
+}
+
+// What shows, or 11.
+pub fn put_shown(out: &mut [u32], a: query::Answer) -> u64
+    ensures { λ r. ⌜ r ≡ spotNumber (spotRoom a (length (now (out .entry)))) ⌝ }
+    ensures { λ r. ⌜ now (out .exit) ≡ outSpot (spotRoom a (length (now (out .entry)))) (now (out .entry)) ⌝ }
+{
+    match a {
+        query::Answer::At(s) => {
+            if 6 <= out.len() {
+                put_spot(out, s);
+                return pack(0, s.material as usize);
+            }
+            return refused(Refusal::Room);
+        }
+        query::Answer::Not(r) => {
+            return refused(r);
+        }
+    }
+}
+
+// ---- a zone log
+// A place or a result, or 4,294,967,295 where it is more.
+fn low_half(n: usize) -> usize
+    ensures { λ r. ⌜ r ≡ lowHalf n ⌝ }
+    ensures { λ r. ⌜ r ≤ 4294967295 ⌝ }
+{
+    if n <= 4294967295 {
+        return n;
+    }
+    4294967295
+}
+
+pub fn pack_log(a: LogAnswer) -> u64
+    ensures { λ r. ⌜ r ≡ logNumber a ⌝ }
+{
+    match a {
+        LogAnswer::Indices(count) => {
+            let low = low_half(count);
+            pack(0, low)
+        }
+        LogAnswer::Not(r, place) => {
+            let n = refusals::number(r);
+            let low = low_half(place);
+            pack(n, low)
+        }
+    }
+}
+
+// ---- a row of pixels
+pub fn pack_row(a: RowAnswer) -> u64
+    requires { ⌜ rowPlace a ≤ 4096 ⌝ }
+    ensures { λ r. ⌜ r ≡ rowNumber a ⌝ }
+{
+    match a {
+        RowAnswer::Done => pack(0, 0),
+        RowAnswer::Not(r, place) => {
+            let n = refusals::number(r);
+            pack(n, place)
+        }
+    }
+}
