@@ -1,5 +1,5 @@
 -- What a 64-bit signed number holds and reads back. Assumes nothing.
-use mathlib.Core.Path.{_≡_, sym, ap, _∙_, subst}
+use mathlib.Core.Path.{_≡_, refl, sym, ap, _∙_, subst}
 use Prim.Native.Nat.{ℕ, _+_, _^_, _≤_, _<_}
 use native.Mathlib.Omega.{arith}
 use lib.IntN.{ℤ, pos, natAbs, subℕ, _+ℤ_, +ℤ-idl, +ℤ-idr, +ℤ-assoc}
@@ -58,3 +58,11 @@ module _ {k bits : ℕ} {left whole : ℤ} (s : Running k bits left whole) (v r 
 
 pub running-end : {k bits : ℕ} {whole : ℤ} → Running k bits (pos 0) whole → toZ w64 bits ≡ whole
 running-end {k} {bits} s = sym (+ℤ-idr (toZ w64 bits)) ∙ s .total
+
+-- a sum that begins with a small number
+pub running-from : (k : ℕ) (z rest : ℤ) → natAbs z ≤ k → k < 2 ^ 63 → Running k (ofZ w64 z) rest (toZ w64 (ofZ w64 z) +ℤ rest)
+running-from k z rest h l = let b = read-back z (mag-abs z (omega arith)) in record { small = rw b h; total = refl }
+
+-- nothing is left to add
+pub running-done : {k bits : ℕ} {rest whole : ℤ} → rest ≡ pos 0 → Running k bits rest whole → toZ w64 bits ≡ whole
+running-done {k} {bits} {rest} {whole} e s = running-end (subst (λ r. Running k bits r whole) e s)

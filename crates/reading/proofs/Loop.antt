@@ -1,14 +1,12 @@
 -- The loops over the lines and shortcuts of an area and over a stream. Assumes nothing.
-use mathlib.Core.Path.{_≡_, refl, sym, ap, ap₂, subst, _∙_}
+use mathlib.Core.Path.{_≡_, sym, ap, ap₂, subst, _∙_}
 use mathlib.Core.Bool.{true, false, cond}
 use mathlib.Core.List.{List}
 use Prim.Native.Nat.{ℕ, _+_, _-_, _≤_, _<_}
 use native.Mathlib.Omega.{arith}
-use lib.IntN.{ℤ, pos, _+ℤ_, natAbs}
-use mir.Syntax.{w32, w64}
-use mir.Val.{toZ, ofZ}
-use Rattle.laws.proofs.Differences.{mag-abs}
-use Rattle.laws.proofs.Signed.{read-back, Running, running-end}
+use lib.IntN.{ℤ, pos, _+ℤ_}
+use mir.Syntax.{w32}
+use mir.Val.{toZ}
 use Rattle.stream.specs.declared.Words.{Words}
 use Rattle.paint.specs.Sets.{withArea}
 use Rattle.pruning.specs.Registers.{onItem}
@@ -69,13 +67,6 @@ ranged-segments t i e v r =
 -- what an area asks
 pub ranged-name : (t : List ℕ) (i e : ℕ) (v : Env) (w : Words) → Ranged t i e v → w ≡ wordsAt t i → w .kind ≡ 4 → (isGood (areaMet v (w .p)) ≡ true) × (startRange (w .q) ≡ true)
 ranged-name t i e v w r q k = in-name v w k (subst (λ u. inRange v (decode u) ≡ true) (sym q) (r .range i (omega arith) (r .some)))
-
--- ---- a sum that begins with a start number
-pub running-from : (k : ℕ) (z rest : ℤ) → natAbs z ≤ 2048 → 2048 ≤ k → Running k (ofZ w64 z) rest (toZ w64 (ofZ w64 z) +ℤ rest)
-running-from k z rest h l = let b = read-back z (mag-abs z (omega arith)) in record { small = rw b (omega arith); total = refl }
-
-pub running-done : {k bits : ℕ} {rest whole : ℤ} → rest ≡ pos 0 → Running k bits rest whole → toZ w64 bits ≡ whole
-running-done {k} {bits} {rest} {whole} e s = running-end (subst (λ r. Running k bits r whole) e s)
 
 -- ---- one entry, and where it leads
 

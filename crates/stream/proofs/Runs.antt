@@ -16,10 +16,6 @@ use Rattle.stream.specs.Grammar.{Env, lineRange, shortcutRange}
 use Rattle.stream.specs.Machine.{mk, offN, stepN, scanN, isSegment, segmentFits, segmentsIn, runFits, afterRunN, Onward}
 use Rattle.stream.proofs.Table.{words-step, words-none}
 
-pub and-assoc : (a b c : Bool) → ((a && b) && c) ≡ (a && (b && c))
-and-assoc true b c = refl
-and-assoc false b c = refl
-
 -- a line or a shortcut is one of two kinds
 of-kind : (k : ℕ) (a b : Bool) → eqb k 5 ≡ a → eqb k 6 ≡ b → (a || b) ≡ true → {A : Type 0} → (k ≡ 5 → A) → (k ≡ 6 → A) → A
 of-kind k true b e f h g i = g (eqb-true k 5 e)

@@ -7,13 +7,13 @@ use mir.Syntax.{w64}
 use mir.Val.{toZ}
 use denote.Ref.{now}
 use borrow.Author.Needs.{needs}
-use Rattle.laws.proofs.Signed.{Running, running-fits, running-more}
+use Rattle.laws.proofs.Signed.{Running, running-fits, running-more, running-from, running-done}
 use Rattle.stream.specs.Table.{wordsFrom}
 use Rattle.reading.specs.Numbers.{segmentAdds, segmentsSum}
 use Rattle.stream.specs.Machine.{segmentsIn}
 use Rattle.stream.proofs.Runs.{count-more, count-stop, count-last}
 use Rattle.reading.proofs.Laws.{small-back}
-use Rattle.reading.proofs.Loop.{sum-more, sum-stop, sum-last, running-from, running-done}
+use Rattle.reading.proofs.Loop.{sum-more, sum-stop, sum-last}
 use Rattle.reading.proofs.winding_from.Statement.{statement}
 use Rattle.reading.proofs.winding_from.Tie as tie
 
@@ -25,7 +25,7 @@ abbrev μ-loop : tie.MeasureT-loop
 μ-loop entries from end xs ys b start x y sum₀ i₀ sum i = end - i
 
 loop-holds : tie.Need-loop-holds Inv-loop μ-loop
-loop-holds c = let p = c .before .before .before .pre in (omega arith, p .0 .ordered, running-from _ (c .before .before .before .args .start) _ (p .1 .1) (omega arith), refl)
+loop-holds c = let p = c .before .before .before .pre in (omega arith, p .0 .ordered, running-from _ (c .before .before .before .args .start) _ (omega (arith, p .1 .1)) (omega arith), refl)
 
 read-entry-requires : tie.Need-read-entry-requires Inv-loop μ-loop
 read-entry-requires c κs = omega (arith, c .before .before .before .before .before .pre .0 .within, c .loop-test .taken)

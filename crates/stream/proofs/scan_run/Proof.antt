@@ -8,8 +8,8 @@ use denote.Ref.{now}
 use borrow.Author.Needs.{needs}
 use Rattle.stream.specs.Table.{wordsFrom}
 use Rattle.stream.specs.Machine.{segmentsIn, runFits}
-use Rattle.laws.proofs.Booleans.{and-true}
-use Rattle.stream.proofs.Runs.{and-assoc, count-more, count-stop, count-last, fits-more, fits-stop, fits-last}
+use Rattle.laws.proofs.Booleans.{and-assoc, and-true}
+use Rattle.stream.proofs.Runs.{count-more, count-stop, count-last, fits-more, fits-stop, fits-last}
 use Rattle.stream.proofs.scan_run.Statement.{statement}
 use Rattle.stream.proofs.scan_run.Tie as tie
 
