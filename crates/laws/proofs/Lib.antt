@@ -3,5 +3,6 @@ pub mod Booleans
 pub mod Ranges
 pub mod Tables
 pub mod Tests
+pub mod Integers
 pub mod Differences
 pub mod Signed
