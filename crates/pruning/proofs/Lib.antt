@@ -7,6 +7,7 @@ pub mod Meaning
 pub mod Survivors
 pub mod Refining
 pub mod Machine
+pub mod FlatClipping
 pub mod Registers
 pub mod Pruner
 pub mod Counters

@@ -7,6 +7,7 @@ pub mod Rules
 pub mod Order
 pub mod Survivors
 pub mod Machine
+pub mod FlatClipping
 pub mod Registers
 pub mod Pruner
 pub mod Counters
