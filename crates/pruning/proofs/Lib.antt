@@ -3,6 +3,7 @@ pub mod Sides
 pub mod Normal
 pub mod Rules
 pub mod Order
+pub mod Sequences
 pub mod Meaning
 pub mod Survivors
 pub mod Refining

@@ -1,4 +1,4 @@
--- The literal order ends in the normal form, and so does any other order. Assumes nothing.
+-- The literal order ends in the normal form, and so does any other order, wherever in it a C1 becomes bare. Assumes nothing.
 use mathlib.Core.Path.{_≡_, refl, ap, sym, _∙_}
 use mathlib.Core.Bool.{Bool, true, false, _||_, _&&_, false≢true, true≢false}
 use mathlib.Core.Option.{Option, none, some}
@@ -10,7 +10,7 @@ use Rattle.laws.proofs.Booleans.{and-left, and-right}
 use Rattle.pruning.specs.Sides.{isEnd, Kind, paint, clip, Side, end, leaf, group, append, size}
 use Rattle.pruning.specs.Items.{Items, Class, fails, passes, other, isPasses}
 use Rattle.pruning.specs.Normal.{mixed, normal, put, oneGroup, oneLeaf, status, seal, hasOne}
-use Rattle.pruning.specs.Rules.{Step, rule-12-13, rule-14, rule-15, rule-16, rule-17, rule-18, in-leaf, in-left, in-right, in-rest, Top, top-14, below, Steps, Irreducible}
+use Rattle.pruning.specs.Rules.{rule-12-13, rule-14, rule-15, rule-16, rule-17, rule-18, here, in-leaf, in-left, in-right, in-rest, Step, Top, top-14, below, Steps, Irreducible}
 use Rattle.pruning.specs.Order.{first, within, when, cutLeafAt, cutFirst, rule14, rule15, rule16, rule17, firstOne, rule18, rules, walkLeaf, walk, walkTop, again, steps, markBy, bareSide, pruned}
 use Rattle.pruning.proofs.Normal.{seal-none, normal-one}
 use Rattle.pruning.proofs.Rules.{top-normal, top-size, steps-keep}
@@ -93,24 +93,24 @@ module _ (I : Items) where
   all-when P false a f = tt
 
   rule14-sound : (k : Kind) (l r t : Side Item) → All (Step I k (group l r t)) (rule14 I k l r t)
-  rule14-sound paint l r t = all-within (Cuts r) (Step I paint (group l r t)) (λ r′. group l r′ t) (λ r′ q. rw (q .whole, q .left) (rule-14 (q .ahead) (q .one) (q .behind) (q .is-one) (q .some-behind))) (cutFirst I r) (cut-sound r)
+  rule14-sound paint l r t = all-within (Cuts r) (Step I paint (group l r t)) (λ r′. group l r′ t) (λ r′ q. rw (q .whole, q .left) (here (rule-14 (q .ahead) (q .one) (q .behind) (q .is-one) (q .some-behind)))) (cutFirst I r) (cut-sound r)
   rule14-sound clip l r t = tt
 
   rule15-sound : (k : Kind) (l r t : Side Item) → All (Step I k (group l r t)) (rule15 I l r t)
-  rule15-sound k end r t = rule-15
+  rule15-sound k end r t = here rule-15
   rule15-sound k (leaf a l) r t = tt
   rule15-sound k (group l₁ r₁ l) r t = tt
 
   rule16-sound : (k : Kind) (l r t : Side Item) → All (Step I k (group l r t)) (rule16 I l r t)
-  rule16-sound k l end t = rule-16
+  rule16-sound k l end t = here rule-16
   rule16-sound k l (leaf a r) t = tt
   rule16-sound k l (group l₁ r₁ r) t = tt
 
   rule17-sound : (k : Kind) (l r t : Side Item) → All (Step I k (group l r t)) (rule17 I l r t)
-  rule17-sound k l r t = all-when (Step I k (group l r t)) (hasOne I clip l) (append r t) (λ e. let q = split clip l e in rw (q .whole) (rule-17 (q .ahead) (q .one) (q .behind) (q .is-one)))
+  rule17-sound k l r t = all-when (Step I k (group l r t)) (hasOne I clip l) (append r t) (λ e. let q = split clip l e in rw (q .whole) (here (rule-17 (q .ahead) (q .one) (q .behind) (q .is-one))))
 
   step-18 : (l r t : Side Item) → Split clip r → 1 < size r → Step I clip (group l r t) (group l (firstOne I clip r) t)
-  step-18 l r t q h = rw (q .alone, q .whole) (rule-18 (q .ahead) (q .one) (q .behind) (q .is-one) (rw (q .whole) at h))
+  step-18 l r t q h = rw (q .alone, q .whole) (here (rule-18 (q .ahead) (q .one) (q .behind) (q .is-one) (rw (q .whole) at h)))
 
   rule18-sound : (k : Kind) (l r t : Side Item) → All (Step I k (group l r t)) (rule18 I k l r t)
   rule18-sound paint l r t = tt
@@ -118,7 +118,7 @@ module _ (I : Items) where
       (λ e. step-18 l r t (split clip r (and-left (hasOne I clip r) (ltb 1 (size r)) e)) (ltb-true 1 (size r) (and-right (hasOne I clip r) (ltb 1 (size r)) e)))
 
   walk-leaf-sound : (k : Kind) (c : Class) (a : Item) (t : Side Item) → class k a ≡ c → All (Step I k t) (walk I k t) → All (Step I k (leaf a t)) (walkLeaf I c a t (walk I k t))
-  walk-leaf-sound k fails a t e h = rule-12-13 e
+  walk-leaf-sound k fails a t e h = here (rule-12-13 e)
   walk-leaf-sound k passes a t e h = all-within (Step I k t) (Step I k (leaf a t)) (leaf a) (λ t′ q. in-leaf q) (walk I k t) h
   walk-leaf-sound k other a t e h = all-within (Step I k t) (Step I k (leaf a t)) (leaf a) (λ t′ q. in-leaf q) (walk I k t) h
 
