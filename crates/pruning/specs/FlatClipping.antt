@@ -1,8 +1,8 @@
--- Document 000's flat clipping machine, with all of its variables and arrows. Document 01: "A stream is read in one pass as in document 000's flat clipping,
--- states P, S and SA; the machine's move is decided by state, kind of entry and depth, and it stops on an alpha of 255, not on left = 0." Our machine, `scan`,
--- has no u. Proved in `Rattle.pruning.proofs`: on every stream in the grammar both show the same (`Machine`: `without-u`), and this one shows the same from
--- any u (`FlatClipping`: `flat-clipping`), so that its arrow at u = 0 changes nothing; also with the "dummy push-pop pair" of document 000 around the stream
--- (`scene`). The words quoted below are document 000's. Assumes nothing.
+-- Document 000's flat clipping machine, with its three variables and its arrows as the text tells them. Document 01: "A stream is read in one pass as in
+-- document 000's flat clipping, states P, S and SA; the machine's move is decided by state, kind of entry and depth, and it stops on an alpha of 255, not on
+-- left = 0." Our machine, `scan`, has no u. Proved in `Rattle.pruning.proofs`: on every stream in the grammar both show the same (`Machine`: `without-u`),
+-- and this one shows the same from any u (`FlatClipping`: `flat-clipping`), so that its arrow at u = 0 changes nothing; also with the "dummy push-pop pair"
+-- of document 000 around the stream (`scene`). The words quoted below are document 000's. Assumes nothing.
 use mathlib.Core.Bool.{Bool, cond}
 use mathlib.Core.List.{List, [], _∷_}
 use Prim.Native.Nat.{ℕ, suc, pred}
@@ -16,7 +16,7 @@ module _ {A : Type 0} (pass opaque : A → Bool) where
   -- as shallow as the current stopping depth s": the depth of the group that it belongs to, so at `)` before d falls.
   abbrev pub flatClipping : List (Entry A) → Mode → (d u : ℕ) → List A
   flatClipping [] m d u = []
-  -- P, f1, α = 1: "The machine transitions to S, and sets s to 0." That α is 1 is for document 01 "an alpha of 255, not ... left = 0".
+  -- P, f1, α = 1: "The machine transitions to S, and sets s to 0." For α = 1 document 01 has "an alpha of 255, not on left = 0".
   flatClipping (item paint a ∷ es) processing d u =
       cond (pass a) (a ∷ cond (opaque a) (flatClipping es (skipping 0) d u) (flatClipping es processing d u)) (flatClipping es processing d u)
   -- P, c1: "The machine transitions to S and sets the stop depth to d."
@@ -24,7 +24,7 @@ module _ {A : Type 0} (pass opaque : A → Bool) where
   flatClipping (item k a ∷ es) (skipping s) d u = flatClipping es (skipping s) d u
   flatClipping (item k a ∷ es) (skippingBy s) d u = flatClipping es (skippingBy s) d u
   flatClipping (push ∷ es) m d u = flatClipping es m (suc d) (suc u)
-  -- P, `|`: "Since the test failed, it can skip until the matching )."
+  -- P, `|`: "Since the test failed, it can skip until the matching ).": s is d
   flatClipping (activate ∷ es) processing d u = flatClipping es (skippingBy d) d (pred u)
   -- S, `|`: "an entire clip-path test has succeeded, and therefore we transition unconditionally back to P"
   flatClipping (activate ∷ es) (skipping s) d u = cond (leb d s) (flatClipping es processing d (pred u)) (flatClipping es (skipping s) d (pred u))
