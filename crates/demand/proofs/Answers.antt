@@ -22,10 +22,12 @@ use Rattle.splits.proofs.Trees.{tree-refused}
 use Rattle.growth.specs.declared.Answer as Growing
 use Rattle.growth.specs.declared.Answer.the-variants as Grows
 use Rattle.growth.specs.Grow.{Ending, none-left, no-room, not-passed, grown, answerBy, answerOf, growAnswer, growTree}
+use Rattle.leaf.specs.declared.FoundLeaf.{FoundLeaf}
 use Rattle.leaf.specs.declared.Answer as Finding
 use Rattle.leaf.specs.declared.Answer.the-variants as Finds
 use Rattle.leaf.specs.Leaf.{positionRange, linesIn, reportOf, foundBy, leafIn, findAnswer}
 use Rattle.leaf.proofs.Landing.{on-grid}
+use Rattle.query.specs.declared.Spot.{Spot}
 use Rattle.query.specs.declared.Answer as Reading
 use Rattle.query.specs.declared.Answer.the-variants as Reads
 use Rattle.pixels.specs.declared.RowAnswer.the-variants as Rows
@@ -33,11 +35,13 @@ use Rattle.pixels.specs.Rows.{Filled, filled}
 use Rattle.logs.specs.declared.LogAnswer.{LogAnswer}
 use Rattle.logs.specs.declared.LogAnswer.the-variants as Logs
 use Rattle.logs.specs.Logs.{outsideFrom, eachWord}
-use Rattle.demand.specs.History.{Node, cellIn, afterSplits, Leaf}
+use Rattle.answers.specs.Answers.{findRoom}
+use Rattle.answers.specs.Readings.{spotRoom}
+use Rattle.demand.specs.History.{Node, cellIn, afterSplits, Leaf, LeafAt}
 use Rattle.demand.specs.NoTree.{spotShown}
 use Rattle.demand.specs.Stands.{drawingOf, wordsOfCell}
-use Rattle.demand.specs.Calls.{splitting, growing, finding, reading, rowing, logging, refusal, afterSplit, grownCells}
-use Rattle.demand.specs.Demand.{SplitRight, GrowRight, reportShown, FindRight}
+use Rattle.demand.specs.Calls.{finds, splitting, growing, finding, reading, rowing, logging, refusal, given, afterSplit, grownCells}
+use Rattle.demand.specs.Demand.{SplitRight, GrowRight, reportShown, foundGiven, FindRight}
 use Rattle.demand.specs.Shown.{positionShown, fillShown, rowShown, logShown, logAnswerShown}
 use Rattle.demand.proofs.History.{splits-longer}
 use Rattle.demand.proofs.Sound.{Sound}
@@ -102,6 +106,11 @@ module _ (t : Tree) (H : List Node) (n l : ℕ) (s : Sound t H) where
       (limited (leb l 16) refl)
 
 -- ---- finding
+-- the leaf that holds the position, with no output
+pub record Lands (D : Drawing) (H : List Node) (x y : ℕ) (a : Finding.Answer) : Type 0 where
+  pub inside : positionRange x y ≡ true → (i : ℕ) × LeafAt H (at x y) i × (a ≡ Finds.Found (reportShown D H i))
+  pub outside : positionRange x y ≡ false → a ≡ Finds.Not Refusals.Argument
+
 module _ (t : Tree) (H : List Node) (s : Sound t H) (x y : ℕ) where
   report-is : (i : ℕ) → Leaf H i → reportOf (t .entries) (leafOf i (16 - level (cellIn H i)) (words t i)) ≡ reportShown (drawingOf t) H i
   report-is i l =
@@ -120,7 +129,7 @@ module _ (t : Tree) (H : List Node) (s : Sound t H) (x y : ℕ) where
   chosen : (b : Bool) → positionRange x y ≡ b → findAnswer t x y ≡ cond b found (Finds.Not Refusals.Argument)
   chosen b e = find-is ∙ ap (λ (c : Bool). cond c found (Finds.Not Refusals.Argument)) e
 
-  pub find-right : FindRight (drawingOf t) H x y (findAnswer t x y)
+  pub find-right : Lands (drawingOf t) H x y (findAnswer t x y)
   find-right =
       record {
         inside = λ e.
@@ -129,26 +138,41 @@ module _ (t : Tree) (H : List Node) (s : Sound t H) (x y : ℕ) where
         outside = λ e. chosen false e;
       }
 
-  find-by : (b : Bool) → positionRange x y ≡ b → refusal (finding (findAnswer t x y)) ≡ 12 → ⊥
-  find-by true e z =
-      let r = find-right .inside e in
-      let o : _≡_ {A = ℕ} 0 12 = sym (ap (λ (a : Finding.Answer). refusal (finding a)) (r .2)) ∙ z in
-      omega arith
-  find-by false e z =
-      let o : _≡_ {A = ℕ} 7 12 = sym (ap (λ (a : Finding.Answer). refusal (finding a)) (find-right .outside e)) ∙ z in
-      omega arith
+  module _ (out : List ℕ) where
+    pub find-given : FindRight (drawingOf t) H x y out (given (finds x y out) t)
+    find-given =
+        record {
+          inside = λ e. let r = find-right .inside e in (r .0, r .1, ap (λ (a : Finding.Answer). foundGiven a out) (r .2));
+          outside = λ e. ap (λ (a : Finding.Answer). foundGiven a out) (find-right .outside e);
+        }
 
-  pub find-unmet : refusal (finding (findAnswer t x y)) ≡ 12 → ⊥
-  find-unmet = find-by (positionRange x y) refl
+    roomed : (b : Bool) (l : FoundLeaf) → refusal (finding (cond b (Finds.Found l) (Finds.Not Refusals.Room))) ≡ 12 → ⊥
+    roomed true l z = omega arith
+    roomed false l z = omega arith
+
+    find-by : (b : Bool) → positionRange x y ≡ b → refusal (finding (findRoom (findAnswer t x y) (length out))) ≡ 12 → ⊥
+    find-by true e z =
+        let r = find-right .inside e in
+        roomed (leb 7 (length out)) (reportShown (drawingOf t) H (r .0)) (sym (ap (λ (a : Finding.Answer). refusal (finding (findRoom a (length out)))) (r .2)) ∙ z)
+    find-by false e z =
+        let o : _≡_ {A = ℕ} 7 12 = sym (ap (λ (a : Finding.Answer). refusal (finding (findRoom a (length out)))) (find-right .outside e)) ∙ z in
+        omega arith
+
+    pub find-unmet : refusal (finding (findRoom (findAnswer t x y) (length out))) ≡ 12 → ⊥
+    find-unmet = find-by (positionRange x y) refl
 
 -- ---- a position
-module _ (t : Tree) (x y : ℕ) (a : Reading.Answer) (e : a ≡ positionShown (drawingOf t) x y) where
-  shown-by : (b : Bool) → refusal (reading (cond b (Reads.At (spotShown (drawingOf t) (at x y))) (Reads.Not Refusals.Argument))) ≡ 12 → ⊥
-  shown-by true z = omega arith
-  shown-by false z = omega arith
+module _ (t : Tree) (x y out : ℕ) (a : Reading.Answer) (e : a ≡ positionShown (drawingOf t) x y) where
+  roomed-spot : (b : Bool) (s : Spot) → refusal (reading (cond b (Reads.At s) (Reads.Not Refusals.Room))) ≡ 12 → ⊥
+  roomed-spot true s z = omega arith
+  roomed-spot false s z = omega arith
 
-  pub position-unmet : refusal (reading a) ≡ 12 → ⊥
-  position-unmet z = shown-by (positionRange x y) (sym (ap (λ (r : Reading.Answer). refusal (reading r)) e) ∙ z)
+  shown-by : (b : Bool) (s : Spot) → refusal (reading (spotRoom (cond b (Reads.At s) (Reads.Not Refusals.Argument)) out)) ≡ 12 → ⊥
+  shown-by true s z = roomed-spot (leb 6 out) s z
+  shown-by false s z = omega arith
+
+  pub position-unmet : refusal (reading (spotRoom a out)) ≡ 12 → ⊥
+  position-unmet z = shown-by (positionRange x y) (spotShown (drawingOf t) (at x y)) (sym (ap (λ (r : Reading.Answer). refusal (reading (spotRoom r out))) e) ∙ z)
 
 -- ---- a row
 module _ (D : Drawing) (row first : ℕ) (out : List ℕ) where

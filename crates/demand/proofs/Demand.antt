@@ -1,62 +1,96 @@
--- Demand 3: after one accepted opening, at every call of every list. Assumes nothing.
-use mathlib.Core.Path.{_≡_, refl, sym, ap, subst}
+-- Demand 3: after one accepted opening, at every call of every list.
+use mathlib.Core.Path.{_≡_, refl, sym, ap, _∙_, subst}
 use mathlib.Core.List.{List, [], _∷_}
+use Prim.Native.Nat.{ℕ}
 use lib.ListN.{length}
 use Rattle.laws.proofs.Booleans.{clash}
+use Rattle.cells.specs.Drawings.{Drawing}
 use Rattle.tree.specs.Tables.{Tree}
 use Rattle.newtree.specs.declared.Answer as Opening
 use Rattle.newtree.specs.declared.Answer.the-variants as Opens
 use Rattle.newtree.specs.Open.{drawingTables, openAnswer}
-use Rattle.drawing.specs.Tables.{Tables}
+use Rattle.opening.specs.Opened.{drawingIn}
+use Rattle.query.specs.declared.Answer as Reading
 use Rattle.query.specs.Spots.{positionAnswer}
-use Rattle.pixels.specs.Rows.{rowFilled}
+use Rattle.pixels.specs.Rows.{Filled, rowFilled}
 use Rattle.logs.specs.Logs.{logAnswer}
+use Rattle.answers.specs.Readings.{spotRoom, outSpot}
 use Rattle.demand.specs.History.{Node, begun}
-use Rattle.demand.specs.Stands.{drawingOf}
-use Rattle.demand.specs.Opened.{openTree}
-use Rattle.demand.specs.Calls.{Call, opens, splits, grows, finds, reads, rows, logs, opening, refusal, over, afterOpening, treeAfter, historyAfter}
-use Rattle.demand.specs.Demand.{Right, Unmet, Allowed, Throughout, Demand3}
+use Rattle.demand.specs.Stands.{drawingOf, Stands}
+use Rattle.demand.specs.Opened.{openedBy, openTree}
+use Rattle.demand.specs.Calls.{Call, opens, splits, grows, finds, reads, rows, logs, opening, reading, rowing, logging, refusal, isOpening, answerTo, treeAfter, historyAfter, gives}
+use Rattle.demand.specs.Lists.{Listed, own, other, Allowed, tablesAfter, nodesAfter, AllAllowed, tablesAfterAll, nodesAfterAll}
+use Rattle.demand.specs.Demand.{Right, RightListed, Unmet, Throughout, Demand3}
 use Rattle.demand.proofs.Sound.{Sound, sound-stands}
 use Rattle.demand.proofs.Opened.{open-sound}
 use Rattle.demand.proofs.Splits.{tables-split}
 use Rattle.demand.proofs.Growing.{tables-grown}
 use Rattle.demand.proofs.Readings.{position-right}
-use Rattle.demand.proofs.Answers.{split-done, grow-done, find-right, find-unmet, position-unmet, row-unmet, log-unmet}
+use Rattle.demand.proofs.Answers.{split-done, grow-done, find-given, find-unmet, position-unmet, row-unmet, log-unmet}
+use Rattle.demand.proofs.Lists.{opening-same}
 use Rattle.demand.proofs.Rows.{row-right}
 use Rattle.demand.proofs.Logs.{log-right, log-out}
 
--- a refused opening leaves all
-refused-same : (d : Tables) (t : Tree) (a : Opening.Answer) → (refusal (opening a) ≡ 0 → ⊥) → afterOpening d t a ≡ t
-refused-same d t (Opens.Opened n) f = absurd (f refl)
-refused-same d t (Opens.Not r) f = refl
-
--- one call on sound tables
-record Called (c : Call) (t : Tree) (H : List Node) : Type 0 where
-  sound : Sound (treeAfter c t) (historyAfter c t H)
-  right : Right c t H
+-- ---- one call on sound tables
+record Called (c : Listed) (t : Tree) (H : List Node) : Type 0 where
+  sound : Sound (tablesAfter c t) (nodesAfter c t H)
+  right : RightListed (drawingOf t) c t H
   unmet : Unmet c t
-  drawing : drawingTables (treeAfter c t) ≡ drawingTables t
+  unchanged : drawingTables (tablesAfter c t) ≡ drawingTables t
 
-called : (c : Call) (t : Tree) (H : List Node) → Sound t H → Allowed c t → Called c t H
-called (opens d) t H s a =
-    record { sound = subst (λ (u : Tree). Sound u H) (sym (refused-same d t (openAnswer (over d t)) (a refl))) s; right = tt; unmet = λ e. clash (sym e); drawing = ap drawingTables (refused-same d t (openAnswer (over d t)) (a refl)) }
-called (splits i) t H s a = let r = split-done t H i s in record { sound = r .sound; right = r .right; unmet = λ e. r .unmet; drawing = tables-split t i }
-called (grows n l) t H s a = let r = grow-done t H n l s in record { sound = r .sound; right = r .right; unmet = λ e. r .unmet; drawing = tables-grown t n l }
-called (finds x y) t H s a = record { sound = s; right = find-right t H s x y; unmet = λ e. find-unmet t H s x y; drawing = refl }
-called (reads x y) t H s a = let q = position-right t H s x y in record { sound = s; right = q; unmet = λ e. position-unmet t x y (positionAnswer t x y) q; drawing = refl }
-called (rows row first out) t H s a =
-    let q = row-right t H s row first out in record { sound = s; right = q; unmet = λ e. row-unmet (drawingOf t) row first out (rowFilled t row first out) q; drawing = refl }
-called (logs px py out) t H s a =
+called : (c : Listed) (t : Tree) (H : List Node) → Sound t H → Allowed c t → Called c t H
+called (own opens) t H s a =
+    let e = opening-same t (openAnswer t) (a refl) in
+    record { sound = subst (λ (u : Tree). Sound u H) (sym e) s; right = tt; unmet = λ f. clash (sym f); unchanged = ap drawingTables e }
+called (own (splits i)) t H s a = let r = split-done t H i s in record { sound = r .sound; right = r .right; unmet = λ e. r .unmet; unchanged = tables-split t i }
+called (own (grows n l)) t H s a = let r = grow-done t H n l s in record { sound = r .sound; right = r .right; unmet = λ e. r .unmet; unchanged = tables-grown t n l }
+called (own (finds x y out)) t H s a = record { sound = s; right = find-given t H s x y out; unmet = λ e. find-unmet t H s x y out; unchanged = refl }
+called (own (reads x y out)) t H s a =
+    let q = position-right t H s x y in
+    record {
+      sound = s;
+      right = ap (λ (r : Reading.Answer). gives (reading (spotRoom r (length out))) (outSpot (spotRoom r (length out)) out)) q;
+      unmet = λ e. position-unmet t x y (length out) (positionAnswer t x y) q;
+      unchanged = refl;
+    }
+called (own (rows row first out)) t H s a =
+    let q = row-right t H s row first out in
+    record {
+      sound = s;
+      right = ap (λ (f : Filled). gives (rowing (f .answer)) (f .bytes)) q;
+      unmet = λ e. row-unmet (drawingOf t) row first out (rowFilled t row first out) q;
+      unchanged = refl;
+    }
+called (own (logs px py out)) t H s a =
     let q = log-right t H s px py out in
-    record { sound = s; right = record { answer = q; output = log-out t H s px py out }; unmet = λ e. log-unmet (drawingOf t) px py (length out) (logAnswer t px py (length out)) q; drawing = refl }
+    record {
+      sound = s;
+      right = λ d. gives (logging (q d)) (log-out t H s px py out d);
+      unmet = λ e. log-unmet (drawingOf t) px py (length out) (logAnswer t px py (length out)) q;
+      unchanged = refl;
+    }
+called (other u c) t H s a = record { sound = s; right = tt; unmet = tt; unchanged = refl }
 
-claimed : (cs : List Call) (t : Tree) (H : List Node) → Sound t H → Throughout cs t H
-claimed [] t H s = sound-stands t H s
-claimed (c ∷ cs) t H s = λ a.
-    let r = called c t H s a in (
-      record { before = sound-stands t H s; after = sound-stands (treeAfter c t) (historyAfter c t H) (r .sound); drawing = r .drawing; right = r .right; unmet = r .unmet },
-      claimed cs (treeAfter c t) (historyAfter c t H) (r .sound),
-    )
+-- ---- the list
+module _ (D : Drawing) where
+  claimed : (cs : List Listed) (t : Tree) (H : List Node) → Sound t H → drawingOf t ≡ D → Throughout D cs t H
+  claimed [] t H s e = sound-stands D t H s e
+  claimed (c ∷ cs) t H s e = λ a.
+      let r = called c t H s a in
+      let f = ap drawingIn (r .unchanged) ∙ e in (
+        record {
+          before = sound-stands D t H s e;
+          after = sound-stands D (tablesAfter c t) (nodesAfter c t H) (r .sound) f;
+          unchanged = r .unchanged;
+          right = subst (λ (E : Drawing). RightListed E c t H) e (r .right);
+          unmet = r .unmet;
+        },
+        claimed cs (tablesAfter c t) (nodesAfter c t H) (r .sound) f,
+      )
+
+-- over any drawing that the tables of the opening hold
+pub demand-over : (D : Drawing) (t : Tree) (n : ℕ) → drawingOf t ≡ D → openAnswer t ≡ Opens.Opened n → (cs : List Listed) → Throughout D cs (openTree t) begun
+demand-over D t n d e cs = claimed D cs (openTree t) begun (open-sound t n e) d
 
 pub demand-3 : Demand3
-demand-3 t n e cs = claimed cs (openTree t) begun (open-sound t n e)
+demand-3 t n e cs = demand-over (drawingOf t) t n refl e cs

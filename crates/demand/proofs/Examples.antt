@@ -1,8 +1,8 @@
--- The hypotheses of demand 3 can be met: the triangle's four records, in tables with room for 9 cells and 40 entries, are opened. After any calls of the
--- list the areas that show at (5, 5) and at (4, 5) are the document's. Assumes nothing.
+-- The claims are not empty: the file of the triangle's four records is read into tables with room for 9 cells and 40 entries, and opened; a list of calls
+-- follows, refused ones among them; and the words that a position then gives are computed.
 use mathlib.Core.Path.{_≡_, refl, sym, ap, _∙_}
 use mathlib.Core.Bool.{true}
-use mathlib.Core.List.{List, [], _∷_}
+use mathlib.Core.List.{List, [], _∷_, _++_}
 use Prim.Native.Nat.{ℕ, zero, suc, _≤_}
 use native.Mathlib.Omega.{arith}
 use lib.ListN.{length}
@@ -10,10 +10,14 @@ use borrow.Author.Tests.{le-leb}
 use Rattle.laws.proofs.Booleans.{clash}
 use Rattle.geometry.specs.Edges.{product, lineCounts, counts, sign}
 use Rattle.geometry.specs.Windings.{adds, sumOf}
+use Rattle.refusals.specs.declared.Refusal.the-variants as Refusals
 use Rattle.records.specs.declared.Record.{Record}
 use Rattle.records.specs.declared.Record.the-variants.{Area, First, Next}
-use Rattle.records.specs.Record.{areaRange}
+use Rattle.records.specs.Record.{areaRange, cornerOf, delimiterOf}
+use Rattle.records.specs.Bytes.{decodedRaw, unnamed, named, fieldsOf}
+use Rattle.grammar.specs.declared.Verdict.the-variants.{Accepted}
 use Rattle.grammar.specs.Grammar as Grammar
+use Rattle.reader.specs.Reading.{decodedFrom, recordsIn, verdictOf, holds, readAnswer}
 use Rattle.reader.specs.Words.{spread}
 use Rattle.paint.specs.Sets.{each}
 use Rattle.paint.specs.Areas.{materialOf}
@@ -29,20 +33,23 @@ use Rattle.ranges.proofs.Weights.{rows-length, made-rows}
 use Rattle.plans.specs.Plans.{drawingFrom}
 use Rattle.opening.specs.Opened.{rowsOpened}
 use Rattle.tree.specs.Tables.{Tree, tree}
-use Rattle.splits.specs.After.{splitTree}
-use Rattle.newtree.specs.declared.Answer.the-variants.{Opened}
-use Rattle.newtree.specs.Open.{drawingTables, streamOpened, roomFor, openAnswer}
+use Rattle.newtree.specs.declared.Answer as Opening
+use Rattle.newtree.specs.declared.Answer.the-variants.{Opened, Not}
+use Rattle.newtree.specs.Open.{drawingTables, streamOpened, roomFor, drawingAnswer, openAnswer}
 use Rattle.newtree.proofs.Rooms.{rows-words, has-room}
 use Rattle.newtree.proofs.Answers.{passed}
-use Rattle.query.specs.declared.Answer.the-variants as Reads
-use Rattle.query.specs.Spots.{positionAnswer}
+use Rattle.query.specs.declared.Spot.{Spot}
 use Rattle.demand.specs.History.{begun}
 use Rattle.demand.specs.NoTree.{spotShown}
 use Rattle.demand.specs.Stands.{drawingOf}
 use Rattle.demand.specs.Opened.{openTree}
-use Rattle.demand.specs.Calls.{Call, splits, reads, treeAfter}
-use Rattle.demand.specs.Demand.{Throughout}
-use Rattle.demand.proofs.Demand.{demand-3}
+use Rattle.answers.specs.Readings.{spotPut}
+use Rattle.demand.specs.Calls.{opens, splits, reads, opening, answerTo, numberBy, refusal, outputAfter, Given, given}
+use Rattle.demand.specs.Shown.{positionGiven}
+use Rattle.demand.specs.Lists.{Listed, own, other, Refused, AllAllowed, tablesAfterAll}
+use Rattle.demand.specs.Files.{readTree, FileOpened, fileTree, drawingOfFile, Shows, position, callOf, GivesShown}
+use Rattle.demand.proofs.Lists.{list-goes-on, refused-same}
+use Rattle.demand.proofs.Files.{file-demand, from-file}
 
 -- ---- "Triangle (0,0) (10,0) (10,10)"
 abbrev triangle : List Record
@@ -95,9 +102,6 @@ example-opened =
     sym (has-room example (length (streamOpened example)) refl (room (length (streamOpened example)) few)
     ∙ passed example (Grammar.counts 4 1 3) refl (holding-passes (drawingTables example) triangle (Grammar.counts 4 1 3) accepted held))
 
-pub example-lists : (cs : List Call) → Throughout cs (openTree example) begun
-example-lists cs = demand-3 example (length (streamOpened example)) example-opened cs
-
 -- ---- "winding 1 at (5,5)", "0 at (4,5)": what shows there, with no tree
 spot : (D : Drawing) → D ≡ drawingFrom triangle → spotShown D (at 5 5) ≡ record { set = 1; material = 6; red = 9; green = 8; blue = 7 }
 unfolding materialOf mixOf each sumOf adds counts sign lineCounts product spread
@@ -107,12 +111,87 @@ ground : (D : Drawing) → D ≡ drawingFrom triangle → spotShown D (at 4 5) �
 unfolding materialOf mixOf each sumOf adds counts sign lineCounts product spread
 ground D e = ap (λ (E : Drawing). spotShown E (at 4 5)) e
 
--- so after a split of cell 0 the call answers the same from the tree
-same-drawing : drawingOf (treeAfter (splits 0) (openTree example)) ≡ drawingOf example
-unfolding splitTree
-same-drawing = refl
+-- ---- the file of the triangle, read into empty tables and opened
+abbrev file : List ℕ
+file =
+    1 ∷ 0 ∷ 0 ∷ 255 ∷ 9 ∷ 8 ∷ 7 ∷ 0 ∷ 6 ∷ 0 ∷ 0 ∷ 0 ∷ 0 ∷ 0 ∷ 0 ∷ 0 ∷
+    2 ∷ 0 ∷ 0 ∷ 0 ∷ 0 ∷ 0 ∷ 0 ∷ 0 ∷ 0 ∷ 0 ∷ 0 ∷ 0 ∷ 0 ∷ 0 ∷ 0 ∷ 0 ∷
+    3 ∷ 0 ∷ 0 ∷ 0 ∷ 10 ∷ 0 ∷ 0 ∷ 0 ∷ 0 ∷ 0 ∷ 0 ∷ 0 ∷ 0 ∷ 0 ∷ 0 ∷ 0 ∷
+    3 ∷ 0 ∷ 0 ∷ 0 ∷ 10 ∷ 0 ∷ 0 ∷ 0 ∷ 10 ∷ 0 ∷ 0 ∷ 0 ∷ 0 ∷ 0 ∷ 0 ∷ 0 ∷ []
 
-split-read : positionAnswer (treeAfter (splits 0) (openTree example)) 5 5 ≡ Reads.At (record { set = 1; material = 6; red = 9; green = 8; blue = 7 })
-split-read =
-    let r = example-lists (splits 0 ∷ reads 5 5 ∷ []) (λ e. clash e) .1 (λ e. clash e) in
-    r .0 .right ∙ ap Reads.At (spot (drawingOf (treeAfter (splits 0) (openTree example))) (same-drawing ∙ drawing-is))
+abbrev blank : Tree
+blank = tree (zeros 7) (zeros 8) (zeros 3) (zeros 3) (zeros 2) (zeros 72) (zeros 160)
+
+file-read : readAnswer file (zeros 7) (zeros 8) (zeros 3) (zeros 3) ≡ Accepted (Grammar.counts 4 1 3)
+unfolding readAnswer verdictOf holds decodedFrom decodedRaw unnamed named fieldsOf areaRange cornerOf delimiterOf Grammar.checked Grammar.course
+file-read = refl
+
+file-records : recordsIn file ≡ triangle
+unfolding decodedFrom decodedRaw unnamed named fieldsOf areaRange cornerOf delimiterOf
+file-records = refl
+
+read-example : readTree file blank ≡ example
+unfolding readAnswer verdictOf holds decodedFrom decodedRaw unnamed named fieldsOf areaRange cornerOf delimiterOf Grammar.checked Grammar.course spread
+read-example = refl
+
+pub file-opened : FileOpened file blank
+file-opened =
+    record {
+      counts = Grammar.counts 4 1 3;
+      read = file-read;
+      entries = length (streamOpened example);
+      opened = ap openAnswer read-example ∙ example-opened;
+    }
+
+-- ---- a list: cell 0 is split; a split is lent one x less than there are y, which is 7; an opening is lent a head of one word, which is 11
+abbrev unequal : Tree
+unequal = tree (example .plan) (example .areas) (0 ∷ 10 ∷ []) (example .ys) (zeros 2) (zeros 72) (zeros 160)
+
+abbrev headless : Tree
+headless = tree (example .plan) (example .areas) (example .xs) (example .ys) (zeros 1) (zeros 72) (zeros 160)
+
+abbrev calls : List Listed
+calls = own (splits 0) ∷ other unequal (splits 0) ∷ other headless opens ∷ []
+
+no-room : openAnswer headless ≡ Not Refusals.Room
+no-room = ap (drawingAnswer headless) (holding-passes (drawingTables example) triangle (Grammar.counts 4 1 3) accepted held)
+
+seven : Refused (splits 0) unequal
+seven e = omega arith
+
+eleven : Refused opens headless
+eleven e = let z : _≡_ {A = ℕ} 11 0 = sym (ap (λ (a : Opening.Answer). refusal (opening a)) no-room) ∙ e in omega arith
+
+allowed : AllAllowed calls (fileTree file blank)
+allowed = (λ e. clash e, ((seven, refused-same (splits 0) unequal refl seven), ((eleven, refused-same opens headless refl eleven), tt)))
+
+abbrev after : Tree
+after = tablesAfterAll calls (fileTree file blank)
+
+-- a position is read behind it, with its six words
+abbrev reading : (x y : ℕ) → Shows
+reading x y = position x y (zeros 6)
+
+abbrev D : Drawing
+D = drawingOfFile file
+
+given-there : (x y : ℕ) → given (callOf (reading x y)) after ≡ positionGiven D x y (zeros 6)
+given-there x y =
+    list-goes-on D calls (own (callOf (reading x y)) ∷ []) (fileTree file blank) begun (file-demand file blank file-opened (calls ++ (own (callOf (reading x y)) ∷ []))) allowed
+    (λ e. clash e) .0 .right
+
+there : (x y : ℕ) → refusal (positionGiven D x y (zeros 6) .answer) ≡ 0 → GivesShown D (reading x y) after
+there x y e = from-file file blank file-opened calls allowed (reading x y) (ap (λ (g : Given). refusal (g .answer)) (given-there x y) ∙ e)
+
+drawn : D ≡ drawingFrom triangle
+drawn = ap drawingFrom file-records
+
+-- the material that is handed back, and the words: set, material, colour
+pub inside-number : numberBy (answerTo (reads 5 5 (zeros 6)) after) ≡ 6
+inside-number = there 5 5 refl .number ∙ ap (λ (s : Spot). s .material) (spot D drawn)
+
+pub inside-words : outputAfter (reads 5 5 (zeros 6)) after ≡ 1 ∷ 0 ∷ 6 ∷ 9 ∷ 8 ∷ 7 ∷ []
+inside-words = there 5 5 refl .output ∙ ap (λ (s : Spot). spotPut s (zeros 6)) (spot D drawn)
+
+pub outside-words : outputAfter (reads 4 5 (zeros 6)) after ≡ 0 ∷ 0 ∷ 0 ∷ 255 ∷ 255 ∷ 255 ∷ []
+outside-words = there 4 5 refl .output ∙ ap (λ (s : Spot). spotPut s (zeros 6)) (ground D drawn)

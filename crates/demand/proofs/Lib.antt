@@ -12,6 +12,8 @@ pub mod Readings
 pub mod Rows
 pub mod Growing
 pub mod Answers
-pub mod Demand
 pub mod Logs
+pub mod Lists
+pub mod Demand
+pub mod Files
 mod Examples

@@ -60,7 +60,7 @@ module _ (t : Tree) (d : Drawn t) (c : Cell) where
   pub cell-set : (x y : ℕ) → Holds c (at x y) → setAt (t .areas) (t .xs) (t .ys) x y (wordsOfCell D c) ≡ setShown D (at x y)
   cell-set x y h = valid-words-read D (d .valid) (t .areas) (t .xs) (t .ys) _ (d .held 0 0) c x y h
 
-  cell-stands : LeafStands t c (wordsOfCell D c)
+  cell-stands : LeafStands D t c (wordsOfCell D c)
   cell-stands =
       record {
         stream = refl;
@@ -71,12 +71,17 @@ module _ (t : Tree) (d : Drawn t) (c : Cell) where
         colour = λ x y h. ap (colourOf (paintAt (t .areas))) (cell-set x y h) ∙ colour-held D (d .valid) (t .areas) (t .xs) (t .ys) _ (d .held 0 0) (at x y);
       }
 
-pub sound-stands : (t : Tree) (H : List Node) → Sound t H → Stands t H
-sound-stands t H s =
+-- over the drawing that the tables hold
+sound-stands-held : (t : Tree) (H : List Node) → Sound t H → Stands (drawingOf t) t H
+sound-stands-held t H s =
     record {
+      drawing = refl;
       in-use = s .in-use;
       squares = λ i h. on-square (cellAt (t .cells) i) (cellIn H i) (s .squares i h);
       children = s .firsts;
       tiled = s .grown .tiled;
-      leaves = λ i l. subst (LeafStands t (cellIn H i)) (sym (s .streams i l)) (cell-stands t (s .drawn) (cellIn H i));
+      leaves = λ i l. subst (LeafStands (drawingOf t) t (cellIn H i)) (sym (s .streams i l)) (cell-stands t (s .drawn) (cellIn H i));
     }
+
+pub sound-stands : (D : Drawing) (t : Tree) (H : List Node) → Sound t H → drawingOf t ≡ D → Stands D t H
+sound-stands D t H s e = subst (λ (E : Drawing). Stands E t H) e (sound-stands-held t H s)

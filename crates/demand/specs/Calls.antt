@@ -1,22 +1,20 @@
--- Document 01, "The list of demand 3": the calls of the list, what each answers, and the tables that it leaves. Each answer and each table is the
--- definition that the contract of the call cites: `newtree::open`, `tree::split`, `growth::grow`, `leaf::find_leaf`, `query::position`,
--- `pixels::pixel_row`, `logs::zone_log`. The exported calls hand these answers on as numbers and words (`Rattle.answers.specs`), with 11 where the
--- words of a leaf or of a position have no room. Assumes nothing.
+-- Document 01, "The list of demand 3": the calls of the list as a maker calls them: what each answers, the words that it writes, and the tables that it
+-- leaves. Each is the definition that the contract of the exported call cites (`zones_open`, `zones_split`, `zones_grow`, `zones_find_leaf`,
+-- `zones_position`, `zones_pixel_row`, `zones_zone_log`).
 use mathlib.Core.Bool.{Bool, true, false, cond}
 use mathlib.Core.List.{List, []}
 use Prim.Native.Nat.{ℕ}
 use lib.Dec.{eqb, leb}
 use lib.ListN.{length}
 use Rattle.refusals.specs.Refusals.{numberOf}
-use Rattle.drawing.specs.Tables.{Tables}
-use Rattle.tree.specs.Tables.{Tree, tree}
+use Rattle.tree.specs.Tables.{Tree}
 use Rattle.tree.specs.declared.Answer as Splitting
 use Rattle.tree.specs.declared.Answer.the-variants as Splits
 use Rattle.tree.specs.Split.{splitAnswer}
 use Rattle.splits.specs.After.{splitTree}
 use Rattle.newtree.specs.declared.Answer as Opening
 use Rattle.newtree.specs.declared.Answer.the-variants as Opens
-use Rattle.newtree.specs.Open.{drawingTables, openAnswer}
+use Rattle.newtree.specs.Open.{openAnswer}
 use Rattle.growth.specs.declared.Answer as Growing
 use Rattle.growth.specs.declared.Answer.the-variants as Grows
 use Rattle.growth.specs.Grow.{grown, growAnswer, growTree}
@@ -32,23 +30,45 @@ use Rattle.pixels.specs.Rows.{rowFilled}
 use Rattle.logs.specs.declared.LogAnswer.{LogAnswer}
 use Rattle.logs.specs.declared.LogAnswer.the-variants as Logs
 use Rattle.logs.specs.Logs.{logAnswer, outAfter}
+use Rattle.answers.specs.Answers.{openNumber, splitNumber, growNumber, findRoom, findNumber, outFound}
+use Rattle.answers.specs.Readings.{spotRoom, spotNumber, outSpot, rowNumber, logNumber}
 use Rattle.demand.specs.History.{Node, splitAt, afterSplits}
-use Rattle.demand.specs.Opened.{openedBy}
+use Rattle.demand.specs.Opened.{openTree}
 
 -- "calls that split, grow or read, none or more, in any sequence, accepted or refused; refused openings may be among them. Reading calls are all that
--- answer from the tree: leaves found, positions, pixel rows, zone logs"
+-- answer from the tree: leaves found, positions, pixel rows, zone logs."
 pub data Call : Type 0 where
-  -- over a drawing lent for it
-  opens : Tables → Call
+  opens : Call
   splits : (cell : ℕ) → Call
   grows : (threshold limit : ℕ) → Call
-  finds : (x y : ℕ) → Call
-  reads : (x y : ℕ) → Call
+  -- the position, and the table that takes the seven words of the leaf
+  finds : (x y : ℕ) (out : List ℕ) → Call
+  -- the position, and the table that takes the six words of what shows
+  reads : (x y : ℕ) (out : List ℕ) → Call
   -- the row, its first pixel, and the buffer that takes the pixels
   rows : (row first : ℕ) (out : List ℕ) → Call
   -- the positions of the run, and the table that takes the indices
   logs : (px py out : List ℕ) → Call
 
+abbrev pub isOpening : Call → Bool
+isOpening opens = true
+isOpening (splits i) = false
+isOpening (grows n l) = false
+isOpening (finds x y out) = false
+isOpening (reads x y out) = false
+isOpening (rows row first out) = false
+isOpening (logs px py out) = false
+
+abbrev pub isGrowing : Call → Bool
+isGrowing opens = false
+isGrowing (splits i) = false
+isGrowing (grows n l) = true
+isGrowing (finds x y out) = false
+isGrowing (reads x y out) = false
+isGrowing (rows row first out) = false
+isGrowing (logs px py out) = false
+
+-- ---- the answers
 pub data Answer : Type 0 where
   opening : Opening.Answer → Answer
   splitting : Splitting.Answer → Answer
@@ -58,27 +78,25 @@ pub data Answer : Type 0 where
   rowing : RowAnswer → Answer
   logging : LogAnswer → Answer
 
-abbrev pub isOpening : Call → Bool
-isOpening (opens d) = true
-isOpening (splits i) = false
-isOpening (grows n l) = false
-isOpening (finds x y) = false
-isOpening (reads x y) = false
-isOpening (rows row first out) = false
-isOpening (logs px py out) = false
-
--- the tables of a tree, with another drawing
-abbrev pub over : Tables → Tree → Tree
-over d t = tree (d .plan) (d .areas) (d .xs) (d .ys) (t .head) (t .cells) (t .entries)
-
+-- to a call that is lent these tables
 abbrev pub answerTo : Call → Tree → Answer
-answerTo (opens d) t = opening (openAnswer (over d t))
+answerTo opens t = opening (openAnswer t)
 answerTo (splits i) t = splitting (splitAnswer t i)
 answerTo (grows n l) t = growing (growAnswer t n l)
-answerTo (finds x y) t = finding (findAnswer t x y)
-answerTo (reads x y) t = reading (positionAnswer t x y)
+answerTo (finds x y out) t = finding (findRoom (findAnswer t x y) (length out))
+answerTo (reads x y out) t = reading (spotRoom (positionAnswer t x y) (length out))
 answerTo (rows row first out) t = rowing (rowFilled t row first out .answer)
 answerTo (logs px py out) t = logging (logAnswer t px py (length out))
+
+-- the number that the exported call hands back
+abbrev pub numberBy : Answer → ℕ
+numberBy (opening a) = openNumber a
+numberBy (splitting a) = splitNumber a
+numberBy (growing a) = growNumber a
+numberBy (finding a) = findNumber a
+numberBy (reading a) = spotNumber a
+numberBy (rowing a) = rowNumber a
+numberBy (logging a) = logNumber a
 
 -- the number of its refusal, 0 where it is accepted
 abbrev pub refusal : Answer → ℕ
@@ -99,29 +117,36 @@ refusal (logging (Logs.Indices n)) = 0
 refusal (logging (Logs.Not r place)) = numberOf r
 
 -- ---- the tables
--- the tree as an opening leaves it, with the drawing of the opening where that is accepted, and with its own where it is refused
-abbrev pub afterOpening : Tables → Tree → Opening.Answer → Tree
-afterOpening d t (Opens.Opened n) = openedBy (over d t) (Opens.Opened n)
-afterOpening d t (Opens.Not r) = over (drawingTables t) (openedBy (over d t) (Opens.Not r))
+-- the output that a call is lent, as it leaves it
+abbrev pub outputAfter : Call → Tree → List ℕ
+outputAfter opens t = []
+outputAfter (splits i) t = []
+outputAfter (grows n l) t = []
+outputAfter (finds x y out) t = outFound (findRoom (findAnswer t x y) (length out)) out
+outputAfter (reads x y out) t = outSpot (spotRoom (positionAnswer t x y) (length out)) out
+outputAfter (rows row first out) t = rowFilled t row first out .bytes
+outputAfter (logs px py out) t = outAfter t px py (logAnswer t px py (length out)) out
 
+-- the seven tables that a call is lent, as it leaves them
 abbrev pub treeAfter : Call → Tree → Tree
-treeAfter (opens d) t = afterOpening d t (openAnswer (over d t))
+treeAfter opens t = openTree t
 treeAfter (splits i) t = splitTree t i
 treeAfter (grows n l) t = growTree t n l
-treeAfter (finds x y) t = t
-treeAfter (reads x y) t = t
+treeAfter (finds x y out) t = t
+treeAfter (reads x y out) t = t
 treeAfter (rows row first out) t = t
 treeAfter (logs px py out) t = t
 
--- the output that a call is lent besides, as it leaves it
-abbrev pub outputAfter : Call → Tree → List ℕ
-outputAfter (opens d) t = []
-outputAfter (splits i) t = []
-outputAfter (grows n l) t = []
-outputAfter (finds x y) t = []
-outputAfter (reads x y) t = []
-outputAfter (rows row first out) t = rowFilled t row first out .bytes
-outputAfter (logs px py out) t = outAfter t px py (logAnswer t px py (length out)) out
+-- what a call gives: its answer and the words that it writes
+pub record Given : Type 0 where
+  pub answer : Answer
+  pub output : List ℕ
+
+abbrev pub gives : Answer → List ℕ → Given
+gives a out = record { answer = a; output = out }
+
+abbrev pub given : Call → Tree → Given
+given c t = gives (answerTo c t) (outputAfter c t)
 
 -- ---- the history
 abbrev pub afterSplit : List Node → ℕ → Splitting.Answer → List Node
@@ -134,10 +159,10 @@ grownCells t n l = cond (eqb (length (t .xs)) (length (t .ys))) (cond (leb l 16)
 
 -- "no split of the list, growing's included"
 abbrev pub historyAfter : Call → Tree → List Node → List Node
-historyAfter (opens d) t H = H
+historyAfter opens t H = H
 historyAfter (splits i) t H = afterSplit H i (splitAnswer t i)
 historyAfter (grows n l) t H = afterSplits H (grownCells t n l)
-historyAfter (finds x y) t H = H
-historyAfter (reads x y) t H = H
+historyAfter (finds x y out) t H = H
+historyAfter (reads x y out) t H = H
 historyAfter (rows row first out) t H = H
 historyAfter (logs px py out) t H = H

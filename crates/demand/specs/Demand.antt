@@ -1,4 +1,4 @@
--- Document 01, "The list of demand 3", as a single claim about the list. Assumes nothing.
+-- Document 01, "The list of demand 3", as a single claim about the list.
 use mathlib.Core.Path.{_≡_}
 use mathlib.Core.Bool.{true, false}
 use mathlib.Core.List.{List, [], _∷_}
@@ -19,16 +19,14 @@ use Rattle.growth.specs.Grow.{growAnswer, growTree}
 use Rattle.leaf.specs.declared.FoundLeaf.{FoundLeaf}
 use Rattle.leaf.specs.declared.Answer as Finding
 use Rattle.leaf.specs.declared.Answer.the-variants as Finds
-use Rattle.leaf.specs.Leaf.{positionRange, linesIn, findAnswer}
-use Rattle.query.specs.Spots.{positionAnswer}
-use Rattle.pixels.specs.Rows.{rowFilled}
-use Rattle.logs.specs.declared.LogAnswer.{LogAnswer}
-use Rattle.logs.specs.Logs.{logAnswer}
+use Rattle.leaf.specs.Leaf.{positionRange, linesIn}
+use Rattle.answers.specs.Answers.{findRoom, outFound}
 use Rattle.demand.specs.History.{Node, begun, afterSplits, cellIn, Leaf, LeafAt}
 use Rattle.demand.specs.Stands.{drawingOf, wordsOfCell, Stands}
-use Rattle.demand.specs.Shown.{positionShown, rowShown, logAnswerShown, logOutShown}
 use Rattle.demand.specs.Opened.{openTree}
-use Rattle.demand.specs.Calls.{Call, opens, splits, grows, finds, reads, rows, logs, isOpening, answerTo, refusal, treeAfter, outputAfter, grownCells, historyAfter}
+use Rattle.demand.specs.Calls.{Call, opens, splits, grows, finds, reads, rows, logs, isOpening, finding, answerTo, refusal, Given, gives, given, grownCells}
+use Rattle.demand.specs.Shown.{positionGiven, rowGiven, logGiven}
+use Rattle.demand.specs.Lists.{Listed, own, other, Allowed, tablesAfter, nodesAfter}
 
 -- ---- the answers
 
@@ -73,48 +71,49 @@ reportShown D H i =
       lines = linesIn (wordsOfCell D (cellIn H i));
     }
 
+-- a leaf as it is found, in a table of words: 11 where that is too short
+abbrev pub foundGiven : Finding.Answer → List ℕ → Given
+foundGiven a out = gives (finding (findRoom a (length out))) (outFound (findRoom a (length out)) out)
+
 -- the leaf that holds the position; 7 where the position is out of range
-pub record FindRight (D : Drawing) (H : List Node) (x y : ℕ) (a : Finding.Answer) : Type 0 where
-  pub inside : positionRange x y ≡ true → (i : ℕ) × LeafAt H (at x y) i × (a ≡ Finds.Found (reportShown D H i))
-  pub outside : positionRange x y ≡ false → a ≡ Finds.Not Refusals.Argument
+pub record FindRight (D : Drawing) (H : List Node) (x y : ℕ) (out : List ℕ) (g : Given) : Type 0 where
+  pub inside : positionRange x y ≡ true → (i : ℕ) × LeafAt H (at x y) i × (g ≡ foundGiven (Finds.Found (reportShown D H i)) out)
+  pub outside : positionRange x y ≡ false → g ≡ foundGiven (Finds.Not Refusals.Argument) out
 
--- the log worked out with no tree, as the answer and in the output
-pub record LogRight (D : Drawing) (px py out : List ℕ) (a : LogAnswer) (after : List ℕ) : Type 0 where
-  pub answer : a ≡ logAnswerShown D px py (length out)
-  pub output : after ≡ logOutShown D px py (logAnswerShown D px py (length out)) out
+-- what a call gives that is lent the tables of a tree with the history H, over the drawing D
+abbrev pub Right : Drawing → Call → Tree → List Node → Type 0
+Right D opens t H = Unit {0}
+Right D (splits i) t H = SplitRight H i (splitAnswer t i)
+Right D (grows n l) t H = GrowRight D n l H (afterSplits H (grownCells t n l)) (growTree t n l) (growAnswer t n l)
+Right D (finds x y out) t H = FindRight D H x y out (given (finds x y out) t)
+Right D (reads x y out) t H = given (reads x y out) t ≡ positionGiven D x y out
+Right D (rows row first out) t H = given (rows row first out) t ≡ rowGiven D row first out
+Right D (logs px py out) t H = given (logs px py out) t ≡ logGiven D px py out
 
--- the answer to a call on a tree with the history H
-abbrev pub Right : Call → Tree → List Node → Type 0
-Right (opens d) t H = Unit {0}
-Right (splits i) t H = SplitRight H i (splitAnswer t i)
-Right (grows n l) t H = GrowRight (drawingOf t) n l H (afterSplits H (grownCells t n l)) (growTree t n l) (growAnswer t n l)
-Right (finds x y) t H = FindRight (drawingOf t) H x y (findAnswer t x y)
-Right (reads x y) t H = positionAnswer t x y ≡ positionShown (drawingOf t) x y
-Right (rows row first out) t H = rowFilled t row first out ≡ rowShown (drawingOf t) row first out
-Right (logs px py out) t H = LogRight (drawingOf t) px py out (logAnswer t px py (length out)) (outputAfter (logs px py out) t)
+-- of a call that is lent other tables, which is refused, nothing is asked
+abbrev pub RightListed : Drawing → Listed → Tree → List Node → Type 0
+RightListed D (own c) t H = Right D c t H
+RightListed D (other u c) t H = Unit {0}
 
--- 12 meets no call, but for an opening, which may be lent any drawing
-abbrev pub Unmet : Call → Tree → Type 0
-Unmet c t = isOpening c ≡ false → refusal (answerTo c t) ≡ 12 → ⊥
+-- 12 meets no call that is lent the tree's tables
+abbrev pub Unmet : Listed → Tree → Type 0
+Unmet (own c) t = isOpening c ≡ false → refusal (answerTo c t) ≡ 12 → ⊥
+Unmet (other u c) t = Unit {0}
 
 -- ---- the list
--- "refused openings may be among them"
-abbrev pub Allowed : Call → Tree → Type 0
-Allowed c t = isOpening c ≡ true → refusal (answerTo c t) ≡ 0 → ⊥
-
--- at each call: the tables stand as it finds them and as it leaves them, over the same drawing, its answer is right, and 12 does not meet it
-pub record Claim (c : Call) (t : Tree) (H : List Node) : Type 0 where
-  pub before : Stands t H
-  pub after : Stands (treeAfter c t) (historyAfter c t H)
-  pub drawing : drawingTables (treeAfter c t) ≡ drawingTables t
-  pub right : Right c t H
+-- at each call: the tables stand as it finds them and as it leaves them, the drawing's are not changed, what it gives is right, and 12 does not meet it
+pub record Claim (D : Drawing) (c : Listed) (t : Tree) (H : List Node) : Type 0 where
+  pub before : Stands D t H
+  pub after : Stands D (tablesAfter c t) (nodesAfter c t H)
+  pub unchanged : drawingTables (tablesAfter c t) ≡ drawingTables t
+  pub right : RightListed D c t H
   pub unmet : Unmet c t
 
--- each call is lent the tables as the one before left them
-abbrev pub Throughout : List Call → Tree → List Node → Type 0
-Throughout [] t H = Stands t H
-Throughout (c ∷ cs) t H = Allowed c t → Claim c t H × Throughout cs (treeAfter c t) (historyAfter c t H)
+-- each call that is lent the tree's tables finds them as the one before left them
+abbrev pub Throughout : Drawing → List Listed → Tree → List Node → Type 0
+Throughout D [] t H = Stands D t H
+Throughout D (c ∷ cs) t H = Allowed c t → Claim D c t H × Throughout D cs (tablesAfter c t) (nodesAfter c t H)
 
--- "After one accepted opening come calls that split, grow or read, none or more, in any sequence, accepted or refused"
+-- "After one accepted opening come calls that split, grow or read, none or more, in any sequence, accepted or refused": over the drawing that is opened
 abbrev pub Demand3 : Type 0
-Demand3 = (t : Tree) (n : ℕ) → openAnswer t ≡ Opens.Opened n → (cs : List Call) → Throughout cs (openTree t) begun
+Demand3 = (t : Tree) (n : ℕ) → openAnswer t ≡ Opens.Opened n → (cs : List Listed) → Throughout (drawingOf t) cs (openTree t) begun

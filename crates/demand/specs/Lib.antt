@@ -3,6 +3,8 @@ pub mod History
 pub mod NoTree
 pub mod Stands
 pub mod Opened
-pub mod Shown
 pub mod Calls
+pub mod Shown
+pub mod Lists
 pub mod Demand
+pub mod Files

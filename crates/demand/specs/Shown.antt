@@ -1,5 +1,5 @@
 -- Document 01, "The list of demand 3": the answers of the reading calls worked out "with no tree": "by the same section over the whole drawing, pixels and
--- logs too". Assumes nothing.
+-- logs too".
 use mathlib.Core.Bool.{cond, _&&_}
 use mathlib.Core.List.{List}
 use Prim.Native.Nat.{ℕ, zero, suc, _+_, _/_, _%_}
@@ -17,14 +17,20 @@ use Rattle.pixels.specs.Rows.{Filled, filled, putPixel}
 use Rattle.logs.specs.declared.LogAnswer.{LogAnswer}
 use Rattle.logs.specs.declared.LogAnswer.the-variants.{Indices, Not}
 use Rattle.logs.specs.Logs.{logFrom, outsideFrom, eachWord}
+use Rattle.answers.specs.Readings.{spotRoom, outSpot}
 use Rattle.demand.specs.NoTree.{materialShown, spotShown, pixelShown}
+use Rattle.demand.specs.Calls.{reading, rowing, logging, Given, gives}
 
 module _ (D : Drawing) where
   -- the answer at a position; 7 where the position is out of range
   abbrev pub positionShown : (x y : ℕ) → Reading.Answer
   positionShown x y = cond (positionRange x y) (Reads.At (spotShown D (at x y))) (Reads.Not Argument)
 
-  -- "A row call fills red, green, blue per pixel": the n pixels of the call from index i on
+  -- and in a table of words: 11 where that is too short
+  abbrev pub positionGiven : (x y : ℕ) (out : List ℕ) → Given
+  positionGiven x y out = gives (reading (spotRoom (positionShown x y) (length out))) (outSpot (spotRoom (positionShown x y) (length out)) out)
+
+  -- "A row call fills red, green, blue per pixel.": the n pixels of the call from index i on
   abbrev pub fillShown : (row first i n : ℕ) → List ℕ → List ℕ
   fillShown row first i zero out = out
   fillShown row first i (suc n) out = fillShown row first (i + 1) n (putPixel out i (pixelShown D row (first + i)))
@@ -37,6 +43,9 @@ module _ (D : Drawing) where
       (cond (leb (first + length out / 3) 4096) (filled Rows.Done (fillShown row first 0 (length out / 3) out)) (filled (Rows.Not Argument 0) out))
       (filled (Rows.Not Argument 0) out))
       (filled (Rows.Not Argument 0) out)
+
+  abbrev pub rowGiven : (row first : ℕ) (out : List ℕ) → Given
+  rowGiven row first out = gives (rowing (rowShown row first out .answer)) (rowShown row first out .bytes)
 
   module _ (px py : List ℕ) where
     -- "A zone log over a run of positions gives index 0 (if there is one) and each index whose material differs from the one before."
@@ -54,3 +63,6 @@ module _ (D : Drawing) where
     abbrev pub logOutShown : LogAnswer → List ℕ → List ℕ
     logOutShown (Indices n) out = sets out 0 logShown
     logOutShown (Not r place) out = out
+
+    abbrev pub logGiven : (out : List ℕ) → Given
+    logGiven out = gives (logging (logAnswerShown (length out))) (logOutShown (logAnswerShown (length out)) out)

@@ -1,4 +1,4 @@
--- Document 01, "The list of demand 3": what is claimed of a tree in its tables, whose cells are those of a history. Assumes nothing.
+-- Document 01, "The list of demand 3": what is claimed of a tree in its tables, over a drawing, whose cells are those of a history. Assumes nothing.
 use mathlib.Core.Path.{_≡_}
 use mathlib.Core.Bool.{true}
 use mathlib.Core.List.{List, map}
@@ -32,24 +32,26 @@ abbrev pub wordsOfCell : Drawing → Cell → List Words
 wordsOfCell D c = map wordsOf (rowsOf (flat paint (made D c (source D))))
 
 -- ws are the words of the stream of a leaf c
-pub record LeafStands (t : Tree) (c : Cell) (ws : List Words) : Type 0 where
+pub record LeafStands (D : Drawing) (t : Tree) (c : Cell) (ws : List Words) : Type 0 where
   -- they follow from the drawing and the leaf's square, whatever was split before
-  pub stream : ws ≡ wordsOfCell (drawingOf t) c
+  pub stream : ws ≡ wordsOfCell D c
   -- "An area's winding in it at (x, y) is its start number, plus the sign of each of its shortcuts with row y, plus +1 or −1 for each of its kept
   -- lines that counts there": of each area entry, at each position of the leaf, the winding in the whole drawing
-  pub windings : Each (Winds (drawingOf t) c) (entriesOf (decode (roleIn (drawingOf t)) (rowsIn ws)))
-  -- "'Read there' is by 'Winding and meaning' over the leaf's stream with these windings, 'passes' being a clip area that passes"
-  pub meaning : (p : Position) → Holds c p → shownIn (drawingOf t) p (streamOf (roleIn (drawingOf t)) (rowsIn ws)) ≡ shownAt (drawingOf t) p
+  pub windings : Each (Winds D c) (entriesOf (decode (roleIn D) (rowsIn ws)))
+  -- ""Read there" is by "Winding and meaning" over the leaf's stream with these windings, "passes" being a clip area that passes"
+  pub meaning : (p : Position) → Holds c p → shownIn D p (streamOf (roleIn D) (rowsIn ws)) ≡ shownAt D p
   -- the shown set, the material and the colour that one pass over the words in the tables gives
-  pub set : (x y : ℕ) → Holds c (at x y) → setAt (t .areas) (t .xs) (t .ys) x y ws ≡ setShown (drawingOf t) (at x y)
-  pub material : (x y : ℕ) → Holds c (at x y) → materialOf (paintAt (t .areas)) (setAt (t .areas) (t .xs) (t .ys) x y ws) ≡ materialShown (drawingOf t) (at x y)
-  pub colour : (x y : ℕ) → Holds c (at x y) → colourOf (paintAt (t .areas)) (setAt (t .areas) (t .xs) (t .ys) x y ws) ≡ colourShown (drawingOf t) (at x y)
+  pub set : (x y : ℕ) → Holds c (at x y) → setAt (t .areas) (t .xs) (t .ys) x y ws ≡ setShown D (at x y)
+  pub material : (x y : ℕ) → Holds c (at x y) → materialOf (paintAt (t .areas)) (setAt (t .areas) (t .xs) (t .ys) x y ws) ≡ materialShown D (at x y)
+  pub colour : (x y : ℕ) → Holds c (at x y) → colourOf (paintAt (t .areas)) (setAt (t .areas) (t .xs) (t .ys) x y ws) ≡ colourShown D (at x y)
 
-pub record Stands (t : Tree) (H : List Node) : Type 0 where
+pub record Stands (D : Drawing) (t : Tree) (H : List Node) : Type 0 where
+  -- the tables hold the drawing
+  pub drawing : drawingOf t ≡ D
   -- the cells in use, their squares and their children are the history's
   pub in-use : cellsUsed (t .head) ≡ length H
   pub squares : (i : ℕ) → i < length H → onSquare (cellAt (t .cells) i) (cellIn H i) ≡ true
   pub children : (i : ℕ) → i < length H → cellAt (t .cells) i .child ≡ firstIn H i
   -- whose leaves tile the grid
   pub tiled : Tiled H
-  pub leaves : (i : ℕ) → Leaf H i → LeafStands t (cellIn H i) (Split.stream t i)
+  pub leaves : (i : ℕ) → Leaf H i → LeafStands D t (cellIn H i) (Split.stream t i)
