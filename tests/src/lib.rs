@@ -19,6 +19,7 @@ pub mod probe;
 pub mod prune;
 pub mod query;
 pub mod random;
+pub mod reach;
 pub mod readings;
 pub mod record;
 pub mod sample;
