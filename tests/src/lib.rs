@@ -14,10 +14,12 @@ pub mod lent;
 pub mod lister;
 pub mod machine;
 pub mod meaning;
+pub mod pages;
 #[allow(unsafe_code)]
 pub mod probe;
 pub mod prune;
 pub mod query;
+pub mod quotations;
 pub mod random;
 pub mod reach;
 pub mod readings;
