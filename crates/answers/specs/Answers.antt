@@ -23,22 +23,22 @@ use Rattle.leaf.specs.declared.Answer.the-variants as leaf
 abbrev pub packed : (number low : ℕ) → ℕ
 packed number low = number * 4294967296 + low
 
--- reading: how many records
+-- reading: how many records; document 01 leaves this result free
 abbrev pub readNumber : Verdict → ℕ
 readNumber (Accepted k) = packed 0 (k .records)
 readNumber (Refused r p) = packed (numberOf r) p
 
--- writing: how many bytes; refusals from the state have place 0
+-- writing: how many bytes; document 01 leaves this result free; refusals from the state have place 0
 abbrev pub writeNumber : Written → ℕ
 writeNumber (Bytes n) = packed 0 n
 writeNumber (Not r) = packed (numberOf r) 0
 
--- opening: how many entries
+-- opening: how many entries; document 01 leaves this result free
 abbrev pub openNumber : newtree-answer.Answer → ℕ
 openNumber (newtree.Opened entries) = packed 0 entries
 openNumber (newtree.Not r) = packed (numberOf r) 0
 
--- splitting: the number of the first child
+-- splitting: the number of the first child; document 01 leaves this result free
 abbrev pub splitNumber : tree-answer.Answer → ℕ
 splitNumber (tree.Split child) = packed 0 child
 splitNumber (tree.Not r) = packed (numberOf r) 0
@@ -54,7 +54,7 @@ abbrev pub findRoom : leaf-answer.Answer → (out : ℕ) → leaf-answer.Answer
 findRoom (leaf.Found l) out = cond (leb 7 out) (leaf.Found l) (leaf.Not Room)
 findRoom (leaf.Not r) out = leaf.Not r
 
--- the number of the leaf
+-- the number of the leaf; document 01 leaves free which number of the leaf is the result
 abbrev pub findNumber : leaf-answer.Answer → ℕ
 findNumber (leaf.Found l) = packed 0 (l .cell)
 findNumber (leaf.Not r) = packed (numberOf r) 0

@@ -20,7 +20,7 @@ abbrev pub spotRoom : query-answer.Answer → (out : ℕ) → query-answer.Answe
 spotRoom (query.At s) out = cond (leb 6 out) (query.At s) (query.Not Room)
 spotRoom (query.Not r) out = query.Not r
 
--- the material; refusals of a position have place 0
+-- the material; document 01 leaves free which number of the position is the result; refusals of a position have place 0
 abbrev pub spotNumber : query-answer.Answer → ℕ
 spotNumber (query.At s) = packed 0 (s .material)
 spotNumber (query.Not r) = packed (numberOf r) 0
@@ -38,12 +38,12 @@ outSpot (query.Not r) out = out
 abbrev pub lowHalf : ℕ → ℕ
 lowHalf n = cond (leb n 4294967295) n 4294967295
 
--- a zone log: how many indices; 7 has the "index of the position in a run"
+-- a zone log: how many indices; document 01 leaves this result free; 7 has the "index of the position in a run"
 abbrev pub logNumber : LogAnswer → ℕ
 logNumber (logs.Indices n) = packed 0 (lowHalf n)
 logNumber (logs.Not r place) = packed (numberOf r) (lowHalf place)
 
--- a row of pixels: no result; 12 has "the pixel's index in the call", which is below 4,096
+-- a row of pixels: 0; document 01 leaves this result free; 12 has "the pixel's index in the call", which is below 4,096
 abbrev pub rowNumber : RowAnswer → ℕ
 rowNumber pixels.Done = packed 0 0
 rowNumber (pixels.Not r place) = packed (numberOf r) place

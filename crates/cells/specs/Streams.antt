@@ -56,7 +56,7 @@ module _ (D : Drawing) where
   items = record { Item = Item; class = classOf; bare = always; bare-passes = refl }
 
   -- "An area's winding in it at (x, y) is its start number, plus the sign of each of its shortcuts with row y, plus +1 or −1 for each of its
-  -- kept lines that counts there." "'passes' being a clip area that passes"
+  -- kept lines that counts there." ""passes" being a clip area that passes"
   abbrev pub passesIn : Position → Item → Bool
   passesIn p always = true
   passesIn p (area n z gs) = passesBy D n (z +ℤ sumAt (D .xs) (D .ys) p gs)

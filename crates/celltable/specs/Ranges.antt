@@ -36,7 +36,7 @@ rootRange w i = cond (eqb i 0) (eqb (w .x) 0 && (eqb (w .y) 0 && eqb (w .side) 6
 abbrev pub childRange : (child used : ℕ) → Bool
 childRange child used = eqb child 0 || ltb (child + 3) used
 
--- "entry numbers below what is in use (the first number of an empty stream ... at most that)"
+-- "entry numbers below what is in use (the first number of an empty stream ... at most that)"; document 01 leaves that first number free up to there
 abbrev pub entryRange : (first count used : ℕ) → Bool
 entryRange first count used = leb (first + count) used
 

@@ -17,7 +17,7 @@ cellAt t i =
       count = getD t (i * 8 + 5) 0;
     }
 
--- the eight words of a cell
+-- the eight words of a cell; document 01 leaves words 6 and 7 free
 abbrev pub rowOf : CellWords → List ℕ
 rowOf w = w .x ∷ w .y ∷ w .side ∷ w .child ∷ w .first ∷ w .count ∷ 0 ∷ 0 ∷ []
 

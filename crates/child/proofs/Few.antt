@@ -91,7 +91,7 @@ module _ (v : Env) where
   unfolding accepts
   entries-few ws h = omega (arith, all-few ws (place [] false 0 0) (omega arith) h)
 
--- "at most 64": none is lost
+-- at most 64, so that none is lost
 pub few-starts : (v : Env) (D : Drawing) (c : Cell) (R : Reads v D) (ws : List Words) → accepts v ws ≡ true → length (startsOf (rowsMade D c ws)) ≤ 64
 few-starts v D c R ws h =
     omega (arith, settled D c (allOf D c ws), rows-few D c (rowsIn ws) (begun D c), ap (λ (x : List Row). length (startsOf x)) (rows-all v D c R ws h), entries-few v ws h)

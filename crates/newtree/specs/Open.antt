@@ -18,7 +18,8 @@ use Rattle.tree.specs.Tables.{Tree}
 use Rattle.newtree.specs.declared.Answer.{Answer}
 use Rattle.newtree.specs.declared.Answer.the-variants.{Opened, Not}
 
--- "Cell 0 is the square of side 65,536 at (0, 0)": a leaf, whose n entries are the first
+-- "Cell 0 is the square of side 65,536 at (0, 0)": a leaf, whose n entries are the first; its first number where it has none, which document 01 leaves free,
+-- is 0
 abbrev pub rootWords : ℕ → CellWords
 rootWords n = record { x = 0; y = 0; side = 65536; child = 0; first = 0; count = n }
 

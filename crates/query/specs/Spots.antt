@@ -50,7 +50,7 @@ module _ (t : Tree) where
   abbrev pub lentTo : Leaf → Drawing
   lentTo l = lent (t .areas) (t .xs) (t .ys) (leafBounds t l)
 
-  -- "'Read there' is by 'Winding and meaning' over the leaf's stream": `Rattle.query.proofs.Known.leaf-meaning` says that the pass gives this set,
+  -- ""Read there" is by "Winding and meaning" over the leaf's stream": `Rattle.query.proofs.Known.leaf-meaning` says that the pass gives this set,
   -- whoever wrote the tables
   abbrev pub setMeant : (x y : ℕ) → Leaf → ℕ
   setMeant x y l = setOf (shownIn (lentTo l) (at x y) (streamOf (roleIn (lentTo l)) (rowsIn (leafStream t l))))

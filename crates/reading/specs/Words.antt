@@ -15,7 +15,8 @@ use Rattle.reading.specs.Reading.{roleAt, passAt, opaqueAt}
 abbrev pub words : (kind p q r : ℕ) → Words
 words k p q r = record { kind = k; p = p; q = q; r = r }
 
--- kinds: 1 `(`, 2 `|`, 3 `)`, 4 area, 5 line, 6 shortcut, 7 passes; signed numbers in two's complement; words without a name are 0
+-- kinds: 1 `(`, 2 `|`, 3 `)`, 4 area, 5 line, 6 shortcut, 7 passes; signed numbers in two's complement; words without a name, which document 01 leaves free,
+-- are 0
 abbrev pub segmentWords : Segment → Words
 segmentWords (drawn (line a b)) = words 5 a b 0
 segmentWords (shortcut z lo hi) = words 6 (ofZ w32 z) lo hi

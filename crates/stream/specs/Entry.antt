@@ -21,7 +21,7 @@ pub data Entry : Type 0 where
   bad : Entry
 
 -- four words an entry: kind, p, q, r. Kinds: 1 `(`, 2 `|`, 3 `)`, 4 area (p, q), 5 line (p, q), 6 shortcut (p, q, r), 7 passes; the other words
--- of an entry are not looked at
+-- of an entry, which document 01 leaves free, are not looked at
 abbrev pub decode : Words → Entry
 decode w =
     cond (eqb (w .kind) 1) opens

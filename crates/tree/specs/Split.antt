@@ -44,6 +44,7 @@ abbrev pub headBy : Answer → (head : List ℕ) → (used free : ℕ) → List 
 headBy (Split n) head used free made = set (set head 0 (used + 4)) 1 (free + length made)
 headBy (Not r) head used free made = head
 
+-- the first number of a child's empty stream, which document 01 leaves free, is where its first entry would stand
 abbrev pub cellsOf : Answer → Drawing → CellWords → List Words → (cells : List ℕ) → (i used free : ℕ) → List ℕ
 cellsOf (Split n) D w ws cells i used free = putChildAt (cellsTo D (cellOf w) ws cells used free 4) i used
 cellsOf (Not r) D w ws cells i used free = cells
