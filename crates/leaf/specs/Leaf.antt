@@ -27,7 +27,8 @@ abbrev pub linesIn : List Words → ℕ
 linesIn [] = 0
 linesIn (w ∷ ws) = cond (eqb (w .kind) 5) (1 + linesIn ws) (linesIn ws)
 
--- "finding a leaf reports as many steps as the leaf's depth, at most 16": its number, low corner, side, steps, entries and lines
+-- "finding a leaf reports as many steps as the leaf's depth, at most 16": its number, low corner, side, steps, entries and lines; document 01 leaves all but
+-- the steps free
 abbrev pub reportOf : (entries : List ℕ) → Leaf → FoundLeaf
 reportOf entries l =
     record { cell = l .cell; x = l .x; y = l .y; side = l .side; steps = l .steps; entries = l .count; lines = linesIn (wordsFrom entries (l .first) (l .count)) }

@@ -18,7 +18,7 @@ use Rattle.grammar.specs.Lists.{areasIn, cornersIn}
 abbrev pub kindW : Record → List ℕ
 kindW r = kindOf r ∷ []
 
--- eight words an area: role, fill rule, alpha, red, green, blue, material, 0
+-- eight words an area: role, fill rule, alpha, red, green, blue, material, and 0, a word that document 01 leaves free
 abbrev pub rowW : Fields → List ℕ
 rowW f = f .role ∷ f .rule ∷ f .alpha ∷ f .red ∷ f .green ∷ f .blue ∷ f .material ∷ 0 ∷ []
 
