@@ -11,6 +11,7 @@
 //! document 01 and a comma is the title of one of its sections.
 
 use std::fs;
+use std::ops::Range;
 use std::path::Path;
 
 use crate::pages::{self, Passage};
@@ -60,18 +61,8 @@ impl Document {
 
     /// Whether the pieces stand in one paragraph, in this order.
     fn has(&self, pieces: &[String]) -> bool {
-        self.paragraphs.iter().any(|paragraph| {
-            let mut rest = 0;
-            pieces
-                .iter()
-                .all(|piece| match find(paragraph, piece, rest) {
-                    Some(at) => {
-                        rest = at + piece.len();
-                        true
-                    }
-                    None => false,
-                })
-        })
+        let here = |paragraph: &String| span(paragraph, pieces).is_some();
+        self.paragraphs.iter().any(here)
     }
 
     /// The longest run of the words that stands in the document: its length, and the text there.
@@ -131,12 +122,30 @@ fn find(text: &str, piece: &str, from: usize) -> Option<usize> {
     })
 }
 
+/// From where to where the pieces stand in the text, in this order.
+fn span(text: &str, pieces: &[String]) -> Option<Range<usize>> {
+    let mut begin = text.len();
+    let mut end = 0;
+    for piece in pieces {
+        let at = find(text, piece, end)?;
+        begin = begin.min(at);
+        end = at + piece.len();
+    }
+    Some(begin..end)
+}
+
 /// What stands between two marks, the line it begins on, and what stands before it, from the
 /// quotation before on.
 struct Quotation {
     line: usize,
     words: String,
     before: String,
+}
+
+/// What stands around the words that are left out.
+fn pieces(words: &str) -> Vec<String> {
+    let parts = words.split("...").map(normal);
+    parts.filter(|piece| !piece.is_empty()).collect()
 }
 
 /// The quotations of a passage, or the line of a mark that has no partner. Marks in a program's
@@ -209,7 +218,7 @@ pub fn compared(passage: &Passage, documents: &[Document]) -> (usize, Vec<String
             }
             continue;
         }
-        let pieces: Vec<String> = words.split("...").map(normal).collect();
+        let pieces = pieces(words);
         if beside.iter().any(|document| document.has(&pieces)) {
             continue;
         }
@@ -225,4 +234,38 @@ pub fn compared(passage: &Passage, documents: &[Document]) -> (usize, Vec<String
         faults.push(format!("{place}: \"{words}\"\n    {text}"));
     }
     (found.len(), faults)
+}
+
+/// The sentences of document 01 of which the passages quote less than a half. Titles, single words
+/// and numbers of its tables, and lines that are printed are no sentences.
+pub fn unquoted(passages: &[Passage], documents: &[Document]) -> Vec<String> {
+    let found = passages
+        .iter()
+        .flat_map(|passage| quotations(passage).unwrap_or_default());
+    let quoted: Vec<Vec<String>> = found.map(|quotation| pieces(&quotation.words)).collect();
+    let mut left = Vec::new();
+    let law = documents.iter().filter(|document| document.name == UNNAMED);
+    for document in law {
+        for paragraph in &document.paragraphs {
+            let spans: Vec<Range<usize>> = quoted
+                .iter()
+                .filter_map(|pieces| span(paragraph, pieces))
+                .collect();
+            let mut begin = 0;
+            for sentence in paragraph.split_inclusive(". ") {
+                let end = begin + sentence.len();
+                let inside = |at: &usize| spans.iter().any(|span| span.contains(at));
+                let count = (begin..end).filter(inside).count();
+                begin = end;
+                let words = sentence
+                    .split(' ')
+                    .filter(|word| word.contains(char::is_alphabetic));
+                let says = words.count() > 1 && !document.headings.contains(paragraph);
+                if says && 2 * count < sentence.len() {
+                    left.push(sentence.trim().to_string());
+                }
+            }
+        }
+    }
+    left
 }

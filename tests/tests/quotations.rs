@@ -1,16 +1,23 @@
 //! Every quotation in the comments of the sources, in the header and in the pages has the words of
-//! the document that it quotes.
+//! the document that it quotes, and the pages quote every sentence of document 01.
 
 use std::env;
 use std::path::{Path, PathBuf};
 
 use zones_tests::pages;
-use zones_tests::quotations;
+use zones_tests::quotations::{self, Document};
 
-/// The documents, in ZONES_DOCUMENTS or in the folder `shared` beside the repository.
-fn folder() -> PathBuf {
+/// The documents, from ZONES_DOCUMENTS or from the folder `shared` beside the repository, if they
+/// are there, and the customer's demands.
+fn documents() -> Option<Vec<Document>> {
     let chosen = env::var_os("ZONES_DOCUMENTS").unwrap_or("../shared/documents".into());
-    pages::top().join(chosen)
+    let folder = pages::top().join(chosen);
+    if !folder.is_dir() {
+        println!("no documents at {}: nothing compared", folder.display());
+        return None;
+    }
+    let demands = include_str!("../data/demands.txt");
+    Some(quotations::documents(&folder, demands))
 }
 
 /// Whether a file of a crate holds definitions, code or proofs.
@@ -21,14 +28,9 @@ fn is_source(path: &Path) -> bool {
 
 #[test]
 fn each_has_the_words_of_its_document() {
-    let folder = folder();
-    if !folder.is_dir() {
-        println!("no documents at {}: nothing compared", folder.display());
-        return;
-    }
-    let documents = quotations::documents(&folder, include_str!("../data/demands.txt"));
+    let Some(documents) = documents() else { return };
     let top = pages::top();
-    let mut files = vec![top.join("README.md"), top.join("include/zones.h")];
+    let mut files: Vec<PathBuf> = vec![top.join("README.md"), top.join("include/zones.h")];
     files.extend(pages::files_below(&top.join("docs")));
     let sources = pages::files_below(&top.join("crates"));
     files.extend(sources.into_iter().filter(|path| is_source(path)));
@@ -43,4 +45,14 @@ fn each_has_the_words_of_its_document() {
     println!("{count} quotations, {} wrong", faults.len());
     assert!(count > 0, "no quotation was found");
     assert!(faults.is_empty(), "\n{}", faults.join("\n"));
+}
+
+#[test]
+fn each_sentence_of_document_01_is_quoted() {
+    let Some(documents) = documents() else { return };
+    let docs = pages::top().join("docs");
+    let mut passages = pages::passages(&docs.join("PROMISES.md"));
+    passages.extend(pages::passages(&docs.join("DECISIONS.md")));
+    let left = quotations::unquoted(&passages, &documents);
+    assert!(left.is_empty(), "not quoted:\n{}", left.join("\n"));
 }
