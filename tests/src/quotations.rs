@@ -118,7 +118,7 @@ fn find(text: &str, piece: &str, from: usize) -> Option<usize> {
     places.find(|at| {
         let before = text[..*at].chars().next_back();
         let behind = text[at + piece.len()..].chars().next();
-        !(begins && part_of_a_word(before)) && !(ends && part_of_a_word(behind))
+        !(begins && part_of_a_word(before) || ends && part_of_a_word(behind))
     })
 }
 
