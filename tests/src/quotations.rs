@@ -103,10 +103,12 @@ pub fn documents(folder: &Path, demands: &str) -> Vec<Document> {
     found
 }
 
-/// A text with no marks, asterisks and backticks, whose white space is one space.
+/// A text with no marks, asterisks, backticks and signs of formulas, whose white space is one space,
+/// and none before a comma or a full stop.
 fn normal(text: &str) -> String {
-    let plain = text.replace(['"', '*', '`'], "");
-    plain.split_whitespace().collect::<Vec<_>>().join(" ")
+    let plain = text.replace(['"', '*', '`', '$'], "");
+    let spaced = plain.split_whitespace().collect::<Vec<_>>().join(" ");
+    spaced.replace(" ,", ",").replace(" .", ".")
 }
 
 /// Where the piece stands in the text, from a place on, as whole words and numbers.

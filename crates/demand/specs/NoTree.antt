@@ -1,4 +1,4 @@
--- Document 01, "The list of demand 3": "'with no tree' is by the same section over the whole drawing, pixels and logs too". Assumes nothing.
+-- Document 01, "The list of demand 3": ""with no tree" is by the same section over the whole drawing, pixels and logs too."
 use Prim.Native.Nat.{ℕ}
 use Rattle.paint.specs.Sets.{setOf}
 use Rattle.paint.specs.Areas.{materialOf}
