@@ -28,62 +28,99 @@ pub fn begun() -> Machine
     }
 }
 
-// After an area on a paint side.
-pub fn after_paint(m: Machine, passes: bool, opaque: bool, n: u32) -> Machine
+// Processing, at an area on a paint side: one that passes is shown, and one of alpha 255 stops the machine.
+fn paint_in_process(m: Machine, passes: bool, opaque: bool, n: u32) -> Machine
+    requires { ⌜ m .state ≡ 0 ⌝ }
     requires { ⌜ n < 64 ⌝ }
     ensures { λ r. ⌜ (meant r ≡ onItem paint passes opaque (λ s. withArea s n) (meant m)) × (r .depth ≡ m .depth) ⌝ }
 {
-    if m.state == 0 {
-        if passes {
-            let shown = set::with_area(m.set, n);
-            if opaque {
-                return Machine {
-                    state: 3,
-                    depth: m.depth,
-                    stop: m.stop,
-                    set: shown,
-                };
-            }
+    if passes {
+        let shown = set::with_area(m.set, n);
+        if opaque {
             return Machine {
-                state: 0,
+                state: 3,
                 depth: m.depth,
                 stop: m.stop,
                 set: shown,
             };
         }
-        return m;
+        return Machine {
+            state: 0,
+            depth: m.depth,
+            stop: m.stop,
+            set: shown,
+        };
     }
     m
 }
 
-// After an area, or the bare entry "passes", on a clip side.
+// After an area on a paint side: S and SA go over it, and so does a machine that has stopped.
+pub fn after_paint(m: Machine, passes: bool, opaque: bool, n: u32) -> Machine
+    requires { ⌜ n < 64 ⌝ }
+    ensures { λ r. ⌜ (meant r ≡ onItem paint passes opaque (λ s. withArea s n) (meant m)) × (r .depth ≡ m .depth) ⌝ }
+{
+    let state = m.state;
+    match state {
+        0 => paint_in_process(m, passes, opaque, n),
+        1 => m,
+        2 => m,
+        _ => m,
+    }
+}
+
+// Processing, at an area or "passes" on a clip side: where it passes, the rest of the side is skipped.
+fn clip_in_process(m: Machine, passes: bool) -> Machine
+    requires { ⌜ m .state ≡ 0 ⌝ }
+    ensures { λ r. ⌜ (meant r ≡ onItem clip passes true (λ s. s) (meant m)) × (r .depth ≡ m .depth) ⌝ }
+{
+    if passes {
+        return Machine {
+            state: 1,
+            depth: m.depth,
+            stop: m.depth,
+            set: m.set,
+        };
+    }
+    m
+}
+
+// After an area, or the bare entry "passes", on a clip side: S and SA go over it, and so does a machine that has stopped.
 pub fn after_clip(m: Machine, passes: bool) -> Machine
     ensures { λ r. ⌜ (meant r ≡ onItem clip passes true (λ s. s) (meant m)) × (r .depth ≡ m .depth) ⌝ }
 {
-    if m.state == 0 {
-        if passes {
-            return Machine {
-                state: 1,
-                depth: m.depth,
-                stop: m.depth,
-                set: m.set,
-            };
-        }
-        return m;
+    let state = m.state;
+    match state {
+        0 => clip_in_process(m, passes),
+        1 => m,
+        2 => m,
+        _ => m,
     }
-    m
 }
 
-// After `(`.
+// One group deeper, in the given state.
+fn deeper(m: Machine, state: u32) -> Machine
+    requires { ⌜ m .depth < 4096 ⌝ }
+    ensures { λ r. ⌜ r ≡ machine state (m .depth + 1) (m .stop) (m .set) ⌝ }
+{
+    Machine {
+        state: state,
+        depth: m.depth + 1,
+        stop: m.stop,
+        set: m.set,
+    }
+}
+
+// After `(`: every state stays.
 pub fn after_open(m: Machine) -> Machine
     requires { ⌜ m .depth < 4096 ⌝ }
     ensures { λ r. ⌜ (meant r ≡ onPush (meant m)) × (r .depth ≡ m .depth + 1) ⌝ }
 {
-    Machine {
-        state: m.state,
-        depth: m.depth + 1,
-        stop: m.stop,
-        set: m.set,
+    let state = m.state;
+    match state {
+        0 => deeper(m, 0),
+        1 => deeper(m, 1),
+        2 => deeper(m, 2),
+        _ => deeper(m, 3),
     }
 }
 
@@ -118,6 +155,7 @@ pub fn after_bar(m: Machine) -> Machine
             }
         }
         1 => bar_in_skip(m),
+        2 => m,
         _ => m,
     }
 }

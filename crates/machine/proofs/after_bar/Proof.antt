@@ -1,7 +1,6 @@
 -- `machine::after_bar` meets its contract. Assumes nothing.
 use mathlib.Core.Path.{refl}
 use Rattle.laws.proofs.Tests.{tests}
-use Rattle.machine.proofs.Laws.{activate-rest}
 use borrow.Author.Needs.{needs}
 use Rattle.machine.proofs.after_bar.Statement.{statement}
 use Rattle.machine.proofs.after_bar.Tie as tie
@@ -16,7 +15,10 @@ returns-2 : tie.Need-returns-2
 returns-2 c = c .bar-in-skip .ensures
 
 returns-3 : tie.Need-returns-3
-returns-3 c = (search (tests, activate-rest), refl)
+returns-3 c = (rw (c .match .keys3), refl)
+
+returns-4 : tie.Need-returns-4
+returns-4 c = (search tests, refl)
 
 pub after-bar-spec : {M : Type 1} → statement M
-after-bar-spec = tie.close (tie.spec bar-in-skip-requires returns returns-2 returns-3)
+after-bar-spec = tie.close (tie.spec bar-in-skip-requires returns returns-2 returns-3 returns-4)

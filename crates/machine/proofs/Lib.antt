@@ -1,2 +1,0 @@
--- The laws of the machine's moves.
-mod Laws
