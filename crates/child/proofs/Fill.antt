@@ -80,18 +80,18 @@ module _ (v : Env) (D : Drawing) (c : Cell) (R : Reads v D) (t₀ : List ℕ) (f
 
       pub fill-turn : (n : Maker) (w : Words) (q : Square) (g : Class) (z : ℤ) (s : List ℕ) → w ≡ wordsAt t₀ i → w .q < 4294967296 → squareOf c ≡ q → g ≡ leftClass (v .xs) (v .ys) q w → z ≡ leftSign (v .xs) (v .ys) w
           → counted (n .pruner) ≡ prunedN (v .areas) (counted (m .pruner)) (m .waiting) (w .kind) → n .waiting ≡ waitingN (m .waiting) g z w
-          → s ≡ onePut limit (v .areas) (take (length t - free * 4) (drop (free * 4) t)) m g z w (n .pruner .length)
+          → s ≡ onePut limit (v .areas) (take (length t - free * 4) (drop (free * 4) t)) m g z w (n .pruner .weight)
           → Filling v D c t₀ first count free limit (i + 1) n (putMid (free * 4) (length t - free * 4) t s)
       fill-turn n w q g z s e b r x y hp ha hs =
           let k : i - first + 1 ≡ i + 1 - first = omega (arith, f .from) in
-          let s₁ : s ≡ onePut limit (v .areas) (drop (free * 4) t) m g z w (n .pruner .length) = rw (tail-is t (free * 4)) at hs in
-          let len : length s ≡ length (drop (free * 4) t) = rw s₁ (same-one limit (v .areas) (drop (free * 4) t) m g z w (n .pruner .length) .size) in
+          let s₁ : s ≡ onePut limit (v .areas) (drop (free * 4) t) m g z w (n .pruner .weight) = rw (tail-is t (free * 4)) at hs in
+          let len : length s ≡ length (drop (free * 4) t) = rw s₁ (same-one limit (v .areas) (drop (free * 4) t) m g z w (n .pruner .weight) .size) in
           let ws : List Words = wordsFrom t₀ (i + 1) (first + count - (i + 1)) in
           let now : Writing v D c (i - first) m (w ∷ ws) (allOf D c (wordsFrom t₀ first count)) limit (drop (free * 4) t₀) (drop (free * 4) t) =
           subst (λ (u : List Words). Writing v D c (i - first) m u (allOf D c (wordsFrom t₀ first count)) limit (drop (free * 4) t₀) (drop (free * 4) t))
           (words-step t₀ i (first + count) h ∙ ap (λ (u : Words). u ∷ ws) (sym e)) (f .writing) in
           let next : Writing v D c (i - first + 1) n ws (allOf D c (wordsFrom t₀ first count)) limit (drop (free * 4) t₀) s =
-          writing-next v D c R (i - first) m (allOf D c (wordsFrom t₀ first count)) limit (drop (free * 4) t₀) (drop (free * 4) t) few tail-room w ws now s (n .pruner .length) g z
+          writing-next v D c R (i - first) m (allOf D c (wordsFrom t₀ first count)) limit (drop (free * 4) t₀) (drop (free * 4) t) few tail-room w ws now s (n .pruner .weight) g z
           (x ∙ ap (λ (a : Square). leftClass (v .xs) (v .ys) a w) (sym r)) y s₁ n refl b hp ha in
           rw (put-tail t s (free * 4) long)
           (record {

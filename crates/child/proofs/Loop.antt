@@ -23,8 +23,8 @@ use Rattle.making.specs.declared.Maker.{Maker}
 use Rattle.making.specs.Made.{rowsMade}
 use Rattle.making.specs.Numbers.{resting, leftSign, leftClass, leftRange, waitingN, settledN, prunedN, Inside, Asks}
 use Rattle.making.proofs.Standing.{Reads, Standing}
-use Rattle.making.proofs.Turn.{standing-size, standing-base, standing-inside, standing-room, standing-start, standing-left, standing-sign, standing-next}
-use Rattle.making.proofs.Whole.{allOf, standing-begin, size-end}
+use Rattle.making.proofs.Turn.{standing-weight, standing-base, standing-inside, standing-room, standing-start, standing-left, standing-sign, standing-next}
+use Rattle.making.proofs.Whole.{allOf, standing-begin, weight-end}
 
 -- entries i to first + count - 1 are to come
 pub record Looping (v : Env) (D : Drawing) (c : Cell) (t : List ℕ) (first count i : ℕ) (m : Maker) : Type 0 where
@@ -83,11 +83,11 @@ module _ (v : Env) (D : Drawing) (c : Cell) (R : Reads v D) (t : List ℕ) (firs
     pub end-inside : Inside (length (v .areas)) (m .waiting)
     end-inside = standing-inside v D c R (i - first) (m .pruner) (m .waiting) (allOf D c (wordsFrom t first count)) [] (omega (arith, P .few, l .to, l .from)) (P .ready .areas) none
 
-    pub end-room : (m .pruner .length + m .waiting .size < 2 ^ 60) × (m .pruner .base < 2 ^ 60)
+    pub end-room : (m .pruner .weight + m .waiting .weight < 2 ^ 60) × (m .pruner .base < 2 ^ 60)
     end-room = (
-      omega (arith, standing-size v D c R (i - first) (m .pruner) (m .waiting) (allOf D c (wordsFrom t first count)) [] none, P .few, l .to, l .from),
+      omega (arith, standing-weight v D c R (i - first) (m .pruner) (m .waiting) (allOf D c (wordsFrom t first count)) [] none, P .few, l .to, l .from),
       omega (arith, standing-base v D c R (i - first) (m .pruner) (m .waiting) (allOf D c (wordsFrom t first count)) [] none, P .few, l .to, l .from),
     )
 
-    pub end-size : lengthOf (settledN (v .areas) (counted (m .pruner)) (m .waiting)) ≡ total rowSize (rowsMade D c (wordsFrom t first count))
-    end-size = size-end v D c R (wordsFrom t first count) (P .grammar) (i - first) (m .pruner) (m .waiting) none
+    pub end-weight : lengthOf (settledN (v .areas) (counted (m .pruner)) (m .waiting)) ≡ total rowSize (rowsMade D c (wordsFrom t first count))
+    end-weight = weight-end v D c R (wordsFrom t first count) (P .grammar) (i - first) (m .pruner) (m .waiting) none

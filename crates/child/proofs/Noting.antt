@@ -22,7 +22,7 @@ use Rattle.stream.specs.Table.{wordsAt, wordsFrom}
 use Rattle.stream.specs.Grammar.{Env, Passed}
 use Rattle.stream.proofs.Table.{words-step, words-none}
 use Rattle.pruner.specs.Numbers.{counted}
-use Rattle.pruner.proofs.Near.{counted-length}
+use Rattle.pruner.proofs.Near.{counted-weight}
 use Rattle.reading.specs.Reading.{rowsIn}
 use Rattle.making.specs.declared.Maker.{Maker}
 use Rattle.making.specs.declared.Waiting.{Waiting}
@@ -30,7 +30,7 @@ use Rattle.making.specs.Made.{rowsMade}
 use Rattle.making.specs.Numbers.{resting, leftSign, leftClass, waitingN, prunedN}
 use Rattle.making.proofs.Follows.{stateOf, waitingOf, waitingFor, settle-short}
 use Rattle.making.proofs.Standing.{Reads, Standing}
-use Rattle.making.proofs.Turn.{standing-rows, length-is}
+use Rattle.making.proofs.Turn.{standing-rows, weight-is}
 use Rattle.making.proofs.Whole.{allOf, standing-start, rows-all}
 use Rattle.child.specs.Starts.{startsOf}
 use Rattle.child.specs.Numbers.{starts, areasIn, putStart, firstOf, startsIn}
@@ -45,13 +45,13 @@ pub record Noting (v : Env) (D : Drawing) (c : Cell) (k : ℕ) (mk : Maker) (ws 
 
 -- the start number of the area that waits, behind them
 noted-stands : (v : Env) (D : Drawing) (c : Cell) (k : ℕ) (mk : Maker) (ws : List Words) (whole : Making) (zs : List ℤ) → k ≤ 4096 → length zs ≡ 64 → (s : Noting v D c k mk ws whole zs)
-    → Stands (putStart zs (areasIn (mk .pruner .length)) (mk .waiting .start)) (withNext D c (s .standing .rows))
+    → Stands (putStart zs (areasIn (mk .pruner .weight)) (mk .waiting .start)) (withNext D c (s .standing .rows))
 noted-stands v D c k mk ws whole zs l e s =
     let f = s .standing .follows in
     let out : List Row = outOf (stateOf (s .standing .rows)) in
     let short : length out ≤ 8192 = omega (arith, f .short) in
-    let n : areasIn (mk .pruner .length) ≡ length (startsOf out) =
-    ap areasIn (sym (counted-length (mk .pruner)) ∙ (ap lengthOf (f .counts) ∙ length-is (stateOf (s .standing .rows)))) ∙ areas-is out short in
+    let n : areasIn (mk .pruner .weight) ≡ length (startsOf out) =
+    ap areasIn (sym (counted-weight (mk .pruner)) ∙ (ap lengthOf (f .counts) ∙ weight-is (stateOf (s .standing .rows)))) ∙ areas-is out short in
     let z : mk .waiting .start ≡ waitingFor (waitingOf (s .standing .rows)) .start = ap (λ (a : Waiting). a .start) (f .waits) in
     rw (n, z) (stands-more zs (startsOf out) (waitingFor (waitingOf (s .standing .rows)) .start) e (s .stands))
 
@@ -88,7 +88,7 @@ module _ (v : Env) (D : Drawing) (c : Cell) (R : Reads v D) (t : List ℕ) (firs
 
     -- the array with the start number of the area that waits
     abbrev next : List ℤ
-    next = putStart zs (areasIn (m .pruner .length)) (m .waiting .start)
+    next = putStart zs (areasIn (m .pruner .weight)) (m .waiting .start)
 
     pub counting-turn : i < first + count → (n : Maker) (w : Words) (q : Square) (f : Class) (z : ℤ) → w ≡ wordsAt t i → w .q < 4294967296 → squareOf c ≡ q → f ≡ leftClass (v .xs) (v .ys) q w → z ≡ leftSign (v .xs) (v .ys) w
         → counted (n .pruner) ≡ prunedN (v .areas) (counted (m .pruner)) (m .waiting) (w .kind) → n .waiting ≡ waitingN (m .waiting) f z w → (zs′ : List ℤ) → zs′ ≡ next → Counting v D c t first count (i + 1) n zs′
@@ -106,7 +106,7 @@ module _ (v : Env) (D : Drawing) (c : Cell) (R : Reads v D) (t : List ℕ) (firs
         (record {
           from = omega (arith, l .from);
           to = omega arith;
-          size = put-length zs (areasIn (m .pruner .length)) (m .waiting .start) ∙ l .size;
+          size = put-length zs (areasIn (m .pruner .weight)) (m .waiting .start) ∙ l .size;
           noting = subst (λ (j : ℕ). Noting v D c j n ws whole next) k (record { standing = s .0; stands = done });
         })
 
@@ -136,4 +136,4 @@ module _ (v : Env) (D : Drawing) (c : Cell) (R : Reads v D) (t : List ℕ) (firs
           let k : areasIn n ≡ length (startsOf (rowsMade D c (wordsFrom t first count))) = ap areasIn e ∙ areas-is (rowsMade D c (wordsFrom t first count)) made-short in
           rw (hz, k)
           (ap (starts (length (startsOf (rowsMade D c (wordsFrom t first count)))))
-          (first-filled next (startsOf (rowsMade D c (wordsFrom t first count))) (put-length zs (areasIn (m .pruner .length)) (m .waiting .start) ∙ l .size) made-stands))
+          (first-filled next (startsOf (rowsMade D c (wordsFrom t first count))) (put-length zs (areasIn (m .pruner .weight)) (m .waiting .start) ∙ l .size) made-stands))

@@ -24,7 +24,7 @@ putStart zs k z = cond (ltb k 64) (set zs k z) zs
 
 -- the start number of the area that waits, behind those of the areas that stand
 abbrev pub notedN : List ℤ → Pruner → Waiting → List ℤ
-notedN zs p a = putStart zs (areasIn (p .length)) (a .start)
+notedN zs p a = putStart zs (areasIn (p .weight)) (a .start)
 
 -- the first n numbers, and zeros in place of the others
 unfoldable pub firstOf : ℕ → List ℤ → List ℤ

@@ -32,7 +32,7 @@ fn note(at: &mut [i64], p: Pruner, a: Waiting)
     requires { ⌜ natAbs (a .start) ≤ 8192 ⌝ }
     ensures { λ _. ⌜ now (at .exit) ≡ notedN (now (at .entry)) p a ⌝ }
 {
-    let k = (p.length / 4294967296) as usize;
+    let k = (p.weight / 4294967296) as usize;
     let z = a.start;
     if k < 64 {
         at[k] = z;
@@ -56,13 +56,13 @@ fn ended(zs: [i64; 64], count: usize) -> Starts
 }
 
 // ---- the child's stream
-// `size`: 1 for each entry, 65,536 more for a line, 4,294,967,296 more for an area. `starts`: the start numbers of its areas.
+// `weight`: that of its entries, 1 for each, 65,536 more for a line, 4,294,967,296 more for an area. `starts`: the start numbers of its areas.
 pub struct Count {
-    pub size: u64,
+    pub weight: u64,
     pub starts: Starts,
 }
 
-// How much the child's stream is, in one pass over its parent's.
+// What the child's stream weighs, and its start numbers, in one pass over its parent's.
 pub fn count_child(
     entries: &[u32],
     first: usize,
@@ -76,7 +76,7 @@ pub fn count_child(
     requires { ⌜ Passed (now entries) first count (env (now areas) (now xs) (now ys) b) ⌝ }
     requires { ⌜ SquareIn s ⌝ }
     requires { ⌜ squareOf (cellIn s) ≡ s ⌝ }
-    ensures { λ r. ⌜ r .size ≡ total rowSize (rowsMade (lent (now (areas .entry)) (now (xs .entry)) (now (ys .entry)) b) (cellIn s) (wordsFrom (now (entries .entry)) first count)) ⌝ }
+    ensures { λ r. ⌜ r .weight ≡ total rowSize (rowsMade (lent (now (areas .entry)) (now (xs .entry)) (now (ys .entry)) b) (cellIn s) (wordsFrom (now (entries .entry)) first count)) ⌝ }
     ensures { λ r. ⌜ r .starts ≡ startsIn (rowsMade (lent (now (areas .entry)) (now (xs .entry)) (now (ys .entry)) b) (cellIn s) (wordsFrom (now (entries .entry)) first count)) ⌝ }
 {
     let end = first + count;
@@ -97,16 +97,16 @@ pub fn count_child(
         i += 1;
     }
     note(&mut at, p, a);
-    let size = making::made_size(
+    let weight = making::made_weight(
         areas,
         Maker {
             pruner: p,
             waiting: a,
         },
     );
-    let made = ended(at, (size / 4294967296) as usize);
+    let made = ended(at, (weight / 4294967296) as usize);
     Count {
-        size: size,
+        weight: weight,
         starts: made,
     }
 }

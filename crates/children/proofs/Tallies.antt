@@ -1,4 +1,4 @@
--- The tally of a stream, from its size in one number and its start numbers. Assumes nothing.
+-- The tally of a stream, from its weight and its start numbers. Assumes nothing.
 use mathlib.Core.Path.{_≡_, refl}
 use mathlib.Core.List.{List, [], _∷_}
 use Prim.Native.Nat.{ℕ, _+_, _*_, _/_, _%_, _≤_}
@@ -37,11 +37,11 @@ total-is (r ∷ rs) =
     (omega (arith, a .0, b .0), omega (arith, a .1, b .1))
 
 -- of a stream that is not too long
-pub tally-is : (rs : List Row) (k : Count) → length rs ≤ 4096 → k .size ≡ total rowSize rs → k .starts ≡ startsIn rs → tallyN k ≡ tally rs
+pub tally-is : (rs : List Row) (k : Count) → length rs ≤ 4096 → k .weight ≡ total rowSize rs → k .starts ≡ startsIn rs → tallyN k ≡ tally rs
 tally-is rs k h e z = λ d. record { entries = x d; lines = y d; starts = z d }
   where
-    x : k .size % 65536 ≡ length rs
+    x : k .weight % 65536 ≡ length rs
     x = omega (arith, total-is rs .0, e)
 
-    y : k .size / 65536 % 65536 ≡ sumOf lineOne rs
+    y : k .weight / 65536 % 65536 ≡ sumOf lineOne rs
     y = omega (arith, total-is rs .0, total-is rs .1, e)

@@ -32,9 +32,9 @@ sumOf f (r ∷ rs) = f r + sumOf f rs
 abbrev pub tally : List Row → Tally
 tally rs = record { entries = length rs; lines = sumOf lineOne rs; starts = startsIn rs }
 
--- the same from a size in one number: 1 for each entry, 65,536 more for a line, 4,294,967,296 more for an area
+-- the same from the stream's weight: 1 for each entry, 65,536 more for a line, 4,294,967,296 more for an area
 abbrev pub tallyN : Count → Tally
-tallyN k = record { entries = k .size % 65536; lines = k .size / 65536 % 65536; starts = k .starts }
+tallyN k = record { entries = k .weight % 65536; lines = k .weight / 65536 % 65536; starts = k .starts }
 
 abbrev pub noTally : Tally
 noTally = record { entries = 0; lines = 0; starts = record { count = 0; at = [] } }

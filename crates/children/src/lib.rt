@@ -26,7 +26,7 @@ pub struct Tally {
 fn tally_of(k: Count) -> Tally
     ensures { λ r. ⌜ r ≡ tallyN k ⌝ }
 {
-    let n = k.size;
+    let n = k.weight;
     let z = k.starts;
     Tally {
         entries: (n % 65536) as usize,

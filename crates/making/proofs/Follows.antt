@@ -186,12 +186,12 @@ module _ (areas : List ℕ) (D : Drawing) (c : Cell) (agrees : (n : ℕ) → n <
 
   -- ---- a line or a shortcut
 
-  abbrev sizes : List Segment → ℕ
-  sizes gs = total rowSize (map segment gs)
+  abbrev weights : List Segment → ℕ
+  weights gs = total rowSize (map segment gs)
 
-  size-more : (gs : List Segment) (g : Segment) → sizes (gs ++ (g ∷ [])) ≡ sizes gs + rowSize (segment g)
-  size-more [] g = omega arith
-  size-more (h ∷ gs) g = omega (arith, size-more gs g)
+  weight-more : (gs : List Segment) (g : Segment) → weights (gs ++ (g ∷ [])) ≡ weights gs + rowSize (segment g)
+  weight-more [] g = omega arith
+  weight-more (h ∷ gs) g = omega (arith, weight-more gs g)
 
   one-more : (gs : List Segment) (g : Segment) → length (gs ++ (g ∷ [])) ≡ length gs + 1
   one-more gs g = length-append gs (g ∷ [])
@@ -205,10 +205,10 @@ module _ (areas : List ℕ) (D : Drawing) (c : Cell) (agrees : (n : ℕ) → n <
       go true e = start-kept e
       go false e = shortcut-kept lo hi e
 
-  pub kept-size : (g : Segment) → classIn (D .xs) (D .ys) c g ≡ Kept → rowSize (segment g) ≡ 65537
+  pub kept-weight : (g : Segment) → classIn (D .xs) (D .ys) c g ≡ Kept → rowSize (segment g) ≡ 65537
   unfolding cut verdict
-  kept-size (drawn l) e = refl
-  kept-size (shortcut z lo hi) e = absurd (cut-kept (leb (min hi (low c + side c)) (max lo (low c)) || false) (max lo (low c)) (min hi (low c + side c)) (low c) (side c) e)
+  kept-weight (drawn l) e = refl
+  kept-weight (shortcut z lo hi) e = absurd (cut-kept (leb (min hi (low c + side c)) (max lo (low c)) || false) (max lo (low c)) (min hi (low c + side c)) (low c) (side c) e)
 
   abbrev Left : (k : ℕ) (x : Pruning.State Row) (n : ℕ) (z : ℤ) (gs : List Segment) (g : Segment) → Classes.Class → Type 0
   Left k x n z gs g f =
@@ -220,15 +220,15 @@ module _ (areas : List ℕ) (D : Drawing) (c : Cell) (agrees : (n : ℕ) → n <
   left-by k x n z gs g Start s e = (rw (append-nil gs) refl, rw (append-nil gs) (omega arith), omega (arith, abs-add z (signOf (D .xs) (D .ys) g)))
   left-by k x n z gs g (Shortcut lo hi) s e =
       let h : Segment = shortcut (signOf (D .xs) (D .ys) g) lo hi in
-      (ap (waiting true n z) (omega (arith, size-more gs h)), omega (arith, one-more gs h), omega arith)
-  left-by k x n z gs g Kept s e = (ap (waiting true n z) (omega (arith, size-more gs g, e refl)), omega (arith, one-more gs g), omega arith)
+      (ap (waiting true n z) (omega (arith, weight-more gs h)), omega (arith, one-more gs h), omega arith)
+  left-by k x n z gs g Kept s e = (ap (waiting true n z) (omega (arith, weight-more gs g, e refl)), omega (arith, one-more gs g), omega arith)
 
   pub segment-follows : (k : ℕ) (p p′ : Pruner) (a a′ : Declared.Waiting) (m : Making) (g : Segment) → natAbs (signOf (D .xs) (D .ys) g) ≤ 1 → Follows D k p a m
       → counted p′ ≡ counted p → a′ ≡ withLeft a (classIn (D .xs) (D .ys) c g) (signOf (D .xs) (D .ys) g) → Follows D (k + 1) p′ a′ (addTo D c g m)
   segment-follows k p p′ a a′ (making x nothing) g s f h e =
       record { counts = h ∙ f .counts; waits = e ∙ rw (f .waits); fit = f .fit; short = omega (arith, f .short); named-in = tt }
   segment-follows k p p′ a a′ (making x (held n z gs)) g s f h e =
-      let l = left-by k x n z gs g (classIn (D .xs) (D .ys) c g) s (kept-size g) in
+      let l = left-by k x n z gs g (classIn (D .xs) (D .ys) c g) s (kept-weight g) in
       record {
         counts = h ∙ f .counts;
         waits = e ∙ (rw (f .waits) (l .0));

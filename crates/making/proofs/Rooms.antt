@@ -13,26 +13,26 @@ use Rattle.pruning.specs.Counters.{Count, countStep}
 use Rattle.pruning.specs.Weights.{sized, sizedItems, sizeOf}
 use Rattle.pruner.specs.declared.Pruner.{Pruner}
 use Rattle.pruner.specs.Numbers.{counted, classOf}
-use Rattle.pruner.proofs.Near.{Near, near-same, item-near, counted-length, counted-base, counted-skip, counted-depth}
+use Rattle.pruner.proofs.Near.{Near, near-same, item-near, counted-weight, counted-base, counted-skip, counted-depth}
 use Rattle.reading.specs.Reading.{roleAt, passAt}
 use Rattle.reading.proofs.Laws.{small-back}
 use Rattle.making.specs.declared.Waiting.{Waiting}
 use Rattle.making.specs.Numbers.{classN, settledN, movedN, prunedN, Room}
 
-pub settled-near : (areas : List ℕ) (c : Count) (a : Waiting) → Near (a .size) c (settledN areas c a)
+pub settled-near : (areas : List ℕ) (c : Count) (a : Waiting) → Near (a .weight) c (settledN areas c a)
 settled-near areas c a = go (a .waits)
   where
-    go : (b : Bool) → Near (a .size) c (cond b (countStep sizedItems sizeOf c (item (roleAt areas (a .number)) (sized (classOf (classN areas a)) (a .size)))) c)
-    go true = item-near (roleAt areas (a .number)) (classOf (classN areas a)) (a .size) c
-    go false = near-same (a .size) c
+    go : (b : Bool) → Near (a .weight) c (cond b (countStep sizedItems sizeOf c (item (roleAt areas (a .number)) (sized (classOf (classN areas a)) (a .weight)))) c)
+    go true = item-near (roleAt areas (a .number)) (classOf (classN areas a)) (a .weight) c
+    go false = near-same (a .weight) c
 
 pub room-after : (areas : List ℕ) (p q : Pruner) (a : Waiting) (kind : ℕ) → counted q ≡ settledN areas (counted p) a → Room p a kind
-    → ((q .length < 2 ^ 61) × (q .base < 2 ^ 61) × (q .skip < 4096) × (q .depth ≤ 8)) × (kind ≡ 1 → q .skip ≡ 0 → q .depth < 8)
+    → ((q .weight < 2 ^ 61) × (q .base < 2 ^ 61) × (q .skip < 4096) × (q .depth ≤ 8)) × (kind ≡ 1 → q .skip ≡ 0 → q .depth < 8)
 room-after areas p q a kind e r =
-    let n : Near (a .size) (counted p) (counted q) = rw e (settled-near areas (counted p) a) in
+    let n : Near (a .weight) (counted p) (counted q) = rw e (settled-near areas (counted p) a) in
     let d : q .depth ≡ p .depth = sym (counted-depth q) ∙ (n .depth-same ∙ counted-depth p) in (
       (
-        omega (arith, n .length-near, counted-length p, counted-length q, counted-base p, r .length, r .base),
+        omega (arith, n .weight-near, counted-weight p, counted-weight q, counted-base p, r .weight, r .base),
         omega (arith, n .base-same, counted-base p, counted-base q, r .base),
         omega (arith, n .skip-near, counted-skip p, counted-skip q, r .skip),
         omega (arith, d, r .depth),

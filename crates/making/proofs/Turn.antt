@@ -38,7 +38,7 @@ use Rattle.stream.specs.Entry.{decode, startRange, signRange}
 use Rattle.stream.specs.Grammar.{Env, at, after, inRange, isGood, areaMet}
 use Rattle.pruner.specs.declared.Pruner.{Pruner}
 use Rattle.pruner.specs.Numbers.{counted, baseOf, skipIn}
-use Rattle.pruner.proofs.Near.{counted-length, counted-base, counted-skip, counted-depth}
+use Rattle.pruner.proofs.Near.{counted-weight, counted-base, counted-skip, counted-depth}
 use Rattle.reading.specs.Reading.{rowFor, rowsIn}
 use Rattle.reading.proofs.Laws.{both, area-below, start-small, shortcut-small, line-used}
 use Rattle.cells.proofs.Bounds.{sign-abs}
@@ -59,8 +59,8 @@ base-most : (x : Pruning.State Row) → baseOf (weighed rowSize x) ≤ total row
 base-most (st out b w fs) = before-most out b
 
 -- the length of what is weighed is the weight of the rows
-pub length-is : (x : Pruning.State Row) → lengthOf (weighed rowSize x) ≡ total rowSize (outOf x)
-length-is (st out b w fs) = refl
+pub weight-is : (x : Pruning.State Row) → lengthOf (weighed rowSize x) ≡ total rowSize (outOf x)
+weight-is (st out b w fs) = refl
 
 skip-most : (c : Count) → skipIn c ≤ opened c + 1
 skip-most (ct n b going fs) = omega arith
@@ -69,7 +69,7 @@ skip-most (ct n b (shut m) fs) = omega arith
 segments-length : (gs : List Segment) → total rowSize (map segment gs) ≤ length gs * 4294967297
 segments-length gs = omega (arith, total-most (map segment gs), length-map {B = Row} gs segment)
 
-waiting-most : (w : Waiting) → waitingFor w .size ≤ rowsFor w * 4294967297
+waiting-most : (w : Waiting) → waitingFor w .weight ≤ rowsFor w * 4294967297
 waiting-most nothing = omega arith
 waiting-most (held n z gs) = omega (arith, segments-length gs)
 
@@ -86,16 +86,16 @@ outer-length (f ∷ fs) = omega arith
 
 -- ---- what the code asks
 module _ (v : Env) (D : Drawing) (c : Cell) (R : Reads v D) (k : ℕ) (p : Pruner) (a : Declared.Waiting) (whole : Making) where
-  pub standing-size : (ws : List Words) → Standing v D c k p a ws whole → p .length + a .size ≤ k * 4294967297
-  standing-size ws s =
+  pub standing-weight : (ws : List Words) → Standing v D c k p a ws whole → p .weight + a .weight ≤ k * 4294967297
+  standing-weight ws s =
       let f = s .follows in
       omega (
         arith,
-        counted-length p,
+        counted-weight p,
         ap lengthOf (f .counts),
-        length-is (stateOf (s .rows)),
+        weight-is (stateOf (s .rows)),
         total-most (outOf (stateOf (s .rows))),
-        ap (λ (x : Declared.Waiting). x .size) (f .waits),
+        ap (λ (x : Declared.Waiting). x .weight) (f .waits),
         waiting-most (waitingOf (s .rows)),
         f .short,
       )
@@ -142,7 +142,7 @@ module _ (v : Env) (D : Drawing) (c : Cell) (R : Reads v D) (k : ℕ) (p : Prune
     pub standing-room : k ≤ 4096 → Room p a (w .kind)
     standing-room l =
         record {
-          length = omega (arith, standing-size (w ∷ ws) s);
+          weight = omega (arith, standing-weight (w ∷ ws) s);
           base = omega (arith, standing-base (w ∷ ws) s);
           skip = omega (arith, standing-skip (w ∷ ws) s);
           depth = omega (arith, standing-depth (w ∷ ws) s, s .few);

@@ -26,7 +26,7 @@ use Rattle.making.specs.Numbers.{resting, settledN}
 use Rattle.making.proofs.Follows.{begun-follows, settle-counts}
 use Rattle.making.proofs.Grammar.{entries-flat}
 use Rattle.making.proofs.Standing.{Reads, Standing}
-use Rattle.making.proofs.Turn.{length-is}
+use Rattle.making.proofs.Turn.{weight-is}
 
 -- the rows of all entries
 abbrev pub allOf : Drawing → Cell → List Words → Making
@@ -61,5 +61,5 @@ module _ (v : Env) (D : Drawing) (c : Cell) (R : Reads v D) (ws : List Words) (h
     unfolding rowsIn
     standing-end = settle-counts (v .areas) D c (R .agrees) k p a (s .rows) (s .follows) ∙ ap (λ m. weighed rowSize (settle D c m)) (s .ahead)
 
-    pub size-end : lengthOf (settledN (v .areas) (counted p) a) ≡ total rowSize (rowsMade D c ws)
-    size-end = ap lengthOf standing-end ∙ (length-is (settle D c (allOf D c ws)) ∙ ap (total rowSize) rows-all)
+    pub weight-end : lengthOf (settledN (v .areas) (counted p) a) ≡ total rowSize (rowsMade D c ws)
+    weight-end = ap lengthOf standing-end ∙ (weight-is (settle D c (allOf D c ws)) ∙ ap (total rowSize) rows-all)

@@ -53,16 +53,16 @@ leftRange xs ys corners w = cond (eqb (w .kind) 5) (lineRange xs ys corners (w .
 -- ---- the area that waits: its number, its start number, its weight with what is left of its lines and shortcuts
 
 abbrev pub waiting : Bool → ℕ → ℤ → ℕ → Waiting
-waiting b n z s = record { waits = b; number = n; start = z; size = s }
+waiting b n z s = record { waits = b; number = n; start = z; weight = s }
 
 abbrev pub resting : Waiting
 resting = waiting false 0 (pos 0) 0
 
 abbrev pub withClass : Class → Waiting → ℤ → Waiting
 withClass Dropped a z = a
-withClass Start a z = waiting true (a .number) (a .start +ℤ z) (a .size)
-withClass (Shortcut lo hi) a z = waiting true (a .number) (a .start) (a .size + 1)
-withClass Kept a z = waiting true (a .number) (a .start) (a .size + 65537)
+withClass Start a z = waiting true (a .number) (a .start +ℤ z) (a .weight)
+withClass (Shortcut lo hi) a z = waiting true (a .number) (a .start) (a .weight + 1)
+withClass Kept a z = waiting true (a .number) (a .start) (a .weight + 65537)
 
 abbrev pub withLeft : Waiting → Class → ℤ → Waiting
 withLeft a f z = cond (a .waits) (withClass f a z) a
@@ -78,12 +78,12 @@ waitingN a f z w =
 -- 0 fails, 1 passes, 2 neither
 abbrev pub classN : List ℕ → Waiting → ℕ
 classN areas a =
-    cond (eqb (a .size) 4294967297)
+    cond (eqb (a .weight) 4294967297)
     (cond (passAt areas (a .number) (a .start)) (cond (eqb (getD areas (a .number * 8) 0) 0) (cond (opaqueAt areas (a .number)) 1 2) 1) 0)
     2
 
 abbrev pub settledN : List ℕ → Count → Waiting → Count
-settledN areas c a = cond (a .waits) (countStep sizedItems sizeOf c (item (roleAt areas (a .number)) (sized (classOf (classN areas a)) (a .size)))) c
+settledN areas c a = cond (a .waits) (countStep sizedItems sizeOf c (item (roleAt areas (a .number)) (sized (classOf (classN areas a)) (a .weight)))) c
 
 abbrev pub movedN : ℕ → Count → Count
 movedN kind c =
@@ -102,9 +102,9 @@ prunedN areas c a kind = cond (eqb kind 5) c (cond (eqb kind 6) c (movedN kind (
 abbrev pub maker : Pruner → Waiting → Maker
 maker p a = record { pruner = p; waiting = a }
 
--- the numbers are far from their ends
+-- the numbers, weights first, are far from their ends
 pub record Room (p : Pruner) (a : Waiting) (kind : ℕ) : Type 0 where
-  pub length : p .length + a .size < 2 ^ 60
+  pub weight : p .weight + a .weight < 2 ^ 60
   pub base : p .base < 2 ^ 60
   pub skip : p .skip < 4000
   pub depth : p .depth ≤ 8

@@ -78,7 +78,7 @@ pub struct Waiting {
     pub waits: bool,
     pub number: u32,
     pub start: i64,
-    pub size: u64,
+    pub weight: u64,
 }
 
 // No area waits.
@@ -89,7 +89,7 @@ pub fn rest() -> Waiting
         waits: false,
         number: 0,
         start: 0,
-        size: 0,
+        weight: 0,
     }
 }
 
@@ -102,26 +102,26 @@ fn named(w: Words) -> Waiting
         waits: true,
         number: w.p,
         start: z,
-        size: 4294967297,
+        weight: 4294967297,
     }
 }
 
 // The same area with another weight.
-fn grown(a: Waiting, size: u64) -> Waiting
+fn grown(a: Waiting, weight: u64) -> Waiting
     requires { ⌜ natAbs (a .start) ≤ 8192 ⌝ }
-    ensures { λ r. ⌜ r ≡ waiting true (a .number) (a .start) size ⌝ }
+    ensures { λ r. ⌜ r ≡ waiting true (a .number) (a .start) weight ⌝ }
 {
     Waiting {
         waits: true,
         number: a.number,
         start: a.start,
-        size: size,
+        weight: weight,
     }
 }
 
 // A line or a shortcut with this sign and class, of the area that waits.
 fn with_left(a: Waiting, k: Class, sign: i64) -> Waiting
-    requires { ⌜ (natAbs (a .start) ≤ 8192) × (natAbs sign ≤ 1) × (a .size < 2 ^ 60) ⌝ }
+    requires { ⌜ (natAbs (a .start) ≤ 8192) × (natAbs sign ≤ 1) × (a .weight < 2 ^ 60) ⌝ }
     ensures { λ r. ⌜ r ≡ withLeft a k sign ⌝ }
 {
     if a.waits {
@@ -134,14 +134,14 @@ fn with_left(a: Waiting, k: Class, sign: i64) -> Waiting
                     waits: true,
                     number: a.number,
                     start: a.start + sign,
-                    size: a.size,
+                    weight: a.weight,
                 };
             }
             Class::Shortcut(_, _) => {
-                return grown(a, a.size + 1);
+                return grown(a, a.weight + 1);
             }
             Class::Kept => {
-                return grown(a, a.size + 65537);
+                return grown(a, a.weight + 65537);
             }
         }
     }
@@ -150,7 +150,7 @@ fn with_left(a: Waiting, k: Class, sign: i64) -> Waiting
 
 // After an entry, of which l is left.
 pub fn waiting_after(a: Waiting, l: Left, w: Words) -> Waiting
-    requires { ⌜ (natAbs (a .start) ≤ 8192) × (natAbs (l .sign) ≤ 1) × (a .size < 2 ^ 60) ⌝ }
+    requires { ⌜ (natAbs (a .start) ≤ 8192) × (natAbs (l .sign) ≤ 1) × (a .weight < 2 ^ 60) ⌝ }
     requires { ⌜ (w .kind ≡ 4 → startRange (w .q) ≡ true) ⌝ }
     ensures { λ r. ⌜ r ≡ waitingN a (l .class) (l .sign) w ⌝ }
 {
@@ -174,7 +174,7 @@ pub fn class_of(areas: &[u32], a: Waiting) -> u32
     requires { ⌜ a .number * 8 + 8 ≤ length (now areas) ⌝ }
     ensures { λ r. ⌜ r ≡ classN (now (areas .entry)) a ⌝ }
 {
-    if a.size == 4294967297 {
+    if a.weight == 4294967297 {
         let at = (a.number as usize) * 8;
         if reading::area_passes(areas, a.number as usize, a.start) {
             if areas[at] == 0 {
@@ -193,21 +193,21 @@ pub fn class_of(areas: &[u32], a: Waiting) -> u32
 // After the area that waits, if one does.
 pub fn settled(areas: &[u32], p: Pruner, a: Waiting) -> Pruner
     requires { ⌜ Inside (length (now areas)) a ⌝ }
-    requires { ⌜ (p .length + a .size < 2 ^ 60) × (p .base < 2 ^ 60) ⌝ }
+    requires { ⌜ (p .weight + a .weight < 2 ^ 60) × (p .base < 2 ^ 60) ⌝ }
     ensures { λ r. ⌜ counted r ≡ settledN (now (areas .entry)) (counted p) a ⌝ }
 {
     if a.waits {
         let k = class_of(areas, a);
         let at = (a.number as usize) * 8;
         let paint = areas[at] == 0;
-        return pruner::after_item(p, paint, k, a.size);
+        return pruner::after_item(p, paint, k, a.weight);
     }
     p
 }
 
 // After a delimiter, "passes", or an area, which only waits.
 fn moved(p: Pruner, kind: u32) -> Pruner
-    requires { ⌜ (p .length < 2 ^ 61) × (p .base < 2 ^ 61) × (p .skip < 4096) × (p .depth ≤ 8) ⌝ }
+    requires { ⌜ (p .weight < 2 ^ 61) × (p .base < 2 ^ 61) × (p .skip < 4096) × (p .depth ≤ 8) ⌝ }
     requires { ⌜ (kind ≡ 1 → p .skip ≡ 0 → p .depth < 8) ⌝ }
     ensures { λ r. ⌜ counted r ≡ movedN kind (counted p) ⌝ }
 {
@@ -253,14 +253,14 @@ pub struct Maker {
     pub waiting: Waiting,
 }
 
-// What is made weighs so much once the area that waits has settled.
-pub fn made_size(areas: &[u32], m: Maker) -> u64
+// The weight of what is made once the area that waits has settled.
+pub fn made_weight(areas: &[u32], m: Maker) -> u64
     requires { ⌜ Inside (length (now areas)) (m .waiting) ⌝ }
-    requires { ⌜ (m .pruner .length + m .waiting .size < 2 ^ 60) × (m .pruner .base < 2 ^ 60) ⌝ }
+    requires { ⌜ (m .pruner .weight + m .waiting .weight < 2 ^ 60) × (m .pruner .base < 2 ^ 60) ⌝ }
     ensures { λ r. ⌜ r ≡ lengthOf (settledN (now (areas .entry)) (counted (m .pruner)) (m .waiting)) ⌝ }
 {
     let p = m.pruner;
     let a = m.waiting;
     let q = settled(areas, p, a);
-    q.length
+    q.weight
 }

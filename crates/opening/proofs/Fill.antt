@@ -66,7 +66,7 @@ module _ (v : Env) (D : Drawing) (plan : List ℕ) (records : ℕ) (all : List W
 
     pub fill-turn : i < records → (n : Maker) (w : Words) (q : Square) (g : Class) (z : ℤ) (s′ : Source) (u : List ℕ) → w ≡ entryN plan i records s → w .q < 4294967296 → q ≡ squareOf root → g ≡ leftClass (v .xs) (v .ys) q w → z ≡ leftSign (v .xs) (v .ys) w
         → counted (n .pruner) ≡ prunedN (v .areas) (counted (m .pruner)) (m .waiting) (w .kind) → n .waiting ≡ waitingN (m .waiting) g z w
-        → u ≡ onePut limit (v .areas) t m g z w (n .pruner .length) → s′ ≡ afterN s (getD plan (i + 3) 0) → Filling v D plan records all limit t₀ (i + 1) s′ n u
+        → u ≡ onePut limit (v .areas) t m g z w (n .pruner .weight) → s′ ≡ afterN s (getD plan (i + 3) 0) → Filling v D plan records all limit t₀ (i + 1) s′ n u
     fill-turn h n w q g z s′ u e b r x y hp ha hu hs =
         let next = ahead-next plan records i s (f .ws) (f .ahead) h in
         let now : Writing v D root i m (w ∷ next .0) (allOf D root all) limit t₀ t =
@@ -75,7 +75,7 @@ module _ (v : Env) (D : Drawing) (plan : List ℕ) (records : ℕ) (all : List W
           ws = next .0;
           ahead = rw hs (next .2);
           writing =
-              writing-next v D root (B .reads) i m (allOf D root all) limit t₀ t few room-now w (next .0) now u (n .pruner .length) g z
+              writing-next v D root (B .reads) i m (allOf D root all) limit t₀ t few room-now w (next .0) now u (n .pruner .weight) g z
               (x ∙ ap (λ (a : Square). leftClass (v .xs) (v .ys) a w) r) y hu n refl b hp ha;
         }
 

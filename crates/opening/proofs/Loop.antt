@@ -22,8 +22,8 @@ use Rattle.making.specs.declared.Maker.{Maker}
 use Rattle.making.specs.Made.{rowsMade}
 use Rattle.making.specs.Numbers.{resting, leftSign, leftClass, leftRange, waitingN, settledN, prunedN, Inside, Asks}
 use Rattle.making.proofs.Standing.{Standing}
-use Rattle.making.proofs.Turn.{standing-size, standing-base, standing-inside, standing-room, standing-start, standing-left, standing-sign, standing-next}
-use Rattle.making.proofs.Whole.{allOf, standing-begin, size-end}
+use Rattle.making.proofs.Turn.{standing-weight, standing-base, standing-inside, standing-room, standing-start, standing-left, standing-sign, standing-next}
+use Rattle.making.proofs.Whole.{allOf, standing-begin, weight-end}
 use Rattle.opening.specs.declared.Source.{Source}
 use Rattle.opening.specs.Numbers.{sourceAt, entryN, afterN}
 use Rattle.opening.proofs.Ahead.{Ahead, ahead-next, ahead-none}
@@ -95,11 +95,11 @@ module _ (v : Env) (D : Drawing) (plan : List ℕ) (records : ℕ) (all : List W
     pub end-inside : Inside (length (v .areas)) (m .waiting)
     end-inside = standing-inside v D root (B .reads) i (m .pruner) (m .waiting) (allOf D root all) [] few-end (B .ready .areas) none
 
-    pub end-room : (m .pruner .length + m .waiting .size < 2 ^ 60) × (m .pruner .base < 2 ^ 60)
+    pub end-room : (m .pruner .weight + m .waiting .weight < 2 ^ 60) × (m .pruner .base < 2 ^ 60)
     end-room = (
-      omega (arith, standing-size v D root (B .reads) i (m .pruner) (m .waiting) (allOf D root all) [] none, few-end),
+      omega (arith, standing-weight v D root (B .reads) i (m .pruner) (m .waiting) (allOf D root all) [] none, few-end),
       omega (arith, standing-base v D root (B .reads) i (m .pruner) (m .waiting) (allOf D root all) [] none, few-end),
     )
 
-    pub end-size : lengthOf (settledN (v .areas) (counted (m .pruner)) (m .waiting)) ≡ total rowSize (rowsMade D root all)
-    end-size = size-end v D root (B .reads) all (B .grammar) i (m .pruner) (m .waiting) none
+    pub end-weight : lengthOf (settledN (v .areas) (counted (m .pruner)) (m .waiting)) ≡ total rowSize (rowsMade D root all)
+    end-weight = weight-end v D root (B .reads) all (B .grammar) i (m .pruner) (m .waiting) none

@@ -146,7 +146,7 @@ fn root_square() -> Square
     }
 }
 
-// How much cell 0's stream is, in one number: 1 for each entry, 65,536 more for a line, 4,294,967,296 more for an area.
+// What cell 0's stream weighs: 1 for each entry, 65,536 more for a line, 4,294,967,296 more for an area.
 pub fn count_open(
     plan: &[u32],
     areas: &[u32],
@@ -175,7 +175,7 @@ pub fn count_open(
         c = source_after(c, plan[i + 3]);
         i += 1;
     }
-    making::made_size(
+    making::made_weight(
         areas,
         Maker {
             pruner: p,

@@ -110,7 +110,7 @@ fn entries_made(
     ensures { λ r. ⌜ r < 65536 ⌝ }
 {
     let k = child::count_child(entries, first, count, areas, xs, ys, b, s);
-    (k.size % 65536) as usize
+    (k.weight % 65536) as usize
 }
 
 // Writes the child's stream behind the entries in use, if it fits there: the number of its entries and 1 more, or 0.

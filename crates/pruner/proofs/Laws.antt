@@ -49,13 +49,13 @@ frames-some l (suc d) h =
 not-zero : (w : ℕ) → eqb (suc w) 0 ≡ false
 not-zero w = ne-eqb (suc w) 0 (λ e. omega arith)
 
-pub item-is : (p : Pruner) (isPaint : Bool) (class size : ℕ) → itemN p isPaint class size ≡ countStep sizedItems sizeOf (counted p) (item (kindOf isPaint) (sized (classOf class) size))
+pub item-is : (p : Pruner) (isPaint : Bool) (class weight : ℕ) → itemN p isPaint class weight ≡ countStep sizedItems sizeOf (counted p) (item (kindOf isPaint) (sized (classOf class) weight))
 unfolding counted
-item-is p isPaint class size = go (p .skip) refl isPaint (eqb class 0) (eqb class 1)
+item-is p isPaint class weight = go (p .skip) refl isPaint (eqb class 0) (eqb class 1)
   where
     go : (w : ℕ) → p .skip ≡ w → (k a b : Bool)
-        → cond (eqb w 0) (cond a (inPlace p (p .length) w) (cond b (cond k (inPlace p (p .length + size) 1) (inPlace p (p .base + 1) 1)) (inPlace p (p .length + size) 0))) (inPlace p (p .length) w)
-        ≡ countStep sizedItems sizeOf (inPlace p (p .length) w) (item (kindOf k) (sized (cond a fails (cond b passes other)) size))
+        → cond (eqb w 0) (cond a (inPlace p (p .weight) w) (cond b (cond k (inPlace p (p .weight + weight) 1) (inPlace p (p .base + 1) 1)) (inPlace p (p .weight + weight) 0))) (inPlace p (p .weight) w)
+        ≡ countStep sizedItems sizeOf (inPlace p (p .weight) w) (item (kindOf k) (sized (cond a fails (cond b passes other)) weight))
     go zero e k true b = refl
     go zero e true false true = refl
     go zero e false false true = refl
@@ -66,7 +66,7 @@ pub open-is : (p : Pruner) → openN p ≡ countStep sizedItems sizeOf (counted 
 unfolding counted
 open-is p = go (p .skip)
   where
-    go : (w : ℕ) → cond (eqb w 0) (ct (p .length + 1) (p .length + 1) going (Pruning.frame left (p .length) (p .base) ∷ framesOf (p .frames) (p .depth))) (inPlace p (p .length) (w + 1)) ≡ countStep sizedItems sizeOf (inPlace p (p .length) w) push
+    go : (w : ℕ) → cond (eqb w 0) (ct (p .weight + 1) (p .weight + 1) going (Pruning.frame left (p .weight) (p .base) ∷ framesOf (p .frames) (p .depth))) (inPlace p (p .weight) (w + 1)) ≡ countStep sizedItems sizeOf (inPlace p (p .weight) w) push
     go zero = refl
     go (suc w) = rw (not-zero w, add-one (suc w))
 
@@ -82,13 +82,13 @@ module _ (p : Pruner) (d : ℕ) (f : Frame) (few : p .skip ≤ 1) (top : framesO
       go : (w : ℕ) → w ≤ 1 → (a b c : Bool)
           → cond a
           (cond (eqb w 1) (ct (f .start) (f .outer) going (Pruning.frame through (f .outer) (f .outer) ∷ rest))
-          (cond (eqb (p .length) (p .base)) (ct (f .start) (f .outer) (shut 0) (Pruning.frame dead (f .outer) (f .outer) ∷ rest)) (ct (p .length + 1) (p .length + 1) going (Pruning.frame right (f .start) (f .outer) ∷ rest))))
-          (ct (p .length) (p .base) (skipOf w) (Pruning.frame (cond a left (cond b right (cond c through dead))) (f .start) (f .outer) ∷ rest))
-          ≡ countStep sizedItems sizeOf (ct (p .length) (p .base) (skipOf w) (Pruning.frame (cond a left (cond b right (cond c through dead))) (f .start) (f .outer) ∷ rest)) activate
-      go zero h true b c = each (eqb (p .length) (p .base))
+          (cond (eqb (p .weight) (p .base)) (ct (f .start) (f .outer) (shut 0) (Pruning.frame dead (f .outer) (f .outer) ∷ rest)) (ct (p .weight + 1) (p .weight + 1) going (Pruning.frame right (f .start) (f .outer) ∷ rest))))
+          (ct (p .weight) (p .base) (skipOf w) (Pruning.frame (cond a left (cond b right (cond c through dead))) (f .start) (f .outer) ∷ rest))
+          ≡ countStep sizedItems sizeOf (ct (p .weight) (p .base) (skipOf w) (Pruning.frame (cond a left (cond b right (cond c through dead))) (f .start) (f .outer) ∷ rest)) activate
+      go zero h true b c = each (eqb (p .weight) (p .base))
         where
-          each : (t : Bool) → cond t (ct (f .start) (f .outer) (shut 0) (Pruning.frame dead (f .outer) (f .outer) ∷ rest)) (ct (p .length + 1) (p .length + 1) going (Pruning.frame right (f .start) (f .outer) ∷ rest))
-              ≡ countKeepLeft sizedItems sizeOf t (f .start) (f .outer) (p .length) rest
+          each : (t : Bool) → cond t (ct (f .start) (f .outer) (shut 0) (Pruning.frame dead (f .outer) (f .outer) ∷ rest)) (ct (p .weight + 1) (p .weight + 1) going (Pruning.frame right (f .start) (f .outer) ∷ rest))
+              ≡ countKeepLeft sizedItems sizeOf t (f .start) (f .outer) (p .weight) rest
           each true = refl
           each false = refl
       go zero h false true c = refl
@@ -104,20 +104,20 @@ module _ (p : Pruner) (d : ℕ) (f : Frame) (few : p .skip ≤ 1) (top : framesO
   unfolding counted
   close-is = rw top (go (p .skip) few (eqb (f .mode) 0) (eqb (f .mode) 1) (eqb (f .mode) 2))
     where
-      each : (t : Bool) → cond t (ct (f .start) (f .outer) going rest) (ct (p .length + 1) (f .outer) going rest) ≡ countKeepRight sizedItems sizeOf t (f .start) (f .outer) (p .length) rest
+      each : (t : Bool) → cond t (ct (f .start) (f .outer) going rest) (ct (p .weight + 1) (f .outer) going rest) ≡ countKeepRight sizedItems sizeOf t (f .start) (f .outer) (p .weight) rest
       each true = refl
       each false = refl
 
       go : (w : ℕ) → w ≤ 1 → (a b c : Bool)
-          → cond a (ct (p .length) (p .base) (skipOf w) (Pruning.frame (cond a left (cond b right (cond c through dead))) (f .start) (f .outer) ∷ rest))
-          (cond b (cond (eqb (p .length) (p .base)) (ct (f .start) (f .outer) going rest) (ct (p .length + 1) (f .outer) going rest)) (cond c (ct (p .length) (p .base) (skipOf w) rest) (ct (p .length) (f .outer) going rest)))
-          ≡ countStep sizedItems sizeOf (ct (p .length) (p .base) (skipOf w) (Pruning.frame (cond a left (cond b right (cond c through dead))) (f .start) (f .outer) ∷ rest)) pop
+          → cond a (ct (p .weight) (p .base) (skipOf w) (Pruning.frame (cond a left (cond b right (cond c through dead))) (f .start) (f .outer) ∷ rest))
+          (cond b (cond (eqb (p .weight) (p .base)) (ct (f .start) (f .outer) going rest) (ct (p .weight + 1) (f .outer) going rest)) (cond c (ct (p .weight) (p .base) (skipOf w) rest) (ct (p .weight) (f .outer) going rest)))
+          ≡ countStep sizedItems sizeOf (ct (p .weight) (p .base) (skipOf w) (Pruning.frame (cond a left (cond b right (cond c through dead))) (f .start) (f .outer) ∷ rest)) pop
       go zero h true b c = refl
-      go zero h false true c = each (eqb (p .length) (p .base))
+      go zero h false true c = each (eqb (p .weight) (p .base))
       go zero h false false true = refl
       go zero h false false false = refl
       go (suc zero) h true b c = refl
-      go (suc zero) h false true c = each (eqb (p .length) (p .base))
+      go (suc zero) h false true c = each (eqb (p .weight) (p .base))
       go (suc zero) h false false true = refl
       go (suc zero) h false false false = refl
       go (suc (suc w)) h a b c = absurd (omega arith)
@@ -127,7 +127,7 @@ pub bar-none : (p : Pruner) → p .depth ≡ 0 → p .skip ≤ 1 → counted p �
 unfolding counted
 bar-none p e h = rw e (go (p .skip) h)
   where
-    go : (w : ℕ) → w ≤ 1 → ct (p .length) (p .base) (skipOf w) [] ≡ countStep sizedItems sizeOf (ct (p .length) (p .base) (skipOf w) []) activate
+    go : (w : ℕ) → w ≤ 1 → ct (p .weight) (p .base) (skipOf w) [] ≡ countStep sizedItems sizeOf (ct (p .weight) (p .base) (skipOf w) []) activate
     go zero h = refl
     go (suc zero) h = refl
     go (suc (suc w)) h = absurd (omega arith)
@@ -136,7 +136,7 @@ pub close-none : (p : Pruner) → p .depth ≡ 0 → p .skip ≤ 1 → counted p
 unfolding counted
 close-none p e h = rw e (go (p .skip) h)
   where
-    go : (w : ℕ) → w ≤ 1 → ct (p .length) (p .base) (skipOf w) [] ≡ countStep sizedItems sizeOf (ct (p .length) (p .base) (skipOf w) []) pop
+    go : (w : ℕ) → w ≤ 1 → ct (p .weight) (p .base) (skipOf w) [] ≡ countStep sizedItems sizeOf (ct (p .weight) (p .base) (skipOf w) []) pop
     go zero h = refl
     go (suc zero) h = refl
     go (suc (suc w)) h = absurd (omega arith)
@@ -145,25 +145,25 @@ pub bar-deep : (p : Pruner) → 1 < p .skip → counted p ≡ countStep sizedIte
 unfolding counted
 bar-deep p h = go (p .skip) h
   where
-    go : (w : ℕ) → 1 < w → inPlace p (p .length) w ≡ countStep sizedItems sizeOf (inPlace p (p .length) w) activate
+    go : (w : ℕ) → 1 < w → inPlace p (p .weight) w ≡ countStep sizedItems sizeOf (inPlace p (p .weight) w) activate
     go zero h = absurd (omega arith)
     go (suc zero) h = absurd (omega arith)
     go (suc (suc w)) h = refl
 
-pub close-deep : (p : Pruner) → 1 < p .skip → inPlace p (p .length) (p .skip - 1) ≡ countStep sizedItems sizeOf (counted p) pop
+pub close-deep : (p : Pruner) → 1 < p .skip → inPlace p (p .weight) (p .skip - 1) ≡ countStep sizedItems sizeOf (counted p) pop
 unfolding counted
 close-deep p h = go (p .skip) h
   where
-    go : (w : ℕ) → 1 < w → inPlace p (p .length) (w - 1) ≡ countStep sizedItems sizeOf (inPlace p (p .length) w) pop
+    go : (w : ℕ) → 1 < w → inPlace p (p .weight) (w - 1) ≡ countStep sizedItems sizeOf (inPlace p (p .weight) w) pop
     go zero h = absurd (omega arith)
     go (suc zero) h = absurd (omega arith)
     go (suc (suc w)) h =
         let q : suc (suc w) - 1 ≡ suc w = omega arith in
         rw q
 
-pub item-by : (p : Pruner) (isPaint : Bool) (class size : ℕ) (r : Pruner) → counted r ≡ itemN p isPaint class size
-    → counted r ≡ countStep sizedItems sizeOf (counted p) (item (kindOf isPaint) (sized (classOf class) size))
-item-by p isPaint class size r e = e ∙ item-is p isPaint class size
+pub item-by : (p : Pruner) (isPaint : Bool) (class weight : ℕ) (r : Pruner) → counted r ≡ itemN p isPaint class weight
+    → counted r ≡ countStep sizedItems sizeOf (counted p) (item (kindOf isPaint) (sized (classOf class) weight))
+item-by p isPaint class weight r e = e ∙ item-is p isPaint class weight
 
 pub open-by : (p r : Pruner) → counted r ≡ openN p → counted r ≡ countStep sizedItems sizeOf (counted p) push
 open-by p r e = e ∙ open-is p

@@ -26,9 +26,9 @@ frames-length l zero = refl
 frames-length l (suc d) = ap suc (frames-length l d)
 
 module _ (p : Pruner) where
-  pub counted-length : lengthOf (counted p) ≡ p .length
+  pub counted-weight : lengthOf (counted p) ≡ p .weight
   unfolding counted
-  counted-length = refl
+  counted-weight = refl
 
   pub counted-base : baseOf (counted p) ≡ p .base
   unfolding counted
@@ -44,19 +44,19 @@ module _ (p : Pruner) where
 
 -- ---- after an item
 
-pub record Near (size : ℕ) (c d : Count) : Type 0 where
-  pub length-near : lengthOf d ≤ lengthOf c + baseOf c + size + 1
+pub record Near (weight : ℕ) (c d : Count) : Type 0 where
+  pub weight-near : lengthOf d ≤ lengthOf c + baseOf c + weight + 1
   pub base-same : baseOf d ≡ baseOf c
   pub depth-same : frames d ≡ frames c
   pub skip-near : skipIn d ≤ skipIn c + 1
   pub skip-zero : skipIn d ≡ 0 → skipIn c ≡ 0
 
-pub near-same : (size : ℕ) (c : Count) → Near size c c
-near-same size c = record { length-near = omega arith; base-same = refl; depth-same = refl; skip-near = omega arith; skip-zero = λ e. e }
+pub near-same : (weight : ℕ) (c : Count) → Near weight c c
+near-same weight c = record { weight-near = omega arith; base-same = refl; depth-same = refl; skip-near = omega arith; skip-zero = λ e. e }
 
-pub item-near : (k : Kind) (d : Items.Class) (size : ℕ) (c : Count) → Near size c (countStep sizedItems sizeOf c (item k (sized d size)))
-item-near k d size (ct n b (shut m) fs) = near-same size (ct n b (shut m) fs)
-item-near k fails size (ct n b going fs) = near-same size (ct n b going fs)
-item-near paint passes size (ct n b going fs) = record { length-near = omega arith; base-same = refl; depth-same = refl; skip-near = omega arith; skip-zero = λ e. refl }
-item-near clip passes size (ct n b going fs) = record { length-near = omega arith; base-same = refl; depth-same = refl; skip-near = omega arith; skip-zero = λ e. refl }
-item-near k other size (ct n b going fs) = record { length-near = omega arith; base-same = refl; depth-same = refl; skip-near = omega arith; skip-zero = λ e. refl }
+pub item-near : (k : Kind) (d : Items.Class) (weight : ℕ) (c : Count) → Near weight c (countStep sizedItems sizeOf c (item k (sized d weight)))
+item-near k d weight (ct n b (shut m) fs) = near-same weight (ct n b (shut m) fs)
+item-near k fails weight (ct n b going fs) = near-same weight (ct n b going fs)
+item-near paint passes weight (ct n b going fs) = record { weight-near = omega arith; base-same = refl; depth-same = refl; skip-near = omega arith; skip-zero = λ e. refl }
+item-near clip passes weight (ct n b going fs) = record { weight-near = omega arith; base-same = refl; depth-same = refl; skip-near = omega arith; skip-zero = λ e. refl }
+item-near k other weight (ct n b going fs) = record { weight-near = omega arith; base-same = refl; depth-same = refl; skip-near = omega arith; skip-zero = λ e. refl }

@@ -37,7 +37,7 @@ framesOf l zero = []
 framesOf l (suc d) = frameOf (getD l d noFrame) ∷ framesOf l d
 
 unfoldable pub counted : Pruner → Count
-counted p = ct (p .length) (p .base) (skipOf (p .skip)) (framesOf (p .frames) (p .depth))
+counted p = ct (p .weight) (p .base) (skipOf (p .skip)) (framesOf (p .frames) (p .depth))
 
 -- ---- the numbers of a count
 
@@ -60,35 +60,35 @@ kindOf isPaint = cond isPaint paint clip
 
 -- ---- the moves, by tests on numbers
 
--- the same frames and the same base
-abbrev pub inPlace : Pruner → (length skip : ℕ) → Count
+-- the same frames and the same base, with this weight written
+abbrev pub inPlace : Pruner → (weight skip : ℕ) → Count
 inPlace p n w = ct n (p .base) (skipOf w) (framesOf (p .frames) (p .depth))
 
-abbrev pub itemN : Pruner → Bool → (class size : ℕ) → Count
-itemN p isPaint class size =
+abbrev pub itemN : Pruner → Bool → (class weight : ℕ) → Count
+itemN p isPaint class weight =
     cond (eqb (p .skip) 0)
     (cond (eqb class 0) (counted p)
-    (cond (eqb class 1) (cond isPaint (inPlace p (p .length + size) 1) (inPlace p (p .base + 1) 1)) (inPlace p (p .length + size) 0)))
+    (cond (eqb class 1) (cond isPaint (inPlace p (p .weight + weight) 1) (inPlace p (p .base + 1) 1)) (inPlace p (p .weight + weight) 0)))
     (counted p)
 
 abbrev pub openN : Pruner → Count
 openN p =
     cond (eqb (p .skip) 0)
-    (ct (p .length + 1) (p .length + 1) going (frameOf (frameWith 0 (p .length) (p .base)) ∷ framesOf (p .frames) (p .depth)))
-    (inPlace p (p .length) (p .skip + 1))
+    (ct (p .weight + 1) (p .weight + 1) going (frameOf (frameWith 0 (p .weight) (p .base)) ∷ framesOf (p .frames) (p .depth)))
+    (inPlace p (p .weight) (p .skip + 1))
 
 -- frame d, the innermost, is f, and its side is read on or skipped with no group opened on the way
 abbrev pub barN : Pruner → ℕ → Frame → Count
 barN p d f =
     cond (eqb (f .mode) 0)
     (cond (eqb (p .skip) 1) (ct (f .start) (f .outer) going (frameOf (frameWith 2 (f .outer) (f .outer)) ∷ framesOf (p .frames) d))
-    (cond (eqb (p .length) (p .base)) (ct (f .start) (f .outer) (shut 0) (frameOf (frameWith 3 (f .outer) (f .outer)) ∷ framesOf (p .frames) d))
-    (ct (p .length + 1) (p .length + 1) going (frameOf (frameWith 1 (f .start) (f .outer)) ∷ framesOf (p .frames) d))))
+    (cond (eqb (p .weight) (p .base)) (ct (f .start) (f .outer) (shut 0) (frameOf (frameWith 3 (f .outer) (f .outer)) ∷ framesOf (p .frames) d))
+    (ct (p .weight + 1) (p .weight + 1) going (frameOf (frameWith 1 (f .start) (f .outer)) ∷ framesOf (p .frames) d))))
     (counted p)
 
 abbrev pub closeN : Pruner → ℕ → Frame → Count
 closeN p d f =
     cond (eqb (f .mode) 0) (counted p)
     (cond (eqb (f .mode) 1)
-    (cond (eqb (p .length) (p .base)) (ct (f .start) (f .outer) going (framesOf (p .frames) d)) (ct (p .length + 1) (f .outer) going (framesOf (p .frames) d)))
-    (cond (eqb (f .mode) 2) (ct (p .length) (p .base) (skipOf (p .skip)) (framesOf (p .frames) d)) (ct (p .length) (f .outer) going (framesOf (p .frames) d))))
+    (cond (eqb (p .weight) (p .base)) (ct (f .start) (f .outer) going (framesOf (p .frames) d)) (ct (p .weight + 1) (f .outer) going (framesOf (p .frames) d)))
+    (cond (eqb (f .mode) 2) (ct (p .weight) (p .base) (skipOf (p .skip)) (framesOf (p .frames) d)) (ct (p .weight) (f .outer) going (framesOf (p .frames) d))))

@@ -1,5 +1,5 @@
-// The one-pass pruner by numbers: how much is written, and where the open groups and the side being read begin in it. What an entry weighs is up to
-// the caller; a delimiter and the bare "passes" weigh 1.
+// The one-pass pruner by numbers: what is written, and where the open groups and the side being read begin in it, all as weights. What an entry weighs
+// is up to the caller; a delimiter and the bare "passes" weigh 1. With 1 for each entry a weight is a number of entries.
 ghost use mathlib.Core.Path.{_≡_};
 ghost use mathlib.Core.List.{[], _∷_};
 ghost use Prim.Native.Nat.{_+_, _^_, _≤_, _<_};
@@ -11,17 +11,17 @@ ghost use Rattle.pruning.specs.Weights.{sized, sizedItems, sizeOf};
 ghost use Rattle.pruner.specs.Numbers.{counted, skipOf, frameOf, framesOf, noFrame, classOf, kindOf, barN, closeN};
 
 // An open group. `mode`: 0 on its left side, 1 on its right side, 2 on its right side where its left always passes, 3 on its right side where its
-// left is empty. `start`: what was written at its `(`. `outer`: where the side around it begins.
+// left is empty. `start`: the weight of what was written at its `(`. `outer`: where the side around it begins.
 pub struct Frame {
     pub mode: u32,
     pub start: u64,
     pub outer: u64,
 }
 
-// `length`: what is written. `base`: where the side begins. `skip`: 0, or 1 more than the groups opened since the side is skipped. `depth`: how many
-// frames are in use.
+// `weight`: that of what is written. `base`: the weight of what stands before the side. `skip`: 0, or 1 more than the groups opened since the side is
+// skipped. `depth`: how many frames are in use.
 pub struct Pruner {
-    pub length: u64,
+    pub weight: u64,
     pub base: u64,
     pub skip: u32,
     pub depth: usize,
@@ -39,7 +39,7 @@ pub fn begun() -> Pruner
     };
     let frames = [none; 8];
     Pruner {
-        length: 0,
+        weight: 0,
         base: 0,
         skip: 0,
         depth: 0,
@@ -57,14 +57,14 @@ fn frame_at(p: Pruner, d: usize) -> Frame
 }
 
 // Frame d is the innermost, and is f.
-fn framed(p: Pruner, d: usize, f: Frame, length: u64, base: u64, skip: u32) -> Pruner
+fn framed(p: Pruner, d: usize, f: Frame, weight: u64, base: u64, skip: u32) -> Pruner
     requires { ⌜ d < 8 ⌝ }
-    ensures { λ r. ⌜ counted r ≡ ct length base (skipOf skip) (frameOf f ∷ framesOf (p .frames) d) ⌝ }
+    ensures { λ r. ⌜ counted r ≡ ct weight base (skipOf skip) (frameOf f ∷ framesOf (p .frames) d) ⌝ }
 {
     let mut frames = p.frames;
     frames[d] = f;
     Pruner {
-        length: length,
+        weight: weight,
         base: base,
         skip: skip,
         depth: d + 1,
@@ -73,12 +73,12 @@ fn framed(p: Pruner, d: usize, f: Frame, length: u64, base: u64, skip: u32) -> P
 }
 
 // The first d frames are in use.
-fn unframed(p: Pruner, d: usize, length: u64, base: u64, skip: u32) -> Pruner
-    ensures { λ r. ⌜ counted r ≡ ct length base (skipOf skip) (framesOf (p .frames) d) ⌝ }
+fn unframed(p: Pruner, d: usize, weight: u64, base: u64, skip: u32) -> Pruner
+    ensures { λ r. ⌜ counted r ≡ ct weight base (skipOf skip) (framesOf (p .frames) d) ⌝ }
 {
     let frames = p.frames;
     Pruner {
-        length: length,
+        weight: weight,
         base: base,
         skip: skip,
         depth: d,
@@ -87,10 +87,10 @@ fn unframed(p: Pruner, d: usize, length: u64, base: u64, skip: u32) -> Pruner
 }
 
 // An item of a paint side or of a clip side, of this class (0 fails, 1 passes, 2 neither) and weight.
-pub fn after_item(p: Pruner, paint: bool, class: u32, size: u64) -> Pruner
-    requires { ⌜ p .length + size < 2 ^ 62 ⌝ }
+pub fn after_item(p: Pruner, paint: bool, class: u32, weight: u64) -> Pruner
+    requires { ⌜ p .weight + weight < 2 ^ 62 ⌝ }
     requires { ⌜ p .base < 2 ^ 62 ⌝ }
-    ensures { λ r. ⌜ counted r ≡ countStep sizedItems sizeOf (counted p) (item (kindOf paint) (sized (classOf class) size)) ⌝ }
+    ensures { λ r. ⌜ counted r ≡ countStep sizedItems sizeOf (counted p) (item (kindOf paint) (sized (classOf class) weight)) ⌝ }
 {
     if p.skip == 0 {
         if class == 0 {
@@ -98,18 +98,18 @@ pub fn after_item(p: Pruner, paint: bool, class: u32, size: u64) -> Pruner
         }
         if class == 1 {
             if paint {
-                return unframed(p, p.depth, p.length + size, p.base, 1);
+                return unframed(p, p.depth, p.weight + weight, p.base, 1);
             }
             return unframed(p, p.depth, p.base + 1, p.base, 1);
         }
-        return unframed(p, p.depth, p.length + size, p.base, 0);
+        return unframed(p, p.depth, p.weight + weight, p.base, 0);
     }
     p
 }
 
 // `(`
 pub fn after_open(p: Pruner) -> Pruner
-    requires { ⌜ p .length < 2 ^ 62 ⌝ }
+    requires { ⌜ p .weight < 2 ^ 62 ⌝ }
     requires { ⌜ p .skip < 4096 ⌝ }
     requires { ⌜ (p .skip ≡ 0 → p .depth < 8) ⌝ }
     ensures { λ r. ⌜ counted r ≡ countStep sizedItems sizeOf (counted p) push ⌝ }
@@ -117,17 +117,17 @@ pub fn after_open(p: Pruner) -> Pruner
     if p.skip == 0 {
         let f = Frame {
             mode: 0,
-            start: p.length,
+            start: p.weight,
             outer: p.base,
         };
-        return framed(p, p.depth, f, p.length + 1, p.length + 1, 0);
+        return framed(p, p.depth, f, p.weight + 1, p.weight + 1, 0);
     }
-    unframed(p, p.depth, p.length, p.base, p.skip + 1)
+    unframed(p, p.depth, p.weight, p.base, p.skip + 1)
 }
 
 // `|` of the innermost group, frame d.
 fn at_bar(p: Pruner, d: usize, f: Frame) -> Pruner
-    requires { ⌜ p .length < 2 ^ 62 ⌝ }
+    requires { ⌜ p .weight < 2 ^ 62 ⌝ }
     requires { ⌜ d < 8 ⌝ }
     ensures { λ r. ⌜ counted r ≡ barN p d f ⌝ }
 {
@@ -140,7 +140,7 @@ fn at_bar(p: Pruner, d: usize, f: Frame) -> Pruner
             };
             return framed(p, d, through, f.start, f.outer, 0);
         }
-        if p.length == p.base {
+        if p.weight == p.base {
             let dead = Frame {
                 mode: 3,
                 start: f.outer,
@@ -153,34 +153,34 @@ fn at_bar(p: Pruner, d: usize, f: Frame) -> Pruner
             start: f.start,
             outer: f.outer,
         };
-        return framed(p, d, right, p.length + 1, p.length + 1, 0);
+        return framed(p, d, right, p.weight + 1, p.weight + 1, 0);
     }
     p
 }
 
 // `)` of the innermost group, frame d.
 fn at_close(p: Pruner, d: usize, f: Frame) -> Pruner
-    requires { ⌜ p .length < 2 ^ 62 ⌝ }
+    requires { ⌜ p .weight < 2 ^ 62 ⌝ }
     ensures { λ r. ⌜ counted r ≡ closeN p d f ⌝ }
 {
     if f.mode == 0 {
         return p;
     }
     if f.mode == 1 {
-        if p.length == p.base {
+        if p.weight == p.base {
             return unframed(p, d, f.start, f.outer, 0);
         }
-        return unframed(p, d, p.length + 1, f.outer, 0);
+        return unframed(p, d, p.weight + 1, f.outer, 0);
     }
     if f.mode == 2 {
-        return unframed(p, d, p.length, p.base, p.skip);
+        return unframed(p, d, p.weight, p.base, p.skip);
     }
-    unframed(p, d, p.length, f.outer, 0)
+    unframed(p, d, p.weight, f.outer, 0)
 }
 
 // `|`
 pub fn after_bar(p: Pruner) -> Pruner
-    requires { ⌜ p .length < 2 ^ 62 ⌝ }
+    requires { ⌜ p .weight < 2 ^ 62 ⌝ }
     requires { ⌜ p .depth ≤ 8 ⌝ }
     ensures { λ r. ⌜ counted r ≡ countStep sizedItems sizeOf (counted p) activate ⌝ }
 {
@@ -197,7 +197,7 @@ pub fn after_bar(p: Pruner) -> Pruner
 
 // `)`
 pub fn after_close(p: Pruner) -> Pruner
-    requires { ⌜ p .length < 2 ^ 62 ⌝ }
+    requires { ⌜ p .weight < 2 ^ 62 ⌝ }
     requires { ⌜ p .depth ≤ 8 ⌝ }
     ensures { λ r. ⌜ counted r ≡ countStep sizedItems sizeOf (counted p) pop ⌝ }
 {
@@ -209,5 +209,5 @@ pub fn after_close(p: Pruner) -> Pruner
         let f = frame_at(p, d);
         return at_close(p, d, f);
     }
-    unframed(p, p.depth, p.length, p.base, p.skip - 1)
+    unframed(p, p.depth, p.weight, p.base, p.skip - 1)
 }

@@ -5,8 +5,8 @@ use Prim.Native.Nat.{ℕ}
 use Rattle.pruning.specs.Counters.{Count}
 use Rattle.pruner.specs.declared.Pruner.{Pruner}
 use Rattle.pruner.specs.Numbers.{counted}
-use Rattle.pruner.proofs.Near.{counted-length, counted-base, counted-skip}
+use Rattle.pruner.proofs.Near.{counted-weight, counted-base, counted-skip}
 use Rattle.writing.specs.Numbers.{markPut, markOn}
 
 pub mark-is : (limit : ℕ) (t : List ℕ) (q : Pruner) (n kind : ℕ) (c : Count) → counted q ≡ c → markPut limit t q n kind ≡ markOn limit t c n kind
-mark-is limit t q n kind c e = rw (← e, counted-length q, counted-base q, counted-skip q)
+mark-is limit t q n kind c e = rw (← e, counted-weight q, counted-base q, counted-skip q)

@@ -45,11 +45,11 @@ module _ (limit : ℕ) where
 
   module _ (areas : List ℕ) (t : List ℕ) (m : Maker) where
     same-segment : (f : Class) (z : ℤ) (w : Words) → Same t (segmentPut limit t m f z w)
-    same-segment f z w = same-if (eqb (m .pruner .skip) 0) t _ t (same-if (m .waiting .waits) t _ t (same-kept f t (placeOf (m .pruner .length) + placeOf (m .waiting .size)) z w) (same-refl t)) (same-refl t)
+    same-segment f z w = same-if (eqb (m .pruner .skip) 0) t _ t (same-if (m .waiting .waits) t _ t (same-kept f t (placeOf (m .pruner .weight) + placeOf (m .waiting .weight)) z w) (same-refl t)) (same-refl t)
 
     same-class : (k : ℕ) → Same t (classPut limit areas t m k)
     same-class k =
-        let named = same-put t (placeOf (m .pruner .length)) (words 4 (m .waiting .number) (ofZ w32 (m .waiting .start)) 0) in
+        let named = same-put t (placeOf (m .pruner .weight)) (words 4 (m .waiting .number) (ofZ w32 (m .waiting .start)) 0) in
         same-if (eqb k 0) t t _ (same-refl t)
         (same-if (eqb k 1) t _ _ (same-if (eqb (getD areas (m .waiting .number * 8) 0) 0) t _ _ named (same-put t (placeOf (m .pruner .base)) (words 7 0 0 0))) named)
 

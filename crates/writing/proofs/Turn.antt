@@ -36,16 +36,16 @@ use Rattle.stream.specs.Entry as Entries
 use Rattle.stream.specs.Entry.{decode}
 use Rattle.stream.specs.Grammar.{Env}
 use Rattle.pruner.specs.Numbers.{counted, skipIn, baseOf}
-use Rattle.pruner.proofs.Near.{counted-length}
+use Rattle.pruner.proofs.Near.{counted-weight}
 use Rattle.reading.specs.Reading.{rowFor}
 use Rattle.reading.specs.Words.{words, wordsOf}
 use Rattle.reading.proofs.Laws.{line-used}
 use Rattle.making.specs.declared.Maker.{Maker}
 use Rattle.making.specs.Numbers.{leftSign, leftClass, waitingN, settledN, prunedN}
-use Rattle.making.proofs.Follows.{stateOf, settle-counts, settle-fits, settle-short, kept-size}
+use Rattle.making.proofs.Follows.{stateOf, settle-counts, settle-fits, settle-short, kept-weight}
 use Rattle.making.proofs.Grammar.{Passes, one-passes}
 use Rattle.making.proofs.Standing.{Reads, Standing, by-kind}
-use Rattle.making.proofs.Turn.{standing-rows, length-is}
+use Rattle.making.proofs.Turn.{standing-rows, weight-is}
 use Rattle.writing.specs.Numbers.{putBelow, placeOf, segmentPut, settledPut, onePut}
 use Rattle.writing.proofs.Agree.{Agree}
 use Rattle.writing.proofs.Same.{Same, same-then, same-settled, same-one}
@@ -75,7 +75,7 @@ module _ (v : Env) (D : Drawing) (c : Cell) (R : Reads v D) (k : ℕ) (mk : Make
 
   -- a shortcut is never kept as a line
   never-kept : (z : ℤ) (lo hi : ℕ) → classIn (D .xs) (D .ys) c (Segments.shortcut z lo hi) ≡ Kept → ⊥
-  never-kept z lo hi e = let n : _≡_ {A = ℕ} 1 65537 = kept-size areas D c (R .agrees) (Segments.shortcut z lo hi) e in omega arith
+  never-kept z lo hi e = let n : _≡_ {A = ℕ} 1 65537 = kept-weight areas D c (R .agrees) (Segments.shortcut z lo hi) e in omega arith
 
   -- after the area that waits
   abbrev settled : List ℕ
@@ -120,7 +120,7 @@ module _ (v : Env) (D : Drawing) (c : Cell) (R : Reads v D) (k : ℕ) (mk : Make
     on-area : w .kind ≡ 4 → n ≡ total rowSize (outOf (settle D c rows)) → Writes limit u (next (Entries.area (w .p) (w .q)))
     on-area e h =
         let g : u ≡ cond (ltb (lengthOf (settledN areas (counted (mk .pruner)) (mk .waiting))) n) (putBelow limit settled (placeOf (lengthOf (settledN areas (counted (mk .pruner)) (mk .waiting)))) (words 4 0 0 0)) settled = rw e at hu in
-        record { done = rw (g, counts, h, length-is (settle D c rows), le-ltb (total rowSize (outOf (settle D c rows))) (total rowSize (outOf (settle D c rows))) (omega arith)) stands; behind = λ q. tt }
+        record { done = rw (g, counts, h, weight-is (settle D c rows), le-ltb (total rowSize (outOf (settle D c rows))) (total rowSize (outOf (settle D c rows))) (omega arith)) stands; behind = λ q. tt }
 
     -- a line or a shortcut
     on-segment : (g : Segment) → u ≡ segmentPut limit t mk (classIn (D .xs) (D .ys) c g) (signOf (D .xs) (D .ys) g) w → (classIn (D .xs) (D .ys) c g ≡ Kept → wordsOf (Rows.segment g) ≡ words 5 (w .p) (w .q) 0) → Writes limit u (addTo D c g rows)
@@ -142,12 +142,12 @@ module _ (v : Env) (D : Drawing) (c : Cell) (R : Reads v D) (k : ℕ) (mk : Make
         let g : u ≡ segmentPut limit t mk f z w = simp (ne-eqb (w .kind) 5 (λ q. omega arith), eq-eqb (w .kind) 6 e) at hu in
         on-segment (Segments.shortcut (toZ w32 (w .p)) (w .q) (w .r)) (rw (← x, ← y) g) (λ q. absurd (never-kept (toZ w32 (w .p)) (w .q) (w .r) q))
 
-    pub writing-next : (nk : Maker) → n ≡ nk .pruner .length → w .q < 4294967296 → counted (nk .pruner) ≡ prunedN areas (counted (mk .pruner)) (mk .waiting) (w .kind)
+    pub writing-next : (nk : Maker) → n ≡ nk .pruner .weight → w .q < 4294967296 → counted (nk .pruner) ≡ prunedN areas (counted (mk .pruner)) (mk .waiting) (w .kind)
         → nk .waiting ≡ waitingN (mk .waiting) f z w → Writing v D c (k + 1) nk ws whole limit t₀ u
     writing-next nk hn q hp ha =
         let x = standing-rows v D c R k (mk .pruner) (mk .waiting) whole w ws (s .standing) (nk .pruner) (nk .waiting) hp (rw (← hf, ← hz) ha) q in
         let m : n ≡ total rowSize (outOf (stateOf (next (decode w)))) =
-        hn ∙ (sym (counted-length (nk .pruner)) ∙ (ap lengthOf (x .0 .follows .counts) ∙ (length-is (stateOf (x .0 .rows)) ∙ ap (λ (y : Making). total rowSize (outOf (stateOf y))) (x .1)))) in
+        hn ∙ (sym (counted-weight (nk .pruner)) ∙ (ap lengthOf (x .0 .follows .counts) ∙ (weight-is (stateOf (x .0 .rows)) ∙ ap (λ (y : Making). total rowSize (outOf (stateOf y))) (x .1)))) in
         let y : Writes limit u (next (decode w)) =
         by-kind w (λ e. Passes v (s .standing .place) e ws → n ≡ total rowSize (outOf (stateOf (next e))) → Writes limit u (next e)) (λ e h a. on-open e a) (λ e h a. on-bar e a) (λ e h a. on-close e a) (λ e h a. on-area e a)
         (λ e h a. on-line e h) (λ e h a. on-shortcut e) (λ e h a. on-passes e) (λ h a. clash (h .range)) (one-passes v (s .standing .place) w ws (s .standing .rest)) m in

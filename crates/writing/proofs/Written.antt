@@ -34,7 +34,7 @@ use Rattle.cells.proofs.Making.{entry-some}
 use Rattle.stream.specs.declared.Words.{Words}
 use Rattle.pruner.specs.declared.Pruner.{Pruner}
 use Rattle.pruner.specs.Numbers.{counted, baseOf, skipIn}
-use Rattle.pruner.proofs.Near.{counted-length, counted-base, counted-skip}
+use Rattle.pruner.proofs.Near.{counted-weight, counted-base, counted-skip}
 use Rattle.reading.specs.Words.{words, wordsOf, Agrees}
 use Rattle.making.specs.declared.Maker.{Maker}
 use Rattle.making.specs.Numbers.{classN}
@@ -66,8 +66,8 @@ skip-is p x e = ap (λ (n : ℕ). eqb n 0) (sym (counted-skip p) ∙ ap skipIn e
     go (st out b going fs) = refl
     go (st out b (shut m) fs) = ne-eqb (suc m) 0 (λ e. omega arith)
 
-pub length-place : (p : Pruner) (x : Pruning.State Row) → counted p ≡ weighed rowSize x → length (outOf x) < 65536 → placeOf (p .length) ≡ length (outOf x)
-length-place p x e h = ap placeOf (sym (counted-length p) ∙ ap lengthOf e) ∙ go x h
+pub length-place : (p : Pruner) (x : Pruning.State Row) → counted p ≡ weighed rowSize x → length (outOf x) < 65536 → placeOf (p .weight) ≡ length (outOf x)
+length-place p x e h = ap placeOf (sym (counted-weight p) ∙ ap lengthOf e) ∙ go x h
   where
     go : (x : Pruning.State Row) → length (outOf x) < 65536 → placeOf (lengthOf (weighed rowSize x)) ≡ length (outOf x)
     go (st out b w fs) h = place-is out h

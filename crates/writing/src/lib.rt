@@ -90,8 +90,8 @@ pub fn put_segment(out: &mut [u32], limit: usize, p: Pruner, a: Waiting, l: Left
 {
     if p.skip == 0 {
         if a.waits {
-            let n = place_of(p.length);
-            let k = place_of(a.size);
+            let n = place_of(p.weight);
+            let k = place_of(a.weight);
             put_kept(out, limit, n + k, l, w);
         }
     }
@@ -124,7 +124,7 @@ fn put_named(out: &mut [u32], limit: usize, m: Maker)
 {
     let p = m.pruner;
     let a = m.waiting;
-    let at = place_of(p.length);
+    let at = place_of(p.weight);
     let z = word_of(a.start);
     put_below(
         out,
@@ -179,10 +179,10 @@ pub fn put_settled(out: &mut [u32], limit: usize, areas: &[u32], m: Maker)
     }
 }
 
-// A delimiter or "passes", after which so much is made.
-fn put_mark(out: &mut [u32], limit: usize, q: Pruner, made: u64, kind: u32)
+// A delimiter or "passes", after which what is made has this weight.
+fn put_mark(out: &mut [u32], limit: usize, q: Pruner, weight: u64, kind: u32)
     requires { ⌜ limit * 4 ≤ length (now out) ⌝ }
-    ensures { λ _. ⌜ now (out .exit) ≡ markPut limit (now (out .entry)) q made kind ⌝ }
+    ensures { λ _. ⌜ now (out .exit) ≡ markPut limit (now (out .entry)) q weight kind ⌝ }
 {
     if kind == 7 {
         if q.skip == 0 {
@@ -190,8 +190,8 @@ fn put_mark(out: &mut [u32], limit: usize, q: Pruner, made: u64, kind: u32)
         }
         return;
     }
-    if q.length < made {
-        let at = place_of(q.length);
+    if q.weight < weight {
+        let at = place_of(q.weight);
         put_below(
             out,
             limit,
@@ -206,18 +206,18 @@ fn put_mark(out: &mut [u32], limit: usize, q: Pruner, made: u64, kind: u32)
     }
 }
 
-// The area that waits, and then a delimiter, "passes" or nothing, after which so much is made.
-fn put_other(out: &mut [u32], limit: usize, areas: &[u32], m: Maker, made: u64, kind: u32)
+// The area that waits, and then a delimiter, "passes" or nothing, after which what is made has this weight.
+fn put_other(out: &mut [u32], limit: usize, areas: &[u32], m: Maker, weight: u64, kind: u32)
     requires { ⌜ limit * 4 ≤ length (now out) ⌝ }
     requires { ⌜ Inside (length (now areas)) (m .waiting) ⌝ }
-    requires { ⌜ (m .pruner .length + m .waiting .size < 2 ^ 60) × (m .pruner .base < 2 ^ 60) ⌝ }
-    ensures { λ _. ⌜ now (out .exit) ≡ markOn limit (settledPut limit (now (areas .entry)) (now (out .entry)) m) (settledN (now (areas .entry)) (counted (m .pruner)) (m .waiting)) made kind ⌝ }
+    requires { ⌜ (m .pruner .weight + m .waiting .weight < 2 ^ 60) × (m .pruner .base < 2 ^ 60) ⌝ }
+    ensures { λ _. ⌜ now (out .exit) ≡ markOn limit (settledPut limit (now (areas .entry)) (now (out .entry)) m) (settledN (now (areas .entry)) (counted (m .pruner)) (m .waiting)) weight kind ⌝ }
 {
     let p = m.pruner;
     let a = m.waiting;
     let q = making::settled(areas, p, a);
     put_settled(out, limit, areas, m);
-    put_mark(out, limit, q, made, kind);
+    put_mark(out, limit, q, weight, kind);
 }
 
 // An entry more that is neither a line nor a shortcut: what it makes is written, and the pruner goes on.
@@ -233,7 +233,7 @@ pub fn write_other(
     requires { ⌜ Inside (length (now areas)) a ⌝ }
     requires { ⌜ Room p a kind ⌝ }
     ensures { λ r. ⌜ counted r ≡ prunedN (now (areas .entry)) (counted p) a kind ⌝ }
-    ensures { λ r. ⌜ now (out .exit) ≡ markOn limit (settledPut limit (now (areas .entry)) (now (out .entry)) (maker p a)) (settledN (now (areas .entry)) (counted p) a) (r .length) kind ⌝ }
+    ensures { λ r. ⌜ now (out .exit) ≡ markOn limit (settledPut limit (now (areas .entry)) (now (out .entry)) (maker p a)) (settledN (now (areas .entry)) (counted p) a) (r .weight) kind ⌝ }
 {
     let q = making::pruner_after(areas, p, a, kind);
     put_other(
@@ -244,7 +244,7 @@ pub fn write_other(
             pruner: p,
             waiting: a,
         },
-        q.length,
+        q.weight,
         kind,
     );
     q

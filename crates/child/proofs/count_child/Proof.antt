@@ -14,7 +14,7 @@ use Rattle.making.specs.Numbers.{cellIn}
 use Rattle.making.specs.Numbers.{maker}
 use Rattle.making.proofs.Stays.{stays-pruned}
 use Rattle.making.proofs.Lent.{lent-reads}
-use Rattle.child.proofs.Loop.{loop-left, loop-sign, loop-asks, end-inside, end-room, end-size}
+use Rattle.child.proofs.Loop.{loop-left, loop-sign, loop-asks, end-inside, end-room, end-weight}
 use Rattle.child.proofs.Noting.{Counting, counting-begin, looping, counting-turn, counting-end}
 
 abbrev Inv-loop : tie.InvT-loop
@@ -54,7 +54,7 @@ pruner-after-requires : tie.Need-pruner-after-requires Inv-loop μ-loop
 pruner-after-requires c κs = let a = c .before .before .before .before .before .before .before .before .before .before .before .before .before .before .before .args in let p = c .before .before .before .before .before .before .before .before .before .before .before .before .before .before .before .pre in let R = lent-reads (now (a .areas)) (now (a .xs)) (now (a .ys)) (a .b) in let v = env (now (a .areas)) (now (a .xs)) (now (a .ys)) (a .b) in let D = lent (now (a .areas)) (now (a .xs)) (now (a .ys)) (a .b) in let h = loop-asks v D (cellIn (a .s)) R (now (a .entries)) (a .first) (a .count) (p .0) (c .before .before .before .before .before .before .before .before .loop .i) (maker (c .before .before .before .before .before .before .before .before .loop .p) (c .before .before .before .before .before .before .before .before .loop .a)) (looping v D (cellIn (a .s)) R (now (a .entries)) (a .first) (a .count) (p .0) (c .before .before .before .before .before .before .before .before .loop .i) (maker (c .before .before .before .before .before .before .before .before .loop .p) (c .before .before .before .before .before .before .before .before .loop .a)) (c .before .before .before .before .before .before .before .before .loop .at) (c .before .before .before .before .before .before .before .before .loop .inv)) (c .before .before .before .before .before .before .before .loop-test .taken) in rw (c .before .before .before .before .before .before .read-entry .ensures) (h .inside, h .room)
 
 waiting-after-requires : tie.Need-waiting-after-requires Inv-loop μ-loop
-waiting-after-requires c κs = let a = c .before .before .before .before .before .before .before .before .before .before .before .before .before .before .before .args in let p = c .before .before .before .before .before .before .before .before .before .before .before .before .before .before .before .pre in let R = lent-reads (now (a .areas)) (now (a .xs)) (now (a .ys)) (a .b) in let v = env (now (a .areas)) (now (a .xs)) (now (a .ys)) (a .b) in let D = lent (now (a .areas)) (now (a .xs)) (now (a .ys)) (a .b) in let h = loop-asks v D (cellIn (a .s)) R (now (a .entries)) (a .first) (a .count) (p .0) (c .before .before .before .before .before .before .before .before .loop .i) (maker (c .before .before .before .before .before .before .before .before .loop .p) (c .before .before .before .before .before .before .before .before .loop .a)) (looping v D (cellIn (a .s)) R (now (a .entries)) (a .first) (a .count) (p .0) (c .before .before .before .before .before .before .before .before .loop .i) (maker (c .before .before .before .before .before .before .before .before .loop .p) (c .before .before .before .before .before .before .before .before .loop .a)) (c .before .before .before .before .before .before .before .before .loop .at) (c .before .before .before .before .before .before .before .before .loop .inv)) (c .before .before .before .before .before .before .before .loop-test .taken) in rw (c .before .before .before .before .before .left-of .ensures .0, c .before .before .before .before .before .before .read-entry .ensures) ((h .inside .small, loop-sign v D (cellIn (a .s)) R (now (a .entries)) (a .first) (a .count) (p .0) (c .before .before .before .before .before .before .before .before .loop .i) (maker (c .before .before .before .before .before .before .before .before .loop .p) (c .before .before .before .before .before .before .before .before .loop .a)) (looping v D (cellIn (a .s)) R (now (a .entries)) (a .first) (a .count) (p .0) (c .before .before .before .before .before .before .before .before .loop .i) (maker (c .before .before .before .before .before .before .before .before .loop .p) (c .before .before .before .before .before .before .before .before .loop .a)) (c .before .before .before .before .before .before .before .before .loop .at) (c .before .before .before .before .before .before .before .before .loop .inv)) (c .before .before .before .before .before .before .before .loop-test .taken), omega (arith, h .room .length)), h .start)
+waiting-after-requires c κs = let a = c .before .before .before .before .before .before .before .before .before .before .before .before .before .before .before .args in let p = c .before .before .before .before .before .before .before .before .before .before .before .before .before .before .before .pre in let R = lent-reads (now (a .areas)) (now (a .xs)) (now (a .ys)) (a .b) in let v = env (now (a .areas)) (now (a .xs)) (now (a .ys)) (a .b) in let D = lent (now (a .areas)) (now (a .xs)) (now (a .ys)) (a .b) in let h = loop-asks v D (cellIn (a .s)) R (now (a .entries)) (a .first) (a .count) (p .0) (c .before .before .before .before .before .before .before .before .loop .i) (maker (c .before .before .before .before .before .before .before .before .loop .p) (c .before .before .before .before .before .before .before .before .loop .a)) (looping v D (cellIn (a .s)) R (now (a .entries)) (a .first) (a .count) (p .0) (c .before .before .before .before .before .before .before .before .loop .i) (maker (c .before .before .before .before .before .before .before .before .loop .p) (c .before .before .before .before .before .before .before .before .loop .a)) (c .before .before .before .before .before .before .before .before .loop .at) (c .before .before .before .before .before .before .before .before .loop .inv)) (c .before .before .before .before .before .before .before .loop-test .taken) in rw (c .before .before .before .before .before .left-of .ensures .0, c .before .before .before .before .before .before .read-entry .ensures) ((h .inside .small, loop-sign v D (cellIn (a .s)) R (now (a .entries)) (a .first) (a .count) (p .0) (c .before .before .before .before .before .before .before .before .loop .i) (maker (c .before .before .before .before .before .before .before .before .loop .p) (c .before .before .before .before .before .before .before .before .loop .a)) (looping v D (cellIn (a .s)) R (now (a .entries)) (a .first) (a .count) (p .0) (c .before .before .before .before .before .before .before .before .loop .i) (maker (c .before .before .before .before .before .before .before .before .loop .p) (c .before .before .before .before .before .before .before .before .loop .a)) (c .before .before .before .before .before .before .before .before .loop .at) (c .before .before .before .before .before .before .before .before .loop .inv)) (c .before .before .before .before .before .before .before .loop-test .taken), omega (arith, h .room .weight)), h .start)
 
 add-i : tie.Need-add-i Inv-loop μ-loop
 add-i c = record { fits = omega (arith, add-end (c .before .before .before .before .before .before .before .before .before .before .before .before) .fits, c .before .before .before .before .before .before .before .before .loop-test .taken) }
@@ -71,14 +71,14 @@ slice-aggregate-note-2 c = search needs
 note-requires-2 : tie.Need-note-requires-2 Inv-loop μ-loop
 note-requires-2 c κs = let a = c .before .before .before .before .before .before .before .before .before .args in let p = c .before .before .before .before .before .before .before .before .before .pre in let R = lent-reads (now (a .areas)) (now (a .xs)) (now (a .ys)) (a .b) in let v = env (now (a .areas)) (now (a .xs)) (now (a .ys)) (a .b) in let D = lent (now (a .areas)) (now (a .xs)) (now (a .ys)) (a .b) in (c .before .before .loop .inv .size, end-inside v D (cellIn (a .s)) R (now (a .entries)) (a .first) (a .count) (p .0) (c .before .before .loop .i) (maker (c .before .before .loop .p) (c .before .before .loop .a)) (looping v D (cellIn (a .s)) R (now (a .entries)) (a .first) (a .count) (p .0) (c .before .before .loop .i) (maker (c .before .before .loop .p) (c .before .before .loop .a)) (c .before .before .loop .at) (c .before .before .loop .inv)) (c .before .loop-test .left) .small)
 
-made-size-requires : tie.Need-made-size-requires Inv-loop μ-loop
-made-size-requires c κs = let a = c .before .before .before .before .before .before .before .before .before .before .before .args in let p = c .before .before .before .before .before .before .before .before .before .before .before .pre in let R = lent-reads (now (a .areas)) (now (a .xs)) (now (a .ys)) (a .b) in let v = env (now (a .areas)) (now (a .xs)) (now (a .ys)) (a .b) in let D = lent (now (a .areas)) (now (a .xs)) (now (a .ys)) (a .b) in (end-inside v D (cellIn (a .s)) R (now (a .entries)) (a .first) (a .count) (p .0) (c .before .before .before .before .loop .i) (maker (c .before .before .before .before .loop .p) (c .before .before .before .before .loop .a)) (looping v D (cellIn (a .s)) R (now (a .entries)) (a .first) (a .count) (p .0) (c .before .before .before .before .loop .i) (maker (c .before .before .before .before .loop .p) (c .before .before .before .before .loop .a)) (c .before .before .before .before .loop .at) (c .before .before .before .before .loop .inv)) (c .before .before .before .loop-test .left), end-room v D (cellIn (a .s)) R (now (a .entries)) (a .first) (a .count) (p .0) (c .before .before .before .before .loop .i) (maker (c .before .before .before .before .loop .p) (c .before .before .before .before .loop .a)) (looping v D (cellIn (a .s)) R (now (a .entries)) (a .first) (a .count) (p .0) (c .before .before .before .before .loop .i) (maker (c .before .before .before .before .loop .p) (c .before .before .before .before .loop .a)) (c .before .before .before .before .loop .at) (c .before .before .before .before .loop .inv)) (c .before .before .before .loop-test .left))
+made-weight-requires : tie.Need-made-weight-requires Inv-loop μ-loop
+made-weight-requires c κs = let a = c .before .before .before .before .before .before .before .before .before .before .before .args in let p = c .before .before .before .before .before .before .before .before .before .before .before .pre in let R = lent-reads (now (a .areas)) (now (a .xs)) (now (a .ys)) (a .b) in let v = env (now (a .areas)) (now (a .xs)) (now (a .ys)) (a .b) in let D = lent (now (a .areas)) (now (a .xs)) (now (a .ys)) (a .b) in (end-inside v D (cellIn (a .s)) R (now (a .entries)) (a .first) (a .count) (p .0) (c .before .before .before .before .loop .i) (maker (c .before .before .before .before .loop .p) (c .before .before .before .before .loop .a)) (looping v D (cellIn (a .s)) R (now (a .entries)) (a .first) (a .count) (p .0) (c .before .before .before .before .loop .i) (maker (c .before .before .before .before .loop .p) (c .before .before .before .before .loop .a)) (c .before .before .before .before .loop .at) (c .before .before .before .before .loop .inv)) (c .before .before .before .loop-test .left), end-room v D (cellIn (a .s)) R (now (a .entries)) (a .first) (a .count) (p .0) (c .before .before .before .before .loop .i) (maker (c .before .before .before .before .loop .p) (c .before .before .before .before .loop .a)) (looping v D (cellIn (a .s)) R (now (a .entries)) (a .first) (a .count) (p .0) (c .before .before .before .before .loop .i) (maker (c .before .before .before .before .loop .p) (c .before .before .before .before .loop .a)) (c .before .before .before .before .loop .at) (c .before .before .before .before .loop .inv)) (c .before .before .before .loop-test .left))
 
 ended-requires : tie.Need-ended-requires Inv-loop μ-loop
 ended-requires c κs = search needs
 
 returns : tie.Need-returns Inv-loop μ-loop
-returns c = let a = c .before .before .before .before .before .before .before .before .before .before .before .before .before .args in let p = c .before .before .before .before .before .before .before .before .before .before .before .before .before .pre in let R = lent-reads (now (a .areas)) (now (a .xs)) (now (a .ys)) (a .b) in let v = env (now (a .areas)) (now (a .xs)) (now (a .ys)) (a .b) in let D = lent (now (a .areas)) (now (a .xs)) (now (a .ys)) (a .b) in let size = c .before .made-size .ensures ∙ end-size v D (cellIn (a .s)) R (now (a .entries)) (a .first) (a .count) (p .0) (c .before .before .before .before .before .before .loop .i) (maker (c .before .before .before .before .before .before .loop .p) (c .before .before .before .before .before .before .loop .a)) (looping v D (cellIn (a .s)) R (now (a .entries)) (a .first) (a .count) (p .0) (c .before .before .before .before .before .before .loop .i) (maker (c .before .before .before .before .before .before .loop .p) (c .before .before .before .before .before .before .loop .a)) (c .before .before .before .before .before .before .loop .at) (c .before .before .before .before .before .before .loop .inv)) (c .before .before .before .before .before .loop-test .left) in (size, c .ended .ensures ∙ counting-end v D (cellIn (a .s)) R (now (a .entries)) (a .first) (a .count) (p .0) (c .before .before .before .before .before .before .loop .i) (maker (c .before .before .before .before .before .before .loop .p) (c .before .before .before .before .before .before .loop .a)) (c .before .before .before .before .before .before .loop .at) (c .before .before .before .before .before .before .loop .inv) (c .before .before .before .before .before .loop-test .left) _ (c .before .before .before .note2 .ensures) (c .before .made-size .result) size)
+returns c = let a = c .before .before .before .before .before .before .before .before .before .before .before .before .before .args in let p = c .before .before .before .before .before .before .before .before .before .before .before .before .before .pre in let R = lent-reads (now (a .areas)) (now (a .xs)) (now (a .ys)) (a .b) in let v = env (now (a .areas)) (now (a .xs)) (now (a .ys)) (a .b) in let D = lent (now (a .areas)) (now (a .xs)) (now (a .ys)) (a .b) in let size = c .before .made-weight .ensures ∙ end-weight v D (cellIn (a .s)) R (now (a .entries)) (a .first) (a .count) (p .0) (c .before .before .before .before .before .before .loop .i) (maker (c .before .before .before .before .before .before .loop .p) (c .before .before .before .before .before .before .loop .a)) (looping v D (cellIn (a .s)) R (now (a .entries)) (a .first) (a .count) (p .0) (c .before .before .before .before .before .before .loop .i) (maker (c .before .before .before .before .before .before .loop .p) (c .before .before .before .before .before .before .loop .a)) (c .before .before .before .before .before .before .loop .at) (c .before .before .before .before .before .before .loop .inv)) (c .before .before .before .before .before .loop-test .left) in (size, c .ended .ensures ∙ counting-end v D (cellIn (a .s)) R (now (a .entries)) (a .first) (a .count) (p .0) (c .before .before .before .before .before .before .loop .i) (maker (c .before .before .before .before .before .before .loop .p) (c .before .before .before .before .before .before .loop .a)) (c .before .before .before .before .before .before .loop .at) (c .before .before .before .before .before .before .loop .inv) (c .before .before .before .before .before .loop-test .left) _ (c .before .before .before .note2 .ensures) (c .before .made-weight .result) size)
 
 pub count-child-spec : {M : Type 1} → statement M
 count-child-spec =
@@ -102,6 +102,6 @@ count-child-spec =
     loop-again
     slice-aggregate-note-2
     note-requires-2
-    made-size-requires
+    made-weight-requires
     ended-requires
     returns)

@@ -18,11 +18,11 @@ same-length c = search needs
 
 returns : tie.Need-returns
 unfolding putStart
-returns c = let a = c .before .before .before .args in rw (lt-ltb (a .p .length / 4294967296) 64 (c .if1 .taken), small-back (a .a .start) (c .before .before .before .pre .1))
+returns c = let a = c .before .before .before .args in rw (lt-ltb (a .p .weight / 4294967296) 64 (c .if1 .taken), small-back (a .a .start) (c .before .before .before .pre .1))
 
 returns-2 : tie.Need-returns-2
 unfolding putStart
-returns-2 c = let a = c .before .before .before .args in rw (le-ltb (a .p .length / 4294967296) 64 (c .if1 .left))
+returns-2 c = let a = c .before .before .before .args in rw (le-ltb (a .p .weight / 4294967296) 64 (c .if1 .left))
 
 pub note-spec : {M : Type 1} → statement M
 note-spec = tie.close (tie.spec mul-z slice-set-from-z same-length returns returns-2)

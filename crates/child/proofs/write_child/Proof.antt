@@ -81,7 +81,7 @@ put-segment-requires : tie.Need-put-segment-requires Inv-loop μ-loop
 put-segment-requires c κs = let a = c .before .before .before .before .before .before .before .before .before .before .before .before .before .before .args in let p = c .before .before .before .before .before .before .before .before .before .before .before .before .before .before .pre in let R = lent-reads (now (a .areas)) (now (a .xs)) (now (a .ys)) (a .b) in let v = env (now (a .areas)) (now (a .xs)) (now (a .ys)) (a .b) in let D = lent (now (a .areas)) (now (a .xs)) (now (a .ys)) (a .b) in (part-room v D (cellIn (a .s)) R (now (a .entries)) (a .first) (a .count) (a .free) (a .made) (p .0) (p .1 .1 .1 .0) (p .1 .1 .1 .1 .0) (c .before .before .before .before .before .before .before .loop .i) (maker (c .before .before .before .before .before .before .before .loop .p) (c .before .before .before .before .before .before .before .loop .a)) (c .before .before .before .before .before .before .before .loop .entries) (c .before .before .before .before .before .before .before .loop .inv), rw (c .before .before .before .left-of .ensures .0, c .before .before .before .before .read-entry .ensures ∙ entry-is v D (cellIn (a .s)) R (now (a .entries)) (a .first) (a .count) (a .free) (a .made) (p .0) (p .1 .1 .1 .0) (p .1 .1 .1 .1 .0) (c .before .before .before .before .before .before .before .loop .i) (maker (c .before .before .before .before .before .before .before .loop .p) (c .before .before .before .before .before .before .before .loop .a)) (c .before .before .before .before .before .before .before .loop .entries) (c .before .before .before .before .before .before .before .loop .inv) (c .before .before .before .before .before .before .loop-test .taken)) (loop-sign v D (cellIn (a .s)) R (now (a .entries)) (a .first) (a .count) (p .0) (c .before .before .before .before .before .before .before .loop .i) (maker (c .before .before .before .before .before .before .before .loop .p) (c .before .before .before .before .before .before .before .loop .a)) (looping v D (cellIn (a .s)) R (now (a .entries)) (a .first) (a .count) (a .free) (a .made) (p .0) (p .1 .1 .1 .0) (p .1 .1 .1 .1 .0) (c .before .before .before .before .before .before .before .loop .i) (maker (c .before .before .before .before .before .before .before .loop .p) (c .before .before .before .before .before .before .before .loop .a)) (c .before .before .before .before .before .before .before .loop .entries) (c .before .before .before .before .before .before .before .loop .inv)) (c .before .before .before .before .before .before .loop-test .taken)))
 
 waiting-after-requires : tie.Need-waiting-after-requires Inv-loop μ-loop
-waiting-after-requires c κs = let a = c .before .before .before .before .before .before .before .before .before .before .before .before .before .args in let p = c .before .before .before .before .before .before .before .before .before .before .before .before .before .pre in let R = lent-reads (now (a .areas)) (now (a .xs)) (now (a .ys)) (a .b) in let v = env (now (a .areas)) (now (a .xs)) (now (a .ys)) (a .b) in let D = lent (now (a .areas)) (now (a .xs)) (now (a .ys)) (a .b) in let h = loop-asks v D (cellIn (a .s)) R (now (a .entries)) (a .first) (a .count) (p .0) (c .before .before .before .before .before .before .loop .i) (maker (c .before .before .before .before .before .before .loop .p) (c .before .before .before .before .before .before .loop .a)) (looping v D (cellIn (a .s)) R (now (a .entries)) (a .first) (a .count) (a .free) (a .made) (p .0) (p .1 .1 .1 .0) (p .1 .1 .1 .1 .0) (c .before .before .before .before .before .before .loop .i) (maker (c .before .before .before .before .before .before .loop .p) (c .before .before .before .before .before .before .loop .a)) (c .before .before .before .before .before .before .loop .entries) (c .before .before .before .before .before .before .loop .inv)) (c .before .before .before .before .before .loop-test .taken) in rw (c .before .before .left-of .ensures .0, c .before .before .before .read-entry .ensures ∙ entry-is v D (cellIn (a .s)) R (now (a .entries)) (a .first) (a .count) (a .free) (a .made) (p .0) (p .1 .1 .1 .0) (p .1 .1 .1 .1 .0) (c .before .before .before .before .before .before .loop .i) (maker (c .before .before .before .before .before .before .loop .p) (c .before .before .before .before .before .before .loop .a)) (c .before .before .before .before .before .before .loop .entries) (c .before .before .before .before .before .before .loop .inv) (c .before .before .before .before .before .loop-test .taken)) ((h .inside .small, loop-sign v D (cellIn (a .s)) R (now (a .entries)) (a .first) (a .count) (p .0) (c .before .before .before .before .before .before .loop .i) (maker (c .before .before .before .before .before .before .loop .p) (c .before .before .before .before .before .before .loop .a)) (looping v D (cellIn (a .s)) R (now (a .entries)) (a .first) (a .count) (a .free) (a .made) (p .0) (p .1 .1 .1 .0) (p .1 .1 .1 .1 .0) (c .before .before .before .before .before .before .loop .i) (maker (c .before .before .before .before .before .before .loop .p) (c .before .before .before .before .before .before .loop .a)) (c .before .before .before .before .before .before .loop .entries) (c .before .before .before .before .before .before .loop .inv)) (c .before .before .before .before .before .loop-test .taken), omega (arith, h .room .length)), h .start)
+waiting-after-requires c κs = let a = c .before .before .before .before .before .before .before .before .before .before .before .before .before .args in let p = c .before .before .before .before .before .before .before .before .before .before .before .before .before .pre in let R = lent-reads (now (a .areas)) (now (a .xs)) (now (a .ys)) (a .b) in let v = env (now (a .areas)) (now (a .xs)) (now (a .ys)) (a .b) in let D = lent (now (a .areas)) (now (a .xs)) (now (a .ys)) (a .b) in let h = loop-asks v D (cellIn (a .s)) R (now (a .entries)) (a .first) (a .count) (p .0) (c .before .before .before .before .before .before .loop .i) (maker (c .before .before .before .before .before .before .loop .p) (c .before .before .before .before .before .before .loop .a)) (looping v D (cellIn (a .s)) R (now (a .entries)) (a .first) (a .count) (a .free) (a .made) (p .0) (p .1 .1 .1 .0) (p .1 .1 .1 .1 .0) (c .before .before .before .before .before .before .loop .i) (maker (c .before .before .before .before .before .before .loop .p) (c .before .before .before .before .before .before .loop .a)) (c .before .before .before .before .before .before .loop .entries) (c .before .before .before .before .before .before .loop .inv)) (c .before .before .before .before .before .loop-test .taken) in rw (c .before .before .left-of .ensures .0, c .before .before .before .read-entry .ensures ∙ entry-is v D (cellIn (a .s)) R (now (a .entries)) (a .first) (a .count) (a .free) (a .made) (p .0) (p .1 .1 .1 .0) (p .1 .1 .1 .1 .0) (c .before .before .before .before .before .before .loop .i) (maker (c .before .before .before .before .before .before .loop .p) (c .before .before .before .before .before .before .loop .a)) (c .before .before .before .before .before .before .loop .entries) (c .before .before .before .before .before .before .loop .inv) (c .before .before .before .before .before .loop-test .taken)) ((h .inside .small, loop-sign v D (cellIn (a .s)) R (now (a .entries)) (a .first) (a .count) (p .0) (c .before .before .before .before .before .before .loop .i) (maker (c .before .before .before .before .before .before .loop .p) (c .before .before .before .before .before .before .loop .a)) (looping v D (cellIn (a .s)) R (now (a .entries)) (a .first) (a .count) (a .free) (a .made) (p .0) (p .1 .1 .1 .0) (p .1 .1 .1 .1 .0) (c .before .before .before .before .before .before .loop .i) (maker (c .before .before .before .before .before .before .loop .p) (c .before .before .before .before .before .before .loop .a)) (c .before .before .before .before .before .before .loop .entries) (c .before .before .before .before .before .before .loop .inv)) (c .before .before .before .before .before .loop-test .taken), omega (arith, h .room .weight)), h .start)
 
 add-i : tie.Need-add-i Inv-loop μ-loop
 add-i c = record { fits = omega (arith, add-end (c .before .before .before .before .before .before .before .before .before .before) .fits, c .before .before .before .before .before .before .loop-test .taken) }

@@ -16,7 +16,7 @@ use Rattle.making.specs.Numbers.{maker}
 use Rattle.making.proofs.Stays.{stays-pruned}
 use Rattle.opening.specs.Opened.{drawingIn}
 use Rattle.opening.proofs.Base.{wordsIn, base, base-made}
-use Rattle.opening.proofs.Loop.{root-in, Looping, source-few, loop-begin, loop-left, loop-sign, loop-asks, loop-turn, end-inside, end-room, end-size}
+use Rattle.opening.proofs.Loop.{root-in, Looping, source-few, loop-begin, loop-left, loop-sign, loop-asks, loop-turn, end-inside, end-room, end-weight}
 
 abbrev Inv-loop : tie.InvT-loop
 Inv-loop plan areas xs ys records b s p₀ a₀ c₀ i₀ p a c i = Looping (env areas xs ys b) (drawingIn (tables plan areas xs ys)) plan records (wordsIn (tables plan areas xs ys)) i c (maker p a)
@@ -52,7 +52,7 @@ pruner-after-requires : tie.Need-pruner-after-requires Inv-loop μ-loop
 pruner-after-requires c κs = let a = c .before .before .before .before .before .before .before .before .before .before .before .before .before .before .args in let t = tables (now (a .plan)) (now (a .areas)) (now (a .xs)) (now (a .ys)) in let v = env (t .areas) (t .xs) (t .ys) (a .b) in let B = base t (a .records) (a .b) (c .before .before .before .before .before .before .before .before .before .before .before .before .before .before .pre) in let h = loop-asks v (drawingIn t) (t .plan) (a .records) (wordsIn t) B (c .before .before .before .before .before .loop .i) (c .before .before .before .before .before .loop .c) (maker (c .before .before .before .before .before .loop .p) (c .before .before .before .before .before .loop .a)) (c .before .before .before .before .before .loop .inv) (c .before .before .before .before .loop-test .taken) in rw (c .before .before .before .source-entry .ensures) (h .inside, h .room)
 
 waiting-after-requires : tie.Need-waiting-after-requires Inv-loop μ-loop
-waiting-after-requires c κs = let a = c .before .before .before .before .before .before .before .before .before .before .before .before .before .before .args in let t = tables (now (a .plan)) (now (a .areas)) (now (a .xs)) (now (a .ys)) in let v = env (t .areas) (t .xs) (t .ys) (a .b) in let B = base t (a .records) (a .b) (c .before .before .before .before .before .before .before .before .before .before .before .before .before .before .pre) in let h = loop-asks v (drawingIn t) (t .plan) (a .records) (wordsIn t) B (c .before .before .before .before .before .loop .i) (c .before .before .before .before .before .loop .c) (maker (c .before .before .before .before .before .loop .p) (c .before .before .before .before .before .loop .a)) (c .before .before .before .before .before .loop .inv) (c .before .before .before .before .loop-test .taken) in rw (c .before .before .left-of .ensures .0, c .before .before .before .source-entry .ensures) ((h .inside .small, loop-sign v (drawingIn t) (t .plan) (a .records) (wordsIn t) B (c .before .before .before .before .before .loop .i) (c .before .before .before .before .before .loop .c) (maker (c .before .before .before .before .before .loop .p) (c .before .before .before .before .before .loop .a)) (c .before .before .before .before .before .loop .inv) (c .before .before .before .before .loop-test .taken), omega (arith, h .room .length)), h .start)
+waiting-after-requires c κs = let a = c .before .before .before .before .before .before .before .before .before .before .before .before .before .before .args in let t = tables (now (a .plan)) (now (a .areas)) (now (a .xs)) (now (a .ys)) in let v = env (t .areas) (t .xs) (t .ys) (a .b) in let B = base t (a .records) (a .b) (c .before .before .before .before .before .before .before .before .before .before .before .before .before .before .pre) in let h = loop-asks v (drawingIn t) (t .plan) (a .records) (wordsIn t) B (c .before .before .before .before .before .loop .i) (c .before .before .before .before .before .loop .c) (maker (c .before .before .before .before .before .loop .p) (c .before .before .before .before .before .loop .a)) (c .before .before .before .before .before .loop .inv) (c .before .before .before .before .loop-test .taken) in rw (c .before .before .left-of .ensures .0, c .before .before .before .source-entry .ensures) ((h .inside .small, loop-sign v (drawingIn t) (t .plan) (a .records) (wordsIn t) B (c .before .before .before .before .before .loop .i) (c .before .before .before .before .before .loop .c) (maker (c .before .before .before .before .before .loop .p) (c .before .before .before .before .before .loop .a)) (c .before .before .before .before .before .loop .inv) (c .before .before .before .before .loop-test .taken), omega (arith, h .room .weight)), h .start)
 
 add-source-after : tie.Need-add-source-after Inv-loop μ-loop
 add-source-after c = let a = c .before .before .before .before .before .before .before .before .before .before .before .before .before .before .before .args in let t = tables (now (a .plan)) (now (a .areas)) (now (a .xs)) (now (a .ys)) in let v = env (t .areas) (t .xs) (t .ys) (a .b) in let B = base t (a .records) (a .b) (c .before .before .before .before .before .before .before .before .before .before .before .before .before .before .before .pre) in record { fits = omega (arith, B .few, c .before .before .before .before .before .loop-test .taken) }
@@ -75,11 +75,11 @@ loop-less c = search needs
 loop-again : tie.Need-loop-again Inv-loop μ-loop
 loop-again c = let a = c .before .before .before .before .before .before .before .before .before .before .before .before .before .before .before .before .before .args in let t = tables (now (a .plan)) (now (a .areas)) (now (a .xs)) (now (a .ys)) in let v = env (t .areas) (t .xs) (t .ys) (a .b) in let B = base t (a .records) (a .b) (c .before .before .before .before .before .before .before .before .before .before .before .before .before .before .before .before .before .pre) in loop-turn v (drawingIn t) (t .plan) (a .records) (wordsIn t) B (c .before .before .before .before .before .before .before .before .loop .i) (c .before .before .before .before .before .before .before .before .loop .c) (maker (c .before .before .before .before .before .before .before .before .loop .p) (c .before .before .before .before .before .before .before .before .loop .a)) (c .before .before .before .before .before .before .before .before .loop .inv) (c .before .before .before .before .before .before .before .loop-test .taken) (maker (c .before .before .before .if1 .p) (c .before .before .waiting-after .result)) (c .before .before .before .before .before .before .source-entry .result) (c .before .before .before .before .before .before .before .before .before .before .before .before .root-square .result) (c .before .before .before .before .before .left-of .result .class) (c .before .before .before .before .before .left-of .result .sign) (c .source-after .result) (c .before .before .before .before .before .before .source-entry .ensures) (c .before .before .before .before .before .before .source-entry .ok .1 .1 .1 .1 .0 .1) (c .before .before .before .before .before .before .before .before .before .before .before .before .root-square .ensures) (c .before .before .before .before .before .left-of .ensures .1) (c .before .before .before .before .before .left-of .ensures .0) (⊎-elim (λ w. ap counted (w .2) ∙ w .1 .ensures) (λ w. ap counted (w .1) ∙ stays-pruned (now (a .areas)) (counted (c .before .before .before .before .before .before .before .before .loop .p)) (c .before .before .before .before .before .before .before .before .loop .a) (c .before .before .before .before .before .before .source-entry .result .kind) (sym (w .0 .left) ∙ c .before .before .before .before .prunes .ensures)) (c .before .before .before .if1 .came)) (c .before .before .waiting-after .ensures) (c .source-after .ensures)
 
-made-size-requires : tie.Need-made-size-requires Inv-loop μ-loop
-made-size-requires c κs = let a = c .before .before .before .before .before .before .before .before .before .before .args in let t = tables (now (a .plan)) (now (a .areas)) (now (a .xs)) (now (a .ys)) in let v = env (t .areas) (t .xs) (t .ys) (a .b) in let B = base t (a .records) (a .b) (c .before .before .before .before .before .before .before .before .before .before .pre) in (end-inside v (drawingIn t) (t .plan) (a .records) (wordsIn t) B (c .before .loop .i) (c .before .loop .c) (maker (c .before .loop .p) (c .before .loop .a)) (c .before .loop .inv) (c .loop-test .left), end-room v (drawingIn t) (t .plan) (a .records) (wordsIn t) B (c .before .loop .i) (c .before .loop .c) (maker (c .before .loop .p) (c .before .loop .a)) (c .before .loop .inv) (c .loop-test .left))
+made-weight-requires : tie.Need-made-weight-requires Inv-loop μ-loop
+made-weight-requires c κs = let a = c .before .before .before .before .before .before .before .before .before .before .args in let t = tables (now (a .plan)) (now (a .areas)) (now (a .xs)) (now (a .ys)) in let v = env (t .areas) (t .xs) (t .ys) (a .b) in let B = base t (a .records) (a .b) (c .before .before .before .before .before .before .before .before .before .before .pre) in (end-inside v (drawingIn t) (t .plan) (a .records) (wordsIn t) B (c .before .loop .i) (c .before .loop .c) (maker (c .before .loop .p) (c .before .loop .a)) (c .before .loop .inv) (c .loop-test .left), end-room v (drawingIn t) (t .plan) (a .records) (wordsIn t) B (c .before .loop .i) (c .before .loop .c) (maker (c .before .loop .p) (c .before .loop .a)) (c .before .loop .inv) (c .loop-test .left))
 
 returns : tie.Need-returns Inv-loop μ-loop
-returns c = let a = c .before .before .before .before .before .before .before .before .before .before .before .args in let t = tables (now (a .plan)) (now (a .areas)) (now (a .xs)) (now (a .ys)) in let v = env (t .areas) (t .xs) (t .ys) (a .b) in let B = base t (a .records) (a .b) (c .before .before .before .before .before .before .before .before .before .before .before .pre) in c .made-size .ensures ∙ (end-size v (drawingIn t) (t .plan) (a .records) (wordsIn t) B (c .before .before .loop .i) (c .before .before .loop .c) (maker (c .before .before .loop .p) (c .before .before .loop .a)) (c .before .before .loop .inv) (c .before .loop-test .left) ∙ ap (total rowSize) (base-made t (a .records) (a .b) (c .before .before .before .before .before .before .before .before .before .before .before .pre)))
+returns c = let a = c .before .before .before .before .before .before .before .before .before .before .before .args in let t = tables (now (a .plan)) (now (a .areas)) (now (a .xs)) (now (a .ys)) in let v = env (t .areas) (t .xs) (t .ys) (a .b) in let B = base t (a .records) (a .b) (c .before .before .before .before .before .before .before .before .before .before .before .pre) in c .made-weight .ensures ∙ (end-weight v (drawingIn t) (t .plan) (a .records) (wordsIn t) B (c .before .before .loop .i) (c .before .before .loop .c) (maker (c .before .before .loop .p) (c .before .before .loop .a)) (c .before .before .loop .inv) (c .before .loop-test .left) ∙ ap (total rowSize) (base-made t (a .records) (a .b) (c .before .before .before .before .before .before .before .before .before .before .before .pre)))
 
 pub count-open-spec : {M : Type 1} → statement M
 count-open-spec =
@@ -104,5 +104,5 @@ count-open-spec =
     add-i
     loop-less
     loop-again
-    made-size-requires
+    made-weight-requires
     returns)

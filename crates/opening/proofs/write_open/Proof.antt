@@ -57,7 +57,7 @@ put-segment-requires : tie.Need-put-segment-requires Inv-loop μ-loop
 put-segment-requires c κs = let a = c .before .before .before .before .before .before .before .before .before .before .before .before .before .before .before .before .args in let t = tables (now (a .plan)) (now (a .areas)) (now (a .xs)) (now (a .ys)) in let v = env (t .areas) (t .xs) (t .ys) (a .b) in let B = base t (a .records) (a .b) (c .before .before .before .before .before .before .before .before .before .before .before .before .before .before .before .before .pre .0) in (room-now v (drawingIn t) (t .plan) (a .records) (wordsIn t) B (a .made) (now (a .entries)) (c .before .before .before .before .before .before .before .before .before .before .before .before .before .before .before .before .pre .1 .1) (c .before .before .before .before .before .before .loop .i) (c .before .before .before .before .before .before .loop .c) (maker (c .before .before .before .before .before .before .loop .p) (c .before .before .before .before .before .before .loop .a)) (c .before .before .before .before .before .before .loop .entries) (c .before .before .before .before .before .before .loop .inv), rw (c .before .before .before .left-of .ensures .0, c .before .before .before .before .source-entry .ensures) (loop-sign v (drawingIn t) (t .plan) (a .records) (wordsIn t) B (c .before .before .before .before .before .before .loop .i) (c .before .before .before .before .before .before .loop .c) (maker (c .before .before .before .before .before .before .loop .p) (c .before .before .before .before .before .before .loop .a)) (looping v (drawingIn t) (t .plan) (a .records) (wordsIn t) B (a .made) (now (a .entries)) (c .before .before .before .before .before .before .before .before .before .before .before .before .before .before .before .before .pre .1 .1) (c .before .before .before .before .before .before .loop .i) (c .before .before .before .before .before .before .loop .c) (maker (c .before .before .before .before .before .before .loop .p) (c .before .before .before .before .before .before .loop .a)) (c .before .before .before .before .before .before .loop .entries) (c .before .before .before .before .before .before .loop .inv)) (c .before .before .before .before .before .loop-test .taken)))
 
 waiting-after-requires : tie.Need-waiting-after-requires Inv-loop μ-loop
-waiting-after-requires c κs = let a = c .before .before .before .before .before .before .before .before .before .before .before .before .before .before .before .args in let t = tables (now (a .plan)) (now (a .areas)) (now (a .xs)) (now (a .ys)) in let v = env (t .areas) (t .xs) (t .ys) (a .b) in let B = base t (a .records) (a .b) (c .before .before .before .before .before .before .before .before .before .before .before .before .before .before .before .pre .0) in let h = loop-asks v (drawingIn t) (t .plan) (a .records) (wordsIn t) B (c .before .before .before .before .before .loop .i) (c .before .before .before .before .before .loop .c) (maker (c .before .before .before .before .before .loop .p) (c .before .before .before .before .before .loop .a)) (looping v (drawingIn t) (t .plan) (a .records) (wordsIn t) B (a .made) (now (a .entries)) (c .before .before .before .before .before .before .before .before .before .before .before .before .before .before .before .pre .1 .1) (c .before .before .before .before .before .loop .i) (c .before .before .before .before .before .loop .c) (maker (c .before .before .before .before .before .loop .p) (c .before .before .before .before .before .loop .a)) (c .before .before .before .before .before .loop .entries) (c .before .before .before .before .before .loop .inv)) (c .before .before .before .before .loop-test .taken) in rw (c .before .before .left-of .ensures .0, c .before .before .before .source-entry .ensures) ((h .inside .small, loop-sign v (drawingIn t) (t .plan) (a .records) (wordsIn t) B (c .before .before .before .before .before .loop .i) (c .before .before .before .before .before .loop .c) (maker (c .before .before .before .before .before .loop .p) (c .before .before .before .before .before .loop .a)) (looping v (drawingIn t) (t .plan) (a .records) (wordsIn t) B (a .made) (now (a .entries)) (c .before .before .before .before .before .before .before .before .before .before .before .before .before .before .before .pre .1 .1) (c .before .before .before .before .before .loop .i) (c .before .before .before .before .before .loop .c) (maker (c .before .before .before .before .before .loop .p) (c .before .before .before .before .before .loop .a)) (c .before .before .before .before .before .loop .entries) (c .before .before .before .before .before .loop .inv)) (c .before .before .before .before .loop-test .taken), omega (arith, h .room .length)), h .start)
+waiting-after-requires c κs = let a = c .before .before .before .before .before .before .before .before .before .before .before .before .before .before .before .args in let t = tables (now (a .plan)) (now (a .areas)) (now (a .xs)) (now (a .ys)) in let v = env (t .areas) (t .xs) (t .ys) (a .b) in let B = base t (a .records) (a .b) (c .before .before .before .before .before .before .before .before .before .before .before .before .before .before .before .pre .0) in let h = loop-asks v (drawingIn t) (t .plan) (a .records) (wordsIn t) B (c .before .before .before .before .before .loop .i) (c .before .before .before .before .before .loop .c) (maker (c .before .before .before .before .before .loop .p) (c .before .before .before .before .before .loop .a)) (looping v (drawingIn t) (t .plan) (a .records) (wordsIn t) B (a .made) (now (a .entries)) (c .before .before .before .before .before .before .before .before .before .before .before .before .before .before .before .pre .1 .1) (c .before .before .before .before .before .loop .i) (c .before .before .before .before .before .loop .c) (maker (c .before .before .before .before .before .loop .p) (c .before .before .before .before .before .loop .a)) (c .before .before .before .before .before .loop .entries) (c .before .before .before .before .before .loop .inv)) (c .before .before .before .before .loop-test .taken) in rw (c .before .before .left-of .ensures .0, c .before .before .before .source-entry .ensures) ((h .inside .small, loop-sign v (drawingIn t) (t .plan) (a .records) (wordsIn t) B (c .before .before .before .before .before .loop .i) (c .before .before .before .before .before .loop .c) (maker (c .before .before .before .before .before .loop .p) (c .before .before .before .before .before .loop .a)) (looping v (drawingIn t) (t .plan) (a .records) (wordsIn t) B (a .made) (now (a .entries)) (c .before .before .before .before .before .before .before .before .before .before .before .before .before .before .before .pre .1 .1) (c .before .before .before .before .before .loop .i) (c .before .before .before .before .before .loop .c) (maker (c .before .before .before .before .before .loop .p) (c .before .before .before .before .before .loop .a)) (c .before .before .before .before .before .loop .entries) (c .before .before .before .before .before .loop .inv)) (c .before .before .before .before .loop-test .taken), omega (arith, h .room .weight)), h .start)
 
 add-source-after : tie.Need-add-source-after Inv-loop μ-loop
 add-source-after c = let a = c .before .before .before .before .before .before .before .before .before .before .before .before .before .before .before .before .args in let t = tables (now (a .plan)) (now (a .areas)) (now (a .xs)) (now (a .ys)) in let v = env (t .areas) (t .xs) (t .ys) (a .b) in let B = base t (a .records) (a .b) (c .before .before .before .before .before .before .before .before .before .before .before .before .before .before .before .before .pre .0) in record { fits = omega (arith, B .few, c .before .before .before .before .before .loop-test .taken) }

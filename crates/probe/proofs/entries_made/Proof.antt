@@ -12,7 +12,7 @@ returns : tie.Need-returns
 returns c =
     let a = c .before .before .before .before .before .before .args in
     let p = c .before .before .before .before .before .before .pre in (
-      made-count (now (a .entries)) (a .first) (a .count) (now (a .areas)) (now (a .xs)) (now (a .ys)) (a .b) (a .s) (c .before .count-child .result .size) (p .0) (c .before .count-child .ensures .0),
+      made-count (now (a .entries)) (a .first) (a .count) (now (a .areas)) (now (a .xs)) (now (a .ys)) (a .b) (a .s) (c .before .count-child .result .weight) (p .0) (c .before .count-child .ensures .0),
       omega arith,
     )
 
