@@ -20,7 +20,8 @@ ghost use Rattle.making.specs.Numbers.{cellIn};
 ghost use Rattle.child.specs.Numbers.{starts, notedN, firstOf, startsIn};
 
 // ---- the start numbers of the areas
-// How many, and the numbers, with zeros behind them.
+// How many, and the numbers, with zeros behind them: the `starts` of document 01's "child tallies (entries, lines, starts)". They are proved to be those
+// of the child's stream (`count_child`: `startsIn`), which is written from its parent's stream and not from them.
 pub struct Starts {
     pub count: usize,
     pub at: [i64; 64],

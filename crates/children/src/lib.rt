@@ -16,7 +16,9 @@ ghost use Rattle.children.specs.Numbers.{tally, tallyN, fourTallies, cel
 ghost use Rattle.cells.specs.Cells.{child};
 ghost use Rattle.celltable.specs.Descent.{quarterAt};
 
-// What a child's stream has: entries, lines, and the start numbers of its areas.
+// What a child's stream has; document 01 asks for an "array of four child tallies (entries, lines, starts) passed and returned by value". `entries`
+// decides 11 and where the child's stream begins. `lines` and `starts` are proved to be those of that stream (`count_four`: `fourTallies`). No call
+// reads them today: a word for a cell's lines would be taken from here.
 pub struct Tally {
     pub entries: usize,
     pub lines: usize,

@@ -78,7 +78,7 @@ ended-requires : tie.Need-ended-requires Inv-loop μ-loop
 ended-requires c κs = search needs
 
 returns : tie.Need-returns Inv-loop μ-loop
-returns c = let a = c .before .before .before .before .before .before .before .before .before .before .before .before .before .args in let p = c .before .before .before .before .before .before .before .before .before .before .before .before .before .pre in let R = lent-reads (now (a .areas)) (now (a .xs)) (now (a .ys)) (a .b) in let v = env (now (a .areas)) (now (a .xs)) (now (a .ys)) (a .b) in let D = lent (now (a .areas)) (now (a .xs)) (now (a .ys)) (a .b) in let size = c .before .made-weight .ensures ∙ end-weight v D (cellIn (a .s)) R (now (a .entries)) (a .first) (a .count) (p .0) (c .before .before .before .before .before .before .loop .i) (maker (c .before .before .before .before .before .before .loop .p) (c .before .before .before .before .before .before .loop .a)) (looping v D (cellIn (a .s)) R (now (a .entries)) (a .first) (a .count) (p .0) (c .before .before .before .before .before .before .loop .i) (maker (c .before .before .before .before .before .before .loop .p) (c .before .before .before .before .before .before .loop .a)) (c .before .before .before .before .before .before .loop .at) (c .before .before .before .before .before .before .loop .inv)) (c .before .before .before .before .before .loop-test .left) in (size, c .ended .ensures ∙ counting-end v D (cellIn (a .s)) R (now (a .entries)) (a .first) (a .count) (p .0) (c .before .before .before .before .before .before .loop .i) (maker (c .before .before .before .before .before .before .loop .p) (c .before .before .before .before .before .before .loop .a)) (c .before .before .before .before .before .before .loop .at) (c .before .before .before .before .before .before .loop .inv) (c .before .before .before .before .before .loop-test .left) _ (c .before .before .before .note2 .ensures) (c .before .made-weight .result) size)
+returns c = let a = c .before .before .before .before .before .before .before .before .before .before .before .before .before .args in let p = c .before .before .before .before .before .before .before .before .before .before .before .before .before .pre in let R = lent-reads (now (a .areas)) (now (a .xs)) (now (a .ys)) (a .b) in let v = env (now (a .areas)) (now (a .xs)) (now (a .ys)) (a .b) in let D = lent (now (a .areas)) (now (a .xs)) (now (a .ys)) (a .b) in let weight = c .before .made-weight .ensures ∙ end-weight v D (cellIn (a .s)) R (now (a .entries)) (a .first) (a .count) (p .0) (c .before .before .before .before .before .before .loop .i) (maker (c .before .before .before .before .before .before .loop .p) (c .before .before .before .before .before .before .loop .a)) (looping v D (cellIn (a .s)) R (now (a .entries)) (a .first) (a .count) (p .0) (c .before .before .before .before .before .before .loop .i) (maker (c .before .before .before .before .before .before .loop .p) (c .before .before .before .before .before .before .loop .a)) (c .before .before .before .before .before .before .loop .at) (c .before .before .before .before .before .before .loop .inv)) (c .before .before .before .before .before .loop-test .left) in (weight, c .ended .ensures ∙ counting-end v D (cellIn (a .s)) R (now (a .entries)) (a .first) (a .count) (p .0) (c .before .before .before .before .before .before .loop .i) (maker (c .before .before .before .before .before .before .loop .p) (c .before .before .before .before .before .before .loop .a)) (c .before .before .before .before .before .before .loop .at) (c .before .before .before .before .before .before .loop .inv) (c .before .before .before .before .before .loop-test .left) _ (c .before .before .before .note2 .ensures) (c .before .made-weight .result) weight)
 
 pub count-child-spec : {M : Type 1} → statement M
 count-child-spec =
