@@ -4,4 +4,5 @@ pub mod Accepted
 pub mod Rows
 pub mod Kept
 pub mod Trees
+pub mod Entries
 pub mod Passing
