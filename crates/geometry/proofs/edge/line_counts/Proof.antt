@@ -15,7 +15,7 @@ returns c = simp (lt-leb _ _ (c .if1 .taken))
 
 returns-2 : tie.Need-returns-2
 unfolding lineCounts
-returns-2 c = simp (le-leb _ _ (c .before .if1 .left), le-ltb _ _ (c .if2 .taken))
+returns-2 c = simp (le-leb _ _ (c .before .if1 .left), le-ltb (c .before .before .args .y) (c .before .before .args .d) (search needs))
 
 signed-product-requires : tie.Need-signed-product-requires
 signed-product-requires c κs = search needs
