@@ -10,15 +10,15 @@ use Rattle.grammar.specs.declared.Verdict.{Verdict}
 use Rattle.grammar.specs.declared.Verdict.the-variants.{Accepted, Refused}
 use Rattle.drawing.specs.declared.Written.{Written}
 use Rattle.drawing.specs.declared.Written.the-variants.{Bytes, Not}
-use Rattle.newtree.specs.declared.Answer as newtree-answer
-use Rattle.newtree.specs.declared.Answer.the-variants as newtree
-use Rattle.tree.specs.declared.Answer as tree-answer
-use Rattle.tree.specs.declared.Answer.the-variants as tree
-use Rattle.growth.specs.declared.Answer as growth-answer
-use Rattle.growth.specs.declared.Answer.the-variants as growth
-use Rattle.leaf.specs.declared.FoundLeaf.{FoundLeaf}
-use Rattle.leaf.specs.declared.Answer as leaf-answer
-use Rattle.leaf.specs.declared.Answer.the-variants as leaf
+use Rattle.open.specs.declared.Answer as newtree-answer
+use Rattle.open.specs.declared.Answer.the-variants as newtree
+use Rattle.split.specs.declared.Answer as tree-answer
+use Rattle.split.specs.declared.Answer.the-variants as tree
+use Rattle.grow.specs.declared.Answer as growth-answer
+use Rattle.grow.specs.declared.Answer.the-variants as growth
+use Rattle.find_leaf.specs.declared.FoundLeaf.{FoundLeaf}
+use Rattle.find_leaf.specs.declared.Answer as leaf-answer
+use Rattle.find_leaf.specs.declared.Answer.the-variants as leaf
 
 abbrev pub packed : (number low : ℕ) → ℕ
 packed number low = number * 4294967296 + low

@@ -6,13 +6,13 @@ use lib.Dec.{leb}
 use lib.ListN.{set}
 use Rattle.refusals.specs.declared.Refusal.the-variants.{Room}
 use Rattle.refusals.specs.Refusals.{numberOf}
-use Rattle.logs.specs.declared.LogAnswer.{LogAnswer}
-use Rattle.logs.specs.declared.LogAnswer.the-variants as logs
-use Rattle.pixels.specs.declared.RowAnswer.{RowAnswer}
-use Rattle.pixels.specs.declared.RowAnswer.the-variants as pixels
-use Rattle.query.specs.declared.Spot.{Spot}
-use Rattle.query.specs.declared.Answer as query-answer
-use Rattle.query.specs.declared.Answer.the-variants as query
+use Rattle.zone_log.specs.declared.LogAnswer.{LogAnswer}
+use Rattle.zone_log.specs.declared.LogAnswer.the-variants as logs
+use Rattle.pixel_row.specs.declared.RowAnswer.{RowAnswer}
+use Rattle.pixel_row.specs.declared.RowAnswer.the-variants as pixels
+use Rattle.position.specs.declared.Spot.{Spot}
+use Rattle.position.specs.declared.Answer as query-answer
+use Rattle.position.specs.declared.Answer.the-variants as query
 use Rattle.answers.specs.Answers.{packed}
 
 -- a position: 11, "another output table too short for the whole result", which is six words; out is how many words the table has

@@ -4,10 +4,10 @@
 // half is the result.
 use drawing::Written;
 use grammar::Verdict;
-use leaf::FoundLeaf;
-use logs::LogAnswer;
-use pixels::RowAnswer;
-use query::Spot;
+use find_leaf::FoundLeaf;
+use zone_log::LogAnswer;
+use pixel_row::RowAnswer;
+use position::Spot;
 use refusals::Refusal;
 ghost use mathlib.Core.Path.{_≡_};
 ghost use Prim.Native.Nat.{_≤_};
@@ -55,33 +55,33 @@ pub fn pack_written(w: Written) -> u64
     }
 }
 
-pub fn pack_open(a: newtree::Answer) -> u64
+pub fn pack_open(a: open::Answer) -> u64
     ensures { λ r. ⌜ r ≡ openNumber a ⌝ }
 {
     match a {
-        newtree::Answer::Opened(entries) => pack(0, entries as usize),
-        newtree::Answer::Not(r) => refused(r),
+        open::Answer::Opened(entries) => pack(0, entries as usize),
+        open::Answer::Not(r) => refused(r),
     }
 }
 
-pub fn pack_split(a: tree::Answer) -> u64
+pub fn pack_split(a: split::Answer) -> u64
     ensures { λ r. ⌜ r ≡ splitNumber a ⌝ }
 {
     match a {
-        tree::Answer::Split(child) => pack(0, child as usize),
-        tree::Answer::Not(r) => refused(r),
+        split::Answer::Split(child) => pack(0, child as usize),
+        split::Answer::Not(r) => refused(r),
     }
 }
 
 // "full" has 2^31 more than "done".
-pub fn pack_grow(a: growth::Answer) -> u64
+pub fn pack_grow(a: grow::Answer) -> u64
     requires { ⌜ growSplits a ≤ 4096 ⌝ }
     ensures { λ r. ⌜ r ≡ growNumber a ⌝ }
 {
     match a {
-        growth::Answer::Done(splits) => pack(0, splits as usize),
-        growth::Answer::Full(splits) => pack(0, 2147483648 + (splits as usize)),
-        growth::Answer::Not(r) => refused(r),
+        grow::Answer::Done(splits) => pack(0, splits as usize),
+        grow::Answer::Full(splits) => pack(0, 2147483648 + (splits as usize)),
+        grow::Answer::Not(r) => refused(r),
     }
 }
 
@@ -100,19 +100,19 @@ fn put_leaf(out: &mut [u32], l: FoundLeaf)
 }
 
 // A leaf that was found, or 11.
-pub fn put_found(out: &mut [u32], a: leaf::Answer) -> u64
+pub fn put_found(out: &mut [u32], a: find_leaf::Answer) -> u64
     ensures { λ r. ⌜ r ≡ findNumber (findRoom a (length (now (out .entry)))) ⌝ }
     ensures { λ r. ⌜ now (out .exit) ≡ outFound (findRoom a (length (now (out .entry)))) (now (out .entry)) ⌝ }
 {
     match a {
-        leaf::Answer::Found(l) => {
+        find_leaf::Answer::Found(l) => {
             if 7 <= out.len() {
                 put_leaf(out, l);
                 return pack(0, l.cell as usize);
             }
             return refused(Refusal::Room);
         }
-        leaf::Answer::Not(r) => {
+        find_leaf::Answer::Not(r) => {
             return refused(r);
         }
     }
@@ -133,19 +133,19 @@ fn put_spot(out: &mut [u32], s: Spot)
 }
 
 // What shows, or 11.
-pub fn put_shown(out: &mut [u32], a: query::Answer) -> u64
+pub fn put_shown(out: &mut [u32], a: position::Answer) -> u64
     ensures { λ r. ⌜ r ≡ spotNumber (spotRoom a (length (now (out .entry)))) ⌝ }
     ensures { λ r. ⌜ now (out .exit) ≡ outSpot (spotRoom a (length (now (out .entry)))) (now (out .entry)) ⌝ }
 {
     match a {
-        query::Answer::At(s) => {
+        position::Answer::At(s) => {
             if 6 <= out.len() {
                 put_spot(out, s);
                 return pack(0, s.material as usize);
             }
             return refused(Refusal::Room);
         }
-        query::Answer::Not(r) => {
+        position::Answer::Not(r) => {
             return refused(r);
         }
     }

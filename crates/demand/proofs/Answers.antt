@@ -14,27 +14,27 @@ use Rattle.cells.specs.Cells.{at, level}
 use Rattle.cells.specs.Drawings.{Drawing}
 use Rattle.ranges.proofs.Streams.{words-length}
 use Rattle.celltable.specs.Descent.{leafOf}
-use Rattle.tree.specs.declared.Answer as Splitting
-use Rattle.tree.specs.Tables.{Tree}
-use Rattle.tree.specs.Split.{words, splitAnswer}
-use Rattle.splits.specs.After.{splitTree}
-use Rattle.splits.proofs.Trees.{tree-refused}
-use Rattle.growth.specs.declared.Answer as Growing
-use Rattle.growth.specs.declared.Answer.the-variants as Grows
-use Rattle.growth.specs.Grow.{Ending, none-left, no-room, not-passed, grown, answerBy, answerOf, growAnswer, growTree}
-use Rattle.leaf.specs.declared.FoundLeaf.{FoundLeaf}
-use Rattle.leaf.specs.declared.Answer as Finding
-use Rattle.leaf.specs.declared.Answer.the-variants as Finds
-use Rattle.leaf.specs.Leaf.{positionRange, linesIn, reportOf, foundBy, leafIn, findAnswer}
-use Rattle.leaf.proofs.Landing.{on-grid}
-use Rattle.query.specs.declared.Spot.{Spot}
-use Rattle.query.specs.declared.Answer as Reading
-use Rattle.query.specs.declared.Answer.the-variants as Reads
-use Rattle.pixels.specs.declared.RowAnswer.the-variants as Rows
-use Rattle.pixels.specs.Rows.{Filled, filled}
-use Rattle.logs.specs.declared.LogAnswer.{LogAnswer}
-use Rattle.logs.specs.declared.LogAnswer.the-variants as Logs
-use Rattle.logs.specs.Logs.{outsideFrom, eachWord}
+use Rattle.split.specs.declared.Answer as Splitting
+use Rattle.split.specs.Tables.{Tree}
+use Rattle.split.specs.Split.{words, splitAnswer}
+use Rattle.split_laws.specs.After.{splitTree}
+use Rattle.split_laws.proofs.Trees.{tree-refused}
+use Rattle.grow.specs.declared.Answer as Growing
+use Rattle.grow.specs.declared.Answer.the-variants as Grows
+use Rattle.grow.specs.Grow.{Ending, none-left, no-room, not-passed, grown, answerBy, answerOf, growAnswer, growTree}
+use Rattle.find_leaf.specs.declared.FoundLeaf.{FoundLeaf}
+use Rattle.find_leaf.specs.declared.Answer as Finding
+use Rattle.find_leaf.specs.declared.Answer.the-variants as Finds
+use Rattle.find_leaf.specs.Leaf.{positionRange, linesIn, reportOf, foundBy, leafIn, findAnswer}
+use Rattle.find_leaf.proofs.Landing.{on-grid}
+use Rattle.position.specs.declared.Spot.{Spot}
+use Rattle.position.specs.declared.Answer as Reading
+use Rattle.position.specs.declared.Answer.the-variants as Reads
+use Rattle.pixel_row.specs.declared.RowAnswer.the-variants as Rows
+use Rattle.pixel_row.specs.Rows.{Filled, filled}
+use Rattle.zone_log.specs.declared.LogAnswer.{LogAnswer}
+use Rattle.zone_log.specs.declared.LogAnswer.the-variants as Logs
+use Rattle.zone_log.specs.Logs.{outsideFrom, eachWord}
 use Rattle.answers.specs.Answers.{findRoom}
 use Rattle.answers.specs.Readings.{spotRoom}
 use Rattle.demand.specs.History.{Node, cellIn, afterSplits, Leaf, LeafAt}

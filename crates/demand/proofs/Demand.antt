@@ -5,15 +5,15 @@ use Prim.Native.Nat.{ℕ}
 use lib.ListN.{length}
 use Rattle.laws.proofs.Booleans.{clash}
 use Rattle.cells.specs.Drawings.{Drawing}
-use Rattle.tree.specs.Tables.{Tree}
-use Rattle.newtree.specs.declared.Answer as Opening
-use Rattle.newtree.specs.declared.Answer.the-variants as Opens
-use Rattle.newtree.specs.Open.{drawingTables, openAnswer}
-use Rattle.opening.specs.Opened.{drawingIn}
-use Rattle.query.specs.declared.Answer as Reading
-use Rattle.query.specs.Spots.{positionAnswer}
-use Rattle.pixels.specs.Rows.{Filled, rowFilled}
-use Rattle.logs.specs.Logs.{logAnswer}
+use Rattle.split.specs.Tables.{Tree}
+use Rattle.open.specs.declared.Answer as Opening
+use Rattle.open.specs.declared.Answer.the-variants as Opens
+use Rattle.open.specs.Open.{drawingTables, openAnswer}
+use Rattle.root_stream.specs.Opened.{drawingIn}
+use Rattle.position.specs.declared.Answer as Reading
+use Rattle.position.specs.Spots.{positionAnswer}
+use Rattle.pixel_row.specs.Rows.{Filled, rowFilled}
+use Rattle.zone_log.specs.Logs.{logAnswer}
 use Rattle.answers.specs.Readings.{spotRoom, outSpot}
 use Rattle.demand.specs.History.{Node, begun}
 use Rattle.demand.specs.Stands.{drawingOf, Stands}

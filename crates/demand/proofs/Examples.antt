@@ -17,8 +17,8 @@ use Rattle.records.specs.Record.{areaRange, cornerOf, delimiterOf}
 use Rattle.records.specs.Bytes.{decodedRaw, unnamed, named, fieldsOf}
 use Rattle.grammar.specs.declared.Verdict.the-variants.{Accepted}
 use Rattle.grammar.specs.Grammar as Grammar
-use Rattle.reader.specs.Reading.{decodedFrom, recordsIn, verdictOf, holds, readAnswer}
-use Rattle.reader.specs.Words.{spread}
+use Rattle.read.specs.Reading.{decodedFrom, recordsIn, verdictOf, holds, readAnswer}
+use Rattle.read.specs.Words.{spread}
 use Rattle.paint.specs.Sets.{each}
 use Rattle.paint.specs.Areas.{materialOf}
 use Rattle.paint.specs.Colours.{mixOf}
@@ -31,14 +31,14 @@ use Rattle.pruning.specs.Sides.{paint}
 use Rattle.ranges.specs.Valid.{weigh, lines}
 use Rattle.ranges.proofs.Weights.{rows-length, made-rows}
 use Rattle.plans.specs.Plans.{drawingFrom}
-use Rattle.opening.specs.Opened.{rowsOpened}
-use Rattle.tree.specs.Tables.{Tree, tree}
-use Rattle.newtree.specs.declared.Answer as Opening
-use Rattle.newtree.specs.declared.Answer.the-variants.{Opened, Not}
-use Rattle.newtree.specs.Open.{drawingTables, streamOpened, roomFor, drawingAnswer, openAnswer}
-use Rattle.newtree.proofs.Rooms.{rows-words, has-room}
-use Rattle.newtree.proofs.Answers.{passed}
-use Rattle.query.specs.declared.Spot.{Spot}
+use Rattle.root_stream.specs.Opened.{rowsOpened}
+use Rattle.split.specs.Tables.{Tree, tree}
+use Rattle.open.specs.declared.Answer as Opening
+use Rattle.open.specs.declared.Answer.the-variants.{Opened, Not}
+use Rattle.open.specs.Open.{drawingTables, streamOpened, roomFor, drawingAnswer, openAnswer}
+use Rattle.open.proofs.Rooms.{rows-words, has-room}
+use Rattle.open.proofs.Answers.{passed}
+use Rattle.position.specs.declared.Spot.{Spot}
 use Rattle.demand.specs.History.{begun}
 use Rattle.demand.specs.NoTree.{spotShown}
 use Rattle.demand.specs.Stands.{drawingOf}

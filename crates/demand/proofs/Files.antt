@@ -11,23 +11,23 @@ use Rattle.refusals.specs.declared.Refusal.the-variants as Refusals
 use Rattle.grammar.specs.declared.Counts.{Counts}
 use Rattle.grammar.specs.declared.Verdict.{Verdict}
 use Rattle.grammar.specs.declared.Verdict.the-variants.{Accepted}
-use Rattle.reader.specs.Reading.{recordsIn, readAnswer}
+use Rattle.read.specs.Reading.{recordsIn, readAnswer}
 use Rattle.drawing.proofs.Theorems.{taken, file-accepts, read-leaves, drawn-records, after}
 use Rattle.cells.specs.Cells.{at}
 use Rattle.cells.specs.Drawings.{Drawing}
 use Rattle.plans.specs.Plans.{drawingFrom}
-use Rattle.opening.specs.Opened.{drawingIn}
-use Rattle.tree.specs.Tables.{Tree}
-use Rattle.newtree.specs.Open.{drawingTables}
-use Rattle.leaf.specs.Leaf.{positionRange}
-use Rattle.query.specs.declared.Spot.{Spot}
-use Rattle.query.specs.declared.Answer as Reading
-use Rattle.query.specs.declared.Answer.the-variants as Reads
-use Rattle.pixels.specs.declared.RowAnswer.the-variants as Rows
-use Rattle.pixels.specs.Rows.{Filled, filled}
-use Rattle.logs.specs.declared.LogAnswer.{LogAnswer}
-use Rattle.logs.specs.declared.LogAnswer.the-variants as Logs
-use Rattle.logs.specs.Logs.{outsideFrom, eachWord}
+use Rattle.root_stream.specs.Opened.{drawingIn}
+use Rattle.split.specs.Tables.{Tree}
+use Rattle.open.specs.Open.{drawingTables}
+use Rattle.find_leaf.specs.Leaf.{positionRange}
+use Rattle.position.specs.declared.Spot.{Spot}
+use Rattle.position.specs.declared.Answer as Reading
+use Rattle.position.specs.declared.Answer.the-variants as Reads
+use Rattle.pixel_row.specs.declared.RowAnswer.the-variants as Rows
+use Rattle.pixel_row.specs.Rows.{Filled, filled}
+use Rattle.zone_log.specs.declared.LogAnswer.{LogAnswer}
+use Rattle.zone_log.specs.declared.LogAnswer.the-variants as Logs
+use Rattle.zone_log.specs.Logs.{outsideFrom, eachWord}
 use Rattle.answers.specs.Answers.{packed}
 use Rattle.answers.specs.Readings.{spotRoom, spotNumber, outSpot, lowHalf, rowNumber, logNumber}
 use Rattle.demand.specs.History.{Node, begun}

@@ -14,10 +14,10 @@ use Rattle.celltable.specs.declared.Found.the-variants.{At}
 use Rattle.celltable.specs.Descent.{placeOf, onSquare, leafOf, downFrom, descendIn}
 use Rattle.celltable.proofs.Landing.{down-leaf, down-split}
 use Rattle.celltable.proofs.Grid.{SaysCell, on-square}
-use Rattle.tree.specs.Tables.{Tree, cellsUsed, entriesUsed}
-use Rattle.tree.specs.Split.{words}
-use Rattle.leaf.specs.Leaf.{leafIn}
-use Rattle.leaf.proofs.Landing.{leaf-met}
+use Rattle.split.specs.Tables.{Tree, cellsUsed, entriesUsed}
+use Rattle.split.specs.Split.{words}
+use Rattle.find_leaf.specs.Leaf.{leafIn}
+use Rattle.find_leaf.proofs.Landing.{leaf-met}
 use Rattle.demand.specs.History.{Node, cellIn, firstIn, LeafAt}
 use Rattle.demand.proofs.History.{few-places}
 use Rattle.demand.proofs.Sound.{Sound}

@@ -13,16 +13,16 @@ use Rattle.laws.proofs.Booleans.{and-left, and-right, and-both, clash}
 use Rattle.cells.specs.Cells.{level}
 use Rattle.cells.specs.Drawings.{Drawing}
 use Rattle.stream.specs.Grammar.{checkStream}
-use Rattle.tree.specs.declared.Answer as Splitting
-use Rattle.tree.specs.Tables.{Tree, cellsUsed, entriesUsed}
-use Rattle.tree.specs.Split.{words, against, stream, splitAnswer}
-use Rattle.splits.specs.After.{splitTree}
-use Rattle.splits.proofs.Counts.{used-most}
-use Rattle.newtree.specs.Open.{drawingTables}
-use Rattle.leaf.specs.Leaf.{linesIn}
-use Rattle.growth.specs.declared.Tried.{Tried}
-use Rattle.growth.specs.declared.Tried.the-variants.{Bad, Past, Wanted}
-use Rattle.growth.specs.Grow.{depthAt, isWanted, tried, Lowest, none, at, orNext, lowestFrom, Round, splits, done, full, broken, roundAt, roundBy, round, Ending, none-left, no-room, not-passed, Grown, goOn, growing, grown, growTree}
+use Rattle.split.specs.declared.Answer as Splitting
+use Rattle.split.specs.Tables.{Tree, cellsUsed, entriesUsed}
+use Rattle.split.specs.Split.{words, against, stream, splitAnswer}
+use Rattle.split_laws.specs.After.{splitTree}
+use Rattle.split_laws.proofs.Counts.{used-most}
+use Rattle.open.specs.Open.{drawingTables}
+use Rattle.find_leaf.specs.Leaf.{linesIn}
+use Rattle.grow.specs.declared.Tried.{Tried}
+use Rattle.grow.specs.declared.Tried.the-variants.{Bad, Past, Wanted}
+use Rattle.grow.specs.Grow.{depthAt, isWanted, tried, Lowest, none, at, orNext, lowestFrom, Round, splits, done, full, broken, roundAt, roundBy, round, Ending, none-left, no-room, not-passed, Grown, goOn, growing, grown, growTree}
 use Rattle.demand.specs.History.{Node, cellIn, splitAt, afterSplits, Leaf}
 use Rattle.demand.specs.Stands.{drawingOf, wordsOfCell}
 use Rattle.demand.specs.Demand as Demand

@@ -8,14 +8,14 @@ use lib.Dec.{eqb, leb}
 use lib.ListN.{length}
 use Rattle.laws.proofs.Booleans.{clash}
 use Rattle.cells.specs.Drawings.{Drawing}
-use Rattle.tree.specs.Tables.{Tree}
-use Rattle.tree.specs.declared.Answer as Splitting
-use Rattle.tree.specs.declared.Answer.the-variants as Splits
-use Rattle.tree.specs.Split.{splitAnswer}
-use Rattle.splits.proofs.Trees.{tree-refused}
-use Rattle.newtree.specs.declared.Answer as Opening
-use Rattle.newtree.specs.declared.Answer.the-variants as Opens
-use Rattle.newtree.specs.Open.{openAnswer}
+use Rattle.split.specs.Tables.{Tree}
+use Rattle.split.specs.declared.Answer as Splitting
+use Rattle.split.specs.declared.Answer.the-variants as Splits
+use Rattle.split.specs.Split.{splitAnswer}
+use Rattle.split_laws.proofs.Trees.{tree-refused}
+use Rattle.open.specs.declared.Answer as Opening
+use Rattle.open.specs.declared.Answer.the-variants as Opens
+use Rattle.open.specs.Open.{openAnswer}
 use Rattle.demand.specs.History.{Node}
 use Rattle.demand.specs.Stands.{Stands}
 use Rattle.demand.specs.Opened.{openedBy}

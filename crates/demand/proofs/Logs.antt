@@ -12,12 +12,12 @@ use borrow.Author.Tests.{eq-eqb, lt-ltb}
 use Rattle.laws.proofs.Booleans.{clash}
 use Rattle.refusals.specs.declared.Refusal.the-variants.{Argument, Room, Broken}
 use Rattle.cells.specs.Cells.{at}
-use Rattle.tree.specs.Tables.{Tree}
-use Rattle.leaf.specs.Leaf.{positionRange}
-use Rattle.leaf.proofs.Landing.{on-grid}
-use Rattle.logs.specs.declared.LogAnswer.{LogAnswer}
-use Rattle.logs.specs.declared.LogAnswer.the-variants.{Indices, Not}
-use Rattle.logs.specs.Logs.{logFrom, outsideFrom, eachWord, materialAt, knownFrom, zoneLog, logRoom, logKnown, logRange, logAnswer, outAfter}
+use Rattle.split.specs.Tables.{Tree}
+use Rattle.find_leaf.specs.Leaf.{positionRange}
+use Rattle.find_leaf.proofs.Landing.{on-grid}
+use Rattle.zone_log.specs.declared.LogAnswer.{LogAnswer}
+use Rattle.zone_log.specs.declared.LogAnswer.the-variants.{Indices, Not}
+use Rattle.zone_log.specs.Logs.{logFrom, outsideFrom, eachWord, materialAt, knownFrom, zoneLog, logRoom, logKnown, logRange, logAnswer, outAfter}
 use Rattle.demand.specs.History.{Node}
 use Rattle.demand.specs.NoTree.{materialShown}
 use Rattle.demand.specs.Stands.{drawingOf}

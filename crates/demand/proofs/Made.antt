@@ -19,9 +19,9 @@ use Rattle.cells.proofs.Streams.{child-made}
 use Rattle.cells.proofs.Bounds.{made-small}
 use Rattle.cells.proofs.Rows as Rows
 use Rattle.stream.specs.declared.Bounds.{Bounds}
-use Rattle.reading.specs.Reading.{rowsIn}
-use Rattle.reading.specs.Words.{wordsOf}
-use Rattle.reading.proofs.Words.{rows-back, fits-rows}
+use Rattle.evaluate.specs.Reading.{rowsIn}
+use Rattle.evaluate.specs.Words.{wordsOf}
+use Rattle.evaluate.proofs.Words.{rows-back, fits-rows}
 use Rattle.ranges.specs.Valid.{Valid}
 use Rattle.ranges.specs.Held.{Held, lent}
 use Rattle.making.specs.Made.{rowsMade, wordsMade}

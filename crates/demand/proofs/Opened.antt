@@ -21,15 +21,15 @@ use Rattle.plans.proofs.Held.{accepted-held}
 use Rattle.celltable.specs.declared.CellWords.{CellWords}
 use Rattle.celltable.proofs.Table.{put-cell-same, length-put-cell}
 use Rattle.celltable.proofs.Grid.{SaysCell}
-use Rattle.opening.specs.Opened.{rowsOpened, wordsOpened}
-use Rattle.tree.specs.Tables.{Tree, cellsUsed, entriesUsed, countsIn}
-use Rattle.tree.specs.Split.{words, stream}
-use Rattle.tree.proofs.Heads.{used-is}
-use Rattle.splits.proofs.Counts.{head-fits, counts-of}
-use Rattle.newtree.specs.declared.Answer.{Answer}
-use Rattle.newtree.specs.declared.Answer.the-variants.{Opened}
-use Rattle.newtree.specs.Open.{rootWords, drawingTables, streamOpened, openAnswer}
-use Rattle.newtree.proofs.Accepted.{Accepts, open-accepts}
+use Rattle.root_stream.specs.Opened.{rowsOpened, wordsOpened}
+use Rattle.split.specs.Tables.{Tree, cellsUsed, entriesUsed, countsIn}
+use Rattle.split.specs.Split.{words, stream}
+use Rattle.split.proofs.Heads.{used-is}
+use Rattle.split_laws.proofs.Counts.{head-fits, counts-of}
+use Rattle.open.specs.declared.Answer.{Answer}
+use Rattle.open.specs.declared.Answer.the-variants.{Opened}
+use Rattle.open.specs.Open.{rootWords, drawingTables, streamOpened, openAnswer}
+use Rattle.open.proofs.Accepted.{Accepts, open-accepts}
 use Rattle.demand.specs.History.{begun, cellIn, firstIn, Leaf}
 use Rattle.demand.specs.Stands.{drawingOf, wordsOfCell}
 use Rattle.demand.specs.Opened.{openedBy, openTree}

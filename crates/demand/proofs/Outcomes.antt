@@ -15,14 +15,14 @@ use Rattle.cells.specs.Cells.{Cell, cell, level, side}
 use Rattle.cells.proofs.Cells.{some-side}
 use Rattle.stream.specs.Grammar.{usedRange, checkStream}
 use Rattle.celltable.specs.Ranges.{cellRange, headRange, cellsHeld, entriesHeld}
-use Rattle.tree.specs.declared.Answer.{Answer}
-use Rattle.tree.specs.declared.Answer.the-variants.{Split, Not}
-use Rattle.tree.specs.Tables.{Tree, cellsUsed, entriesUsed, boundsOf}
-use Rattle.tree.specs.Split.{words, against, made, roomAnswer, drawingSplit, cellSplit, countsSplit, splitAnswer}
-use Rattle.splits.specs.After.{splitTree}
-use Rattle.splits.specs.Accepted.{Splittable}
-use Rattle.splits.proofs.Counts.{counts-head, counts-plan, counts-used}
-use Rattle.splits.proofs.Accepted.{able-answer, chosen}
+use Rattle.split.specs.declared.Answer.{Answer}
+use Rattle.split.specs.declared.Answer.the-variants.{Split, Not}
+use Rattle.split.specs.Tables.{Tree, cellsUsed, entriesUsed, boundsOf}
+use Rattle.split.specs.Split.{words, against, made, roomAnswer, drawingSplit, cellSplit, countsSplit, splitAnswer}
+use Rattle.split_laws.specs.After.{splitTree}
+use Rattle.split_laws.specs.Accepted.{Splittable}
+use Rattle.split_laws.proofs.Counts.{counts-head, counts-plan, counts-used}
+use Rattle.split_laws.proofs.Accepted.{able-answer, chosen}
 use Rattle.demand.specs.History.{Node, cellIn, splitAt, Leaf}
 use Rattle.demand.proofs.Sound.{Sound}
 use Rattle.demand.proofs.Passing.{cell-passes, leaf-passes}

@@ -16,12 +16,12 @@ use Rattle.paint.specs.declared.colour.Channels.{Channels}
 use Rattle.paint.specs.Pixels.{rowOffsets, rowOffset, sampleX, sampleY, plus, samples, sixteenth, pixelOf}
 use Rattle.cells.specs.Cells.{at, OnGrid}
 use Rattle.celltable.specs.declared.Found.the-variants.{At}
-use Rattle.reading.specs.Reading.{setAt}
-use Rattle.tree.specs.Tables.{Tree}
-use Rattle.leaf.specs.Leaf.{positionRange}
-use Rattle.leaf.proofs.Landing.{on-grid}
-use Rattle.query.specs.declared.Answer.the-variants as Answers
-use Rattle.query.specs.Spots.{isFound, setBy, spotOf, known, setIn, materialIn, colourIn, spotIn, positionAnswer}
+use Rattle.evaluate.specs.Reading.{setAt}
+use Rattle.split.specs.Tables.{Tree}
+use Rattle.find_leaf.specs.Leaf.{positionRange}
+use Rattle.find_leaf.proofs.Landing.{on-grid}
+use Rattle.position.specs.declared.Answer.the-variants as Answers
+use Rattle.position.specs.Spots.{isFound, setBy, spotOf, known, setIn, materialIn, colourIn, spotIn, positionAnswer}
 use Rattle.demand.specs.History.{Node, cellIn}
 use Rattle.demand.specs.NoTree.{setShown, materialShown, colourShown, spotShown}
 use Rattle.demand.specs.Stands.{drawingOf}

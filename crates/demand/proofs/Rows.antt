@@ -11,10 +11,10 @@ use Rattle.refusals.specs.declared.Refusal.the-variants.{Argument, Broken}
 use Rattle.paint.specs.declared.colour.Colour.{Colour}
 use Rattle.paint.specs.Pixels.{sampleX, sampleY}
 use Rattle.cells.specs.Cells.{at}
-use Rattle.tree.specs.Tables.{Tree}
-use Rattle.query.specs.Spots.{colourIn}
-use Rattle.pixels.specs.declared.RowAnswer.the-variants.{Done, Not}
-use Rattle.pixels.specs.Rows.{Filled, filled, putPixel, samplesKnown, pixelKnown, pixelIn, fillFrom, rowSpan, rowFilled}
+use Rattle.split.specs.Tables.{Tree}
+use Rattle.position.specs.Spots.{colourIn}
+use Rattle.pixel_row.specs.declared.RowAnswer.the-variants.{Done, Not}
+use Rattle.pixel_row.specs.Rows.{Filled, filled, putPixel, samplesKnown, pixelKnown, pixelIn, fillFrom, rowSpan, rowFilled}
 use Rattle.demand.specs.History.{Node}
 use Rattle.demand.specs.NoTree.{colourShown, pixelShown}
 use Rattle.demand.specs.Stands.{drawingOf}

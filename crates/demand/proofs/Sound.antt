@@ -15,14 +15,14 @@ use Rattle.cells.specs.Rows.{rowsOf, entriesOf, decode, roleIn}
 use Rattle.cells.proofs.Streams.{made-shown, source-shown, made-winds}
 use Rattle.cells.proofs.Rows.{decode-rows, made-on-side}
 use Rattle.stream.specs.Grammar.{bounds}
-use Rattle.reading.specs.Reading.{setAt}
+use Rattle.evaluate.specs.Reading.{setAt}
 use Rattle.ranges.specs.Valid.{Valid}
 use Rattle.ranges.specs.Held.{Held}
 use Rattle.ranges.proofs.Reading.{valid-words-read}
 use Rattle.celltable.specs.Table.{cellAt}
 use Rattle.celltable.proofs.Grid.{SaysCell, on-square}
-use Rattle.tree.specs.Tables.{Tree, cellsUsed, entriesUsed, countsIn}
-use Rattle.tree.specs.Split.{stream}
+use Rattle.split.specs.Tables.{Tree, cellsUsed, entriesUsed, countsIn}
+use Rattle.split.specs.Split.{stream}
 use Rattle.demand.specs.History.{Node, cellIn, firstIn, Leaf}
 use Rattle.demand.specs.NoTree.{setShown}
 use Rattle.demand.specs.Stands.{drawingOf, wordsOfCell, LeafStands, Stands}

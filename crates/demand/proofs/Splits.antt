@@ -13,16 +13,16 @@ use Rattle.celltable.specs.Ranges.{cellOf}
 use Rattle.celltable.specs.Descent.{placeOf}
 use Rattle.celltable.proofs.Grid.{SaysCell}
 use Rattle.making.specs.Made.{wordsMade}
-use Rattle.children.specs.Children.{wordsWith, entriesOfChild, streamsTo}
-use Rattle.children.proofs.Filled.{streams-more}
-use Rattle.tree.specs.declared.Answer.the-variants.{Split}
-use Rattle.tree.specs.Tables.{Tree, cellsUsed, entriesUsed, boundsOf}
-use Rattle.tree.specs.Split.{words, drawing, stream, splitAnswer}
-use Rattle.splits.specs.After.{splitTree}
-use Rattle.splits.proofs.Rows.{streams-up}
-use Rattle.splits.proofs.Trees.{tree-used, tree-free, tree-counts, tree-keeps-cell, tree-cell, tree-child, tree-stream, tree-child-stream}
-use Rattle.opening.specs.Opened.{drawingIn}
-use Rattle.newtree.specs.Open.{drawingTables}
+use Rattle.four_children.specs.Children.{wordsWith, entriesOfChild, streamsTo}
+use Rattle.four_children.proofs.Filled.{streams-more}
+use Rattle.split.specs.declared.Answer.the-variants.{Split}
+use Rattle.split.specs.Tables.{Tree, cellsUsed, entriesUsed, boundsOf}
+use Rattle.split.specs.Split.{words, drawing, stream, splitAnswer}
+use Rattle.split_laws.specs.After.{splitTree}
+use Rattle.split_laws.proofs.Rows.{streams-up}
+use Rattle.split_laws.proofs.Trees.{tree-used, tree-free, tree-counts, tree-keeps-cell, tree-cell, tree-child, tree-stream, tree-child-stream}
+use Rattle.root_stream.specs.Opened.{drawingIn}
+use Rattle.open.specs.Open.{drawingTables}
 use Rattle.demand.specs.History.{Node, cellIn, firstIn, splitAt, Leaf}
 use Rattle.demand.specs.Stands.{drawingOf, wordsOfCell}
 use Rattle.demand.proofs.History.{From, kept, divides, new, comes, few-places, split-length, cell-old, cell-new, first-other, first-split, first-new, split-grown}

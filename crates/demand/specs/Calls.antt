@@ -7,29 +7,29 @@ use Prim.Native.Nat.{ℕ}
 use lib.Dec.{eqb, leb}
 use lib.ListN.{length}
 use Rattle.refusals.specs.Refusals.{numberOf}
-use Rattle.tree.specs.Tables.{Tree}
-use Rattle.tree.specs.declared.Answer as Splitting
-use Rattle.tree.specs.declared.Answer.the-variants as Splits
-use Rattle.tree.specs.Split.{splitAnswer}
-use Rattle.splits.specs.After.{splitTree}
-use Rattle.newtree.specs.declared.Answer as Opening
-use Rattle.newtree.specs.declared.Answer.the-variants as Opens
-use Rattle.newtree.specs.Open.{openAnswer}
-use Rattle.growth.specs.declared.Answer as Growing
-use Rattle.growth.specs.declared.Answer.the-variants as Grows
-use Rattle.growth.specs.Grow.{grown, growAnswer, growTree}
-use Rattle.leaf.specs.declared.Answer as Finding
-use Rattle.leaf.specs.declared.Answer.the-variants as Finds
-use Rattle.leaf.specs.Leaf.{findAnswer}
-use Rattle.query.specs.declared.Answer as Reading
-use Rattle.query.specs.declared.Answer.the-variants as Reads
-use Rattle.query.specs.Spots.{positionAnswer}
-use Rattle.pixels.specs.declared.RowAnswer.{RowAnswer}
-use Rattle.pixels.specs.declared.RowAnswer.the-variants as Rows
-use Rattle.pixels.specs.Rows.{rowFilled}
-use Rattle.logs.specs.declared.LogAnswer.{LogAnswer}
-use Rattle.logs.specs.declared.LogAnswer.the-variants as Logs
-use Rattle.logs.specs.Logs.{logAnswer, outAfter}
+use Rattle.split.specs.Tables.{Tree}
+use Rattle.split.specs.declared.Answer as Splitting
+use Rattle.split.specs.declared.Answer.the-variants as Splits
+use Rattle.split.specs.Split.{splitAnswer}
+use Rattle.split_laws.specs.After.{splitTree}
+use Rattle.open.specs.declared.Answer as Opening
+use Rattle.open.specs.declared.Answer.the-variants as Opens
+use Rattle.open.specs.Open.{openAnswer}
+use Rattle.grow.specs.declared.Answer as Growing
+use Rattle.grow.specs.declared.Answer.the-variants as Grows
+use Rattle.grow.specs.Grow.{grown, growAnswer, growTree}
+use Rattle.find_leaf.specs.declared.Answer as Finding
+use Rattle.find_leaf.specs.declared.Answer.the-variants as Finds
+use Rattle.find_leaf.specs.Leaf.{findAnswer}
+use Rattle.position.specs.declared.Answer as Reading
+use Rattle.position.specs.declared.Answer.the-variants as Reads
+use Rattle.position.specs.Spots.{positionAnswer}
+use Rattle.pixel_row.specs.declared.RowAnswer.{RowAnswer}
+use Rattle.pixel_row.specs.declared.RowAnswer.the-variants as Rows
+use Rattle.pixel_row.specs.Rows.{rowFilled}
+use Rattle.zone_log.specs.declared.LogAnswer.{LogAnswer}
+use Rattle.zone_log.specs.declared.LogAnswer.the-variants as Logs
+use Rattle.zone_log.specs.Logs.{logAnswer, outAfter}
 use Rattle.answers.specs.Answers.{openNumber, splitNumber, growNumber, findRoom, findNumber, outFound}
 use Rattle.answers.specs.Readings.{spotRoom, spotNumber, outSpot, rowNumber, logNumber}
 use Rattle.demand.specs.History.{Node, splitAt, afterSplits}

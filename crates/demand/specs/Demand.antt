@@ -7,19 +7,19 @@ use lib.ListN.{length}
 use Rattle.refusals.specs.declared.Refusal.the-variants as Refusals
 use Rattle.cells.specs.Cells.{at, left, low, side, level}
 use Rattle.cells.specs.Drawings.{Drawing}
-use Rattle.tree.specs.Tables.{Tree}
-use Rattle.tree.specs.declared.Answer as Splitting
-use Rattle.tree.specs.declared.Answer.the-variants as Splits
-use Rattle.tree.specs.Split.{splitAnswer}
-use Rattle.newtree.specs.declared.Answer.the-variants as Opens
-use Rattle.newtree.specs.Open.{drawingTables, openAnswer}
-use Rattle.growth.specs.declared.Answer as Growing
-use Rattle.growth.specs.declared.Answer.the-variants as Grows
-use Rattle.growth.specs.Grow.{growAnswer, growTree}
-use Rattle.leaf.specs.declared.FoundLeaf.{FoundLeaf}
-use Rattle.leaf.specs.declared.Answer as Finding
-use Rattle.leaf.specs.declared.Answer.the-variants as Finds
-use Rattle.leaf.specs.Leaf.{positionRange, linesIn}
+use Rattle.split.specs.Tables.{Tree}
+use Rattle.split.specs.declared.Answer as Splitting
+use Rattle.split.specs.declared.Answer.the-variants as Splits
+use Rattle.split.specs.Split.{splitAnswer}
+use Rattle.open.specs.declared.Answer.the-variants as Opens
+use Rattle.open.specs.Open.{drawingTables, openAnswer}
+use Rattle.grow.specs.declared.Answer as Growing
+use Rattle.grow.specs.declared.Answer.the-variants as Grows
+use Rattle.grow.specs.Grow.{growAnswer, growTree}
+use Rattle.find_leaf.specs.declared.FoundLeaf.{FoundLeaf}
+use Rattle.find_leaf.specs.declared.Answer as Finding
+use Rattle.find_leaf.specs.declared.Answer.the-variants as Finds
+use Rattle.find_leaf.specs.Leaf.{positionRange, linesIn}
 use Rattle.answers.specs.Answers.{findRoom, outFound}
 use Rattle.demand.specs.History.{Node, begun, afterSplits, cellIn, Leaf, LeafAt}
 use Rattle.demand.specs.Stands.{drawingOf, wordsOfCell, Stands}

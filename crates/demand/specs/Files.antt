@@ -9,14 +9,14 @@ use Rattle.records.specs.declared.Record.{Record}
 use Rattle.grammar.specs.declared.Counts.{Counts}
 use Rattle.grammar.specs.declared.Verdict.{Verdict}
 use Rattle.grammar.specs.declared.Verdict.the-variants.{Accepted}
-use Rattle.reader.specs.Words.{planWords, areaWords, xWords, yWords}
-use Rattle.reader.specs.Reading.{recordsIn, readAnswer, leftBy}
+use Rattle.read.specs.Words.{planWords, areaWords, xWords, yWords}
+use Rattle.read.specs.Reading.{recordsIn, readAnswer, leftBy}
 use Rattle.cells.specs.Cells.{at}
 use Rattle.cells.specs.Drawings.{Drawing}
 use Rattle.plans.specs.Plans.{drawingFrom}
-use Rattle.tree.specs.Tables.{Tree, tree}
-use Rattle.newtree.specs.declared.Answer.the-variants.{Opened}
-use Rattle.newtree.specs.Open.{openAnswer}
+use Rattle.split.specs.Tables.{Tree, tree}
+use Rattle.open.specs.declared.Answer.the-variants.{Opened}
+use Rattle.open.specs.Open.{openAnswer}
 use Rattle.answers.specs.Readings.{spotPut, lowHalf}
 use Rattle.demand.specs.History.{begun}
 use Rattle.demand.specs.NoTree.{materialShown, spotShown}

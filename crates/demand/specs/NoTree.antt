@@ -8,7 +8,7 @@ use Rattle.paint.specs.declared.area.Paint.{Paint}
 use Rattle.paint.specs.declared.colour.Colour.{Colour}
 use Rattle.cells.specs.Cells.{Position, at}
 use Rattle.cells.specs.Drawings.{Drawing, fieldsOf, shownAt}
-use Rattle.query.specs.declared.Spot.{Spot}
+use Rattle.position.specs.declared.Spot.{Spot}
 
 module _ (D : Drawing) where
   -- alpha, colour and material of area n

@@ -1,7 +1,7 @@
 -- Document 01, "Cells": the seven tables after an opening. Assumes nothing.
-use Rattle.tree.specs.Tables.{Tree, tree}
-use Rattle.newtree.specs.declared.Answer.{Answer}
-use Rattle.newtree.specs.Open.{openAnswer, headOpened, cellsOpened, entriesOpened}
+use Rattle.split.specs.Tables.{Tree, tree}
+use Rattle.open.specs.declared.Answer.{Answer}
+use Rattle.open.specs.Open.{openAnswer, headOpened, cellsOpened, entriesOpened}
 
 -- those before where the opening is refused
 abbrev pub openedBy : Tree → Answer → Tree

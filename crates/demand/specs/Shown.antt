@@ -9,14 +9,14 @@ use lib.Seq.{sets}
 use Rattle.refusals.specs.declared.Refusal.the-variants.{Argument, Room}
 use Rattle.cells.specs.Cells.{at}
 use Rattle.cells.specs.Drawings.{Drawing}
-use Rattle.leaf.specs.Leaf.{positionRange}
-use Rattle.query.specs.declared.Answer as Reading
-use Rattle.query.specs.declared.Answer.the-variants as Reads
-use Rattle.pixels.specs.declared.RowAnswer.the-variants as Rows
-use Rattle.pixels.specs.Rows.{Filled, filled, putPixel}
-use Rattle.logs.specs.declared.LogAnswer.{LogAnswer}
-use Rattle.logs.specs.declared.LogAnswer.the-variants.{Indices, Not}
-use Rattle.logs.specs.Logs.{logFrom, outsideFrom, eachWord}
+use Rattle.find_leaf.specs.Leaf.{positionRange}
+use Rattle.position.specs.declared.Answer as Reading
+use Rattle.position.specs.declared.Answer.the-variants as Reads
+use Rattle.pixel_row.specs.declared.RowAnswer.the-variants as Rows
+use Rattle.pixel_row.specs.Rows.{Filled, filled, putPixel}
+use Rattle.zone_log.specs.declared.LogAnswer.{LogAnswer}
+use Rattle.zone_log.specs.declared.LogAnswer.the-variants.{Indices, Not}
+use Rattle.zone_log.specs.Logs.{logFrom, outsideFrom, eachWord}
 use Rattle.answers.specs.Readings.{spotRoom, outSpot}
 use Rattle.demand.specs.NoTree.{materialShown, spotShown, pixelShown}
 use Rattle.demand.specs.Calls.{reading, rowing, logging, Given, gives}

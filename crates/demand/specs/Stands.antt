@@ -12,14 +12,14 @@ use Rattle.cells.specs.Drawings.{Drawing, shownAt}
 use Rattle.cells.specs.Streams.{Each, Winds, source, made, shownIn}
 use Rattle.cells.specs.Rows.{rowsOf, entriesOf, decode, streamOf, roleIn}
 use Rattle.stream.specs.declared.Words.{Words}
-use Rattle.reading.specs.Reading.{rowsIn, setAt}
-use Rattle.reading.specs.Words.{wordsOf}
+use Rattle.evaluate.specs.Reading.{rowsIn, setAt}
+use Rattle.evaluate.specs.Words.{wordsOf}
 use Rattle.celltable.specs.Table.{cellAt}
 use Rattle.celltable.specs.Descent.{onSquare}
-use Rattle.opening.specs.Opened.{drawingIn}
-use Rattle.tree.specs.Tables.{Tree, cellsUsed}
-use Rattle.tree.specs.Split as Split
-use Rattle.newtree.specs.Open.{drawingTables}
+use Rattle.root_stream.specs.Opened.{drawingIn}
+use Rattle.split.specs.Tables.{Tree, cellsUsed}
+use Rattle.split.specs.Split as Split
+use Rattle.open.specs.Open.{drawingTables}
 use Rattle.demand.specs.History.{Node, cellIn, firstIn, Leaf, Tiled}
 use Rattle.demand.specs.NoTree.{setShown, materialShown, colourShown}
 

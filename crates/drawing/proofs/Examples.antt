@@ -8,8 +8,8 @@ use Rattle.records.specs.Record.{areaRange, cornerOf, delimiterOf}
 use Rattle.records.specs.Bytes.{decodedRaw, unnamed, named, fieldsOf}
 use Rattle.grammar.specs.declared.Verdict.the-variants.{Accepted, Refused}
 use Rattle.grammar.specs.Grammar.{course, checked, counts}
-use Rattle.reader.specs.Words.{spread, fileOf}
-use Rattle.reader.specs.Reading.{decodedFrom, verdictOf}
+use Rattle.read.specs.Words.{spread, fileOf}
+use Rattle.read.specs.Reading.{decodedFrom, verdictOf}
 
 paint : Record
 paint = Area (record { role = 0; rule = 0; alpha = 255; red = 1; green = 2; blue = 3; material = 500 })

@@ -6,7 +6,7 @@ use native.Mathlib.Omega.{arith}
 use native.Mathlib.Nat.{add-zero}
 use lib.ListN.{length, getD, take, drop, set, length-append, length-set}
 use lib.Seq.{sets, sets-eq, length-sets, getD-set-same, getD-set-other, set-getD, drop-length, take-at}
-use Rattle.reader.specs.Words.{wordsFrom, Has}
+use Rattle.read.specs.Words.{wordsFrom, Has}
 
 before : (l vs : List ℕ) (i j : ℕ) → j < i → getD (sets l i vs) j 0 ≡ getD l j 0
 before l [] i j h = refl

@@ -16,8 +16,8 @@ use Rattle.records.proofs.Laws.{told}
 use Rattle.grammar.specs.declared.Counts.{Counts}
 use Rattle.grammar.specs.Lists.{goods, areaOne, cornerOne, areasIn, cornersIn}
 use Rattle.drawing.specs.declared.Cursor.{Cursor}
-use Rattle.reader.specs.Words.{kindW, areaW, xW, yW, spread, Has, allRange, fileOf}
-use Rattle.reader.specs.Reading.{decodedFrom}
+use Rattle.read.specs.Words.{kindW, areaW, xW, yW, spread, Has, allRange, fileOf}
+use Rattle.read.specs.Reading.{decodedFrom}
 use Rattle.drawing.specs.Tables.{Tables, rowOf, pastRecord, pastOf, rebuilt}
 use Rattle.drawing.proofs.Has.{has-left, has-right, has-join, has-nil, has-at, has-first, has-one}
 use Rattle.drawing.proofs.Rowlaws.{byte-read, byte-told, row-read, row-told, RowTold}

@@ -21,7 +21,7 @@ use Rattle.records.proofs.Laws.{kinds, ranged-told, Small, raw-back, raw-again}
 use Rattle.grammar.specs.declared.Counts.{Counts}
 use Rattle.grammar.specs.Lists.{areaOne, cornerOne}
 use Rattle.drawing.specs.declared.Cursor.{Cursor}
-use Rattle.reader.specs.Words.{rowW, areaW, xW, yW, wordsFrom, Has}
+use Rattle.read.specs.Words.{rowW, areaW, xW, yW, wordsFrom, Has}
 use Rattle.drawing.specs.Tables.{Tables, fieldsAt, areaRow, cornerRow, kindRow, rowOf}
 use Rattle.drawing.proofs.Has.{has-first}
 

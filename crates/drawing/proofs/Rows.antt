@@ -26,11 +26,11 @@ use Rattle.grammar.specs.Machine.{advanceN, startN, scanN, isStopped}
 use Rattle.grammar.specs.Lists.{goods, areaOne, cornerOne}
 use Rattle.grammar.proofs.Laws.{sound, stopped-stays, refused-not}
 use Rattle.drawing.specs.declared.Cursor.{Cursor}
-use Rattle.reader.specs.Words.{spread, onGood, fileOf}
-use Rattle.reader.specs.Reading.{holds}
+use Rattle.read.specs.Words.{spread, onGood, fileOf}
+use Rattle.read.specs.Reading.{holds}
 use Rattle.drawing.specs.Tables.{Tables, Ready, cursor, rowOf, pastOf, rebuilt, usedOf, rebuiltIn, agreed, countsJudged, drawingOf}
-use Rattle.reader.proofs.Writes.{length-on, turn-table}
-use Rattle.reader.proofs.Files.{file-length, Holds, held}
+use Rattle.read.proofs.Writes.{length-on, turn-table}
+use Rattle.read.proofs.Files.{file-length, Holds, held}
 
 pub re-step : (t : Tables) (u : Counts) (i e : ℕ) (c : Cursor) → i < e → rebuilt t u i c (e - i) ≡ rowOf t u i c ∷ rebuilt t u (i + 1) (pastOf c (rowOf t u i c)) (e - (i + 1))
 unfolding rebuilt

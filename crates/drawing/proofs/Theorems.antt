@@ -20,11 +20,11 @@ use Rattle.grammar.specs.declared.Verdict.the-variants.{Accepted, Refused}
 use Rattle.grammar.specs.Grammar.{checked, counts}
 use Rattle.grammar.specs.Lists.{goods, areasIn, cornersIn}
 use Rattle.grammar.proofs.Laws.{sound, refused-not}
-use Rattle.reader.specs.Words.{spread, planWords, areaWords, xWords, yWords, fileOf, Has, allRange}
-use Rattle.reader.specs.Reading.{decodedFrom, decodedIn, recordsIn, verdictOf, holds, ifRoom, readAnswer, leftBy}
+use Rattle.read.specs.Words.{spread, planWords, areaWords, xWords, yWords, fileOf, Has, allRange}
+use Rattle.read.specs.Reading.{decodedFrom, decodedIn, recordsIn, verdictOf, holds, ifRoom, readAnswer, leftBy}
 use Rattle.drawing.specs.Tables.{Tables, tables, cursor, rebuilt, usedOf, rebuiltIn, drawnIn, agreed, countsJudged, drawingOf, writtenOf, writeAnswer}
 use Rattle.drawing.specs.Held.{Acceptable, Holding}
-use Rattle.reader.proofs.Files.{filed, filed-checked, length-good, kinds-length, areas-length, xs-length, ys-length, file-length, Holds, held}
+use Rattle.read.proofs.Files.{filed, filed-checked, length-good, kinds-length, areas-length, xs-length, ys-length, file-length, Holds, held}
 use Rattle.drawing.proofs.Rows.{drawn}
 use Rattle.drawing.proofs.Has.{has-sets, has-same, has-first, has-rest, has-cons, has-whole}
 use Rattle.drawing.proofs.Lists.{goods-map, file-read, file-told, file-range, From, tables-read, Wide, tables-told}

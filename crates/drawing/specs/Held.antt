@@ -9,7 +9,7 @@ use Rattle.records.specs.declared.Decoded.the-variants.{Good}
 use Rattle.grammar.specs.declared.Counts.{Counts}
 use Rattle.grammar.specs.declared.Verdict.the-variants.{Accepted}
 use Rattle.grammar.specs.Grammar.{checked}
-use Rattle.reader.specs.Words.{Has, allRange, planWords, areaWords, xWords, yWords}
+use Rattle.read.specs.Words.{Has, allRange, planWords, areaWords, xWords, yWords}
 use Rattle.drawing.specs.Tables.{Tables}
 
 -- records that a file may hold, and how many there are

@@ -20,7 +20,7 @@ use Rattle.grammar.specs.Lists.{goods, areaOne, cornerOne}
 use Rattle.drawing.specs.declared.Cursor.{Cursor}
 use Rattle.drawing.specs.declared.Written.{Written}
 use Rattle.drawing.specs.declared.Written.the-variants.{Bytes, Not}
-use Rattle.reader.specs.Reading.{holds}
+use Rattle.read.specs.Reading.{holds}
 
 pub record Tables : Type 0 where
   pub plan : List ℕ

@@ -14,7 +14,7 @@ ghost use Rattle.grammar.specs.declared.Verdict.the-variants.{Accepted};
 ghost use Rattle.grammar.specs.Machine.{scanN, startN};
 ghost use Rattle.grammar.specs.Lists.{goods, areaOne, cornerOne};
 ghost use Rattle.records.specs.Bytes.{bytesOf};
-ghost use Rattle.reader.specs.Words.{fileOf, onGood};
+ghost use Rattle.read.specs.Words.{fileOf, onGood};
 ghost use Rattle.drawing.specs.Tables.{tables, Ready, cursor, fieldsAt, areaRow, cornerRow, kindRow, rowOf, pastRecord, pastOf, rebuilt, drawnIn, agreed, countsJudged, drawingOf, writtenOf, writeAnswer, outAfter};
 
 // The areas and the corners before a record.
@@ -201,7 +201,7 @@ fn check_counts(plan: &[u32], areas: &[u32], xs: &[u32], ys: &[u32], used: Count
     ensures { λ v. ⌜ v ≡ countsJudged (tables (now (plan .entry)) (now (areas .entry)) (now (xs .entry)) (now (ys .entry))) used ⌝ }
 {
     if used.records <= 4096 {
-        let h = reader::tables_hold(plan.len(), areas.len(), xs.len(), used);
+        let h = read::tables_hold(plan.len(), areas.len(), xs.len(), used);
         if h {
             let s = scan_tables(plan, areas, xs, ys, used);
             let v = grammar::ended(s, used.records);

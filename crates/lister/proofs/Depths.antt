@@ -15,25 +15,27 @@ use Rattle.stream.specs.Grammar.{checkStream}
 use Rattle.celltable.specs.declared.CellWords.{CellWords}
 use Rattle.celltable.specs.Ranges.{cellRange, levelOf}
 use Rattle.celltable.specs.Descent.{quarterAt}
-use Rattle.tree.specs.declared.Answer as Splitting
-use Rattle.tree.specs.declared.Answer.the-variants as split
-use Rattle.tree.specs.Tables.{Tree, cellsUsed, entriesUsed, countsIn}
-use Rattle.tree.specs.Split.{words, against, splitAnswer}
-use Rattle.splits.specs.After.{splitTree}
-use Rattle.splits.proofs.Trees.{tree-used, tree-keeps-cell, tree-cell, tree-child}
-use Rattle.newtree.specs.declared.Answer.the-variants.{Opened}
-use Rattle.newtree.specs.Open.{openAnswer}
-use Rattle.newtree.proofs.Accepted.{open-accepts}
-use Rattle.newtree.proofs.After.{cells-used, cell-is}
-use Rattle.growth.specs.declared.Tried.{Tried}
-use Rattle.growth.specs.declared.Tried.the-variants.{Bad, Past, Wanted}
-use Rattle.growth.specs.Grow.{isWanted, tried, Lowest, none, bad, at, orNext, lowestFrom, Round, splits, done, full, broken, roundAt, roundBy, round, goOn, growing, grown, growTree}
-use Rattle.leaf.specs.declared.FoundLeaf.{FoundLeaf}
-use Rattle.leaf.specs.declared.Answer.the-variants.{Found}
-use Rattle.leaf.specs.Leaf.{linesIn, findAnswer}
+use Rattle.split.specs.declared.Answer as Splitting
+use Rattle.split.specs.declared.Answer.the-variants as split
+use Rattle.split.specs.Tables.{Tree, cellsUsed, entriesUsed, countsIn}
+use Rattle.split.specs.Split.{words, against, splitAnswer}
+use Rattle.split_laws.specs.After.{splitTree}
+use Rattle.split_laws.proofs.Trees.{tree-used, tree-keeps-cell, tree-cell, tree-child}
+use Rattle.open.specs.declared.Answer.{Answer}
+use Rattle.open.specs.declared.Answer.the-variants.{Opened}
+use Rattle.open.specs.Open.{openAnswer}
+use Rattle.open.proofs.Accepted.{open-accepts}
+use Rattle.open.proofs.After.{cells-used, cell-is}
+use Rattle.grow.specs.declared.Tried.{Tried}
+use Rattle.grow.specs.declared.Tried.the-variants.{Bad, Past, Wanted}
+use Rattle.grow.specs.Grow.{isWanted, tried, Lowest, none, bad, at, orNext, lowestFrom, Round, splits, done, full, broken, roundAt, roundBy, round, goOn, growing, grown, growTree}
+use Rattle.find_leaf.specs.declared.FoundLeaf.{FoundLeaf}
+use Rattle.find_leaf.specs.declared.Answer.the-variants.{Found}
+use Rattle.find_leaf.specs.Leaf.{linesIn, findAnswer}
 use Rattle.listing.specs.Listed.{lineOf, listed, Among}
 use Rattle.listing.proofs.Every.{every-leaf, found-cell}
-use Rattle.lister.specs.Grown.{openedTree, grownTree}
+use Rattle.demand.specs.Opened.{openedBy, openTree}
+use Rattle.lister.specs.Printed.{grownTree}
 
 -- every cell in use has a depth of at most 4
 abbrev pub Shallow : Tree → Type 0
@@ -149,11 +151,14 @@ shallow-grown t n s = go (eqb (length (t .xs)) (length (t .ys)))
     go true = shallow-growing n 4096 t s
     go false = s
 
-shallow-opened : (t : Tree) (n : ℕ) → openAnswer t ≡ Opened n → Shallow (openedTree t n)
-shallow-opened t n e j h =
-    let a = open-accepts t n e in
-    let z : j ≡ 0 = omega (arith, cells-used t n a, h) in
-    subst (λ (m : ℕ). 4096 ≤ words (openedTree t n) m .side) (sym z) (subst (λ (w : CellWords). 4096 ≤ w .side) (sym (cell-is t n a)) (omega arith))
+shallow-opened : (t : Tree) (n : ℕ) → openAnswer t ≡ Opened n → Shallow (openTree t)
+shallow-opened t n e = subst (λ (r : Answer). Shallow (openedBy t r)) (sym e) cell-0
+  where
+    cell-0 : Shallow (openedBy t (Opened n))
+    cell-0 j h =
+        let a = open-accepts t n e in
+        let z : j ≡ 0 = omega (arith, cells-used t n a, h) in
+        subst (λ (m : ℕ). 4096 ≤ words (openedBy t (Opened n)) m .side) (sym z) (subst (λ (w : CellWords). 4096 ≤ w .side) (sym (cell-is t n a)) (omega arith))
 
 -- ---- so a leaf that is found is printed
 steps-few : (s : ℕ) → 4096 ≤ 2 ^ (16 - s) → s ≤ 4
@@ -166,8 +171,10 @@ steps-few s h = go (ltb 4 s) refl
     go false p = ltb-false 4 s p
 
 -- "prints each leaf": of every position
-pub each-leaf : (t : Tree) (n : ℕ) → openAnswer t ≡ Opened n → (x y : ℕ) (f : FoundLeaf) → findAnswer (grownTree t n) x y ≡ Found f → Among (lineOf f) (listed (grownTree t n))
+pub each-leaf : (t : Tree) (n : ℕ) → openAnswer t ≡ Opened n → (x y : ℕ) (f : FoundLeaf) → findAnswer (grownTree (openTree t)) x y ≡ Found f
+    → Among (lineOf f) (listed (grownTree (openTree t)))
 each-leaf t n e x y f p =
-    let c = found-cell (grownTree t n) x y f p in
-    let s = shallow-grown (openedTree t n) 0 (shallow-opened t n e) (c .number) (c .in-use) in
-    every-leaf (grownTree t n) x y f p (steps-few (f .steps) (rw (c .side-is) s))
+    let u = grownTree (openTree t) in
+    let c = found-cell u x y f p in
+    let s = shallow-grown (openTree t) 0 (shallow-opened t n e) (f .cell) (c .leaf .in-use) in
+    every-leaf u x y f p (steps-few (f .steps) (rw (c .side-is) s))

@@ -1,2 +1,3 @@
--- The tree whose leaves the lister prints.
-pub mod Grown
+-- What the lister prints, and that it is the leaves.
+pub mod Printed
+pub mod Leaves

@@ -2,8 +2,11 @@
 use grammar::Verdict;
 use listing::Line;
 use refusals::Refusal;
+ghost use mathlib.Core.Path.{_≡_};
 ghost use Prim.Native.Nat.{_*_, _≤_};
 ghost use lib.ListN.{length};
+ghost use Rattle.split.specs.Tables.{tree};
+ghost use Rattle.lister.specs.Printed.{linesOf, outcomeOf, outcomeGrown, rowsGrown, outcome, rowsAfter};
 
 fn print_number(n: u32) {
     io::print_decimal(1, n as u64);
@@ -44,23 +47,27 @@ fn print_lines(rows: &[u32], n: usize)
     }
 }
 
-// A line for each leaf: at most 256 of them have a depth of at most 4.
-fn print_leaves(
-    plan: &[u32],
-    areas: &[u32],
-    xs: &[u32],
-    ys: &[u32],
-    head: &[u32],
-    cells: &[u32],
-    entries: &[u32],
-) {
-    let mut rows = [0u32; 1280];
-    let n = listing::list_leaves(plan, areas, xs, ys, head, cells, entries, &mut rows);
-    print_lines(&rows, n);
+// What is printed of a drawing: so many lines, with `full` after them or without, or a refusal.
+pub enum Outcome {
+    Done(usize),
+    Full(usize),
+    Not(Refusal),
 }
 
-// "grows with threshold 0 and depth limit 4"; "if growing ends on "full", a last line `full` follows"
-fn print_grown(
+fn outcome_of(a: grow::Answer, n: usize) -> Outcome
+    requires { ⌜ n ≤ 256 ⌝ }
+    ensures { λ r. ⌜ r ≡ outcomeOf a n ⌝ }
+    ensures { λ r. ⌜ linesOf r ≤ 256 ⌝ }
+{
+    match a {
+        grow::Answer::Done(_) => Outcome::Done(n),
+        grow::Answer::Full(_) => Outcome::Full(n),
+        grow::Answer::Not(r) => Outcome::Not(r),
+    }
+}
+
+// "grows with threshold 0 and depth limit 4", then writes the line of each leaf.
+fn list_grown(
     plan: &[u32],
     areas: &[u32],
     xs: &[u32],
@@ -68,33 +75,73 @@ fn print_grown(
     head: &mut [u32],
     cells: &mut [u32],
     entries: &mut [u32],
-) {
-    let a = growth::grow(plan, areas, xs, ys, head, cells, entries, 0, 4);
+    rows: &mut [u32],
+) -> Outcome
+    requires { ⌜ 1280 ≤ length (now rows) ⌝ }
+    ensures { λ r. ⌜ r ≡ outcomeGrown
+        (tree (now (plan .entry)) (now (areas .entry)) (now (xs .entry)) (now (ys .entry)) (now (head .entry)) (now (cells .entry)) (now (entries .entry))) ⌝ }
+    ensures { λ r. ⌜ now (rows .exit) ≡ rowsGrown
+        (tree (now (plan .entry)) (now (areas .entry)) (now (xs .entry)) (now (ys .entry)) (now (head .entry)) (now (cells .entry)) (now (entries .entry)))
+        (now (rows .entry)) ⌝ }
+    ensures { λ r. ⌜ linesOf r ≤ 256 ⌝ }
+{
+    let a = grow::grow(plan, areas, xs, ys, head, cells, entries, 0, 4);
+    let n = listing::list_leaves(plan, areas, xs, ys, head, cells, entries, rows);
+    outcome_of(a, n)
+}
+
+// Opens the tree of a drawing, grows it and lists its leaves.
+fn list_drawing(
+    plan: &[u32],
+    areas: &[u32],
+    xs: &[u32],
+    ys: &[u32],
+    head: &mut [u32],
+    cells: &mut [u32],
+    entries: &mut [u32],
+    rows: &mut [u32],
+) -> Outcome
+    requires { ⌜ 1280 ≤ length (now rows) ⌝ }
+    ensures { λ r. ⌜ r ≡ outcome
+        (tree (now (plan .entry)) (now (areas .entry)) (now (xs .entry)) (now (ys .entry)) (now (head .entry)) (now (cells .entry)) (now (entries .entry))) ⌝ }
+    ensures { λ r. ⌜ now (rows .exit) ≡ rowsAfter
+        (tree (now (plan .entry)) (now (areas .entry)) (now (xs .entry)) (now (ys .entry)) (now (head .entry)) (now (cells .entry)) (now (entries .entry)))
+        (now (rows .entry)) ⌝ }
+    ensures { λ r. ⌜ linesOf r ≤ 256 ⌝ }
+{
+    let a = open::open(plan, areas, xs, ys, head, cells, entries);
     match a {
-        growth::Answer::Done(_) => {
-            print_leaves(plan, areas, xs, ys, head, cells, entries);
-        }
-        growth::Answer::Full(_) => {
-            print_leaves(plan, areas, xs, ys, head, cells, entries);
-            io::write_all(1, b"full\n");
-        }
-        growth::Answer::Not(r) => {
-            print_refused(r, 0);
-        }
+        open::Answer::Opened(_) => list_grown(plan, areas, xs, ys, head, cells, entries, rows),
+        open::Answer::Not(r) => Outcome::Not(r),
     }
 }
 
-// "Its tables hold 1,024 cells and 4,096 entries": eight words a cell, four words an entry.
+// "Its tables hold 1,024 cells and 4,096 entries": eight words a cell, four words an entry. The lines are 256 at most, of five words each.
+// "if growing ends on "full", a last line `full` follows"
 fn print_drawing(plan: &[u32], areas: &[u32], xs: &[u32], ys: &[u32]) {
     let mut head = [0u32; 2];
     let mut cells = [0u32; 8192];
     let mut entries = [0u32; 16384];
-    let a = newtree::open(plan, areas, xs, ys, &mut head, &mut cells, &mut entries);
+    let mut rows = [0u32; 1280];
+    let a = list_drawing(
+        plan,
+        areas,
+        xs,
+        ys,
+        &mut head,
+        &mut cells,
+        &mut entries,
+        &mut rows,
+    );
     match a {
-        newtree::Answer::Opened(_) => {
-            print_grown(plan, areas, xs, ys, &mut head, &mut cells, &mut entries);
+        Outcome::Done(n) => {
+            print_lines(&rows, n);
         }
-        newtree::Answer::Not(r) => {
+        Outcome::Full(n) => {
+            print_lines(&rows, n);
+            io::write_all(1, b"full\n");
+        }
+        Outcome::Not(r) => {
             print_refused(r, 0);
         }
     }
@@ -108,7 +155,7 @@ fn main() {
     let mut areas = [0u32; 512];
     let mut xs = [0u32; 2048];
     let mut ys = [0u32; 2048];
-    let v = reader::read(&records[..n], &mut plan, &mut areas, &mut xs, &mut ys);
+    let v = read::read(&records[..n], &mut plan, &mut areas, &mut xs, &mut ys);
     match v {
         Verdict::Accepted(_) => {
             print_drawing(&plan, &areas, &xs, &ys);

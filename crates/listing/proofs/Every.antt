@@ -20,16 +20,16 @@ use Rattle.celltable.specs.declared.Found.the-variants.{At, Broken}
 use Rattle.celltable.specs.Table.{cellAt}
 use Rattle.celltable.proofs.Ranges.{SquareFits, square-fits, passes-range}
 use Rattle.celltable.proofs.Landing.{LeafFound}
-use Rattle.tree.specs.Tables.{Tree, cellsUsed, entriesUsed}
-use Rattle.leaf.specs.declared.FoundLeaf.{FoundLeaf}
-use Rattle.leaf.specs.declared.Answer.the-variants as Answers
-use Rattle.leaf.specs.Leaf.{positionRange, reportOf, leafIn, foundBy, findAnswer}
-use Rattle.leaf.proofs.Landing.{leaf-holds}
-use Rattle.leaf.proofs.Same.{leaf-same}
+use Rattle.split.specs.Tables.{Tree, cellsUsed, entriesUsed}
+use Rattle.find_leaf.specs.declared.FoundLeaf.{FoundLeaf}
+use Rattle.find_leaf.specs.declared.Answer.the-variants as Answers
+use Rattle.find_leaf.specs.Leaf.{positionRange, reportOf, leafIn, foundBy, findAnswer}
+use Rattle.find_leaf.proofs.Landing.{leaf-holds}
+use Rattle.find_leaf.proofs.Same.{leaf-same}
 use Rattle.listing.specs.declared.Line.{Line}
 use Rattle.listing.specs.declared.Corner.{Corner}
 use Rattle.listing.specs.declared.Corner.the-variants.{Low, Other}
-use Rattle.listing.specs.Listed.{cornerX, cornerY, lineOf, ofAnswer, cornerAt, withCorner, linesFrom, listed, Among}
+use Rattle.listing.specs.Listed.{cornerX, cornerY, lineOf, ofAnswer, cornerAt, withCorner, linesFrom, listed, Among, IsLeaf, leafLine}
 use Rattle.listing.proofs.Order.{corner-is}
 
 -- ---- the corners: (4,096 a, 4,096 b) is the corner whose number is the key of (a, b)
@@ -193,9 +193,9 @@ every-leaf t x y f e h = go (behind t x y f e)
 
 -- its cell, and what its depth says of the side
 pub record FoundCell (t : Tree) (f : FoundLeaf) : Type 0 where
-  pub number : ℕ
-  pub in-use : number < cellsUsed (t .head)
-  pub side-is : 2 ^ (16 - f .steps) ≡ cellAt (t .cells) number .side
+  pub leaf : IsLeaf t (f .cell)
+  pub line : lineOf f ≡ leafLine t (f .cell)
+  pub side-is : 2 ^ (16 - f .steps) ≡ cellAt (t .cells) (f .cell) .side
 
 pub found-cell : (t : Tree) (x y : ℕ) (f : FoundLeaf) → findAnswer t x y ≡ Answers.Found f → FoundCell t f
 found-cell t x y f e = go (behind t x y f e)
@@ -203,5 +203,9 @@ found-cell t x y f e = go (behind t x y f e)
     go : (l : Leaf) × Behind t x y f l → FoundCell t f
     go (l, b) =
         let m = as-found t x y f l b in
-        let s : l .steps ≡ f .steps = ap (λ (r : FoundLeaf). r .steps) (b .reported) in
-        record { number = l .cell; in-use = m .in-use; side-is = rw (← s) (sym (m .side-is) ∙ side-is-words t x y f l b) }
+        subst (FoundCell t) (b .reported)
+        (record {
+          leaf = record { in-use = m .in-use; undivided = m .whole };
+          line = ap (λ (k : Leaf). lineOf (reportOf (t .entries) k)) (m .words);
+          side-is = sym (m .side-is) ∙ side-is-words t x y f l b;
+        })

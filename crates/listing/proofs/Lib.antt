@@ -2,3 +2,4 @@
 pub mod Order
 pub mod Listing
 pub mod Every
+pub mod Only

@@ -1,13 +1,13 @@
 -- Lines written to a table one after the other, the loop over the corners, and the lines read back. Assumes nothing.
 use mathlib.Core.Path.{_≡_, refl, sym, ap, _∙_}
 use mathlib.Core.List.{List, [], _∷_, _++_}
-use Prim.Native.Nat.{ℕ, suc, _+_, _*_, _-_, _≤_, _<_}
+use Prim.Native.Nat.{ℕ, zero, suc, _+_, _*_, _-_, _≤_, _<_}
 use native.Mathlib.Omega.{arith}
 use native.Mathlib.Nat.{add-zero}
 use native.Mathlib.Numerals.{towards-suc}
 use lib.ListN.{length, getD, take, set, length-set}
 use lib.Seq.{getD-set-same, getD-set-other, getD-take, take-set-le, sets, length-sets}
-use Rattle.tree.specs.Tables.{Tree}
+use Rattle.split.specs.Tables.{Tree}
 use Rattle.listing.specs.declared.Line.{Line}
 use Rattle.listing.specs.declared.Corner.{Corner}
 use Rattle.listing.specs.declared.Corner.the-variants.{Low, Other}
@@ -61,6 +61,14 @@ with-length Other ls = omega arith
 with-few : (p : Corner) → length (withCorner p []) ≤ 1
 with-few (Low l) = omega arith
 with-few Other = omega arith
+
+few-from : (t : Tree) (n k : ℕ) → length (linesFrom t k n) ≤ n
+unfolding linesFrom
+few-from t zero k = omega arith
+few-from t (suc n) k = omega (arith, with-length (cornerAt t k) (linesFrom t (k + 1) n), with-few (cornerAt t k), few-from t n (k + 1))
+
+pub few-lines : (t : Tree) → length (listed t) ≤ 256
+few-lines t = few-from t 256 0
 
 lines-step : (t : Tree) (k : ℕ) → k < 256 → linesFrom t k (256 - k) ≡ withCorner (cornerAt t k) (linesFrom t (k + 1) (256 - (k + 1)))
 unfolding linesFrom

@@ -9,14 +9,14 @@ use Rattle.laws.specs.Ranges.{all}
 use Rattle.laws.proofs.Ranges.{all-at}
 use Rattle.laws.proofs.Booleans.{true-T, and-left, and-right}
 use Rattle.geometry.specs.Keys.{spread, keyOf}
-use Rattle.tree.specs.Tables.{Tree}
-use Rattle.leaf.specs.declared.FoundLeaf.{FoundLeaf}
-use Rattle.leaf.specs.declared.Answer.{Answer}
-use Rattle.leaf.specs.declared.Answer.the-variants.{Found, Not}
+use Rattle.split.specs.Tables.{Tree}
+use Rattle.find_leaf.specs.declared.FoundLeaf.{FoundLeaf}
+use Rattle.find_leaf.specs.declared.Answer.{Answer}
+use Rattle.find_leaf.specs.declared.Answer.the-variants.{Found, Not}
 use Rattle.listing.specs.declared.Line.{Line}
 use Rattle.listing.specs.declared.Corner.{Corner}
 use Rattle.listing.specs.declared.Corner.the-variants.{Low, Other}
-use Rattle.leaf.specs.Leaf.{findAnswer}
+use Rattle.find_leaf.specs.Leaf.{findAnswer}
 use Rattle.listing.specs.Listed.{cornerX, cornerY, lineOf, ofAnswer, cornerAt, withCorner, linesFrom, listed, keysFrom}
 
 -- the key of corner k is k steps of the keys of a cell of depth 4: one test at each of the 256 corners

@@ -1,15 +1,17 @@
--- Document 01, "Spots to try": the lines that the leaf lister prints of a tree of depth 4 at most. Assumes nothing.
+-- Document 01, "Spots to try": the lines of the leaves of a tree. Leaves of a depth above 4 are left out: the leaf lister grows to depth limit 4, so it
+-- has none (`PrintsEachLeaf`, `Rattle.lister.specs`). Assumes nothing.
 use mathlib.Core.Path.{_≡_}
 use mathlib.Core.Bool.{cond, _&&_}
 use mathlib.Core.List.{List, [], _∷_, _++_}
-use Prim.Native.Nat.{ℕ, zero, suc, _+_, _*_, _/_, _%_, _≤_}
+use Prim.Native.Nat.{ℕ, zero, suc, _+_, _*_, _/_, _%_, _≤_, _<_}
 use lib.Dec.{eqb}
 use Rattle.geometry.specs.Keys.{keyOf}
-use Rattle.tree.specs.Tables.{Tree}
-use Rattle.leaf.specs.declared.FoundLeaf.{FoundLeaf}
-use Rattle.leaf.specs.declared.Answer.{Answer}
-use Rattle.leaf.specs.declared.Answer.the-variants.{Found, Not}
-use Rattle.leaf.specs.Leaf.{findAnswer}
+use Rattle.split.specs.Tables.{Tree, cellsUsed}
+use Rattle.split.specs.Split.{words, stream}
+use Rattle.find_leaf.specs.declared.FoundLeaf.{FoundLeaf}
+use Rattle.find_leaf.specs.declared.Answer.{Answer}
+use Rattle.find_leaf.specs.declared.Answer.the-variants.{Found, Not}
+use Rattle.find_leaf.specs.Leaf.{linesIn, findAnswer}
 use Rattle.listing.specs.declared.Line.{Line}
 use Rattle.listing.specs.declared.Corner.{Corner}
 use Rattle.listing.specs.declared.Corner.the-variants.{Low, Other}
@@ -50,8 +52,8 @@ unfoldable pub linesFrom : Tree → (k n : ℕ) → List Line
 linesFrom t k zero = []
 linesFrom t k (suc n) = withCorner (cornerAt t k) (linesFrom t (k + 1) n)
 
--- The lines of all leaves of a depth of at most 4, by a sweep over the corners, as the code goes. The sentence "prints each leaf in key order" is the
--- theorems `in-key-order` and `every-leaf`.
+-- The lines of all leaves of a depth of at most 4, and of no others, by a sweep over the corners, as the code goes. The sentence "prints each leaf in key
+-- order" is the theorems `in-key-order`, `every-leaf`, `only-leaves` and `one-line`.
 abbrev pub listed : Tree → List Line
 listed t = linesFrom t 0 256
 
@@ -63,3 +65,12 @@ keysFrom b (l ∷ ls) = (b ≤ l .key) × keysFrom (suc (l .key)) ls
 -- a line is one of a list
 abbrev pub Among : Line → List Line → Type 0
 Among l ls = (before : List Line) × (after : List Line) × (ls ≡ before ++ l ∷ after)
+
+-- "A leaf is a cell in use that no split of the list, growing's included, has divided.": in the tables, a cell in use with no child
+pub record IsLeaf (t : Tree) (i : ℕ) : Type 0 where
+  pub in-use : i < cellsUsed (t .head)
+  pub undivided : words t i .child ≡ 0
+
+-- "cell, key, side, entries, lines" of cell i, by its words and its stream; "A cell's key is that of its low corner."
+abbrev pub leafLine : Tree → ℕ → Line
+leafLine t i = record { cell = i; key = keyOf (words t i .x) (words t i .y); side = words t i .side; entries = words t i .count; lines = linesIn (stream t i) }

@@ -1,10 +1,11 @@
-// The leaves of a tree in key order, as lines in a table of five words a line.
-use leaf::FoundLeaf;
+// The leaves of a tree of a depth of at most 4 in key order, as lines in a table of five words a line: 256 lines at most. A leaf that is deeper, of a
+// side below 4,096, has no line. The leaf lister grows to depth limit 4 and has no such leaf; after growing deeper the list is not all leaves.
+use find_leaf::FoundLeaf;
 ghost use mathlib.Core.Path.{_≡_};
 ghost use mathlib.Core.List.{[]};
 ghost use Prim.Native.Nat.{_+_, _*_, _≤_, _<_};
 ghost use lib.ListN.{length};
-ghost use Rattle.tree.specs.Tables.{tree};
+ghost use Rattle.split.specs.Tables.{tree};
 ghost use Rattle.listing.specs.Listed.{everyOther, cornerX, cornerY, ifLow, ofAnswer, cornerAt, withCorner, listed};
 ghost use Rattle.listing.specs.Numbers.{putAt, written, lineAt};
 
@@ -65,13 +66,13 @@ fn if_low(f: FoundLeaf, x: u32, y: u32) -> Corner
     Corner::Other
 }
 
-fn of_answer(a: leaf::Answer, x: u32, y: u32) -> Corner
+fn of_answer(a: find_leaf::Answer, x: u32, y: u32) -> Corner
     requires { ⌜ (x < 65536) × (y < 65536) ⌝ }
     ensures { λ r. ⌜ r ≡ ofAnswer x y a ⌝ }
 {
     match a {
-        leaf::Answer::Found(f) => if_low(f, x, y),
-        leaf::Answer::Not(_) => Corner::Other,
+        find_leaf::Answer::Found(f) => if_low(f, x, y),
+        find_leaf::Answer::Not(_) => Corner::Other,
     }
 }
 
@@ -91,7 +92,7 @@ fn corner_at(
 {
     let x = corner_x(k);
     let y = corner_y(k);
-    let a = leaf::find_leaf(plan, areas, xs, ys, head, cells, entries, x, y);
+    let a = find_leaf::find_leaf(plan, areas, xs, ys, head, cells, entries, x, y);
     of_answer(a, x, y)
 }
 
@@ -121,7 +122,8 @@ fn put_corner(rows: &mut [u32], n: usize, p: Corner) -> usize
     }
 }
 
-// Writes the lines of all leaves of a depth of at most 4, in key order, and gives how many there are.
+// Writes the lines of all leaves of a depth of at most 4, in key order, and gives how many there are; deeper leaves are left out. Any tables may be
+// handed in: a corner whose leaf would be refused has no line.
 pub fn list_leaves(
     plan: &[u32],
     areas: &[u32],

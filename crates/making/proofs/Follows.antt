@@ -31,8 +31,8 @@ use Rattle.cells.proofs.Making.{entry-some}
 use Rattle.pruner.specs.declared.Pruner.{Pruner}
 use Rattle.pruner.specs.Numbers as Numbers
 use Rattle.pruner.specs.Numbers.{counted}
-use Rattle.reading.specs.Reading.{opaqueAt}
-use Rattle.reading.specs.Words.{Agrees}
+use Rattle.evaluate.specs.Reading.{opaqueAt}
+use Rattle.evaluate.specs.Words.{Agrees}
 use Rattle.making.specs.declared.Waiting as Declared
 use Rattle.making.specs.Numbers.{waiting, resting, withClass, withLeft, classN, settledN}
 

@@ -32,8 +32,8 @@ use Rattle.cells.specs.Segments as Segments
 use Rattle.cells.specs.Segments.{Segment, drawn}
 use Rattle.cells.specs.Rows as Rows
 use Rattle.cells.specs.Rows.{Decoded, dec, entriesOf, decodeRow, decode}
-use Rattle.reading.specs.Reading.{rowFor, rowsIn, roleAt}
-use Rattle.reading.proofs.Laws.{both, area-below}
+use Rattle.evaluate.specs.Reading.{rowFor, rowsIn, roleAt}
+use Rattle.evaluate.proofs.Laws.{both, area-below}
 use Rattle.ranges.proofs.Groups.{opens, kindBy, kindOn, Nested, nested-open, nested-right, nested-outer, fits-end, fits-open, fits-bar, fits-close}
 
 -- ---- one entry of a stream that passes

@@ -14,7 +14,7 @@ use Rattle.drawing.specs.Tables.{fieldsAt}
 use Rattle.cells.specs.Drawings.{fieldsOf, kindOf, ruleOf}
 use Rattle.stream.specs.declared.Bounds.{Bounds}
 use Rattle.stream.specs.Grammar.{env}
-use Rattle.reading.specs.Words.{Agrees}
+use Rattle.evaluate.specs.Words.{Agrees}
 use Rattle.ranges.specs.Held.{fieldsFrom, lent}
 use Rattle.ranges.proofs.Reading.{fields-at}
 use Rattle.making.proofs.Standing.{Reads}

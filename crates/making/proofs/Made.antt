@@ -9,7 +9,7 @@ use borrow.Author.Tests.{lt-leb}
 use Rattle.cells.specs.Cells.{Cell}
 use Rattle.cells.specs.Drawings.{Drawing}
 use Rattle.stream.specs.declared.Words.{Words}
-use Rattle.reading.specs.Words.{wordsOf}
+use Rattle.evaluate.specs.Words.{wordsOf}
 use Rattle.making.specs.Made.{rowsMade, wordsMade}
 use Rattle.making.specs.Numbers.{levelFrom}
 

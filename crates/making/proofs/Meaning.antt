@@ -22,10 +22,10 @@ use Rattle.stream.specs.Entry as Entries
 use Rattle.stream.specs.Entry.{area, line, shortcut, bad, startRange}
 use Rattle.stream.specs.Grammar as Stream
 use Rattle.stream.specs.Grammar.{Env, env, Place, at, isGood, areaMet, after, course, isWhole, accepts}
-use Rattle.reading.specs.Reading.{rowFor, rowsIn, roleAt, passAt, opaqueAt, setAt}
-use Rattle.reading.specs.Words.{EachAgrees}
-use Rattle.reading.proofs.Laws.{both, area-below, line-used}
-use Rattle.reading.proofs.Words.{agreed-read}
+use Rattle.evaluate.specs.Reading.{rowFor, rowsIn, roleAt, passAt, opaqueAt, setAt}
+use Rattle.evaluate.specs.Words.{EachAgrees}
+use Rattle.evaluate.proofs.Laws.{both, area-below, line-used}
+use Rattle.evaluate.proofs.Words.{agreed-read}
 use Rattle.ranges.specs.Held.{lent}
 use Rattle.ranges.proofs.Reading.{SameOn, read-same}
 use Rattle.making.proofs.Grammar.{one-passes, entries-flat}

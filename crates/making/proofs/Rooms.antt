@@ -14,8 +14,8 @@ use Rattle.pruning.specs.Weights.{sized, sizedItems, sizeOf}
 use Rattle.pruner.specs.declared.Pruner.{Pruner}
 use Rattle.pruner.specs.Numbers.{counted, classOf}
 use Rattle.pruner.proofs.Near.{Near, near-same, item-near, counted-weight, counted-base, counted-skip, counted-depth}
-use Rattle.reading.specs.Reading.{roleAt, passAt}
-use Rattle.reading.proofs.Laws.{small-back}
+use Rattle.evaluate.specs.Reading.{roleAt, passAt}
+use Rattle.evaluate.proofs.Laws.{small-back}
 use Rattle.making.specs.declared.Waiting.{Waiting}
 use Rattle.making.specs.Numbers.{classN, settledN, movedN, prunedN, Room}
 

@@ -21,7 +21,7 @@ use Rattle.stream.specs.declared.Words.{Words}
 use Rattle.stream.specs.Entry as Entries
 use Rattle.stream.specs.Entry.{decode}
 use Rattle.stream.specs.Grammar.{Env, accepts}
-use Rattle.reading.specs.Reading.{rowFor, rowsIn}
+use Rattle.evaluate.specs.Reading.{rowFor, rowsIn}
 use Rattle.making.specs.Made.{rowsMade}
 use Rattle.making.proofs.Follows.{stateOf, waitingOf, rowsFor, step-fits, step-short}
 use Rattle.making.proofs.Standing.{Reads}

@@ -28,8 +28,8 @@ use Rattle.stream.specs.Entry as Entries
 use Rattle.stream.specs.Entry.{decode}
 use Rattle.stream.specs.Grammar.{Env, Place, at, course, isWhole}
 use Rattle.pruner.specs.declared.Pruner.{Pruner}
-use Rattle.reading.specs.Reading.{rowFor, rowsIn}
-use Rattle.reading.specs.Words.{Agrees}
+use Rattle.evaluate.specs.Reading.{rowFor, rowsIn}
+use Rattle.evaluate.specs.Words.{Agrees}
 use Rattle.ranges.proofs.Groups.{opens}
 use Rattle.making.specs.declared.Waiting.{Waiting}
 use Rattle.making.proofs.Follows.{stateOf, row-some, Follows}

@@ -39,8 +39,8 @@ use Rattle.stream.specs.Grammar.{Env, at, after, inRange, isGood, areaMet}
 use Rattle.pruner.specs.declared.Pruner.{Pruner}
 use Rattle.pruner.specs.Numbers.{counted, baseOf, skipIn}
 use Rattle.pruner.proofs.Near.{counted-weight, counted-base, counted-skip, counted-depth}
-use Rattle.reading.specs.Reading.{rowFor, rowsIn}
-use Rattle.reading.proofs.Laws.{both, area-below, start-small, shortcut-small, line-used}
+use Rattle.evaluate.specs.Reading.{rowFor, rowsIn}
+use Rattle.evaluate.proofs.Laws.{both, area-below, start-small, shortcut-small, line-used}
 use Rattle.cells.proofs.Bounds.{sign-abs}
 use Rattle.ranges.proofs.Groups.{opens, opens-length}
 use Rattle.making.specs.declared.Waiting as Declared

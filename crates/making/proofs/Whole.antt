@@ -19,7 +19,7 @@ use Rattle.stream.specs.Grammar as Stream
 use Rattle.stream.specs.Grammar.{Env, accepts}
 use Rattle.pruner.specs.declared.Pruner.{Pruner}
 use Rattle.pruner.specs.Numbers.{counted}
-use Rattle.reading.specs.Reading.{rowsIn}
+use Rattle.evaluate.specs.Reading.{rowsIn}
 use Rattle.making.specs.declared.Waiting.{Waiting}
 use Rattle.making.specs.Made.{rowsMade}
 use Rattle.making.specs.Numbers.{resting, settledN}

@@ -6,8 +6,8 @@ use Rattle.cells.specs.Drawings.{Drawing}
 use Rattle.cells.specs.Streams.{made}
 use Rattle.cells.specs.Rows.{Row, rowsOf, streamOf, roleIn}
 use Rattle.stream.specs.declared.Words.{Words}
-use Rattle.reading.specs.Reading.{rowsIn}
-use Rattle.reading.specs.Words.{wordsOf}
+use Rattle.evaluate.specs.Reading.{rowsIn}
+use Rattle.evaluate.specs.Words.{wordsOf}
 
 -- "A child is made from its parent's stream by this rule, orders kept. ... It is then pruned". The areas and corners that entries name are the drawing's.
 unfoldable pub rowsMade : Drawing → Cell → List Words → List Row

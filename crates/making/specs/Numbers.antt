@@ -25,7 +25,7 @@ use Rattle.pruner.specs.Numbers.{classOf}
 use Rattle.stream.specs.declared.Words.{Words}
 use Rattle.stream.specs.Entry.{startRange, signRange}
 use Rattle.stream.specs.Grammar.{lineRange}
-use Rattle.reading.specs.Reading.{roleAt, passAt, opaqueAt}
+use Rattle.evaluate.specs.Reading.{roleAt, passAt, opaqueAt}
 use Rattle.making.specs.declared.Waiting.{Waiting}
 use Rattle.making.specs.declared.Maker.{Maker}
 

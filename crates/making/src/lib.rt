@@ -97,7 +97,7 @@ fn named(w: Words) -> Waiting
     requires { ⌜ startRange (w .q) ≡ true ⌝ }
     ensures { λ r. ⌜ r ≡ waiting true (w .p) (toZ w32 (w .q)) 4294967297 ⌝ }
 {
-    let z = reading::start_of(w);
+    let z = evaluate::start_of(w);
     Waiting {
         waits: true,
         number: w.p,
@@ -176,7 +176,7 @@ pub fn class_of(areas: &[u32], a: Waiting) -> u32
 {
     if a.weight == 4294967297 {
         let at = (a.number as usize) * 8;
-        if reading::area_passes(areas, a.number as usize, a.start) {
+        if evaluate::area_passes(areas, a.number as usize, a.start) {
             if areas[at] == 0 {
                 if areas[at + 2] == 255 {
                     return 1;

@@ -10,7 +10,7 @@ use Rattle.records.specs.declared.Record.{Record}
 use Rattle.records.specs.declared.Record.the-variants.{Area, First, Next, Open, Bar, Close}
 use Rattle.records.specs.Record.{areaRange}
 use Rattle.grammar.specs.Grammar as Grammar
-use Rattle.reader.specs.Words.{spread}
+use Rattle.read.specs.Words.{spread}
 use Rattle.drawing.specs.Held.{Acceptable}
 use Rattle.pruning.specs.Sides.{end, leaf, group}
 use Rattle.cells.specs.Cells.{at}

@@ -13,8 +13,8 @@ use Rattle.records.specs.declared.Decoded.the-variants.{Good}
 use Rattle.records.specs.Record.{inRange}
 use Rattle.grammar.specs.declared.Counts.{Counts}
 use Rattle.grammar.specs.Lists.{areasIn, cornersIn}
-use Rattle.reader.specs.Words.{Has, rowW, spread, allRange, areaWords, xWords, yWords}
-use Rattle.reader.proofs.Files.{areas-length, xs-length, ys-length}
+use Rattle.read.specs.Words.{Has, rowW, spread, allRange, areaWords, xWords, yWords}
+use Rattle.read.proofs.Files.{areas-length, xs-length, ys-length}
 use Rattle.drawing.specs.Tables.{Tables, cursor, areaRow}
 use Rattle.drawing.specs.Held.{Acceptable, Holding}
 use Rattle.drawing.proofs.Has.{has-left, has-right, has-at, has-same, has-take}

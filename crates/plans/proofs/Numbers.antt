@@ -13,7 +13,7 @@ use Rattle.records.specs.declared.Record.{Record}
 use Rattle.records.specs.declared.Record.the-variants.{Area, First, Next, Open, Bar, Close}
 use Rattle.records.specs.Record.{areaRange, cornerRange, inRange}
 use Rattle.grammar.specs.Lists.{areasIn, cornersIn}
-use Rattle.reader.specs.Words.{spread, xWords, yWords, allRange}
+use Rattle.read.specs.Words.{spread, xWords, yWords, allRange}
 use Rattle.pruning.specs.Sides.{Kind, paint, clip, Side, end, leaf, group, Entry, item, push, activate, pop, flat}
 use Rattle.cells.specs.Drawings.{noFields, kindOf}
 use Rattle.cells.specs.Streams.{Each, On}

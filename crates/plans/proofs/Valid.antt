@@ -5,8 +5,8 @@ use native.Mathlib.Omega.{arith}
 use lib.ListN.{length}
 use Rattle.records.specs.declared.Record.{Record}
 use Rattle.grammar.specs.declared.Counts.{Counts}
-use Rattle.reader.specs.Words.{xWords}
-use Rattle.reader.proofs.Files.{xs-length, ys-length}
+use Rattle.read.specs.Words.{xWords}
+use Rattle.read.proofs.Files.{xs-length, ys-length}
 use Rattle.drawing.specs.Held.{Acceptable}
 use Rattle.pruning.specs.Sides.{paint, flat}
 use Rattle.pruning.specs.Grammar.{tree}

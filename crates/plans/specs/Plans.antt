@@ -5,7 +5,7 @@ use Rattle.geometry.specs.Windings.{Contour, contour}
 use Rattle.records.specs.declared.Fields.{Fields}
 use Rattle.records.specs.declared.Record.{Record}
 use Rattle.records.specs.declared.Record.the-variants.{Area, First, Next, Open, Bar, Close}
-use Rattle.reader.specs.Words.{xWords, yWords}
+use Rattle.read.specs.Words.{xWords, yWords}
 use Rattle.pruning.specs.Sides.{Entry, item, push, activate, pop}
 use Rattle.pruning.specs.Grammar.{tree}
 use Rattle.cells.specs.Drawings.{Drawing, kindOf}

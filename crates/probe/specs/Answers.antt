@@ -11,7 +11,7 @@ use Rattle.celltable.specs.Ranges.{squareRange}
 use Rattle.stream.specs.declared.Words.{Words}
 use Rattle.stream.specs.Table.{wordsFrom, written}
 use Rattle.stream.specs.Grammar.{Env, checkStream}
-use Rattle.reading.specs.Reading.{setAt}
+use Rattle.evaluate.specs.Reading.{setAt}
 use Rattle.ranges.specs.Held.{lent}
 use Rattle.making.specs.Made.{rowsMade, wordsMade}
 use Rattle.making.specs.Numbers.{cellIn}

@@ -69,7 +69,7 @@ pub extern "C" fn probe_read(
     let passes = stream::check_stream(entries, first, count, used, areas, xs, ys, b);
     if passes {
         if (x <= 65535) & (y <= 65535) {
-            return reading::read_stream(entries, first, count, areas, xs, ys, b, x, y);
+            return evaluate::read_stream(entries, first, count, areas, xs, ys, b, x, y);
         }
         return 0;
     }
@@ -109,7 +109,7 @@ fn entries_made(
     ensures { λ r. ⌜ r ≡ length (childRows (now (entries .entry)) first count (env (now (areas .entry)) (now (xs .entry)) (now (ys .entry)) b) s) ⌝ }
     ensures { λ r. ⌜ r < 65536 ⌝ }
 {
-    let k = child::count_child(entries, first, count, areas, xs, ys, b, s);
+    let k = child_stream::count_child(entries, first, count, areas, xs, ys, b, s);
     (k.weight % 65536) as usize
 }
 
@@ -132,7 +132,7 @@ fn write_if_room(
 {
     let n = entries_made(entries, first, count, areas, xs, ys, b, s);
     if used + n <= entries.len() / 4 {
-        child::write_child(entries, first, count, used, n, areas, xs, ys, b, s);
+        child_stream::write_child(entries, first, count, used, n, areas, xs, ys, b, s);
         return (n as u64) + 1;
     }
     0

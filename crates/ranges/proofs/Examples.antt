@@ -17,7 +17,7 @@ use Rattle.cells.specs.Cells.{root}
 use Rattle.cells.specs.Drawings.{Drawing, fieldsOf}
 use Rattle.cells.specs.Streams.{source, made}
 use Rattle.cells.specs.Rows.{rowsOf}
-use Rattle.reading.specs.Words.{wordsOf}
+use Rattle.evaluate.specs.Words.{wordsOf}
 use Rattle.ranges.specs.Valid.{CornersBelow, lines, Valid}
 use Rattle.ranges.specs.Held.{Held}
 use Rattle.ranges.proofs.Streams.{made-passes}

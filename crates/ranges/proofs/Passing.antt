@@ -19,7 +19,7 @@ use Rattle.stream.specs.Grammar.{Env, isGood, areaMet, lineRange, shortcutRange
 use Rattle.cells.specs.Segments.{Segment, drawn, shortcut}
 use Rattle.cells.specs.Streams.{Item, always, area, On}
 use Rattle.cells.specs.Rows.{bar, closes, segment, itemRows, rowsOf}
-use Rattle.reading.specs.Words.{words, wordsOf}
+use Rattle.evaluate.specs.Words.{words, wordsOf}
 use Rattle.ranges.specs.Valid.{depth, weigh}
 use Rattle.ranges.proofs.Weights.{oneArea, segments, rows-append}
 

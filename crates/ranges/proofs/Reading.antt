@@ -22,9 +22,9 @@ use Rattle.cells.specs.Segments.{Segment, drawn, shortcut, addsAt}
 use Rattle.cells.specs.Drawings.{Drawing, noFields, fieldsOf, kindOf, ruleOf, shownAt}
 use Rattle.cells.specs.Streams.{Item, always, area, Each, On, source, made}
 use Rattle.cells.specs.Rows.{Row, opens, bar, closes, bare, named, segment, rowsOf, settled, waits, State, state, settle, addTo, onRow, onRows, readRows}
-use Rattle.reading.specs.Reading.{rowsIn, roleAt, passAt, opaqueAt, setAt}
-use Rattle.reading.specs.Words.{wordsOf, Agrees}
-use Rattle.reading.proofs.Words.{cell-words-read}
+use Rattle.evaluate.specs.Reading.{rowsIn, roleAt, passAt, opaqueAt, setAt}
+use Rattle.evaluate.specs.Words.{wordsOf, Agrees}
+use Rattle.evaluate.proofs.Words.{cell-words-read}
 use Rattle.ranges.specs.Valid.{Valid}
 use Rattle.ranges.specs.Held.{fieldsFrom, Held}
 use Rattle.ranges.proofs.Segments.{EachIn}

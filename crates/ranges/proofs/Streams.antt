@@ -15,7 +15,7 @@ use Rattle.cells.specs.Cells.{Cell, low, side}
 use Rattle.cells.specs.Drawings.{Drawing}
 use Rattle.cells.specs.Streams.{source, made}
 use Rattle.cells.specs.Rows.{rowsOf}
-use Rattle.reading.specs.Words.{wordsOf}
+use Rattle.evaluate.specs.Words.{wordsOf}
 use Rattle.ranges.specs.Valid.{Valid}
 use Rattle.ranges.specs.Held.{Held}
 use Rattle.ranges.proofs.Depth.{made-depth}

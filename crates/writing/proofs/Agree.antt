@@ -13,7 +13,7 @@ use Rattle.stream.specs.declared.Words.{Words}
 use Rattle.stream.specs.Table.{wordsAt, wordsFrom, putAt}
 use Rattle.stream.proofs.Table.{put-same, length-put}
 use Rattle.cells.specs.Rows.{Row}
-use Rattle.reading.specs.Words.{wordsOf}
+use Rattle.evaluate.specs.Words.{wordsOf}
 use Rattle.writing.specs.Numbers.{putBelow}
 
 -- ---- one entry

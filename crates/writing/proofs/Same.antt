@@ -13,7 +13,7 @@ use Rattle.geometry.specs.declared.class.Class.the-variants.{Dropped, Start, Sh
 use Rattle.pruning.specs.Counters.{Count, lengthOf}
 use Rattle.pruner.specs.Numbers.{counted, baseOf, skipIn}
 use Rattle.stream.specs.declared.Words.{Words}
-use Rattle.reading.specs.Words.{words}
+use Rattle.evaluate.specs.Words.{words}
 use Rattle.making.specs.declared.Maker.{Maker}
 use Rattle.making.specs.Numbers.{classN, settledN}
 use Rattle.writing.specs.Numbers.{putBelow, placeOf, keptPut, segmentPut, classPut, settledPut, markOn, onePut}

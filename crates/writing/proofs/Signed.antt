@@ -13,7 +13,7 @@ use borrow.Author.Tests.{ltb-true}
 use Rattle.laws.proofs.Booleans.{clash}
 use Rattle.laws.proofs.Differences.{sub-pos}
 use Rattle.laws.proofs.Signed.{reads, fits-as}
-use Rattle.reading.proofs.Laws.{small-back}
+use Rattle.evaluate.proofs.Laws.{small-back}
 
 -- what the cast asks, of a number that is n
 abbrev pub Casts : ℤ → ℕ → Type 0

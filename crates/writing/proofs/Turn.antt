@@ -37,9 +37,9 @@ use Rattle.stream.specs.Entry.{decode}
 use Rattle.stream.specs.Grammar.{Env}
 use Rattle.pruner.specs.Numbers.{counted, skipIn, baseOf}
 use Rattle.pruner.proofs.Near.{counted-weight}
-use Rattle.reading.specs.Reading.{rowFor}
-use Rattle.reading.specs.Words.{words, wordsOf}
-use Rattle.reading.proofs.Laws.{line-used}
+use Rattle.evaluate.specs.Reading.{rowFor}
+use Rattle.evaluate.specs.Words.{words, wordsOf}
+use Rattle.evaluate.proofs.Laws.{line-used}
 use Rattle.making.specs.declared.Maker.{Maker}
 use Rattle.making.specs.Numbers.{leftSign, leftClass, waitingN, settledN, prunedN}
 use Rattle.making.proofs.Follows.{stateOf, settle-counts, settle-fits, settle-short, kept-weight}

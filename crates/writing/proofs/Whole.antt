@@ -14,7 +14,7 @@ use Rattle.cells.specs.Making.{Making, settle}
 use Rattle.stream.specs.declared.Words.{Words}
 use Rattle.stream.specs.Table.{wordsFrom, flat}
 use Rattle.stream.specs.Grammar.{Env, accepts}
-use Rattle.reading.specs.Reading.{rowsIn}
+use Rattle.evaluate.specs.Reading.{rowsIn}
 use Rattle.making.specs.declared.Maker.{Maker}
 use Rattle.making.specs.Made.{rowsMade, wordsMade}
 use Rattle.making.proofs.Made.{made-length}

@@ -35,7 +35,7 @@ use Rattle.stream.specs.declared.Words.{Words}
 use Rattle.pruner.specs.declared.Pruner.{Pruner}
 use Rattle.pruner.specs.Numbers.{counted, baseOf, skipIn}
 use Rattle.pruner.proofs.Near.{counted-weight, counted-base, counted-skip}
-use Rattle.reading.specs.Words.{words, wordsOf, Agrees}
+use Rattle.evaluate.specs.Words.{words, wordsOf, Agrees}
 use Rattle.making.specs.declared.Maker.{Maker}
 use Rattle.making.specs.Numbers.{classN}
 use Rattle.making.proofs.Follows.{stateOf, waitingOf, waitingFor, Follows, class-is}

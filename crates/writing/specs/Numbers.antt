@@ -15,7 +15,7 @@ use Rattle.pruner.specs.declared.Pruner.{Pruner}
 use Rattle.pruner.specs.Numbers.{counted, baseOf, skipIn}
 use Rattle.stream.specs.declared.Words.{Words}
 use Rattle.stream.specs.Table.{putAt}
-use Rattle.reading.specs.Words.{words}
+use Rattle.evaluate.specs.Words.{words}
 use Rattle.making.specs.declared.Maker.{Maker}
 use Rattle.making.specs.Numbers.{classN, settledN}
 

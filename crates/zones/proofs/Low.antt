@@ -12,15 +12,15 @@ use Rattle.grammar.specs.declared.Verdict.{Verdict}
 use Rattle.grammar.specs.declared.Verdict.the-variants.{Accepted, Refused}
 use Rattle.grammar.specs.Grammar.{checked, Verdict·place}
 use Rattle.grammar.proofs.Laws.{place-below}
-use Rattle.reader.specs.Reading.{decodedIn, verdictOf, holds, ifRoom, readAnswer}
-use Rattle.reader.proofs.Files.{filed, length-from}
+use Rattle.read.specs.Reading.{decodedIn, verdictOf, holds, ifRoom, readAnswer}
+use Rattle.read.proofs.Files.{filed, length-from}
 use Rattle.drawing.specs.declared.Written.the-variants.{Bytes, Not}
 use Rattle.drawing.specs.Tables.{Tables, drawingOf, writtenOf, writeAnswer}
 use Rattle.drawing.proofs.Rows.{drawn}
-use Rattle.tree.specs.Tables.{Tree}
-use Rattle.splits.specs.After.{splitTree}
-use Rattle.growth.specs.Grow.{Round, splits, done, full, broken, round, goOn, growing, Ending, none-left, no-room, not-passed, grown, answerBy, answerOf, growAnswer}
-use Rattle.growth.specs.declared.Answer.the-variants as growth
+use Rattle.split.specs.Tables.{Tree}
+use Rattle.split_laws.specs.After.{splitTree}
+use Rattle.grow.specs.Grow.{Round, splits, done, full, broken, round, goOn, growing, Ending, none-left, no-room, not-passed, grown, answerBy, answerOf, growAnswer}
+use Rattle.grow.specs.declared.Answer.the-variants as growth
 use Rattle.answers.specs.Answers.{readLow, writeLow, growSplits}
 
 verdict-place : (b : List ℕ) → Verdict·place (verdictOf b) ≤ 4096

@@ -6,14 +6,14 @@ pub mod readings;
 
 ghost use mathlib.Core.Path.{_≡_};
 ghost use lib.ListN.{length};
-ghost use Rattle.reader.specs.Words.{planWords, areaWords, xWords, yWords, fileOf};
-ghost use Rattle.reader.specs.Reading.{recordsIn, readAnswer, leftBy};
+ghost use Rattle.read.specs.Words.{planWords, areaWords, xWords, yWords, fileOf};
+ghost use Rattle.read.specs.Reading.{recordsIn, readAnswer, leftBy};
 ghost use Rattle.drawing.specs.Tables.{tables, drawnIn, writeAnswer, outAfter};
-ghost use Rattle.tree.specs.Tables.{tree};
-ghost use Rattle.tree.specs.Split.{splitAnswer, headAfter, cellsAfter, entriesAfter};
-ghost use Rattle.newtree.specs.Open.{openAnswer, headOpened, cellsOpened, entriesOpened};
-ghost use Rattle.leaf.specs.Leaf.{findAnswer};
-ghost use Rattle.growth.specs.Grow.{growAnswer, growTree};
+ghost use Rattle.split.specs.Tables.{tree};
+ghost use Rattle.split.specs.Split.{splitAnswer, headAfter, cellsAfter, entriesAfter};
+ghost use Rattle.open.specs.Open.{openAnswer, headOpened, cellsOpened, entriesOpened};
+ghost use Rattle.find_leaf.specs.Leaf.{findAnswer};
+ghost use Rattle.grow.specs.Grow.{growAnswer, growTree};
 ghost use Rattle.answers.specs.Answers.{readNumber, writeNumber, openNumber, splitNumber, growNumber, findRoom, findNumber, outFound};
 
 // Reads a file of records into the four tables of a drawing. The result is the number of records.
@@ -32,7 +32,7 @@ pub extern "C" fn zones_read(
     ensures { λ r. ⌜ now (xs .exit) ≡ leftBy (readAnswer (now (records .entry)) (now (plan .entry)) (now (areas .entry)) (now (xs .entry)) (now (ys .entry))) (now (xs .entry)) (xWords (recordsIn (now (records .entry)))) ⌝ }
     ensures { λ r. ⌜ now (ys .exit) ≡ leftBy (readAnswer (now (records .entry)) (now (plan .entry)) (now (areas .entry)) (now (xs .entry)) (now (ys .entry))) (now (ys .entry)) (yWords (recordsIn (now (records .entry)))) ⌝ }
 {
-    let v = reader::read(records, plan, areas, xs, ys);
+    let v = read::read(records, plan, areas, xs, ys);
     answers::pack_read(v)
 }
 
@@ -70,7 +70,7 @@ pub extern "C" fn zones_open(
     ensures { λ r. ⌜ now (cells .exit) ≡ cellsOpened (tree (now (plan .entry)) (now (areas .entry)) (now (xs .entry)) (now (ys .entry)) (now (head .entry)) (now (cells .entry)) (now (entries .entry))) (openAnswer (tree (now (plan .entry)) (now (areas .entry)) (now (xs .entry)) (now (ys .entry)) (now (head .entry)) (now (cells .entry)) (now (entries .entry)))) ⌝ }
     ensures { λ r. ⌜ now (entries .exit) ≡ entriesOpened (tree (now (plan .entry)) (now (areas .entry)) (now (xs .entry)) (now (ys .entry)) (now (head .entry)) (now (cells .entry)) (now (entries .entry))) (openAnswer (tree (now (plan .entry)) (now (areas .entry)) (now (xs .entry)) (now (ys .entry)) (now (head .entry)) (now (cells .entry)) (now (entries .entry)))) ⌝ }
 {
-    let a = newtree::open(plan, areas, xs, ys, head, cells, entries);
+    let a = open::open(plan, areas, xs, ys, head, cells, entries);
     answers::pack_open(a)
 }
 
@@ -92,7 +92,7 @@ pub extern "C" fn zones_split(
     ensures { λ r. ⌜ now (cells .exit) ≡ cellsAfter (tree (now (plan .entry)) (now (areas .entry)) (now (xs .entry)) (now (ys .entry)) (now (head .entry)) (now (cells .entry)) (now (entries .entry))) cell (splitAnswer (tree (now (plan .entry)) (now (areas .entry)) (now (xs .entry)) (now (ys .entry)) (now (head .entry)) (now (cells .entry)) (now (entries .entry))) cell) ⌝ }
     ensures { λ r. ⌜ now (entries .exit) ≡ entriesAfter (tree (now (plan .entry)) (now (areas .entry)) (now (xs .entry)) (now (ys .entry)) (now (head .entry)) (now (cells .entry)) (now (entries .entry))) cell (splitAnswer (tree (now (plan .entry)) (now (areas .entry)) (now (xs .entry)) (now (ys .entry)) (now (head .entry)) (now (cells .entry)) (now (entries .entry))) cell) ⌝ }
 {
-    let a = tree::split(plan, areas, xs, ys, head, cells, entries, cell);
+    let a = split::split(plan, areas, xs, ys, head, cells, entries, cell);
     answers::pack_split(a)
 }
 
@@ -116,7 +116,7 @@ pub extern "C" fn zones_grow(
     ensures { λ r. ⌜ now (cells .exit) ≡ growTree (tree (now (plan .entry)) (now (areas .entry)) (now (xs .entry)) (now (ys .entry)) (now (head .entry)) (now (cells .entry)) (now (entries .entry))) threshold limit .cells ⌝ }
     ensures { λ r. ⌜ now (entries .exit) ≡ growTree (tree (now (plan .entry)) (now (areas .entry)) (now (xs .entry)) (now (ys .entry)) (now (head .entry)) (now (cells .entry)) (now (entries .entry))) threshold limit .entries ⌝ }
 {
-    let a = growth::grow(plan, areas, xs, ys, head, cells, entries, threshold, limit);
+    let a = grow::grow(plan, areas, xs, ys, head, cells, entries, threshold, limit);
     answers::pack_grow(a)
 }
 
@@ -138,6 +138,6 @@ pub extern "C" fn zones_find_leaf(
     ensures { λ r. ⌜ r ≡ findNumber (findRoom (findAnswer (tree (now (plan .entry)) (now (areas .entry)) (now (xs .entry)) (now (ys .entry)) (now (head .entry)) (now (cells .entry)) (now (entries .entry))) x y) (length (now (out .entry)))) ⌝ }
     ensures { λ r. ⌜ now (out .exit) ≡ outFound (findRoom (findAnswer (tree (now (plan .entry)) (now (areas .entry)) (now (xs .entry)) (now (ys .entry)) (now (head .entry)) (now (cells .entry)) (now (entries .entry))) x y) (length (now (out .entry)))) (now (out .entry)) ⌝ }
 {
-    let a = leaf::find_leaf(plan, areas, xs, ys, head, cells, entries, x, y);
+    let a = find_leaf::find_leaf(plan, areas, xs, ys, head, cells, entries, x, y);
     answers::put_found(out, a)
 }

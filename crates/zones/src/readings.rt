@@ -1,10 +1,10 @@
 // The calls that answer from a tree, exported for C.
 ghost use mathlib.Core.Path.{_≡_};
 ghost use lib.ListN.{length};
-ghost use Rattle.tree.specs.Tables.{tree};
-ghost use Rattle.query.specs.Spots.{positionAnswer};
-ghost use Rattle.logs.specs.Logs.{logAnswer, outAfter};
-ghost use Rattle.pixels.specs.Rows.{rowFilled};
+ghost use Rattle.split.specs.Tables.{tree};
+ghost use Rattle.position.specs.Spots.{positionAnswer};
+ghost use Rattle.zone_log.specs.Logs.{logAnswer, outAfter};
+ghost use Rattle.pixel_row.specs.Rows.{rowFilled};
 ghost use Rattle.answers.specs.Readings.{spotRoom, spotNumber, outSpot, logNumber, rowNumber};
 
 // What shows at (x, y), written as six words: the low and the high half of the set, material, red, green, blue. The result is the material.
@@ -25,7 +25,7 @@ pub extern "C" fn zones_position(
     ensures { λ r. ⌜ r ≡ spotNumber (spotRoom (positionAnswer (tree (now (plan .entry)) (now (areas .entry)) (now (xs .entry)) (now (ys .entry)) (now (head .entry)) (now (cells .entry)) (now (entries .entry))) x y) (length (now (out .entry)))) ⌝ }
     ensures { λ r. ⌜ now (out .exit) ≡ outSpot (spotRoom (positionAnswer (tree (now (plan .entry)) (now (areas .entry)) (now (xs .entry)) (now (ys .entry)) (now (head .entry)) (now (cells .entry)) (now (entries .entry))) x y) (length (now (out .entry)))) (now (out .entry)) ⌝ }
 {
-    let a = query::position(plan, areas, xs, ys, head, cells, entries, x, y);
+    let a = position::position(plan, areas, xs, ys, head, cells, entries, x, y);
     answers::put_shown(out, a)
 }
 
@@ -47,7 +47,7 @@ pub extern "C" fn zones_zone_log(
     ensures { λ r. ⌜ r ≡ logNumber (logAnswer (tree (now (plan .entry)) (now (areas .entry)) (now (xs .entry)) (now (ys .entry)) (now (head .entry)) (now (cells .entry)) (now (entries .entry))) (now (px .entry)) (now (py .entry)) (length (now (out .entry)))) ⌝ }
     ensures { λ r. ⌜ now (out .exit) ≡ outAfter (tree (now (plan .entry)) (now (areas .entry)) (now (xs .entry)) (now (ys .entry)) (now (head .entry)) (now (cells .entry)) (now (entries .entry))) (now (px .entry)) (now (py .entry)) (logAnswer (tree (now (plan .entry)) (now (areas .entry)) (now (xs .entry)) (now (ys .entry)) (now (head .entry)) (now (cells .entry)) (now (entries .entry))) (now (px .entry)) (now (py .entry)) (length (now (out .entry)))) (now (out .entry)) ⌝ }
 {
-    let a = logs::zone_log(plan, areas, xs, ys, head, cells, entries, px, py, out);
+    let a = zone_log::zone_log(plan, areas, xs, ys, head, cells, entries, px, py, out);
     answers::pack_log(a)
 }
 
@@ -70,6 +70,6 @@ pub extern "C" fn zones_pixel_row(
     ensures { λ r. ⌜ r ≡ rowNumber (rowFilled (tree (now (plan .entry)) (now (areas .entry)) (now (xs .entry)) (now (ys .entry)) (now (head .entry)) (now (cells .entry)) (now (entries .entry))) row first (now (out .entry)) .answer) ⌝ }
     ensures { λ r. ⌜ now (out .exit) ≡ rowFilled (tree (now (plan .entry)) (now (areas .entry)) (now (xs .entry)) (now (ys .entry)) (now (head .entry)) (now (cells .entry)) (now (entries .entry))) row first (now (out .entry)) .bytes ⌝ }
 {
-    let a = pixels::pixel_row(plan, areas, xs, ys, head, cells, entries, row, first, out);
+    let a = pixel_row::pixel_row(plan, areas, xs, ys, head, cells, entries, row, first, out);
     answers::pack_row(a)
 }

@@ -1,7 +1,7 @@
 -- `drawing::put_bytes` meets its contract. Assumes nothing.
 use Rattle.drawing.proofs.Rows.{bytes-table}
-use Rattle.reader.proofs.Writes.{none-at, none-table}
-use Rattle.reader.specs.Words.{onGood}
+use Rattle.read.proofs.Writes.{none-at, none-table}
+use Rattle.read.specs.Words.{onGood}
 use Rattle.records.specs.Bytes.{bytesOf}
 use mathlib.Core.Path.{ap}
 use borrow.Author.Needs.{needs}

@@ -1,7 +1,7 @@
 -- `listing::corner_at` meets its contract. Assumes nothing.
 use mathlib.Core.Path.{_∙_}
 use denote.Ref.{now}
-use Rattle.tree.specs.Tables.{tree}
+use Rattle.split.specs.Tables.{tree}
 use Rattle.listing.proofs.Order.{corner-is}
 use borrow.Author.Needs.{needs}
 use Rattle.listing.proofs.corner_at.Statement.{statement}

@@ -1,7 +1,7 @@
 -- `listing::list_leaves` meets its contract. Assumes nothing.
 use Prim.Native.Nat.{_-_}
 use native.Mathlib.Omega.{arith}
-use Rattle.tree.specs.Tables.{tree}
+use Rattle.split.specs.Tables.{tree}
 use Rattle.listing.proofs.Listing.{Listing, list-begin, list-turn, list-count, list-done}
 use borrow.Author.Needs.{needs}
 use Rattle.listing.proofs.list_leaves.Statement.{statement}

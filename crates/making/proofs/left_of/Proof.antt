@@ -3,7 +3,7 @@ use Rattle.making.proofs.left_of.Statement.{statement}
 use Rattle.making.proofs.left_of.Tie as tie
 use Rattle.laws.proofs.Tests.{tests}
 use denote.Ref.{now}
-use Rattle.reading.proofs.Laws.{line-below, line-ends}
+use Rattle.evaluate.proofs.Laws.{line-below, line-ends}
 use Rattle.making.proofs.Laws.{range-line, range-shortcut}
 
 line-left-requires : tie.Need-line-left-requires

@@ -3,7 +3,7 @@ use borrow.Author.Needs.{needs}
 use Rattle.making.proofs.shortcut_left.Statement.{statement}
 use Rattle.making.proofs.shortcut_left.Tie as tie
 use mathlib.Core.Path.{refl}
-use Rattle.reading.proofs.Laws.{other-sign}
+use Rattle.evaluate.proofs.Laws.{other-sign}
 
 cut-rows-requires : tie.Need-cut-rows-requires
 cut-rows-requires c κs = search needs

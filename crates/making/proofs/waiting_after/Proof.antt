@@ -3,7 +3,7 @@ use borrow.Author.Needs.{needs}
 use Rattle.making.proofs.waiting_after.Statement.{statement}
 use Rattle.making.proofs.waiting_after.Tie as tie
 use Rattle.laws.proofs.Tests.{tests}
-use Rattle.reading.proofs.Laws.{small-back}
+use Rattle.evaluate.proofs.Laws.{small-back}
 use native.Mathlib.Omega.{arith}
 
 named-requires : tie.Need-named-requires

@@ -4,7 +4,7 @@ use Rattle.making.proofs.with_left.Statement.{statement}
 use Rattle.making.proofs.with_left.Tie as tie
 use Rattle.making.proofs.with_left.Reads as reads
 use Rattle.laws.proofs.Signed.{reads, fits-as}
-use Rattle.reading.proofs.Laws.{sum-is, sum-fits}
+use Rattle.evaluate.proofs.Laws.{sum-is, sum-fits}
 
 enum-told : tie.Need-enum-told
 enum-told c = search needs

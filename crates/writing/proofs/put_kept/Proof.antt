@@ -2,7 +2,7 @@
 use borrow.Author.Needs.{needs}
 use Rattle.writing.proofs.put_kept.Statement.{statement}
 use Rattle.writing.proofs.put_kept.Tie as tie
-use Rattle.reading.proofs.Laws.{small-back}
+use Rattle.evaluate.proofs.Laws.{small-back}
 use native.Mathlib.Omega.{arith}
 
 enum-known-k : tie.Need-enum-known-k

@@ -2,7 +2,7 @@
 use borrow.Author.Needs.{needs}
 use Rattle.writing.proofs.put_named.Statement.{statement}
 use Rattle.writing.proofs.put_named.Tie as tie
-use Rattle.reading.proofs.Laws.{small-back}
+use Rattle.evaluate.proofs.Laws.{small-back}
 
 place-of-requires : tie.Need-place-of-requires
 place-of-requires c κs = search needs

@@ -1,7 +1,7 @@
 -- `zones::zones_grow` meets its contract. Assumes nothing.
 use mathlib.Core.Path.{ap, _∙_}
 use denote.Ref.{now}
-use Rattle.tree.specs.Tables.{tree}
+use Rattle.split.specs.Tables.{tree}
 use Rattle.answers.specs.Answers.{growNumber}
 use Rattle.zones.proofs.Low.{grow-low}
 use borrow.Author.Needs.{needs}

@@ -1,7 +1,7 @@
 -- `zones::readings::zones_pixel_row` meets its contract. Assumes nothing.
 use mathlib.Core.Path.{ap, _∙_}
 use denote.Ref.{now}
-use Rattle.tree.specs.Tables.{tree}
+use Rattle.split.specs.Tables.{tree}
 use Rattle.answers.specs.Readings.{rowNumber}
 use Rattle.zones.proofs.Rows.{row-place}
 use borrow.Author.Needs.{needs}

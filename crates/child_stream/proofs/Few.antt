@@ -1,0 +1,97 @@
+-- A stream that is made of one that passes the check has at most 64 start numbers: the array holds them all. Assumes nothing.
+use mathlib.Core.Path.{_≡_, ap}
+use mathlib.Core.Bool.{true, false}
+use mathlib.Core.List.{List, [], _∷_}
+use Prim.Native.Nat.{ℕ, _+_, _≤_}
+use native.Mathlib.Omega.{arith}
+use lib.ListN.{length, length-append}
+use lib.IntN.{ℤ}
+use borrow.Author.Tests.{ltb-true}
+use Rattle.laws.proofs.Booleans.{clash}
+use Rattle.pruning.specs.Effects.{outOf}
+use Rattle.cells.specs.Cells.{Cell}
+use Rattle.cells.specs.Drawings.{Drawing}
+use Rattle.cells.specs.Rows.{Row, opens, bar, closes, bare, named, segment}
+use Rattle.cells.specs.Making.{Waiting, nothing, held, Making, making, settle, onRow, onRows, begun}
+use Rattle.stream.specs.declared.Words.{Words}
+use Rattle.stream.specs.Entry as Entries
+use Rattle.stream.specs.Entry.{decode}
+use Rattle.stream.specs.Grammar.{Env, Place, place, at, after, course, isWhole, accepts}
+use Rattle.evaluate.specs.Reading.{rowFor, rowsIn}
+use Rattle.making.specs.Made.{rowsMade}
+use Rattle.making.proofs.Follows.{stateOf, waitingOf}
+use Rattle.making.proofs.Grammar.{Passes, one-passes}
+use Rattle.making.proofs.Standing.{Reads}
+use Rattle.making.proofs.Whole.{allOf, rows-all}
+use Rattle.child_stream.specs.Starts.{startsOf}
+use Rattle.child_stream.proofs.Fronts.{Front, withNext, settle-front, open-front, bar-front, close-front, bare-front}
+
+front-length : (zs ys : List ℤ) → Front zs ys → length zs ≤ length ys
+front-length zs ys f = omega (arith, ap length (f .is), length-append zs (f .rest))
+
+abbrev waits : Waiting → ℕ
+waits nothing = 0
+waits (held n z gs) = 1
+
+-- the areas of what is made so far, and the one that waits
+abbrev areasOf : Making → ℕ
+areasOf m = length (startsOf (outOf (stateOf m))) + waits (waitingOf m)
+
+module _ (D : Drawing) (c : Cell) where
+  settled : (m : Making) → length (startsOf (outOf (settle D c m))) ≤ areasOf m
+  settled (making x nothing) = omega arith
+  settled (making x (held n z gs)) =
+      omega (
+        arith,
+        front-length (startsOf (outOf (settle D c (making x (held n z gs))))) (withNext D c (making x (held n z gs))) (settle-front D c (making x (held n z gs))),
+        length-append (startsOf (outOf x)) (z ∷ []),
+      )
+
+  -- a row more has an area more at most, if it is one
+  row-few : (r : Row) (m : Making) → areasOf (onRow D c r m) ≤ areasOf m + length (startsOf (r ∷ []))
+  row-few opens m = omega (arith, settled m, front-length _ _ (open-front D c (settle D c m)))
+  row-few bar m = omega (arith, settled m, front-length _ _ (bar-front D c (settle D c m)))
+  row-few closes m = omega (arith, settled m, front-length _ _ (close-front D c (settle D c m)))
+  row-few bare m = omega (arith, settled m, front-length _ _ (bare-front D c (settle D c m)))
+  row-few (named n z) m = omega (arith, settled m)
+  row-few (segment g) (making x nothing) = omega arith
+  row-few (segment g) (making x (held n z gs)) = omega arith
+
+  one-more : (r : Row) (rs : List Row) → length (startsOf (r ∷ rs)) ≡ length (startsOf (r ∷ [])) + length (startsOf rs)
+  one-more opens rs = omega arith
+  one-more bar rs = omega arith
+  one-more closes rs = omega arith
+  one-more bare rs = omega arith
+  one-more (named n z) rs = omega arith
+  one-more (segment g) rs = omega arith
+
+  rows-few : (rs : List Row) (m : Making) → areasOf (onRows D c rs m) ≤ areasOf m + length (startsOf rs)
+  rows-few [] m = omega arith
+  rows-few (r ∷ rs) m = omega (arith, rows-few rs (onRow D c r m), row-few r m, one-more r rs)
+
+-- the areas of a stream that passes: "Limits: ... 64 areas"
+module _ (v : Env) where
+  one-few : (e : Entries.Entry) (p : Place) (ws : List Words) → Passes v p e ws → p .areas ≤ 64 → (after p e .areas ≤ 64 → after p e .areas + length (startsOf (rowsIn ws)) ≤ 64)
+      → p .areas + length (startsOf (rowFor e (rowsIn ws))) ≤ 64
+  one-few Entries.opens p ws h l f = f l
+  one-few Entries.bar p ws h l f = f l
+  one-few Entries.closes p ws h l f = f l
+  one-few (Entries.area n q) p ws h l f = omega (arith, f (omega (arith, ltb-true (p .areas) 64 (h .room))))
+  one-few (Entries.line a b) p ws h l f = f l
+  one-few (Entries.shortcut s a b) p ws h l f = f l
+  one-few Entries.passes p ws h l f = f l
+  one-few Entries.bad p ws h l f = clash (h .range)
+
+  all-few : (ws : List Words) (p : Place) → p .areas ≤ 64 → isWhole (course v (at p) ws) ≡ true → p .areas + length (startsOf (rowsIn ws)) ≤ 64
+  unfolding rowsIn
+  all-few [] p l h = omega arith
+  all-few (w ∷ ws) p l h = let q = one-passes v p w ws h in one-few (decode w) p ws q l (λ m. all-few ws (after p (decode w)) m (q .rest))
+
+  entries-few : (ws : List Words) → accepts v ws ≡ true → length (startsOf (rowsIn ws)) ≤ 64
+  unfolding accepts
+  entries-few ws h = omega (arith, all-few ws (place [] false 0 0) (omega arith) h)
+
+-- at most 64, so that none is lost
+pub few-starts : (v : Env) (D : Drawing) (c : Cell) (R : Reads v D) (ws : List Words) → accepts v ws ≡ true → length (startsOf (rowsMade D c ws)) ≤ 64
+few-starts v D c R ws h =
+    omega (arith, settled D c (allOf D c ws), rows-few D c (rowsIn ws) (begun D c), ap (λ (x : List Row). length (startsOf x)) (rows-all v D c R ws h), entries-few v ws h)

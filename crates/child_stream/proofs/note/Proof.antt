@@ -1,0 +1,28 @@
+-- `child_stream::note` meets its contract. Assumes nothing.
+use borrow.Author.Needs.{needs}
+use Rattle.child_stream.proofs.note.Statement.{statement}
+use Rattle.child_stream.proofs.note.Tie as tie
+use Prim.Native.Nat.{_/_}
+use borrow.Author.Tests.{lt-ltb, le-ltb}
+use Rattle.child_stream.specs.Numbers.{putStart}
+use Rattle.evaluate.proofs.Laws.{small-back}
+
+mul-z : tie.Need-mul-z
+mul-z c = search needs
+
+slice-set-from-z : tie.Need-slice-set-from-z
+slice-set-from-z c = search (needs, c .before .before .before .pre .0)
+
+same-length : tie.Need-same-length
+same-length c = search needs
+
+returns : tie.Need-returns
+unfolding putStart
+returns c = let a = c .before .before .before .args in rw (lt-ltb (a .p .weight / 4294967296) 64 (c .if1 .taken), small-back (a .a .start) (c .before .before .before .pre .1))
+
+returns-2 : tie.Need-returns-2
+unfolding putStart
+returns-2 c = let a = c .before .before .before .args in rw (le-ltb (a .p .weight / 4294967296) 64 (c .if1 .left))
+
+pub note-spec : {M : Type 1} → statement M
+note-spec = tie.close (tie.spec mul-z slice-set-from-z same-length returns returns-2)

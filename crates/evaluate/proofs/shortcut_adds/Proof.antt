@@ -1,0 +1,17 @@
+-- `evaluate::shortcut_adds` meets its contract. Assumes nothing.
+use Rattle.evaluate.proofs.Laws.{other-sign}
+use Rattle.laws.proofs.Tests.{tests}
+use Rattle.evaluate.proofs.shortcut_adds.Statement.{statement}
+use Rattle.evaluate.proofs.shortcut_adds.Tie as tie
+
+returns : tie.Need-returns
+returns c = rw (c .before .before .if1 .taken) (search (tests, c .if2 .taken))
+
+returns-2 : tie.Need-returns-2
+returns-2 c = rw (c .before .before .if1 .taken) (search (tests, other-sign _ (c .before .before .before .before .before .pre) (c .if2 .left)))
+
+returns-3 : tie.Need-returns-3
+returns-3 c = rw (c .if1 .left)
+
+pub shortcut-adds-spec : {M : Type 1} → statement M
+shortcut-adds-spec = tie.close (tie.spec returns returns-2 returns-3)

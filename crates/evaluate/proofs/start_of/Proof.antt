@@ -1,0 +1,45 @@
+-- `evaluate::start_of` meets its contract. Assumes nothing.
+use mathlib.Core.Path.{_≡_, ap₂, _∙_}
+use lib.IntN.{_+ℤ_}
+use mir.Syntax.{w32, w64}
+use mir.Val.{toZ, ofZ}
+use Rattle.laws.proofs.Signed.{read-back, reads, fits-as}
+use Rattle.evaluate.proofs.Laws.{start-up, start-down, start-fits}
+use borrow.Author.Needs.{needs}
+use Rattle.evaluate.proofs.start_of.Statement.{statement}
+use Rattle.evaluate.proofs.start_of.Tie as tie
+
+difference-requires : tie.Need-difference-requires
+difference-requires c κs = search needs
+
+returns : tie.Need-returns
+returns c = read-back _ (c .difference .ok) ∙ (c .difference .ensures ∙ start-up _ (c .before .if1 .taken))
+
+difference-requires-2 : tie.Need-difference-requires-2
+difference-requires-2 c κs = search needs
+
+difference-requires-3 : tie.Need-difference-requires-3
+difference-requires-3 c κs = search needs
+
+whole : (c : tie.After-difference3) → let w = c .before .before .before .before .args .w in
+    toZ w64 (ofZ w64 (c .before .difference2 .result)) +ℤ toZ w64 (ofZ w64 (c .difference3 .result)) ≡ toZ w32 (w .q)
+whole c =
+    ap₂ _+ℤ_ (read-back _ (c .before .difference2 .ok) ∙ c .before .difference2 .ensures) (read-back _ (c .difference3 .ok) ∙ c .difference3 .ensures)
+    ∙ start-down _ (c .before .before .before .before .pre) (c .before .before .if1 .left) (search needs)
+
+add-result : tie.Need-add-result
+add-result c = fits-as (whole c) (start-fits (c .before .before .before .before .args .w .q) (search needs))
+
+returns-2 : tie.Need-returns-2
+returns-2 c = reads (whole c) (start-fits (c .before .before .before .before .args .w .q) (search needs))
+
+pub start-of-spec : {M : Type 1} → statement M
+start-of-spec =
+    tie.close
+    (tie.spec
+    difference-requires
+    returns
+    difference-requires-2
+    difference-requires-3
+    add-result
+    returns-2)

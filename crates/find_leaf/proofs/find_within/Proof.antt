@@ -1,0 +1,29 @@
+-- `find_leaf::find_within` meets its contract. Assumes nothing.
+use borrow.Author.Needs.{needs}
+use Rattle.find_leaf.proofs.find_within.Statement.{statement}
+use Rattle.find_leaf.proofs.find_within.Tie as tie
+use denote.Ref.{now}
+use Rattle.split.specs.Tables.{tree}
+use Rattle.find_leaf.proofs.Answers.{found-passed, found-yes, found-no}
+
+leaf-at-requires : tie.Need-leaf-at-requires
+leaf-at-requires c κs = search needs
+
+enum-known-f : tie.Need-enum-known-f
+enum-known-f c = search needs
+
+report-requires : tie.Need-report-requires
+report-requires c κs = let a = c .before .before .before .before .before .before .before .before .before .before .before .args in let T = tree (now (a .plan)) (now (a .areas)) (now (a .xs)) (now (a .ys)) (now (a .head)) (now (a .cells)) (now (a .entries)) in found-passed T (a .x) (a .y) (c .before .before .before .leaf-at .result) (c .before .before .before .leaf-at .ensures) _ (c .before .f .given .1)
+
+returns : tie.Need-returns
+returns c = let a = c .before .before .before .before .before .before .before .before .before .before .before .before .args in let T = tree (now (a .plan)) (now (a .areas)) (now (a .xs)) (now (a .ys)) (now (a .head)) (now (a .cells)) (now (a .entries)) in found-yes T (a .x) (a .y) (c .before .before .before .before .leaf-at .result) (c .before .before .before .before .leaf-at .ensures) _ (c .report .result) (c .before .before .f .given .1) (c .report .ensures)
+
+enum-told : tie.Need-enum-told
+enum-told c = search needs
+
+returns-2 : tie.Need-returns-2
+returns-2 c = let a = c .before .before .before .before .before .before .before .before .before .before .args in let T = tree (now (a .plan)) (now (a .areas)) (now (a .xs)) (now (a .ys)) (now (a .head)) (now (a .cells)) (now (a .entries)) in found-no T (a .x) (a .y) (c .before .before .leaf-at .result) (c .before .before .leaf-at .ensures) (c .enum-told .given .1)
+
+pub find-within-spec : {M : Type 1} → statement M
+find-within-spec =
+    tie.close (tie.spec leaf-at-requires enum-known-f report-requires returns enum-told returns-2)

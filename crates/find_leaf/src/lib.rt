@@ -1,0 +1,204 @@
+// Finding the leaf that holds a position.
+use celltable::Found;
+use celltable::Leaf;
+use refusals::Refusal;
+ghost use mathlib.Core.Path.{_≡_};
+ghost use mathlib.Core.Bool.{cond};
+ghost use Prim.Native.Nat.{_+_, _*_, _≤_};
+ghost use lib.Dec.{eqb};
+ghost use lib.ListN.{length, getD};
+ghost use Rattle.stream.specs.Table.{wordsFrom};
+ghost use Rattle.stream.specs.Grammar.{env, bounds, checkStream};
+ghost use Rattle.split.specs.Tables.{tree, countsIn};
+ghost use Rattle.find_leaf.specs.Leaf.{linesIn, leafIn, reportOf, foundBy, findAnswer};
+
+// A leaf as it is reported: its number, low corner, side, depth, and how many entries and lines it has.
+pub struct FoundLeaf {
+    pub cell: u32,
+    pub x: u32,
+    pub y: u32,
+    pub side: u32,
+    pub steps: u32,
+    pub entries: u32,
+    pub lines: u32,
+}
+
+// The leaf, or why the call was refused.
+pub enum Answer {
+    Found(FoundLeaf),
+    Not(Refusal),
+}
+
+// 12 over the numbers in use.
+pub fn counts_fit(
+    plan: &[u32],
+    areas: &[u32],
+    xs: &[u32],
+    ys: &[u32],
+    head: &[u32],
+    cells: &[u32],
+    entries: &[u32],
+) -> bool
+    ensures { λ r. ⌜ r ≡ countsIn (tree (now (plan .entry)) (now (areas .entry)) (now (xs .entry)) (now (ys .entry)) (now (head .entry)) (now (cells .entry)) (now (entries .entry))) ⌝ }
+{
+    let n = entries.len();
+    if celltable::head_fits(head, cells.len(), n) {
+        if 3 <= plan.len() {
+            let free = laws::wide(head[1]);
+            let b = split::bounds_in(plan, 0, 0);
+            return stream::used_range(n, free, areas.len(), xs.len(), ys.len(), b);
+        }
+        return false;
+    }
+    false
+}
+
+// 1 for a line, or 0.
+fn line_of(kind: u32) -> u32
+    ensures { λ r. ⌜ r ≡ cond (eqb kind 5) 1 0 ⌝ }
+    ensures { λ r. ⌜ r ≤ 1 ⌝ }
+{
+    if kind == 5 {
+        return 1;
+    }
+    0
+}
+
+// How many of the count entries from first on are lines.
+pub fn lines_in(entries: &[u32], first: usize, count: usize) -> u32
+    requires { ⌜ (first + count) * 4 ≤ length (now entries) ⌝ }
+    requires { ⌜ count ≤ 4096 ⌝ }
+    ensures { λ r. ⌜ r ≡ linesIn (wordsFrom (now (entries .entry)) first count) ⌝ }
+{
+    let end = first + count;
+    let mut n: u32 = 0;
+    let mut i = first;
+    while i < end {
+        let w = stream::read_entry(entries, i);
+        let more = line_of(w.kind);
+        n = n + more;
+        i += 1;
+    }
+    n
+}
+
+// 12 over the stream of a leaf.
+fn leaf_passes(
+    plan: &[u32],
+    areas: &[u32],
+    xs: &[u32],
+    ys: &[u32],
+    entries: &[u32],
+    free: usize,
+    l: Leaf,
+) -> bool
+    requires { ⌜ 3 ≤ length (now plan) ⌝ }
+    ensures { λ r. ⌜ r ≡ checkStream (now (entries .entry)) (l .first) (l .count) free (env (now (areas .entry)) (now (xs .entry)) (now (ys .entry)) (bounds (getD (now (plan .entry)) 1 0) (getD (now (plan .entry)) 2 0) (l .y) (l .side))) ⌝ }
+{
+    let first = l.first as usize;
+    let count = l.count as usize;
+    let b = split::bounds_in(plan, l.y, l.side);
+    stream::check_stream(entries, first, count, free, areas, xs, ys, b)
+}
+
+// The leaf that holds (x, y). 12 over the numbers in use, the cells on the way, and the leaf's stream.
+pub fn leaf_at(
+    plan: &[u32],
+    areas: &[u32],
+    xs: &[u32],
+    ys: &[u32],
+    head: &[u32],
+    cells: &[u32],
+    entries: &[u32],
+    x: u32,
+    y: u32,
+) -> Found
+    ensures { λ r. ⌜ r ≡ leafIn (tree (now (plan .entry)) (now (areas .entry)) (now (xs .entry)) (now (ys .entry)) (now (head .entry)) (now (cells .entry)) (now (entries .entry))) x y ⌝ }
+{
+    if counts_fit(plan, areas, xs, ys, head, cells, entries) {
+        let used = laws::wide(head[0]);
+        let free = laws::wide(head[1]);
+        let f = celltable::descend(cells, used, free, x, y);
+        match f {
+            Found::At(l) => {
+                if leaf_passes(plan, areas, xs, ys, entries, free, l) {
+                    return Found::At(l);
+                }
+                return Found::Broken;
+            }
+            Found::Broken => {
+                return Found::Broken;
+            }
+        }
+    }
+    Found::Broken
+}
+
+// A leaf that is found, as it is reported.
+fn report(entries: &[u32], l: Leaf) -> FoundLeaf
+    requires { ⌜ (l .first + l .count) * 4 ≤ length (now entries) ⌝ }
+    requires { ⌜ l .count ≤ 4096 ⌝ }
+    ensures { λ r. ⌜ r ≡ reportOf (now (entries .entry)) l ⌝ }
+{
+    let first = l.first as usize;
+    let count = l.count as usize;
+    let lines = lines_in(entries, first, count);
+    FoundLeaf {
+        cell: l.cell,
+        x: l.x,
+        y: l.y,
+        side: l.side,
+        steps: l.steps,
+        entries: l.count,
+        lines,
+    }
+}
+
+// The leaf, or 12.
+fn find_within(
+    plan: &[u32],
+    areas: &[u32],
+    xs: &[u32],
+    ys: &[u32],
+    head: &[u32],
+    cells: &[u32],
+    entries: &[u32],
+    x: u32,
+    y: u32,
+) -> Answer
+    ensures { λ r. ⌜ r ≡ foundBy (tree (now (plan .entry)) (now (areas .entry)) (now (xs .entry)) (now (ys .entry)) (now (head .entry)) (now (cells .entry)) (now (entries .entry))) (leafIn (tree (now (plan .entry)) (now (areas .entry)) (now (xs .entry)) (now (ys .entry)) (now (head .entry)) (now (cells .entry)) (now (entries .entry))) x y) ⌝ }
+{
+    let f = leaf_at(plan, areas, xs, ys, head, cells, entries, x, y);
+    match f {
+        Found::At(l) => {
+            let r = report(entries, l);
+            return Answer::Found(r);
+        }
+        Found::Broken => {
+            return Answer::Not(Refusal::Broken);
+        }
+    }
+}
+
+// Finds the leaf that holds (x, y). Any tables may be handed in. Refusals, in this order: 7, 12.
+pub fn find_leaf(
+    plan: &[u32],
+    areas: &[u32],
+    xs: &[u32],
+    ys: &[u32],
+    head: &[u32],
+    cells: &[u32],
+    entries: &[u32],
+    x: u32,
+    y: u32,
+) -> Answer
+    ensures { λ r. ⌜ r ≡ findAnswer (tree (now (plan .entry)) (now (areas .entry)) (now (xs .entry)) (now (ys .entry)) (now (head .entry)) (now (cells .entry)) (now (entries .entry))) x y ⌝ }
+{
+    if xs.len() == ys.len() {
+        if (x < 65536) & (y < 65536) {
+            return find_within(plan, areas, xs, ys, head, cells, entries, x, y);
+        }
+        return Answer::Not(Refusal::Argument);
+    }
+    Answer::Not(Refusal::Argument)
+}

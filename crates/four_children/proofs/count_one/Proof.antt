@@ -1,0 +1,34 @@
+-- `four_children::count_one` meets its contract. Assumes nothing.
+use borrow.Author.Needs.{needs}
+use Rattle.four_children.proofs.count_one.Statement.{statement}
+use Rattle.four_children.proofs.count_one.Tie as tie
+use mathlib.Core.Path.{ap, _∙_}
+use denote.Ref.{now}
+use Rattle.pruning.specs.Weights.{total}
+use Rattle.cells.specs.Cells.{Cell}
+use Rattle.cells.specs.Making.{rowSize}
+use Rattle.stream.specs.Table.{wordsFrom}
+use Rattle.ranges.specs.Held.{lent}
+use Rattle.making.specs.Made.{rowsMade}
+use Rattle.child_stream.specs.Numbers.{startsIn}
+use Rattle.four_children.specs.Children.{rowsOfChild}
+use Rattle.celltable.specs.Ranges.{cellOf}
+use Rattle.four_children.proofs.Squares.{kid-square, kid-in, kid-back}
+use Rattle.four_children.proofs.Tallies.{tally-is}
+use Rattle.four_children.proofs.Made.{few-rows}
+
+quarter-of-requires : tie.Need-quarter-of-requires
+quarter-of-requires c κs = search needs
+
+count-child-requires : tie.Need-count-child-requires
+count-child-requires c κs = let a = c .before .before .before .before .before .args in let p = c .before .before .before .before .before .pre in (p .0, (kid-square (a .w) (p .1 .0) (a .q) (c .quarter-of .result) (c .quarter-of .ensures), kid-back (a .w) (p .1 .0) (a .q) (c .quarter-of .result) (c .quarter-of .ensures)))
+
+tally-of-requires : tie.Need-tally-of-requires
+tally-of-requires c κs = search needs
+
+returns : tie.Need-returns
+returns c = let a = c .before .before .before .before .before .before .before .args in let p = c .before .before .before .before .before .before .before .pre in let D = lent (now (a .areas)) (now (a .xs)) (now (a .ys)) (a .b) in let ws = wordsFrom (now (a .entries)) (a .first) (a .count) in c .tally-of .ensures ∙ tally-is (rowsOfChild D (cellOf (a .w)) ws (a .q)) (c .before .count-child .result) (few-rows (now (a .entries)) (now (a .areas)) (now (a .xs)) (now (a .ys)) (a .b) (a .first) (a .count) _ (p .0)) (c .before .count-child .ensures .0 ∙ ap (λ (k : Cell). total rowSize (rowsMade D k ws)) (kid-in (a .w) (p .1 .0) (a .q) (c .before .before .quarter-of .result) (c .before .before .quarter-of .ensures))) (c .before .count-child .ensures .1 ∙ ap (λ (k : Cell). startsIn (rowsMade D k ws)) (kid-in (a .w) (p .1 .0) (a .q) (c .before .before .quarter-of .result) (c .before .before .quarter-of .ensures)))
+
+pub count-one-spec : {M : Type 1} → statement M
+count-one-spec =
+    tie.close (tie.spec quarter-of-requires count-child-requires tally-of-requires returns)

@@ -1,0 +1,82 @@
+-- `four_children::put_four` meets its contract. Assumes nothing.
+use Rattle.four_children.proofs.put_four.Statement.{statement}
+use Rattle.four_children.proofs.put_four.Tie as tie
+use Prim.Native.Nat.{_-_}
+use native.Mathlib.Omega.{arith}
+use denote.Ref.{now}
+use borrow.Author.Needs.{needs}
+use Rattle.celltable.specs.Ranges.{cellOf}
+use Rattle.four_children.proofs.Placed.{Placed, placed-begin, placed-turn, placed-end}
+
+abbrev Inv-loop : tie.InvT-loop
+Inv-loop cells₀ used free w ts at₀ n₀ cells at n = Placed (cellOf w) ts cells₀ used free n at cells
+
+abbrev μ-loop : tie.MeasureT-loop
+μ-loop cells₀ used free w ts at₀ n₀ cells at n = 4 - n
+
+loop-holds : tie.Need-loop-holds Inv-loop μ-loop
+loop-holds c = let a = c .before .args in let p = c .before .pre in placed-begin (cellOf (a .w)) (a .t5) (now (a .cells)) (a .used) (a .free) (p .1 .1 .1 .1)
+
+cast-k : tie.Need-cast-k Inv-loop μ-loop
+cast-k c = search needs
+
+mul-t : tie.Need-mul-t Inv-loop μ-loop
+mul-t c = search needs
+
+array-copy-out-t : tie.Need-array-copy-out-t Inv-loop μ-loop
+array-copy-out-t c = search needs
+
+child-words-requires : tie.Need-child-words-requires Inv-loop μ-loop
+child-words-requires c κs = let a = c .before .before .before .before .args in let p = c .before .before .before .before .pre in (p .0, (p .1 .0, p .1 .1 .1 .1 .few (c .before .before .loop .n) (omega (arith, c .before .loop-test .taken))))
+
+add-i : tie.Need-add-i Inv-loop μ-loop
+add-i c = record { fits = omega (arith, c .before .before .before .before .before .pre .1 .1 .1 .0 .0, c .before .before .loop-test .taken) }
+
+cast-i : tie.Need-cast-i Inv-loop μ-loop
+cast-i c = search needs
+
+put-cell-requires : tie.Need-put-cell-requires Inv-loop μ-loop
+put-cell-requires c κs = let a = c .before .before .before .before .before .before .args in let p = c .before .before .before .before .before .before .pre in omega (arith, p .1 .1 .0, c .before .before .before .before .loop .inv .size, c .before .before .before .loop-test .taken)
+
+cast-at : tie.Need-cast-at Inv-loop μ-loop
+cast-at c = record { fits = omega (arith, c .before .before .before .before .before .before .before .before .before .before .pre .1 .1 .1 .1 .few (c .before .before .before .before .before .before .before .before .loop .n) (omega (arith, c .before .before .before .before .before .before .before .loop-test .taken))) }
+
+add-at : tie.Need-add-at Inv-loop μ-loop
+add-at c = record { fits = omega (arith, c .before .before .before .before .before .before .before .before .before .before .pre .1 .1 .1 .1 .few (c .before .before .before .before .before .before .before .before .loop .n) (omega (arith, c .before .before .before .before .before .before .before .loop-test .taken)), c .before .before .before .before .before .before .before .before .loop .inv .small, c .before .before .before .before .before .before .before .before .loop .inv .low, c .before .before .before .before .before .before .before .before .before .before .pre .1 .1 .1 .0 .1) }
+
+add-n : tie.Need-add-n Inv-loop μ-loop
+add-n c = search needs
+
+loop-less : tie.Need-loop-less Inv-loop μ-loop
+loop-less c = search needs
+
+loop-again : tie.Need-loop-again Inv-loop μ-loop
+loop-again c = let a = c .before .before .before .before .before .before .before .before .before .before .args in let p = c .before .before .before .before .before .before .before .before .before .before .pre in placed-turn (cellOf (a .w)) (a .t5) (now (a .cells)) (a .used) (a .free) (p .1 .1 .1 .1) (c .before .before .before .before .before .before .before .before .loop .n) (c .before .before .before .before .before .before .before .before .loop .at) (c .before .before .before .before .before .before .before .before .loop .cells) (c .before .before .before .before .before .before .before .before .loop .inv) (omega (arith, c .before .before .before .before .before .before .before .loop-test .taken)) (c .before .before .before .before .before .child-words .result) _ (c .before .before .before .before .before .child-words .ensures) (c .before .before .before .put-cell .ensures)
+
+same-length : tie.Need-same-length Inv-loop μ-loop
+same-length c = c .before .loop .inv .size
+
+returns : tie.Need-returns Inv-loop μ-loop
+returns c = let a = c .before .before .before .args in let p = c .before .before .before .pre in placed-end (cellOf (a .w)) (a .t5) (now (a .cells)) (a .used) (a .free) (p .1 .1 .1 .1) (c .before .loop .n) (c .before .loop .at) (c .before .loop .cells) (c .before .loop .inv) (c .loop-test .left)
+
+pub put-four-spec : {M : Type 1} → statement M
+put-four-spec =
+    tie.close
+    (tie.spec
+    Inv-loop
+    μ-loop
+    loop-holds
+    cast-k
+    mul-t
+    array-copy-out-t
+    child-words-requires
+    add-i
+    cast-i
+    put-cell-requires
+    cast-at
+    add-at
+    add-n
+    loop-less
+    loop-again
+    same-length
+    returns)

@@ -1,0 +1,29 @@
+-- `four_children::write_child` meets its contract. Assumes nothing.
+use borrow.Author.Needs.{needs}
+use Rattle.four_children.proofs.write_child.Statement.{statement}
+use Rattle.four_children.proofs.write_child.Tie as tie
+use mathlib.Core.Path.{ap, _∙_}
+use denote.Ref.{now}
+use lib.ListN.{length}
+use Rattle.cells.specs.Cells.{Cell}
+use Rattle.stream.specs.Table.{wordsFrom, written}
+use Rattle.ranges.specs.Held.{lent}
+use Rattle.making.specs.Made.{rowsMade, wordsMade}
+use Rattle.four_children.proofs.Squares.{kid-square, kid-in, kid-back}
+use mathlib.Core.Path.{sym}
+
+quarter-of-requires : tie.Need-quarter-of-requires
+quarter-of-requires c κs = search needs
+
+write-child-requires : tie.Need-write-child-requires
+write-child-requires c κs = let a = c .before .before .before .before .before .before .args in let p = c .before .before .before .before .before .before .pre in let D = lent (now (a .areas)) (now (a .xs)) (now (a .ys)) (a .b) in let ws = wordsFrom (now (a .entries)) (a .first) (a .count) in let s = c .before .quarter-of .result in let e = c .before .quarter-of .ensures in (p .0, (kid-square (a .w) (p .1 .0) (a .q) s e, (kid-back (a .w) (p .1 .0) (a .q) s e, (p .1 .1 .1 .0, (p .1 .1 .1 .1 .0, p .1 .1 .1 .1 .1 ∙ ap (λ (k : Cell). length (rowsMade D k ws)) (sym (kid-in (a .w) (p .1 .0) (a .q) s e)))))))
+
+same-length : tie.Need-same-length
+same-length c = search needs
+
+returns : tie.Need-returns
+returns c = let a = c .before .before .before .before .before .before .before .before .before .args in let p = c .before .before .before .before .before .before .before .before .before .pre in let D = lent (now (a .areas)) (now (a .xs)) (now (a .ys)) (a .b) in let ws = wordsFrom (now (a .entries)) (a .first) (a .count) in let s = c .before .before .before .before .quarter-of .result in let e = c .before .before .before .before .quarter-of .ensures in c .before .before .write-child .ensures ∙ ap (λ (k : Cell). written (now (a .entries)) (a .free) (wordsMade D k ws)) (kid-in (a .w) (p .1 .0) (a .q) s e)
+
+pub write-child-spec : {M : Type 1} → statement M
+write-child-spec =
+    tie.close (tie.spec quarter-of-requires write-child-requires same-length returns)

@@ -1,0 +1,97 @@
+-- `grow::take_turn` meets its contract. Assumes nothing.
+use borrow.Author.Needs.{needs}
+use Rattle.grow.proofs.take_turn.Statement.{statement}
+use Rattle.grow.proofs.take_turn.Tie as tie
+use mathlib.Core.Path.{sym, ap, _∙_}
+use native.Mathlib.Omega.{arith}
+use denote.Ref.{now}
+use lib.ListN.{length}
+use borrow.Author.Tests.{leb-true}
+use Rattle.split.specs.Tables.{tree}
+use Rattle.split_laws.proofs.Counts.{counts-plan, counts-long, used-most, used-within, free-most}
+use Rattle.grow.specs.declared.Tried.{Tried}
+use Rattle.grow.specs.declared.Sweep.{Sweep}
+use Rattle.grow.specs.declared.Turn.the-variants.{Further}
+use Rattle.grow.specs.Numbers.{turnBy, treeBy}
+use Rattle.grow.proofs.Turned.{tried-here, here-stream, here-square, here-halves, here-entries, head-is, cells-is, entries-is, turn-is}
+
+cast-i : tie.Need-cast-i
+cast-i c = search needs
+
+read-cell-requires : tie.Need-read-cell-requires
+read-cell-requires c κs = let a = c .before .before .before .before .before .before .before .before .before .args in let p = c .before .before .before .before .before .before .before .before .before .pre in let T = tree (now (a .plan)) (now (a .areas)) (now (a .xs)) (now (a .ys)) (now (a .head)) (now (a .cells)) (now (a .entries)) in omega (arith, used-within T (p .0), p .1 .1 .0 .0, p .1 .1 .1 .0 .0)
+
+bounds-in-requires : tie.Need-bounds-in-requires
+bounds-in-requires c κs = let a = c .before .before .before .before .before .before .before .before .before .before .args in let p = c .before .before .before .before .before .before .before .before .before .before .pre in let T = tree (now (a .plan)) (now (a .areas)) (now (a .xs)) (now (a .ys)) (now (a .head)) (now (a .cells)) (now (a .entries)) in leb-true 3 (length (now (a .plan))) (counts-plan T (p .0))
+
+try-cell-requires : tie.Need-try-cell-requires
+try-cell-requires c κs = search needs
+
+enum-told : tie.Need-enum-told
+enum-told c = search needs
+
+same-length : tie.Need-same-length
+same-length c = search needs
+
+same-length-2 : tie.Need-same-length-2
+same-length-2 c = search needs
+
+returns : tie.Need-returns
+returns c = let a = c .before .before .before .before .before .before .before .before .before .before .before .before .before .before .before .args in let p = c .before .before .before .before .before .before .before .before .before .before .before .before .before .before .before .pre in let T = tree (now (a .plan)) (now (a .areas)) (now (a .xs)) (now (a .ys)) (now (a .head)) (now (a .cells)) (now (a .entries)) in let E = tried-here (a .threshold) (a .limit) T (a .s) (c .before .before .before .before .before .read-cell .result) (c .before .before .before .before .bounds-in .result) (c .before .before .before .before .before .read-cell .ensures) (c .before .before .before .before .bounds-in .ensures) (p .1 .1 .0 .0) (p .1 .1 .0 .1) (c .before .before .try-cell .result) (c .before .before .try-cell .ensures) ∙ c .enum-told .given .1 in (sym (ap (λ (x : Tried). turnBy x T (a .s)) E), (sym (ap (λ (x : Tried). treeBy x T (a .s .cell) .head) E), (sym (ap (λ (x : Tried). treeBy x T (a .s .cell) .cells) E), sym (ap (λ (x : Tried). treeBy x T (a .s .cell) .entries) E))))
+
+enum-told-2 : tie.Need-enum-told-2
+enum-told-2 c = search needs
+
+past-requires : tie.Need-past-requires
+past-requires c κs = let a = c .before .before .before .before .before .before .before .before .before .before .before .before .before .before .before .args in let p = c .before .before .before .before .before .before .before .before .before .before .before .before .before .before .before .pre in let T = tree (now (a .plan)) (now (a .areas)) (now (a .xs)) (now (a .ys)) (now (a .head)) (now (a .cells)) (now (a .entries)) in omega (arith, used-most T (p .0), p .1 .1 .0 .0, p .1 .1 .1 .0 .0)
+
+same-length-3 : tie.Need-same-length-3
+same-length-3 c = search needs
+
+same-length-4 : tie.Need-same-length-4
+same-length-4 c = search needs
+
+returns-2 : tie.Need-returns-2
+returns-2 c = let a = c .before .before .before .before .before .before .before .before .before .before .before .before .before .before .before .before .args in let p = c .before .before .before .before .before .before .before .before .before .before .before .before .before .before .before .before .pre in let T = tree (now (a .plan)) (now (a .areas)) (now (a .xs)) (now (a .ys)) (now (a .head)) (now (a .cells)) (now (a .entries)) in let E = tried-here (a .threshold) (a .limit) T (a .s) (c .before .before .before .before .before .before .read-cell .result) (c .before .before .before .before .before .bounds-in .result) (c .before .before .before .before .before .before .read-cell .ensures) (c .before .before .before .before .before .bounds-in .ensures) (p .1 .1 .0 .0) (p .1 .1 .0 .1) (c .before .before .before .try-cell .result) (c .before .before .before .try-cell .ensures) ∙ c .before .enum-told2 .given .1 in (ap (λ (q : Sweep). Further q) (c .past .ensures) ∙ sym (ap (λ (x : Tried). turnBy x T (a .s)) E), (sym (ap (λ (x : Tried). treeBy x T (a .s .cell) .head) E), (sym (ap (λ (x : Tried). treeBy x T (a .s .cell) .cells) E), sym (ap (λ (x : Tried). treeBy x T (a .s .cell) .entries) E))))
+
+enum-told-3 : tie.Need-enum-told-3
+enum-told-3 c = search needs
+
+split-wanted-requires : tie.Need-split-wanted-requires
+split-wanted-requires c κs = let a = c .before .before .before .before .before .before .before .before .before .before .before .before .before .before .before .before .before .before .args in let p = c .before .before .before .before .before .before .before .before .before .before .before .before .before .before .before .before .before .before .pre in let T = tree (now (a .plan)) (now (a .areas)) (now (a .xs)) (now (a .ys)) (now (a .head)) (now (a .cells)) (now (a .entries)) in let E = tried-here (a .threshold) (a .limit) T (a .s) (c .before .before .before .before .before .before .before .before .read-cell .result) (c .before .before .before .before .before .before .before .bounds-in .result) (c .before .before .before .before .before .before .before .before .read-cell .ensures) (c .before .before .before .before .before .before .before .bounds-in .ensures) (p .1 .1 .0 .0) (p .1 .1 .0 .1) (c .before .before .before .before .before .try-cell .result) (c .before .before .before .before .before .try-cell .ensures) ∙ c .before .before .before .enum-told3 .given .1 in (here-stream (a .threshold) (a .limit) T (a .s) (c .before .before .before .before .before .before .before .before .read-cell .result) (c .before .before .before .before .before .before .before .bounds-in .result) (c .before .before .before .before .before .before .before .before .read-cell .ensures) (c .before .before .before .before .before .before .before .bounds-in .ensures) (p .1 .1 .0 .0) (p .1 .1 .0 .1) (p .1 .1 .1 .1) (p .0) (p .1 .0) (p .1 .1 .1 .0 .0) E, (here-square (a .threshold) (a .limit) T (a .s) (c .before .before .before .before .before .before .before .before .read-cell .result) (c .before .before .before .before .before .before .before .bounds-in .result) (c .before .before .before .before .before .before .before .before .read-cell .ensures) (c .before .before .before .before .before .before .before .bounds-in .ensures) (p .1 .1 .0 .0) (p .1 .1 .0 .1) (p .1 .1 .1 .1) (p .0) (p .1 .0) (p .1 .1 .1 .0 .0) E, (here-halves (a .threshold) (a .limit) T (a .s) (c .before .before .before .before .before .before .before .before .read-cell .result) (c .before .before .before .before .before .before .before .bounds-in .result) (c .before .before .before .before .before .before .before .before .read-cell .ensures) (c .before .before .before .before .before .before .before .bounds-in .ensures) (p .1 .1 .0 .0) (p .1 .1 .0 .1) (p .1 .1 .1 .1) (p .0) (p .1 .0) (p .1 .1 .1 .0 .0) E, (here-entries (a .threshold) (a .limit) T (a .s) (c .before .before .before .before .before .before .before .before .read-cell .result) (c .before .before .before .before .before .before .before .bounds-in .result) (c .before .before .before .before .before .before .before .before .read-cell .ensures) (c .before .before .before .before .before .before .before .bounds-in .ensures) (p .1 .1 .0 .0) (p .1 .1 .0 .1) (p .1 .1 .1 .1) (p .0) (p .1 .0) (p .1 .1 .1 .0 .0) E, ((omega (arith, used-most T (p .0), p .1 .1 .0 .0), omega (arith, free-most T (p .0), p .1 .1 .0 .1)), ((p .1 .1 .1 .0 .0, counts-long T (p .0)), p .1 .1 .1 .0 .1))))))
+
+same-length-5 : tie.Need-same-length-5
+same-length-5 c = search needs
+
+same-length-6 : tie.Need-same-length-6
+same-length-6 c = search needs
+
+same-length-7 : tie.Need-same-length-7
+same-length-7 c = search needs
+
+returns-3 : tie.Need-returns-3
+returns-3 c = let a = c .before .before .before .before .before .before .before .before .before .before .before .before .before .before .before .before .before .before .before .before .before .before .before .before .before .args in let p = c .before .before .before .before .before .before .before .before .before .before .before .before .before .before .before .before .before .before .before .before .before .before .before .before .before .pre in let T = tree (now (a .plan)) (now (a .areas)) (now (a .xs)) (now (a .ys)) (now (a .head)) (now (a .cells)) (now (a .entries)) in let E = tried-here (a .threshold) (a .limit) T (a .s) (c .before .before .before .before .before .before .before .before .before .before .before .before .before .before .before .read-cell .result) (c .before .before .before .before .before .before .before .before .before .before .before .before .before .before .bounds-in .result) (c .before .before .before .before .before .before .before .before .before .before .before .before .before .before .before .read-cell .ensures) (c .before .before .before .before .before .before .before .before .before .before .before .before .before .before .bounds-in .ensures) (p .1 .1 .0 .0) (p .1 .1 .0 .1) (c .before .before .before .before .before .before .before .before .before .before .before .before .try-cell .result) (c .before .before .before .before .before .before .before .before .before .before .before .before .try-cell .ensures) ∙ c .before .before .before .before .before .before .before .before .before .before .enum-told3 .given .1 in let e = c .before .before .before .before .before .before .split-wanted .ensures in let H = head-is (a .threshold) (a .limit) T (a .s) (c .before .before .before .before .before .before .before .before .before .before .before .before .before .before .before .read-cell .result) (c .before .before .before .before .before .before .before .before .before .before .before .before .before .before .bounds-in .result) (c .before .before .before .before .before .before .before .before .before .before .before .before .before .before .before .read-cell .ensures) (c .before .before .before .before .before .before .before .before .before .before .before .before .before .before .bounds-in .ensures) (p .1 .1 .0 .0) (p .1 .1 .0 .1) (p .1 .1 .1 .1) (p .0) (p .1 .0) (p .1 .1 .1 .0 .0) E _ (e .1 .0) in (turn-is (a .threshold) (a .limit) T (a .s) (c .before .before .before .before .before .before .before .before .before .before .before .before .before .before .before .read-cell .result) (c .before .before .before .before .before .before .before .before .before .before .before .before .before .before .bounds-in .result) (c .before .before .before .before .before .before .before .before .before .before .before .before .before .before .before .read-cell .ensures) (c .before .before .before .before .before .before .before .before .before .before .before .before .before .before .bounds-in .ensures) (p .1 .1 .0 .0) (p .1 .1 .0 .1) (p .1 .1 .1 .1) (p .0) (p .1 .0) (p .1 .1 .1 .0 .0) E _ _ (e .0) H ∙ sym (ap (λ (x : Tried). turnBy x T (a .s)) E), (H ∙ sym (ap (λ (x : Tried). treeBy x T (a .s .cell) .head) E), (cells-is (a .threshold) (a .limit) T (a .s) (c .before .before .before .before .before .before .before .before .before .before .before .before .before .before .before .read-cell .result) (c .before .before .before .before .before .before .before .before .before .before .before .before .before .before .bounds-in .result) (c .before .before .before .before .before .before .before .before .before .before .before .before .before .before .before .read-cell .ensures) (c .before .before .before .before .before .before .before .before .before .before .before .before .before .before .bounds-in .ensures) (p .1 .1 .0 .0) (p .1 .1 .0 .1) (p .1 .1 .1 .1) (p .0) (p .1 .0) (p .1 .1 .1 .0 .0) E _ (e .1 .1 .0) ∙ sym (ap (λ (x : Tried). treeBy x T (a .s .cell) .cells) E), entries-is (a .threshold) (a .limit) T (a .s) (c .before .before .before .before .before .before .before .before .before .before .before .before .before .before .before .read-cell .result) (c .before .before .before .before .before .before .before .before .before .before .before .before .before .before .bounds-in .result) (c .before .before .before .before .before .before .before .before .before .before .before .before .before .before .before .read-cell .ensures) (c .before .before .before .before .before .before .before .before .before .before .before .before .before .before .bounds-in .ensures) (p .1 .1 .0 .0) (p .1 .1 .0 .1) (p .1 .1 .1 .1) (p .0) (p .1 .0) (p .1 .1 .1 .0 .0) E _ (e .1 .1 .1) ∙ sym (ap (λ (x : Tried). treeBy x T (a .s .cell) .entries) E))))
+
+pub take-turn-spec : {M : Type 1} → statement M
+take-turn-spec =
+    tie.close
+    (tie.spec
+    cast-i
+    read-cell-requires
+    bounds-in-requires
+    try-cell-requires
+    enum-told
+    same-length
+    same-length-2
+    returns
+    enum-told-2
+    past-requires
+    same-length-3
+    same-length-4
+    returns-2
+    enum-told-3
+    split-wanted-requires
+    same-length-5
+    same-length-6
+    same-length-7
+    returns-3)

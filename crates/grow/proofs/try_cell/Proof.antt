@@ -1,0 +1,45 @@
+-- `grow::try_cell` meets its contract. Assumes nothing.
+use borrow.Author.Needs.{needs}
+use Rattle.grow.proofs.try_cell.Statement.{statement}
+use Rattle.grow.proofs.try_cell.Tie as tie
+use mathlib.Core.Path.{sym, _∙_}
+use borrow.Author.Tests.{eq-eqb, ne-eqb}
+use Rattle.celltable.proofs.Ranges.{passes-range}
+use Rattle.grow.proofs.Turned.{leaf-bad, cell-leaf, cell-past}
+
+cast-cell-fits : tie.Need-cast-cell-fits
+cast-cell-fits c = search needs
+
+cast-cell-fits-2 : tie.Need-cast-cell-fits-2
+cast-cell-fits-2 c = search needs
+
+cast-cell-fits-3 : tie.Need-cast-cell-fits-3
+cast-cell-fits-3 c = search needs
+
+cell-fits-requires : tie.Need-cell-fits-requires
+cell-fits-requires c κs = search needs
+
+try-leaf-requires : tie.Need-try-leaf-requires
+try-leaf-requires c κs = let a = c .before .before .before .before .before .before .before .before .before .before .before .args in passes-range (a .w) (a .s .cell) (a .s .used) (a .s .free) (sym (c .before .before .before .cell-fits .ensures) ∙ c .before .before .if1 .taken)
+
+returns : tie.Need-returns
+returns c = let a = c .before .before .before .before .before .before .before .before .before .before .before .before .args in cell-leaf _ _ _ _ (sym (c .before .before .before .before .cell-fits .ensures) ∙ c .before .before .before .if1 .taken) (eq-eqb (a .w .child) 0 (c .before .if2 .taken)) (c .try-leaf .ensures)
+
+returns-2 : tie.Need-returns-2
+returns-2 c = let a = c .before .before .before .before .before .before .before .before .before .before .before .args in cell-past _ _ _ (sym (c .before .before .before .cell-fits .ensures) ∙ c .before .before .if1 .taken) (ne-eqb (a .w .child) 0 (c .if2 .left))
+
+returns-3 : tie.Need-returns-3
+returns-3 c = leaf-bad _ _ (sym (c .before .cell-fits .ensures) ∙ c .if1 .left)
+
+pub try-cell-spec : {M : Type 1} → statement M
+try-cell-spec =
+    tie.close
+    (tie.spec
+    cast-cell-fits
+    cast-cell-fits-2
+    cast-cell-fits-3
+    cell-fits-requires
+    try-leaf-requires
+    returns
+    returns-2
+    returns-3)

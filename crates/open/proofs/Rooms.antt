@@ -1,0 +1,60 @@
+-- The room that an opening asks for. Assumes nothing.
+use mathlib.Core.Path.{_≡_}
+use mathlib.Core.Bool.{true, false, _&&_}
+use Prim.Native.Nat.{ℕ, _*_, _%_, _≤_}
+use native.Mathlib.Omega.{arith}
+use lib.Dec.{leb}
+use lib.ListN.{length, length-map}
+use borrow.Author.Tests.{leb-true}
+use Rattle.refusals.specs.declared.Refusal.the-variants.{Room}
+use Rattle.grammar.specs.declared.Counts.{Counts}
+use Rattle.grammar.specs.declared.Verdict.the-variants.{Accepted}
+use Rattle.drawing.specs.Tables.{Tables, drawingOf}
+use Rattle.stream.specs.declared.Words.{Words}
+use Rattle.stream.specs.Grammar.{bounds}
+use Rattle.evaluate.specs.Words.{wordsOf}
+use Rattle.evaluate.proofs.Laws.{both}
+use Rattle.pruning.specs.Weights.{total}
+use Rattle.cells.specs.Making.{rowSize}
+use Rattle.celltable.specs.Ranges.{cellsHeld, entriesHeld}
+use Rattle.split.specs.Tables.{Tree}
+use Rattle.split.proofs.Rooms.{cells-room, entries-room}
+use Rattle.root_stream.specs.Numbers.{Opened}
+use Rattle.root_stream.specs.Opened.{rowsOpened, wordsOpened}
+use Rattle.root_stream.proofs.Opened.{accepted-opened, opened-short, opened-count}
+use Rattle.open.specs.declared.Answer.the-variants as Answers
+use Rattle.open.specs.Open.{roomFor, streamOpened, roomAnswer}
+
+-- ---- what the test says
+pub room-says : (head cells entries n : ℕ) → roomFor head cells entries n ≡ true → (2 ≤ head) × (8 ≤ cells) × (n * 4 ≤ entries)
+room-says head cells entries n h =
+    let p = both (leb 2 head) (cellsHeld 1 cells && entriesHeld n entries) h in
+    let q = both (cellsHeld 1 cells) (entriesHeld n entries) (p .1) in
+    (leb-true 2 head (p .0), omega (arith, cells-room 1 cells (q .0) .0), entries-room n entries (q .1) .0)
+
+-- ---- the number of entries
+pub rows-words : (t : Tables) → length (wordsOpened t) ≡ length (rowsOpened t)
+unfolding wordsOpened
+rows-words t = length-map {B = Words} (rowsOpened t) wordsOf
+
+module _ (t : Tables) (k : Counts) (e : drawingOf t ≡ Accepted k) where
+  abbrev known : Opened t (k .records) (bounds (k .areas) (k .corners) 0 65536)
+  known = accepted-opened t k e
+
+  pub few-words : length (wordsOpened t) ≤ 4096
+  few-words = omega (arith, rows-words t, opened-short t (k .records) (bounds (k .areas) (k .corners) 0 65536) known)
+
+  module _ (size n : ℕ) (s : size ≡ total rowSize (rowsOpened t)) (m : n ≡ size % 65536) where
+    pub count-rows : n ≡ length (rowsOpened t)
+    count-rows = omega (arith, s, m, opened-count t (k .records) (bounds (k .areas) (k .corners) 0 65536) known)
+
+    pub count-words : n ≡ length (wordsOpened t)
+    count-words = omega (arith, count-rows, rows-words t)
+
+-- ---- the answer
+module _ (t : Tree) (n : ℕ) (e : n ≡ length (streamOpened t)) where
+  pub has-room : roomFor (length (t .head)) (length (t .cells)) (length (t .entries)) n ≡ true → Answers.Opened n ≡ roomAnswer t
+  has-room h = let h′ : roomFor (length (t .head)) (length (t .cells)) (length (t .entries)) (length (streamOpened t)) ≡ true = rw e at h in rw (h′, e)
+
+  pub no-room : roomFor (length (t .head)) (length (t .cells)) (length (t .entries)) n ≡ false → Answers.Not Room ≡ roomAnswer t
+  no-room h = let h′ : roomFor (length (t .head)) (length (t .cells)) (length (t .entries)) (length (streamOpened t)) ≡ false = rw e at h in rw h′

@@ -1,0 +1,56 @@
+-- `open::open_accepted` meets its contract. Assumes nothing.
+use borrow.Author.Needs.{needs}
+use Rattle.open.proofs.open_accepted.Statement.{statement}
+use Rattle.open.proofs.open_accepted.Tie as tie
+use mathlib.Core.Path.{sym, _∙_, refl}
+use denote.Ref.{now}
+use lib.ListN.{length}
+use Rattle.drawing.specs.Tables.{tables}
+use Rattle.root_stream.proofs.Opened.{accepted-opened}
+use Rattle.split.specs.Tables.{tree}
+use Rattle.open.proofs.Rooms.{room-says, count-rows, count-words, has-room, no-room}
+
+count-open-requires : tie.Need-count-open-requires
+count-open-requires c κs = let a = c .before .before .before .before .before .before .before .args in let p = c .before .before .before .before .before .before .before .pre in let D = tables (now (a .plan)) (now (a .areas)) (now (a .xs)) (now (a .ys)) in accepted-opened D (a .k) p
+
+entries-in-requires : tie.Need-entries-in-requires
+entries-in-requires c κs = search needs
+
+has-room-requires : tie.Need-has-room-requires
+has-room-requires c κs = search needs
+
+cast-m : tie.Need-cast-m
+cast-m c = search needs
+
+put-opened-requires : tie.Need-put-opened-requires
+put-opened-requires c κs = let a = c .before .before .before .before .before .before .before .before .before .before .before .before .before .before .args in let p = c .before .before .before .before .before .before .before .before .before .before .before .before .before .before .pre in let D = tables (now (a .plan)) (now (a .areas)) (now (a .xs)) (now (a .ys)) in let r = room-says (length (now (a .head))) (length (now (a .cells))) (length (now (a .entries))) (c .before .before .before .before .before .entries-in .result) (sym (c .before .before .before .before .has-room .ensures) ∙ c .before .before .before .if1 .taken) in (accepted-opened D (a .k) p, (count-rows D (a .k) p (c .before .before .before .before .before .before .count-open .result) (c .before .before .before .before .before .entries-in .result) (c .before .before .before .before .before .before .count-open .ensures) (c .before .before .before .before .before .entries-in .ensures), (r .2, (r .0, r .1))))
+
+same-length : tie.Need-same-length
+same-length c = search needs
+
+same-length-2 : tie.Need-same-length-2
+same-length-2 c = search needs
+
+same-length-3 : tie.Need-same-length-3
+same-length-3 c = search needs
+
+returns : tie.Need-returns
+returns c = let a = c .before .before .before .before .before .before .before .before .before .before .before .before .before .before .before .before .before .before .before .before .before .args in let p = c .before .before .before .before .before .before .before .before .before .before .before .before .before .before .before .before .before .before .before .before .before .pre in let D = tables (now (a .plan)) (now (a .areas)) (now (a .xs)) (now (a .ys)) in let T = tree (now (a .plan)) (now (a .areas)) (now (a .xs)) (now (a .ys)) (now (a .head)) (now (a .cells)) (now (a .entries)) in let s = c .before .before .before .before .before .before .put-opened .ensures in (has-room T (c .before .before .before .before .before .before .before .before .before .before .before .before .entries-in .result) (count-words D (a .k) p (c .before .before .before .before .before .before .before .before .before .before .before .before .before .count-open .result) (c .before .before .before .before .before .before .before .before .before .before .before .before .entries-in .result) (c .before .before .before .before .before .before .before .before .before .before .before .before .before .count-open .ensures) (c .before .before .before .before .before .before .before .before .before .before .before .before .entries-in .ensures)) (sym (c .before .before .before .before .before .before .before .before .before .before .before .has-room .ensures) ∙ c .before .before .before .before .before .before .before .before .before .before .if1 .taken), s)
+
+returns-2 : tie.Need-returns-2
+returns-2 c = let a = c .before .before .before .before .before .before .before .before .before .before .before .args in let p = c .before .before .before .before .before .before .before .before .before .before .before .pre in let D = tables (now (a .plan)) (now (a .areas)) (now (a .xs)) (now (a .ys)) in let T = tree (now (a .plan)) (now (a .areas)) (now (a .xs)) (now (a .ys)) (now (a .head)) (now (a .cells)) (now (a .entries)) in (no-room T (c .before .before .entries-in .result) (count-words D (a .k) p (c .before .before .before .count-open .result) (c .before .before .entries-in .result) (c .before .before .before .count-open .ensures) (c .before .before .entries-in .ensures)) (sym (c .before .has-room .ensures) ∙ c .if1 .left), (refl, (refl, refl)))
+
+pub open-accepted-spec : {M : Type 1} → statement M
+open-accepted-spec =
+    tie.close
+    (tie.spec
+    count-open-requires
+    entries-in-requires
+    has-room-requires
+    cast-m
+    put-opened-requires
+    same-length
+    same-length-2
+    same-length-3
+    returns
+    returns-2)

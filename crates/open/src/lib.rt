@@ -1,0 +1,145 @@
+// Opening a tree over a lent drawing.
+use celltable::CellWords;
+use grammar::Counts;
+use grammar::Verdict;
+use refusals::Refusal;
+use stream::Bounds;
+ghost use mathlib.Core.Path.{_≡_};
+ghost use Prim.Native.Nat.{_*_, _%_, _≤_};
+ghost use lib.ListN.{length, set};
+ghost use Rattle.grammar.specs.declared.Verdict.the-variants.{Accepted};
+ghost use Rattle.drawing.specs.Tables.{tables, drawingOf};
+ghost use Rattle.stream.specs.Table.{written};
+ghost use Rattle.celltable.specs.Table.{putCellAt};
+ghost use Rattle.root_stream.specs.Numbers.{Opened};
+ghost use Rattle.root_stream.specs.Opened.{rowsOpened, wordsOpened};
+ghost use Rattle.split.specs.Tables.{tree};
+ghost use Rattle.open.specs.Open.{rootWords, roomFor, roomAnswer, openAnswer, headOpened, cellsOpened, entriesOpened};
+
+// An opening's answer: the entries of cell 0's stream, or why it was refused.
+pub enum Answer {
+    Opened(u32),
+    Not(Refusal),
+}
+
+// Whether a head, a table of cells and a table of entries of these lengths hold a new tree with n entries.
+fn has_room(head: usize, cells: usize, entries: usize, n: usize) -> bool
+    ensures { λ r. ⌜ r ≡ roomFor head cells entries n ⌝ }
+{
+    let c = split::cells_held(1, cells);
+    let e = split::entries_held(n, entries);
+    (2 <= head) & (c & e)
+}
+
+// The number of entries in what the counting answers.
+fn entries_in(size: u64) -> usize
+    ensures { λ r. ⌜ r ≡ size % 65536 ⌝ }
+{
+    (size % 65536) as usize
+}
+
+// Cell 0, a leaf of n entries.
+fn put_root(cells: &mut [u32], n: u32)
+    requires { ⌜ 8 ≤ length (now cells) ⌝ }
+    ensures { λ _. ⌜ now (cells .exit) ≡ putCellAt (now (cells .entry)) 0 (rootWords n) ⌝ }
+{
+    let side = 65536;
+    let w = CellWords {
+        x: 0,
+        y: 0,
+        side: side,
+        child: 0,
+        first: 0,
+        count: n,
+    };
+    celltable::put_cell(cells, 0, w);
+}
+
+// Writes the new tree. There is room for it.
+fn put_opened(
+    head: &mut [u32],
+    cells: &mut [u32],
+    entries: &mut [u32],
+    plan: &[u32],
+    areas: &[u32],
+    xs: &[u32],
+    ys: &[u32],
+    records: usize,
+    b: Bounds,
+    n: u32,
+)
+    requires { ⌜ Opened (tables (now plan) (now areas) (now xs) (now ys)) records b ⌝ }
+    requires { ⌜ n ≡ length (rowsOpened (tables (now plan) (now areas) (now xs) (now ys))) ⌝ }
+    requires { ⌜ n * 4 ≤ length (now entries) ⌝ }
+    requires { ⌜ (2 ≤ length (now head)) × (8 ≤ length (now cells)) ⌝ }
+    ensures { λ _. ⌜ now (head .exit) ≡ set (set (now (head .entry)) 0 1) 1 n ⌝ }
+    ensures { λ _. ⌜ now (cells .exit) ≡ putCellAt (now (cells .entry)) 0 (rootWords n) ⌝ }
+    ensures { λ _. ⌜ now (entries .exit) ≡ written (now (entries .entry)) 0 (wordsOpened (tables (now (plan .entry)) (now (areas .entry)) (now (xs .entry)) (now (ys .entry)))) ⌝ }
+{
+    root_stream::write_open(entries, n as usize, plan, areas, xs, ys, records, b);
+    put_root(cells, n);
+    split::put_head(head, 1, n);
+}
+
+// 11, and then the new tree. The drawing has passed.
+fn open_accepted(
+    plan: &[u32],
+    areas: &[u32],
+    xs: &[u32],
+    ys: &[u32],
+    head: &mut [u32],
+    cells: &mut [u32],
+    entries: &mut [u32],
+    k: Counts,
+) -> Answer
+    requires { ⌜ drawingOf (tables (now plan) (now areas) (now xs) (now ys)) ≡ Accepted k ⌝ }
+    ensures { λ r. ⌜ r ≡ roomAnswer (tree (now (plan .entry)) (now (areas .entry)) (now (xs .entry)) (now (ys .entry)) (now (head .entry)) (now (cells .entry)) (now (entries .entry))) ⌝ }
+    ensures { λ r. ⌜ now (head .exit) ≡ headOpened (tree (now (plan .entry)) (now (areas .entry)) (now (xs .entry)) (now (ys .entry)) (now (head .entry)) (now (cells .entry)) (now (entries .entry))) r ⌝ }
+    ensures { λ r. ⌜ now (cells .exit) ≡ cellsOpened (tree (now (plan .entry)) (now (areas .entry)) (now (xs .entry)) (now (ys .entry)) (now (head .entry)) (now (cells .entry)) (now (entries .entry))) r ⌝ }
+    ensures { λ r. ⌜ now (entries .exit) ≡ entriesOpened (tree (now (plan .entry)) (now (areas .entry)) (now (xs .entry)) (now (ys .entry)) (now (head .entry)) (now (cells .entry)) (now (entries .entry))) r ⌝ }
+{
+    let b = Bounds {
+        areas: k.areas,
+        corners: k.corners,
+        low: 0,
+        side: 65536,
+    };
+    let size = root_stream::count_open(plan, areas, xs, ys, k.records, b);
+    let n = entries_in(size);
+    if has_room(head.len(), cells.len(), entries.len(), n) {
+        let m = n as u32;
+        put_opened(head, cells, entries, plan, areas, xs, ys, k.records, b, m);
+        return Answer::Opened(m);
+    }
+    Answer::Not(Refusal::Room)
+}
+
+// Opens a tree: cell 0 alone, with the stream that document 01 defines. Any tables may be handed in. What the tree's tables held is not looked at.
+// Refusals, in this order: 7, 12, 11. Nothing is changed on a refusal.
+pub fn open(
+    plan: &[u32],
+    areas: &[u32],
+    xs: &[u32],
+    ys: &[u32],
+    head: &mut [u32],
+    cells: &mut [u32],
+    entries: &mut [u32],
+) -> Answer
+    ensures { λ r. ⌜ r ≡ openAnswer (tree (now (plan .entry)) (now (areas .entry)) (now (xs .entry)) (now (ys .entry)) (now (head .entry)) (now (cells .entry)) (now (entries .entry))) ⌝ }
+    ensures { λ r. ⌜ now (head .exit) ≡ headOpened (tree (now (plan .entry)) (now (areas .entry)) (now (xs .entry)) (now (ys .entry)) (now (head .entry)) (now (cells .entry)) (now (entries .entry))) r ⌝ }
+    ensures { λ r. ⌜ now (cells .exit) ≡ cellsOpened (tree (now (plan .entry)) (now (areas .entry)) (now (xs .entry)) (now (ys .entry)) (now (head .entry)) (now (cells .entry)) (now (entries .entry))) r ⌝ }
+    ensures { λ r. ⌜ now (entries .exit) ≡ entriesOpened (tree (now (plan .entry)) (now (areas .entry)) (now (xs .entry)) (now (ys .entry)) (now (head .entry)) (now (cells .entry)) (now (entries .entry))) r ⌝ }
+{
+    if xs.len() == ys.len() {
+        let v = drawing::check_drawing(plan, areas, xs, ys);
+        match v {
+            Verdict::Accepted(k) => {
+                return open_accepted(plan, areas, xs, ys, head, cells, entries, k);
+            }
+            Verdict::Refused(_, _) => {
+                return Answer::Not(Refusal::Broken);
+            }
+        }
+    }
+    Answer::Not(Refusal::Argument)
+}

@@ -1,0 +1,175 @@
+// Rows of pixels.
+use celltable::Found;
+use paint::colour;
+use paint::colour::Channels;
+use paint::colour::Colour;
+use paint::pixel;
+use position::Shown;
+use refusals::Refusal;
+ghost use mathlib.Core.Path.{_≡_};
+ghost use Prim.Native.Nat.{_+_, _*_, _/_, _≤_};
+ghost use lib.ListN.{length};
+ghost use Rattle.paint.specs.Colours.{ColourIn};
+ghost use Rattle.split.specs.Tables.{tree};
+ghost use Rattle.position.specs.Numbers.{LastIn};
+ghost use Rattle.pixel_row.specs.Rows.{putPixel, fillFrom, rowSpan, rowFilled};
+ghost use Rattle.pixel_row.specs.Numbers.{pixelTold, PixelBytes};
+
+// The row is filled, or why the call was refused and where.
+pub enum RowAnswer {
+    Done,
+    Not(Refusal, usize),
+}
+
+// A pixel, with the leaf of its last sample; or 12.
+pub enum Pixel {
+    Known(Colour, Found),
+    Broken,
+}
+
+// ---- one pixel
+// The pixel of a row, where `before` is the leaf that was found last.
+fn pixel_at(
+    plan: &[u32],
+    areas: &[u32],
+    xs: &[u32],
+    ys: &[u32],
+    head: &[u32],
+    cells: &[u32],
+    entries: &[u32],
+    before: Found,
+    row: u32,
+    column: u32,
+) -> Pixel
+    requires { ⌜ LastIn (tree (now plan) (now areas) (now xs) (now ys) (now head) (now cells) (now entries)) before ⌝ }
+    requires { ⌜ (row ≤ 4095) × (column ≤ 4095) ⌝ }
+    ensures { λ r. ⌜ r ≡ pixelTold (tree (now (plan .entry)) (now (areas .entry)) (now (xs .entry)) (now (ys .entry)) (now (head .entry)) (now (cells .entry)) (now (entries .entry))) row column ⌝ }
+    ensures { λ r. ⌜ PixelBytes r ⌝ }
+{
+    let mut last = before;
+    let mut sum = Channels {
+        red: 0,
+        green: 0,
+        blue: 0,
+    };
+    let mut i: u32 = 0;
+    while i < 16 {
+        let p = pixel::sample_at(row, column, i);
+        let s = position::shown_at(plan, areas, xs, ys, head, cells, entries, last, p.x, p.y);
+        match s {
+            Shown::Set(shown, f) => {
+                let c = colour::colour_of(areas, shown);
+                sum = pixel::add_sample(sum, c);
+                last = f;
+                i += 1;
+            }
+            Shown::Broken => {
+                return Pixel::Broken;
+            }
+        }
+    }
+    let c = pixel::pixel_of(sum);
+    Pixel::Known(c, last)
+}
+
+// Writes the three bytes of pixel i.
+fn put_pixel(out: &mut [u8], i: usize, c: Colour)
+    requires { ⌜ i * 3 + 3 ≤ length (now out) ⌝ }
+    requires { ⌜ ColourIn c ⌝ }
+    ensures { λ _. ⌜ now (out .exit) ≡ putPixel (now (out .entry)) i c ⌝ }
+{
+    let at = i * 3;
+    out[at] = c.red as u8;
+    out[at + 1] = c.green as u8;
+    out[at + 2] = c.blue as u8;
+}
+
+// ---- the call
+// The pixels of a row, one after the other, up to the first that 12 meets. They are in range.
+fn fill_row(
+    plan: &[u32],
+    areas: &[u32],
+    xs: &[u32],
+    ys: &[u32],
+    head: &[u32],
+    cells: &[u32],
+    entries: &[u32],
+    row: u32,
+    first: u32,
+    out: &mut [u8],
+) -> RowAnswer
+    requires { ⌜ (row ≤ 4095) × (first + length (now out) / 3 ≤ 4096) ⌝ }
+    ensures { λ r. ⌜ r ≡ fillFrom (tree (now (plan .entry)) (now (areas .entry)) (now (xs .entry)) (now (ys .entry)) (now (head .entry)) (now (cells .entry)) (now (entries .entry))) row first 0 (length (now (out .entry)) / 3) (now (out .entry)) .answer ⌝ }
+    ensures { λ _. ⌜ now (out .exit) ≡ fillFrom (tree (now (plan .entry)) (now (areas .entry)) (now (xs .entry)) (now (ys .entry)) (now (head .entry)) (now (cells .entry)) (now (entries .entry))) row first 0 (length (now (out .entry)) / 3) (now (out .entry)) .bytes ⌝ }
+{
+    let n = out.len() / 3;
+    let mut last = Found::Broken;
+    let mut i: usize = 0;
+    while i < n {
+        let column = first + (i as u32);
+        let p = pixel_at(plan, areas, xs, ys, head, cells, entries, last, row, column);
+        match p {
+            Pixel::Known(c, f) => {
+                put_pixel(out, i, c);
+                last = f;
+                i += 1;
+            }
+            Pixel::Broken => {
+                return RowAnswer::Not(Refusal::Broken, i);
+            }
+        }
+    }
+    RowAnswer::Done
+}
+
+// 7 over the pixels, and then the pixels. The row is in range.
+fn row_spanned(
+    plan: &[u32],
+    areas: &[u32],
+    xs: &[u32],
+    ys: &[u32],
+    head: &[u32],
+    cells: &[u32],
+    entries: &[u32],
+    row: u32,
+    first: u32,
+    out: &mut [u8],
+) -> RowAnswer
+    requires { ⌜ row ≤ 4095 ⌝ }
+    ensures { λ r. ⌜ r ≡ rowSpan (tree (now (plan .entry)) (now (areas .entry)) (now (xs .entry)) (now (ys .entry)) (now (head .entry)) (now (cells .entry)) (now (entries .entry))) row first (now (out .entry)) .answer ⌝ }
+    ensures { λ _. ⌜ now (out .exit) ≡ rowSpan (tree (now (plan .entry)) (now (areas .entry)) (now (xs .entry)) (now (ys .entry)) (now (head .entry)) (now (cells .entry)) (now (entries .entry))) row first (now (out .entry)) .bytes ⌝ }
+{
+    if (first as usize) + out.len() / 3 <= 4096 {
+        return fill_row(plan, areas, xs, ys, head, cells, entries, row, first, out);
+    }
+    RowAnswer::Not(Refusal::Argument, 0)
+}
+
+// Fills the buffer with the pixels of a row from `first` on, three bytes each: red, green, blue. Any tables may be handed in.
+// Refusals, in this order: 7, which changes nothing; 12 at a pixel, before which the pixels stand, and from which on the buffer is untouched.
+pub fn pixel_row(
+    plan: &[u32],
+    areas: &[u32],
+    xs: &[u32],
+    ys: &[u32],
+    head: &[u32],
+    cells: &[u32],
+    entries: &[u32],
+    row: u32,
+    first: u32,
+    out: &mut [u8],
+) -> RowAnswer
+    ensures { λ r. ⌜ r ≡ rowFilled (tree (now (plan .entry)) (now (areas .entry)) (now (xs .entry)) (now (ys .entry)) (now (head .entry)) (now (cells .entry)) (now (entries .entry))) row first (now (out .entry)) .answer ⌝ }
+    ensures { λ _. ⌜ now (out .exit) ≡ rowFilled (tree (now (plan .entry)) (now (areas .entry)) (now (xs .entry)) (now (ys .entry)) (now (head .entry)) (now (cells .entry)) (now (entries .entry))) row first (now (out .entry)) .bytes ⌝ }
+{
+    if xs.len() == ys.len() {
+        if row <= 4095 {
+            if out.len() % 3 == 0 {
+                return row_spanned(plan, areas, xs, ys, head, cells, entries, row, first, out);
+            }
+            return RowAnswer::Not(Refusal::Argument, 0);
+        }
+        return RowAnswer::Not(Refusal::Argument, 0);
+    }
+    RowAnswer::Not(Refusal::Argument, 0)
+}

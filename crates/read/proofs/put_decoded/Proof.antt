@@ -1,0 +1,29 @@
+-- `read::put_decoded` meets its contract. Assumes nothing.
+use Rattle.read.specs.Words.{wordsOf, onGood}
+use Rattle.read.proofs.Writes.{none-at, none-table}
+use mathlib.Core.Path.{ap}
+use borrow.Author.Needs.{needs}
+use Rattle.read.proofs.put_decoded.Statement.{statement}
+use Rattle.read.proofs.put_decoded.Tie as tie
+
+enum-known-d : tie.Need-enum-known-d
+enum-known-d c = search needs
+
+put-record-requires : tie.Need-put-record-requires
+put-record-requires c κs = rw (c .before .before .d .given .1) at (c .before .before .before .before .before .pre)
+
+enum-told : tie.Need-enum-told
+enum-told c = search needs
+
+same-length : tie.Need-same-length
+same-length c = search needs
+
+returns : tie.Need-returns
+returns c = (rw (c .before .before .before .before .before .d .given .1) (c .before .before .put-record .ensures .0), rw (c .before .before .before .before .before .d .given .1) (c .before .before .put-record .ensures .1))
+
+returns-2 : tie.Need-returns-2
+returns-2 c = (none-at _ _ (ap (onGood (wordsOf _)) (c .enum-told .given .1)), none-table _ _ _ (ap (onGood (wordsOf _)) (c .enum-told .given .1)))
+
+pub put-decoded-spec : {M : Type 1} → statement M
+put-decoded-spec =
+    tie.close (tie.spec enum-known-d put-record-requires enum-told same-length returns returns-2)

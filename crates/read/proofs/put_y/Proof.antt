@@ -1,0 +1,76 @@
+-- `read::put_y` meets its contract. Assumes nothing.
+use Rattle.read.specs.Words.{yW}
+use Rattle.read.proofs.Writes.{none-at, none-table, one-at, one-table, one-room}
+use mathlib.Core.Path.{ap}
+use borrow.Author.Needs.{needs}
+use Rattle.read.proofs.put_y.Statement.{statement}
+use Rattle.read.proofs.put_y.Tie as tie
+
+enum-told : tie.Need-enum-told
+enum-told c = search needs
+
+enum-known-r : tie.Need-enum-known-r
+enum-known-r c = search needs
+
+put-word-requires : tie.Need-put-word-requires
+put-word-requires c κs = one-room _ _ _ _ (ap yW (c .before .before .r .given .1)) (c .before .before .before .before .before .pre)
+
+enum-known-r-2 : tie.Need-enum-known-r-2
+enum-known-r-2 c = search needs
+
+put-word-requires-2 : tie.Need-put-word-requires-2
+put-word-requires-2 c κs = one-room _ _ _ _ (ap yW (c .before .before .r2 .given .1)) (c .before .before .before .before .before .pre)
+
+enum-told-2 : tie.Need-enum-told-2
+enum-told-2 c = search needs
+
+enum-told-3 : tie.Need-enum-told-3
+enum-told-3 c = search needs
+
+enum-told-4 : tie.Need-enum-told-4
+enum-told-4 c = search needs
+
+returns : tie.Need-returns
+returns c = (none-at _ _ (ap yW (c .enum-told .given .1)), none-table _ _ _ (ap yW (c .enum-told .given .1)))
+
+same-length : tie.Need-same-length
+same-length c = search needs
+
+returns-2 : tie.Need-returns-2
+returns-2 c = (one-at _ _ _ _ (ap yW (c .before .before .before .before .before .r .given .1)) (c .before .before .put-word .ensures .0), one-table _ _ _ _ _ (ap yW (c .before .before .before .before .before .r .given .1)) (c .before .before .put-word .ensures .1))
+
+same-length-2 : tie.Need-same-length-2
+same-length-2 c = search needs
+
+returns-3 : tie.Need-returns-3
+returns-3 c = (one-at _ _ _ _ (ap yW (c .before .before .before .before .before .r2 .given .1)) (c .before .before .put-word2 .ensures .0), one-table _ _ _ _ _ (ap yW (c .before .before .before .before .before .r2 .given .1)) (c .before .before .put-word2 .ensures .1))
+
+returns-4 : tie.Need-returns-4
+returns-4 c = (none-at _ _ (ap yW (c .enum-told2 .given .1)), none-table _ _ _ (ap yW (c .enum-told2 .given .1)))
+
+returns-5 : tie.Need-returns-5
+returns-5 c = (none-at _ _ (ap yW (c .enum-told3 .given .1)), none-table _ _ _ (ap yW (c .enum-told3 .given .1)))
+
+returns-6 : tie.Need-returns-6
+returns-6 c = (none-at _ _ (ap yW (c .enum-told4 .given .1)), none-table _ _ _ (ap yW (c .enum-told4 .given .1)))
+
+pub put-y-spec : {M : Type 1} → statement M
+put-y-spec =
+    tie.close
+    (tie.spec
+    enum-told
+    enum-known-r
+    put-word-requires
+    enum-known-r-2
+    put-word-requires-2
+    enum-told-2
+    enum-told-3
+    enum-told-4
+    returns
+    same-length
+    returns-2
+    same-length-2
+    returns-3
+    returns-4
+    returns-5
+    returns-6)

@@ -1,0 +1,322 @@
+// Reading a file of records into the four tables of a drawing.
+use grammar::Counts;
+use grammar::Scan;
+use grammar::Verdict;
+use records::Decoded;
+use records::Fields;
+use records::Record;
+use refusals::Refusal;
+ghost use mathlib.Core.Path.{_≡_};
+ghost use Prim.Native.Nat.{_+_, _*_, _≤_};
+ghost use lib.ListN.{length, set};
+ghost use lib.Seq.{sets};
+ghost use Rattle.grammar.specs.declared.Verdict.the-variants.{Accepted};
+ghost use Rattle.grammar.specs.Machine.{scanN, startN};
+ghost use Rattle.grammar.specs.Lists.{goods};
+ghost use Rattle.records.specs.Record.{kindOf};
+ghost use Rattle.records.specs.Bytes.{rawAt, decodedRaw};
+ghost use Rattle.read.specs.Words.{kindW, areaW, xW, yW, wordsOf, spread, planWords, areaWords, xWords, yWords, onGood};
+ghost use Rattle.read.specs.Reading.{decodedFrom, recordsIn, verdictOf, holds, ifRoom, readAnswer, leftBy, Filed};
+
+// ---- the file
+fn read_record(records: &[u8], i: usize) -> Decoded
+    requires { ⌜ i * 16 + 16 ≤ length (now records) ⌝ }
+    ensures { λ d. ⌜ d ≡ decodedRaw (rawAt (now (records .entry)) i) ⌝ }
+{
+    let r = records::read_raw(records, i);
+    records::decoded_raw(r)
+}
+
+fn scan_records(records: &[u8], n: usize) -> Scan
+    requires { ⌜ n * 16 ≤ length (now records) ⌝ }
+    ensures { λ c. ⌜ c ≡ scanN startN 0 (decodedFrom (now (records .entry)) 0 n) ⌝ }
+{
+    let mut s = grammar::start();
+    let mut i = 0;
+    while i < n {
+        let d = read_record(records, i);
+        s = grammar::advance(s, d, i);
+        if grammar::is_stopped(s) {
+            return s;
+        }
+        i += 1;
+    }
+    s
+}
+
+// The first refusal of a file and its place, or what it holds.
+pub fn check_records(records: &[u8]) -> Verdict
+    ensures { λ v. ⌜ v ≡ verdictOf (now (records .entry)) ⌝ }
+{
+    if records.len() % 16 == 0 {
+        let n = records.len() / 16;
+        if n <= 4096 {
+            let s = scan_records(records, n);
+            return grammar::ended(s, n);
+        }
+        return Verdict::Refused(Refusal::Length, 0);
+    }
+    Verdict::Refused(Refusal::Length, 0)
+}
+
+// ---- a record into a table
+fn kind_of(r: Record) -> u32
+    ensures { λ k. ⌜ k ≡ kindOf r ⌝ }
+{
+    match r {
+        Record::Area(_) => 1,
+        Record::First(_, _) => 2,
+        Record::Next(_, _) => 3,
+        Record::Open => 4,
+        Record::Bar => 5,
+        Record::Close => 6,
+    }
+}
+
+fn put_word(table: &mut [u32], at: usize, w: u32) -> usize
+    requires { ⌜ at + 1 ≤ length (now table) ⌝ }
+    ensures { λ n. ⌜ n ≡ at + 1 ⌝ }
+    ensures { λ n. ⌜ now (table .exit) ≡ set (now (table .entry)) at w ⌝ }
+{
+    table[at] = w;
+    at + 1
+}
+
+fn put_kind(table: &mut [u32], at: usize, r: Record) -> usize
+    requires { ⌜ at + length (kindW r) ≤ length (now table) ⌝ }
+    ensures { λ n. ⌜ n ≡ at + length (kindW r) ⌝ }
+    ensures { λ n. ⌜ now (table .exit) ≡ sets (now (table .entry)) at (kindW r) ⌝ }
+{
+    let k = kind_of(r);
+    put_word(table, at, k)
+}
+
+fn put_row(table: &mut [u32], at: usize, f: Fields) -> usize
+    requires { ⌜ at + 8 ≤ length (now table) ⌝ }
+    ensures { λ n. ⌜ n ≡ at + 8 ⌝ }
+    ensures { λ n. ⌜ now (table .exit) ≡ set (set (set (set (set (set (set (set (now (table .entry)) at (f .role)) (at + 1) (f .rule)) (at + 2) (f .alpha)) (at + 3) (f .red)) (at + 4) (f .green)) (at + 5) (f .blue)) (at + 6) (f .material)) (at + 7) 0 ⌝ }
+{
+    table[at] = f.role;
+    table[at + 1] = f.rule;
+    table[at + 2] = f.alpha;
+    table[at + 3] = f.red;
+    table[at + 4] = f.green;
+    table[at + 5] = f.blue;
+    table[at + 6] = f.material;
+    table[at + 7] = 0;
+    at + 8
+}
+
+fn put_area(table: &mut [u32], at: usize, r: Record) -> usize
+    requires { ⌜ at + length (areaW r) ≤ length (now table) ⌝ }
+    ensures { λ n. ⌜ n ≡ at + length (areaW r) ⌝ }
+    ensures { λ n. ⌜ now (table .exit) ≡ sets (now (table .entry)) at (areaW r) ⌝ }
+{
+    match r {
+        Record::Area(f) => put_row(table, at, f),
+        Record::First(_, _) => at,
+        Record::Next(_, _) => at,
+        Record::Open => at,
+        Record::Bar => at,
+        Record::Close => at,
+    }
+}
+
+fn put_x(table: &mut [u32], at: usize, r: Record) -> usize
+    requires { ⌜ at + length (xW r) ≤ length (now table) ⌝ }
+    ensures { λ n. ⌜ n ≡ at + length (xW r) ⌝ }
+    ensures { λ n. ⌜ now (table .exit) ≡ sets (now (table .entry)) at (xW r) ⌝ }
+{
+    match r {
+        Record::Area(_) => at,
+        Record::First(x, _) => put_word(table, at, x),
+        Record::Next(x, _) => put_word(table, at, x),
+        Record::Open => at,
+        Record::Bar => at,
+        Record::Close => at,
+    }
+}
+
+fn put_y(table: &mut [u32], at: usize, r: Record) -> usize
+    requires { ⌜ at + length (yW r) ≤ length (now table) ⌝ }
+    ensures { λ n. ⌜ n ≡ at + length (yW r) ⌝ }
+    ensures { λ n. ⌜ now (table .exit) ≡ sets (now (table .entry)) at (yW r) ⌝ }
+{
+    match r {
+        Record::Area(_) => at,
+        Record::First(_, y) => put_word(table, at, y),
+        Record::Next(_, y) => put_word(table, at, y),
+        Record::Open => at,
+        Record::Bar => at,
+        Record::Close => at,
+    }
+}
+
+fn put_record(table: &mut [u32], at: usize, which: u32, r: Record) -> usize
+    requires { ⌜ at + length (wordsOf which r) ≤ length (now table) ⌝ }
+    ensures { λ n. ⌜ n ≡ at + length (wordsOf which r) ⌝ }
+    ensures { λ n. ⌜ now (table .exit) ≡ sets (now (table .entry)) at (wordsOf which r) ⌝ }
+{
+    if which == 0 {
+        return put_kind(table, at, r);
+    }
+    if which == 1 {
+        return put_area(table, at, r);
+    }
+    if which == 2 {
+        return put_x(table, at, r);
+    }
+    put_y(table, at, r)
+}
+
+fn put_decoded(table: &mut [u32], at: usize, which: u32, d: Decoded) -> usize
+    requires { ⌜ at + length (onGood (wordsOf which) d) ≤ length (now table) ⌝ }
+    ensures { λ n. ⌜ n ≡ at + length (onGood (wordsOf which) d) ⌝ }
+    ensures { λ n. ⌜ now (table .exit) ≡ sets (now (table .entry)) at (onGood (wordsOf which) d) ⌝ }
+{
+    match d {
+        Decoded::Good(r) => put_record(table, at, which, r),
+        Decoded::Bad(_) => at,
+    }
+}
+
+// Writes the words of all records in the four tables, behind the plan's three counts.
+fn fill(
+    records: &[u8],
+    n: usize,
+    plan: &mut [u32],
+    areas: &mut [u32],
+    xs: &mut [u32],
+    ys: &mut [u32],
+)
+    requires { ⌜ n * 16 ≤ length (now records) ⌝ }
+    requires { ⌜ 3 + length (spread (wordsOf 0) (goods (decodedFrom (now records) 0 n))) ≤ length (now plan) ⌝ }
+    requires { ⌜ 0 + length (spread (wordsOf 1) (goods (decodedFrom (now records) 0 n))) ≤ length (now areas) ⌝ }
+    requires { ⌜ 0 + length (spread (wordsOf 2) (goods (decodedFrom (now records) 0 n))) ≤ length (now xs) ⌝ }
+    requires { ⌜ 0 + length (spread (wordsOf 3) (goods (decodedFrom (now records) 0 n))) ≤ length (now ys) ⌝ }
+    ensures { λ _. ⌜ now (plan .exit) ≡ sets (now (plan .entry)) 3 (spread (wordsOf 0) (goods (decodedFrom (now (records .entry)) 0 n))) ⌝ }
+    ensures { λ _. ⌜ now (areas .exit) ≡ sets (now (areas .entry)) 0 (spread (wordsOf 1) (goods (decodedFrom (now (records .entry)) 0 n))) ⌝ }
+    ensures { λ _. ⌜ now (xs .exit) ≡ sets (now (xs .entry)) 0 (spread (wordsOf 2) (goods (decodedFrom (now (records .entry)) 0 n))) ⌝ }
+    ensures { λ _. ⌜ now (ys .exit) ≡ sets (now (ys .entry)) 0 (spread (wordsOf 3) (goods (decodedFrom (now (records .entry)) 0 n))) ⌝ }
+{
+    let mut kind = 3;
+    let mut area = 0;
+    let mut x = 0;
+    let mut y = 0;
+    let mut i = 0;
+    while i < n {
+        let d = read_record(records, i);
+        kind = put_decoded(plan, kind, 0, d);
+        area = put_decoded(areas, area, 1, d);
+        x = put_decoded(xs, x, 2, d);
+        y = put_decoded(ys, y, 3, d);
+        i += 1;
+    }
+}
+
+// ---- reading
+// Tables of these lengths hold a drawing of this size.
+pub fn tables_hold(p: usize, a: usize, d: usize, k: Counts) -> bool
+    ensures { λ r. ⌜ r ≡ holds p a d k ⌝ }
+{
+    if 3 <= p {
+        return (k.records <= p - 3) & ((k.areas <= a / 8) & (k.corners <= d));
+    }
+    false
+}
+
+fn put_header(plan: &mut [u32], k: Counts)
+    requires { ⌜ (3 ≤ length (now plan)) × (k .records ≤ 4096) × (k .areas ≤ 64) × (k .corners ≤ 2048) ⌝ }
+    ensures { λ _. ⌜ now (plan .exit) ≡ set (set (set (now (plan .entry)) 0 (k .records)) 1 (k .areas)) 2 (k .corners) ⌝ }
+{
+    plan[0] = k.records as u32;
+    plan[1] = k.areas as u32;
+    plan[2] = k.corners as u32;
+}
+
+fn fill_all(
+    records: &[u8],
+    plan: &mut [u32],
+    areas: &mut [u32],
+    xs: &mut [u32],
+    ys: &mut [u32],
+    k: Counts,
+)
+    requires { ⌜ Filed (now records) k ⌝ }
+    requires { ⌜ (k .records + 3 ≤ length (now plan)) × (k .areas * 8 ≤ length (now areas)) × (k .corners ≤ length (now xs)) × (k .corners ≤ length (now ys)) ⌝ }
+    ensures { λ _. ⌜ now (plan .exit) ≡ sets (now (plan .entry)) 0 (planWords (recordsIn (now (records .entry)))) ⌝ }
+    ensures { λ _. ⌜ now (areas .exit) ≡ sets (now (areas .entry)) 0 (areaWords (recordsIn (now (records .entry)))) ⌝ }
+    ensures { λ _. ⌜ now (xs .exit) ≡ sets (now (xs .entry)) 0 (xWords (recordsIn (now (records .entry)))) ⌝ }
+    ensures { λ _. ⌜ now (ys .exit) ≡ sets (now (ys .entry)) 0 (yWords (recordsIn (now (records .entry)))) ⌝ }
+{
+    let n = k.records;
+    put_header(plan, k);
+    fill(records, n, plan, areas, xs, ys);
+}
+
+fn fill_if_room(
+    records: &[u8],
+    plan: &mut [u32],
+    areas: &mut [u32],
+    xs: &mut [u32],
+    ys: &mut [u32],
+    k: Counts,
+) -> Verdict
+    requires { ⌜ Filed (now records) k ⌝ }
+    requires { ⌜ length (now xs) ≡ length (now ys) ⌝ }
+    ensures { λ v. ⌜ v ≡ ifRoom (Accepted k) (length (now (plan .entry))) (length (now (areas .entry))) (length (now (xs .entry))) ⌝ }
+    ensures { λ v. ⌜ now (plan .exit) ≡ leftBy v (now (plan .entry)) (planWords (recordsIn (now (records .entry)))) ⌝ }
+    ensures { λ v. ⌜ now (areas .exit) ≡ leftBy v (now (areas .entry)) (areaWords (recordsIn (now (records .entry)))) ⌝ }
+    ensures { λ v. ⌜ now (xs .exit) ≡ leftBy v (now (xs .entry)) (xWords (recordsIn (now (records .entry)))) ⌝ }
+    ensures { λ v. ⌜ now (ys .exit) ≡ leftBy v (now (ys .entry)) (yWords (recordsIn (now (records .entry)))) ⌝ }
+{
+    let h = tables_hold(plan.len(), areas.len(), xs.len(), k);
+    if h {
+        fill_all(records, plan, areas, xs, ys, k);
+        return Verdict::Accepted(k);
+    }
+    Verdict::Refused(Refusal::Room, 0)
+}
+
+fn read_checked(
+    records: &[u8],
+    plan: &mut [u32],
+    areas: &mut [u32],
+    xs: &mut [u32],
+    ys: &mut [u32],
+    v: Verdict,
+) -> Verdict
+    requires { ⌜ v ≡ verdictOf (now records) ⌝ }
+    requires { ⌜ length (now xs) ≡ length (now ys) ⌝ }
+    ensures { λ r. ⌜ r ≡ ifRoom v (length (now (plan .entry))) (length (now (areas .entry))) (length (now (xs .entry))) ⌝ }
+    ensures { λ r. ⌜ now (plan .exit) ≡ leftBy r (now (plan .entry)) (planWords (recordsIn (now (records .entry)))) ⌝ }
+    ensures { λ r. ⌜ now (areas .exit) ≡ leftBy r (now (areas .entry)) (areaWords (recordsIn (now (records .entry)))) ⌝ }
+    ensures { λ r. ⌜ now (xs .exit) ≡ leftBy r (now (xs .entry)) (xWords (recordsIn (now (records .entry)))) ⌝ }
+    ensures { λ r. ⌜ now (ys .exit) ≡ leftBy r (now (ys .entry)) (yWords (recordsIn (now (records .entry)))) ⌝ }
+{
+    match v {
+        Verdict::Accepted(k) => fill_if_room(records, plan, areas, xs, ys, k),
+        Verdict::Refused(r, p) => Verdict::Refused(r, p),
+    }
+}
+
+// Reads a file into four tables. Any tables may be handed in.
+pub fn read(
+    records: &[u8],
+    plan: &mut [u32],
+    areas: &mut [u32],
+    xs: &mut [u32],
+    ys: &mut [u32],
+) -> Verdict
+    ensures { λ r. ⌜ r ≡ readAnswer (now (records .entry)) (now (plan .entry)) (now (areas .entry)) (now (xs .entry)) (now (ys .entry)) ⌝ }
+    ensures { λ r. ⌜ now (plan .exit) ≡ leftBy r (now (plan .entry)) (planWords (recordsIn (now (records .entry)))) ⌝ }
+    ensures { λ r. ⌜ now (areas .exit) ≡ leftBy r (now (areas .entry)) (areaWords (recordsIn (now (records .entry)))) ⌝ }
+    ensures { λ r. ⌜ now (xs .exit) ≡ leftBy r (now (xs .entry)) (xWords (recordsIn (now (records .entry)))) ⌝ }
+    ensures { λ r. ⌜ now (ys .exit) ≡ leftBy r (now (ys .entry)) (yWords (recordsIn (now (records .entry)))) ⌝ }
+{
+    if xs.len() == ys.len() {
+        let v = check_records(records);
+        return read_checked(records, plan, areas, xs, ys, v);
+    }
+    Verdict::Refused(Refusal::Argument, 0)
+}

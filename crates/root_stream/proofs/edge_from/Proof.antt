@@ -1,0 +1,16 @@
+-- `root_stream::edge_from` meets its contract. Assumes nothing.
+use borrow.Author.Needs.{needs}
+use Rattle.root_stream.proofs.edge_from.Statement.{statement}
+use Rattle.root_stream.proofs.edge_from.Tie as tie
+use mathlib.Core.Path.{ap}
+use Prim.Native.Nat.{ℕ}
+use Rattle.evaluate.specs.Words.{words}
+
+edge-end-requires : tie.Need-edge-end-requires
+edge-end-requires c κs = search needs
+
+returns : tie.Need-returns
+returns c = ap (λ (q : ℕ). words 5 (c .before .before .args .corner) q 0) (c .edge-end .ensures)
+
+pub edge-from-spec : {M : Type 1} → statement M
+edge-from-spec = tie.close (tie.spec edge-end-requires returns)

@@ -1,0 +1,227 @@
+// The stream of cell 0, made from the drawing in lent tables: counted, and then written.
+use geometry::class::Square;
+use making::Maker;
+use stream::Bounds;
+use stream::Words;
+ghost use mathlib.Core.Path.{_≡_};
+ghost use Prim.Native.Nat.{_+_, _*_, _≤_, _<_};
+ghost use lib.ListN.{length};
+ghost use Rattle.cells.specs.Cells.{squareOf, root};
+ghost use Rattle.cells.specs.Making.{rowSize};
+ghost use Rattle.pruning.specs.Weights.{total};
+ghost use Rattle.drawing.specs.Tables.{tables};
+ghost use Rattle.stream.specs.Table.{written};
+ghost use Rattle.evaluate.specs.Words.{words};
+ghost use Rattle.root_stream.specs.Numbers.{sourceAt, endN, edgeN, markN, entryN, afterN, Opened};
+ghost use Rattle.root_stream.specs.Opened.{rowsOpened, wordsOpened};
+
+// The areas and the corners before a record, and the first corner of the contour in progress.
+pub struct Source {
+    pub area: u32,
+    pub corner: u32,
+    pub first: u32,
+}
+
+// Before the first record.
+pub fn source_begin() -> Source
+    ensures { λ r. ⌜ r ≡ sourceAt 0 0 0 ⌝ }
+{
+    Source {
+        area: 0,
+        corner: 0,
+        first: 0,
+    }
+}
+
+// Where the edge from the corner of record i ends: at the next corner where record i + 1 is one, or at the first corner of the contour.
+fn edge_end(plan: &[u32], i: usize, records: usize, corner: u32, first: u32) -> u32
+    requires { ⌜ (records + 3 ≤ length (now plan)) × (i < records) × (corner ≤ 2048) ⌝ }
+    ensures { λ r. ⌜ r ≡ endN (now (plan .entry)) i records corner first ⌝ }
+{
+    if i + 1 < records {
+        if plan[i + 4] == 3 {
+            return corner + 1;
+        }
+        return first;
+    }
+    first
+}
+
+fn edge_from(plan: &[u32], i: usize, records: usize, corner: u32, first: u32) -> Words
+    requires { ⌜ (records + 3 ≤ length (now plan)) × (i < records) × (corner ≤ 2048) ⌝ }
+    ensures { λ r. ⌜ r ≡ edgeN (now (plan .entry)) i records corner first ⌝ }
+{
+    let end = edge_end(plan, i, records, corner, first);
+    Words {
+        kind: 5,
+        p: corner,
+        q: end,
+        r: 0,
+    }
+}
+
+fn mark(kind: u32) -> Words
+    ensures { λ r. ⌜ r ≡ words kind 0 0 0 ⌝ }
+{
+    Words {
+        kind: kind,
+        p: 0,
+        q: 0,
+        r: 0,
+    }
+}
+
+fn delimiter(kind: u32) -> Words
+    ensures { λ r. ⌜ r ≡ markN kind ⌝ }
+{
+    if kind == 4 {
+        return mark(1);
+    }
+    if kind == 5 {
+        return mark(2);
+    }
+    mark(3)
+}
+
+// The entry of record i: the area, the edge from its corner, or the delimiter.
+pub fn source_entry(plan: &[u32], i: usize, records: usize, c: Source) -> Words
+    requires { ⌜ (records + 3 ≤ length (now plan)) × (i < records) × (c .corner ≤ 2048) ⌝ }
+    ensures { λ r. ⌜ r ≡ entryN (now (plan .entry)) i records c ⌝ }
+{
+    let kind = plan[i + 3];
+    if kind == 1 {
+        return Words {
+            kind: 4,
+            p: c.area,
+            q: 0,
+            r: 0,
+        };
+    }
+    if kind == 2 {
+        return edge_from(plan, i, records, c.corner, c.corner);
+    }
+    if kind == 3 {
+        return edge_from(plan, i, records, c.corner, c.first);
+    }
+    delimiter(kind)
+}
+
+// Behind a record of this kind.
+pub fn source_after(c: Source, kind: u32) -> Source
+    requires { ⌜ (c .area ≤ 64) × (c .corner ≤ 2048) ⌝ }
+    ensures { λ r. ⌜ r ≡ afterN c kind ⌝ }
+{
+    if kind == 1 {
+        return Source {
+            area: c.area + 1,
+            corner: c.corner,
+            first: c.first,
+        };
+    }
+    if kind == 2 {
+        return Source {
+            area: c.area,
+            corner: c.corner + 1,
+            first: c.corner,
+        };
+    }
+    if kind == 3 {
+        return Source {
+            area: c.area,
+            corner: c.corner + 1,
+            first: c.first,
+        };
+    }
+    c
+}
+
+// ---- the stream of cell 0
+fn root_square() -> Square
+    ensures { λ r. ⌜ r ≡ squareOf root ⌝ }
+{
+    Square {
+        x: 0,
+        y: 0,
+        side: 65536,
+    }
+}
+
+// What cell 0's stream weighs: 1 for each entry, 65,536 more for a line, 4,294,967,296 more for an area.
+pub fn count_open(
+    plan: &[u32],
+    areas: &[u32],
+    xs: &[u32],
+    ys: &[u32],
+    records: usize,
+    b: Bounds,
+) -> u64
+    requires { ⌜ Opened (tables (now plan) (now areas) (now xs) (now ys)) records b ⌝ }
+    ensures { λ r. ⌜ r ≡ total rowSize (rowsOpened (tables (now (plan .entry)) (now (areas .entry)) (now (xs .entry)) (now (ys .entry)))) ⌝ }
+{
+    let s = root_square();
+    let mut p = pruner::begun();
+    let mut a = making::rest();
+    let mut c = source_begin();
+    let mut i = 0;
+    while i < records {
+        let w = source_entry(plan, i, records, c);
+        let l = making::left_of(xs, ys, b.corners, s, w);
+        if making::prunes(w.kind) {
+            let q = making::pruner_after(areas, p, a, w.kind);
+            p = q;
+        }
+        let n = making::waiting_after(a, l, w);
+        a = n;
+        c = source_after(c, plan[i + 3]);
+        i += 1;
+    }
+    making::made_weight(
+        areas,
+        Maker {
+            pruner: p,
+            waiting: a,
+        },
+    )
+}
+
+// Writes cell 0's stream to the table's first entries. It has `made` of them. Beyond them the table stays as it was.
+pub fn write_open(
+    entries: &mut [u32],
+    made: usize,
+    plan: &[u32],
+    areas: &[u32],
+    xs: &[u32],
+    ys: &[u32],
+    records: usize,
+    b: Bounds,
+)
+    requires { ⌜ Opened (tables (now plan) (now areas) (now xs) (now ys)) records b ⌝ }
+    requires { ⌜ made ≡ length (rowsOpened (tables (now plan) (now areas) (now xs) (now ys))) ⌝ }
+    requires { ⌜ made * 4 ≤ length (now entries) ⌝ }
+    ensures { λ _. ⌜ now (entries .exit) ≡ written (now (entries .entry)) 0 (wordsOpened (tables (now (plan .entry)) (now (areas .entry)) (now (xs .entry)) (now (ys .entry)))) ⌝ }
+{
+    let s = root_square();
+    let mut p = pruner::begun();
+    let mut a = making::rest();
+    let mut c = source_begin();
+    let mut i = 0;
+    while i < records {
+        let w = source_entry(plan, i, records, c);
+        let l = making::left_of(xs, ys, b.corners, s, w);
+        if making::prunes(w.kind) {
+            let q = writing::write_other(entries, made, areas, p, a, w.kind);
+            p = q;
+        } else {
+            writing::put_segment(entries, made, p, a, l, w);
+        }
+        let n = making::waiting_after(a, l, w);
+        a = n;
+        c = source_after(c, plan[i + 3]);
+        i += 1;
+    }
+    let last = Maker {
+        pruner: p,
+        waiting: a,
+    };
+    writing::put_settled(entries, made, areas, last);
+}

@@ -1,0 +1,78 @@
+-- The room that a split asks for. Assumes nothing.
+use mathlib.Core.Path.{_≡_}
+use mathlib.Core.Bool.{true, false, _&&_}
+use mathlib.Core.List.{List}
+use Prim.Native.Nat.{ℕ, _+_, _*_, _/_, _≤_}
+use native.Mathlib.Omega.{arith}
+use lib.Dec.{leb}
+use lib.ListN.{length, getD, length-append}
+use borrow.Author.Tests.{leb-true}
+use Rattle.cells.specs.Cells.{Cell}
+use Rattle.cells.specs.Drawings.{Drawing}
+use Rattle.stream.specs.declared.Bounds.{Bounds}
+use Rattle.stream.specs.declared.Words.{Words}
+use Rattle.stream.specs.Table.{wordsFrom}
+use Rattle.stream.specs.Grammar.{env, Passed}
+use Rattle.ranges.specs.Held.{lent}
+use Rattle.evaluate.proofs.Laws.{both}
+use Rattle.celltable.specs.Ranges.{cellsHeld, entriesHeld}
+use Rattle.refusals.specs.declared.Refusal.the-variants.{Room}
+use Rattle.split.specs.declared.Answer.the-variants.{Split, Not}
+use Rattle.split.specs.Split.{roomAnswer}
+use Rattle.four_children.specs.declared.Tally.{Tally}
+use Rattle.four_children.specs.Children.{cellOfChild, wordsOfChild, entriesOfChild, streamsTo}
+use Rattle.four_children.specs.Numbers.{noTally, fourTallies, FewEach}
+use Rattle.four_children.proofs.Filled.{length-child, entries-at}
+use Rattle.four_children.proofs.Made.{few-rows}
+
+pub few-each : (t areas xs ys : List ℕ) (b : Bounds) (first count : ℕ) (c : Cell) (ts : List Tally) → Passed t first count (env areas xs ys b) → ts ≡ fourTallies (lent areas xs ys b) c (wordsFrom t first count) → FewEach ts
+few-each t areas xs ys b first count c ts p e =
+    record { few = λ n h. omega (arith, entries-at (lent areas xs ys b) c (wordsFrom t first count) ts n h e, few-rows t areas xs ys b first count (cellOfChild (lent areas xs ys b) c (wordsFrom t first count) n) p) }
+
+sum-four : (D : Drawing) (c : Cell) (ws : List Words) → length (streamsTo D c ws 4) ≡ entriesOfChild D c ws 0 + entriesOfChild D c ws 1 + entriesOfChild D c ws 2 + entriesOfChild D c ws 3
+unfolding streamsTo
+sum-four D c ws =
+    omega (
+      arith,
+      length-append (streamsTo D c ws 3) (wordsOfChild D c ws 3),
+      length-append (streamsTo D c ws 2) (wordsOfChild D c ws 2),
+      length-append (streamsTo D c ws 1) (wordsOfChild D c ws 1),
+      length-append (streamsTo D c ws 0) (wordsOfChild D c ws 0),
+      length-child D c ws 0,
+      length-child D c ws 1,
+      length-child D c ws 2,
+      length-child D c ws 3,
+    )
+
+pub sum-is : (D : Drawing) (c : Cell) (ws : List Words) (ts : List Tally) (n : ℕ) → ts ≡ fourTallies D c ws
+    → n ≡ getD ts 0 noTally .entries + getD ts 1 noTally .entries + getD ts 2 noTally .entries + getD ts 3 noTally .entries → n ≡ length (streamsTo D c ws 4)
+sum-is D c ws ts n e h =
+    omega (
+      arith,
+      sum-four D c ws,
+      entries-at D c ws ts 0 (omega arith) e,
+      entries-at D c ws ts 1 (omega arith) e,
+      entries-at D c ws ts 2 (omega arith) e,
+      entries-at D c ws ts 3 (omega arith) e,
+    )
+
+pub cells-room : (n len : ℕ) → cellsHeld n len ≡ true → (n * 8 ≤ len) × (n ≤ 4096)
+cells-room n len h =
+    let p = both (leb 1 n) (leb n (len / 8) && leb n 4096) h in
+    let q = both (leb n (len / 8)) (leb n 4096) (p .1) in
+    (omega (arith, leb-true n (len / 8) (q .0)), leb-true n 4096 (q .1))
+
+pub entries-room : (n len : ℕ) → entriesHeld n len ≡ true → (n * 4 ≤ len) × (n ≤ 65536)
+entries-room n len h =
+    let q = both (leb n (len / 4)) (leb n 65536) h in
+    (omega (arith, leb-true n (len / 4) (q .0)), leb-true n 65536 (q .1))
+
+-- ---- the answer
+pub has-room : (C E used free n : ℕ) (made : List Words) → cellsHeld (used + 4) C ≡ true → entriesHeld (free + n) E ≡ true → n ≡ length made → Split used ≡ roomAnswer C E used free made
+has-room C E used free n made a b e = let b′ : entriesHeld (free + length made) E ≡ true = rw e at b in rw (a, b′)
+
+pub no-entries : (C E used free n : ℕ) (made : List Words) → cellsHeld (used + 4) C ≡ true → entriesHeld (free + n) E ≡ false → n ≡ length made → Not Room ≡ roomAnswer C E used free made
+no-entries C E used free n made a b e = let b′ : entriesHeld (free + length made) E ≡ false = rw e at b in rw (a, b′)
+
+pub no-cells : (C E used free : ℕ) (made : List Words) → cellsHeld (used + 4) C ≡ false → Not Room ≡ roomAnswer C E used free made
+no-cells C E used free made a = rw a

@@ -1,0 +1,54 @@
+-- `split::put_split` meets its contract. Assumes nothing.
+use borrow.Author.Needs.{needs}
+use Rattle.split.proofs.put_split.Statement.{statement}
+use Rattle.split.proofs.put_split.Tie as tie
+use native.Mathlib.Omega.{arith}
+
+cast-first : tie.Need-cast-first
+cast-first c = search needs
+
+cast-count : tie.Need-cast-count
+cast-count c = search needs
+
+write-four-requires : tie.Need-write-four-requires
+write-four-requires c κs = let p = c .before .before .before .before .before .before .before .before .before .pre in (p .0, (p .1 .0, (p .1 .1 .0, (p .1 .1 .1 .0, (p .1 .1 .1 .1 .0, p .1 .1 .1 .1 .1 .0)))))
+
+put-cells-requires : tie.Need-put-cells-requires
+put-cells-requires c κs = let p = c .before .before .before .before .before .before .before .before .before .before .before .before .before .pre in (p .1 .0, (p .1 .1 .0, (p .1 .1 .1 .1 .1 .1 .1 .0, ((p .1 .1 .1 .1 .1 .1 .1 .1 .0 .0, p .1 .1 .1 .1 .1 .1 .1 .1 .0 .1), (p .1 .1 .1 .1 .1 .1 .0, p .1 .1 .1 .1 .1 .1 .1 .1 .1 .0)))))
+
+add-put-head : tie.Need-add-put-head
+add-put-head c = record { fits = omega (arith, c .before .before .before .before .before .before .before .before .before .before .before .before .before .before .before .before .before .pre .1 .1 .1 .1 .1 .1 .1 .1 .0 .0) }
+
+add-put-head-2 : tie.Need-add-put-head-2
+add-put-head-2 c = record { fits = omega (arith, c .before .before .before .before .before .before .before .before .before .before .before .before .before .before .before .before .before .pre .1 .1 .1 .1 .1 .1 .1 .1 .0 .1, c .before .before .before .before .before .before .before .before .before .before .before .before .before .before .before .before .before .pre .1 .1 .1 .1 .1 .1 .1 .1 .0 .2) }
+
+put-head-requires : tie.Need-put-head-requires
+put-head-requires c κs = c .before .before .before .before .before .before .before .before .before .before .before .before .before .before .before .before .before .pre .1 .1 .1 .1 .1 .1 .1 .1 .1 .1
+
+same-length : tie.Need-same-length
+same-length c = search needs
+
+same-length-2 : tie.Need-same-length-2
+same-length-2 c = search needs
+
+same-length-3 : tie.Need-same-length-3
+same-length-3 c = search needs
+
+returns : tie.Need-returns
+returns c = (c .before .before .put-head .ensures, (c .before .before .before .before .before .before .put-cells .ensures, c .before .before .before .before .before .before .before .before .before .before .write-four .ensures))
+
+pub put-split-spec : {M : Type 1} → statement M
+put-split-spec =
+    tie.close
+    (tie.spec
+    cast-first
+    cast-count
+    write-four-requires
+    put-cells-requires
+    add-put-head
+    add-put-head-2
+    put-head-requires
+    same-length
+    same-length-2
+    same-length-3
+    returns)

@@ -1,0 +1,53 @@
+-- `split::split_cell` meets its contract. Assumes nothing.
+use borrow.Author.Needs.{needs}
+use Rattle.split.proofs.split_cell.Statement.{statement}
+use Rattle.split.proofs.split_cell.Tie as tie
+use mathlib.Core.Path.{sym, _∙_, refl}
+use mathlib.Core.Bool.{cond}
+use denote.Ref.{now}
+use lib.ListN.{length}
+use lib.Dec.{eqb}
+use borrow.Author.Tests.{eq-eqb, ne-eqb}
+use Rattle.refusals.specs.declared.Refusal.the-variants.{AlreadySplit, Broken}
+use Rattle.celltable.specs.Ranges.{cellRange}
+use Rattle.celltable.proofs.Ranges.{passes-range, passes-entries}
+use Rattle.split.specs.declared.Answer.the-variants.{Not}
+use Rattle.split.specs.Split.{leafAnswer}
+use Rattle.split.proofs.Choices.{pick-true, pick-false}
+
+cell-fits-requires : tie.Need-cell-fits-requires
+cell-fits-requires c κs = search needs
+
+split-leaf-requires : tie.Need-split-leaf-requires
+split-leaf-requires c κs = let a = c .before .before .before .before .before .before .before .before .before .before .before .before .before .args in let p = c .before .before .before .before .before .before .before .before .before .before .before .before .before .pre in let h = sym (c .before .before .before .before .before .before .cell-fits .ensures) ∙ c .before .before .before .before .before .if1 .taken in (passes-range (a .w) (a .i) (a .used) (a .free) h, (passes-entries (a .w) (a .i) (a .used) (a .free) h, (p .0, p .1)))
+
+same-length : tie.Need-same-length
+same-length c = search needs
+
+same-length-2 : tie.Need-same-length-2
+same-length-2 c = search needs
+
+same-length-3 : tie.Need-same-length-3
+same-length-3 c = search needs
+
+returns : tie.Need-returns
+returns c = let a = c .before .before .before .before .before .before .before .before .before .before .before .before .before .before .before .before .before .before .before .before .args in let p = c .before .before .before .before .before .before .before .before .before .before .before .before .before .before .before .before .before .before .before .before .pre in let e = c .before .before .before .before .before .before .split-leaf .ensures in (e .0 ∙ (pick-true (eqb (a .w .child) 0) (leafAnswer (now (a .areas)) (now (a .xs)) (now (a .ys)) (a .b) (a .w) (now (a .entries)) (length (now (a .cells))) (a .used) (a .free)) (Not AlreadySplit) (eq-eqb (a .w .child) 0 (c .before .before .before .before .before .before .before .before .before .before .if2 .taken)) ∙ pick-true (cellRange (a .w) (a .i) (a .used) (a .free)) (cond (eqb (a .w .child) 0) (leafAnswer (now (a .areas)) (now (a .xs)) (now (a .ys)) (a .b) (a .w) (now (a .entries)) (length (now (a .cells))) (a .used) (a .free)) (Not AlreadySplit)) (Not Broken) (sym (c .before .before .before .before .before .before .before .before .before .before .before .before .before .cell-fits .ensures) ∙ c .before .before .before .before .before .before .before .before .before .before .before .before .if1 .taken)), e .1)
+
+returns-2 : tie.Need-returns-2
+returns-2 c = let a = c .before .before .before .before .before .before .before .before .before .before .args in let p = c .before .before .before .before .before .before .before .before .before .before .pre in (pick-false (eqb (a .w .child) 0) (leafAnswer (now (a .areas)) (now (a .xs)) (now (a .ys)) (a .b) (a .w) (now (a .entries)) (length (now (a .cells))) (a .used) (a .free)) (Not AlreadySplit) (ne-eqb (a .w .child) 0 (c .if2 .left)) ∙ pick-true (cellRange (a .w) (a .i) (a .used) (a .free)) (cond (eqb (a .w .child) 0) (leafAnswer (now (a .areas)) (now (a .xs)) (now (a .ys)) (a .b) (a .w) (now (a .entries)) (length (now (a .cells))) (a .used) (a .free)) (Not AlreadySplit)) (Not Broken) (sym (c .before .before .before .cell-fits .ensures) ∙ c .before .before .if1 .taken), (refl, (refl, refl)))
+
+returns-3 : tie.Need-returns-3
+returns-3 c = let a = c .before .before .before .before .before .before .before .before .args in let p = c .before .before .before .before .before .before .before .before .pre in (pick-false (cellRange (a .w) (a .i) (a .used) (a .free)) (cond (eqb (a .w .child) 0) (leafAnswer (now (a .areas)) (now (a .xs)) (now (a .ys)) (a .b) (a .w) (now (a .entries)) (length (now (a .cells))) (a .used) (a .free)) (Not AlreadySplit)) (Not Broken) (sym (c .before .cell-fits .ensures) ∙ c .if1 .left), (refl, (refl, refl)))
+
+pub split-cell-spec : {M : Type 1} → statement M
+split-cell-spec =
+    tie.close
+    (tie.spec
+    cell-fits-requires
+    split-leaf-requires
+    same-length
+    same-length-2
+    same-length-3
+    returns
+    returns-2
+    returns-3)

@@ -1,0 +1,71 @@
+-- `split::split_leaf` meets its contract. Assumes nothing.
+use borrow.Author.Needs.{needs}
+use Rattle.split.proofs.split_leaf.Statement.{statement}
+use Rattle.split.proofs.split_leaf.Tie as tie
+use mathlib.Core.Path.{sym, _∙_, refl}
+use mathlib.Core.Bool.{cond}
+use native.Mathlib.Omega.{arith}
+use denote.Ref.{now}
+use lib.ListN.{length}
+use lib.Dec.{eqb}
+use borrow.Author.Tests.{eq-eqb, ne-eqb}
+use Rattle.refusals.specs.declared.Refusal.the-variants.{Smallest, Broken}
+use Rattle.stream.specs.Grammar.{env, checkStream}
+use Rattle.stream.proofs.Passed.{passed}
+use Rattle.celltable.proofs.Ranges.{square-fits}
+use Rattle.split.specs.declared.Answer.the-variants.{Not}
+use Rattle.split.specs.Split.{madeBy, roomAnswer}
+use Rattle.split.proofs.Choices.{pick-true, pick-false}
+
+cast-first : tie.Need-cast-first
+cast-first c = search needs
+
+cast-count : tie.Need-cast-count
+cast-count c = search needs
+
+check-stream-requires : tie.Need-check-stream-requires
+check-stream-requires c κs = search needs
+
+same-length : tie.Need-same-length
+same-length c = search needs
+
+returns : tie.Need-returns
+returns c = let a = c .before .before .before .before .before .before .before .before .before .before .before .before .before .args in let p = c .before .before .before .before .before .before .before .before .before .before .before .before .before .pre in (pick-true (eqb (a .w .side) 1) (Not Smallest) (roomAnswer (length (now (a .cells))) (length (now (a .entries))) (a .used) (a .free) (madeBy (now (a .areas)) (now (a .xs)) (now (a .ys)) (a .b) (a .w) (now (a .entries)))) (eq-eqb (a .w .side) 1 (c .if2 .taken)) ∙ pick-true (checkStream (now (a .entries)) (a .w .first) (a .w .count) (a .free) (env (now (a .areas)) (now (a .xs)) (now (a .ys)) (a .b))) (cond (eqb (a .w .side) 1) (Not Smallest) (roomAnswer (length (now (a .cells))) (length (now (a .entries))) (a .used) (a .free) (madeBy (now (a .areas)) (now (a .xs)) (now (a .ys)) (a .b) (a .w) (now (a .entries))))) (Not Broken) (sym (c .before .before .before .check-stream .ensures) ∙ c .before .before .if1 .taken), (refl, (refl, refl)))
+
+split-in-room-requires : tie.Need-split-in-room-requires
+split-in-room-requires c κs = let a = c .before .before .before .before .before .before .before .before .before .before .before .before .before .before .before .before .args in let p = c .before .before .before .before .before .before .before .before .before .before .before .before .before .before .before .before .pre in (passed (now (a .entries)) (a .w .first) (a .w .count) (a .free) (env (now (a .areas)) (now (a .xs)) (now (a .ys)) (a .b)) (sym (c .before .before .before .before .before .before .check-stream .ensures) ∙ c .before .before .before .before .before .if1 .taken), (p .0, (omega (arith, square-fits (a .w) (p .0) .some-side, c .before .before .before .if2 .left), (p .1 .0, (p .1 .1 .0, p .1 .1 .1)))))
+
+same-length-2 : tie.Need-same-length-2
+same-length-2 c = search needs
+
+same-length-3 : tie.Need-same-length-3
+same-length-3 c = search needs
+
+same-length-4 : tie.Need-same-length-4
+same-length-4 c = search needs
+
+returns-2 : tie.Need-returns-2
+returns-2 c = let a = c .before .before .before .before .before .before .before .before .before .before .before .before .before .before .before .before .before .before .before .before .before .before .before .args in let p = c .before .before .before .before .before .before .before .before .before .before .before .before .before .before .before .before .before .before .before .before .before .before .before .pre in let e = c .before .before .before .before .before .before .split-in-room .ensures in (e .0 ∙ (pick-false (eqb (a .w .side) 1) (Not Smallest) (roomAnswer (length (now (a .cells))) (length (now (a .entries))) (a .used) (a .free) (madeBy (now (a .areas)) (now (a .xs)) (now (a .ys)) (a .b) (a .w) (now (a .entries)))) (ne-eqb (a .w .side) 1 (c .before .before .before .before .before .before .before .before .before .before .if2 .left)) ∙ pick-true (checkStream (now (a .entries)) (a .w .first) (a .w .count) (a .free) (env (now (a .areas)) (now (a .xs)) (now (a .ys)) (a .b))) (cond (eqb (a .w .side) 1) (Not Smallest) (roomAnswer (length (now (a .cells))) (length (now (a .entries))) (a .used) (a .free) (madeBy (now (a .areas)) (now (a .xs)) (now (a .ys)) (a .b) (a .w) (now (a .entries))))) (Not Broken) (sym (c .before .before .before .before .before .before .before .before .before .before .before .before .before .check-stream .ensures) ∙ c .before .before .before .before .before .before .before .before .before .before .before .before .if1 .taken)), e .1)
+
+same-length-5 : tie.Need-same-length-5
+same-length-5 c = search needs
+
+returns-3 : tie.Need-returns-3
+returns-3 c = let a = c .before .before .before .before .before .before .before .before .before .before .before .args in let p = c .before .before .before .before .before .before .before .before .before .before .before .pre in (pick-false (checkStream (now (a .entries)) (a .w .first) (a .w .count) (a .free) (env (now (a .areas)) (now (a .xs)) (now (a .ys)) (a .b))) (cond (eqb (a .w .side) 1) (Not Smallest) (roomAnswer (length (now (a .cells))) (length (now (a .entries))) (a .used) (a .free) (madeBy (now (a .areas)) (now (a .xs)) (now (a .ys)) (a .b) (a .w) (now (a .entries))))) (Not Broken) (sym (c .before .check-stream .ensures) ∙ c .if1 .left), (refl, (refl, refl)))
+
+pub split-leaf-spec : {M : Type 1} → statement M
+split-leaf-spec =
+    tie.close
+    (tie.spec
+    cast-first
+    cast-count
+    check-stream-requires
+    same-length
+    returns
+    split-in-room-requires
+    same-length-2
+    same-length-3
+    same-length-4
+    returns-2
+    same-length-5
+    returns-3)

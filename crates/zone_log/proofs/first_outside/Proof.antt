@@ -1,0 +1,70 @@
+-- `zone_log::first_outside` meets its contract. Assumes nothing.
+use Rattle.zone_log.proofs.Runs.{less-none, outside-turn, outside-here, outside-done}
+use borrow.Author.Needs.{needs}
+use mathlib.Core.Path.{_≡_, refl, sym, ap, _∙_}
+use Rattle.zone_log.proofs.Runs.{outside-turn, outside-here, outside-done}
+use Rattle.zone_log.specs.Logs.{outsideFrom}
+use lib.ListN.{length}
+use denote.Ref.{now}
+use native.Mathlib.Omega.{arith}
+use Prim.Native.Nat.{_-_, _≤_}
+use mathlib.Core.Path.{_≡_, refl, sym, _∙_}
+use Rattle.zone_log.proofs.first_outside.Statement.{statement}
+use Rattle.zone_log.proofs.first_outside.Tie as tie
+
+abbrev Inv-loop : tie.InvT-loop
+Inv-loop px py n i₀ i = (i ≤ n) × (n ≡ length px) × (outsideFrom px py i (n - i) ≡ outsideFrom px py 0 (length px))
+
+abbrev μ-loop : tie.MeasureT-loop
+μ-loop px py n i₀ i = n - i
+
+loop-holds : tie.Need-loop-holds Inv-loop μ-loop
+loop-holds c = let a = c .before .before .args in let p = c .before .before .pre in (omega arith, refl, ap (outsideFrom (now (a .px)) (now (a .py)) 0) (less-none (length (now (a .px)))))
+
+mul-in-range : tie.Need-mul-in-range Inv-loop μ-loop
+mul-in-range c = let a = c .before .before .before .before .args in let p = c .before .before .before .before .pre in omega (arith, c .before .before .before .before .good, c .loop-test .taken)
+
+shared-slice-read-in-range : tie.Need-shared-slice-read-in-range Inv-loop μ-loop
+shared-slice-read-in-range c = let a = c .before .before .before .before .before .args in let p = c .before .before .before .before .before .pre in omega (arith, c .before .loop-test .taken)
+
+mul-in-range-2 : tie.Need-mul-in-range-2 Inv-loop μ-loop
+mul-in-range-2 c = let a = c .before .before .before .before .before .args in let p = c .before .before .before .before .before .pre in omega (arith, c .before .before .before .before .before .good, p, c .before .loop-test .taken)
+
+shared-slice-read-in-range-2 : tie.Need-shared-slice-read-in-range-2 Inv-loop μ-loop
+shared-slice-read-in-range-2 c = let a = c .before .before .before .before .before .before .args in let p = c .before .before .before .before .before .before .pre in omega (arith, p, c .before .before .loop-test .taken)
+
+in-range-requires : tie.Need-in-range-requires Inv-loop μ-loop
+in-range-requires c κs = search needs
+
+add-i : tie.Need-add-i Inv-loop μ-loop
+add-i c = omega (arith, c .before .before .before .before .before .before .before .before .good, c .before .before .before .before .loop-test .taken)
+
+loop-less : tie.Need-loop-less Inv-loop μ-loop
+loop-less c = omega (arith, c .before .before .before .before .loop-test .taken)
+
+loop-again : tie.Need-loop-again Inv-loop μ-loop
+loop-again c = let a = c .before .before .before .before .before .before .before .before .args in let p = c .before .before .before .before .before .before .before .before .pre in (omega (arith, c .before .before .before .before .loop-test .taken), c .before .before .before .before .before .loop .inv .1, outside-turn (now (a .px)) (now (a .py)) _ (c .before .before .before .before .before .loop .i) _ (c .before .before .before .before .loop-test .taken) (sym (c .before .in-range .ensures) ∙ c .if1 .taken) (c .before .before .before .before .before .loop .inv .2))
+
+returns : tie.Need-returns Inv-loop μ-loop
+returns c = let a = c .before .before .before .before .before .before .before .before .args in let p = c .before .before .before .before .before .before .before .before .pre in outside-here (now (a .px)) (now (a .py)) _ (c .before .before .before .before .before .loop .i) _ (c .before .before .before .before .loop-test .taken) (sym (c .before .in-range .ensures) ∙ c .if1 .left) (c .before .before .before .before .before .loop .inv .2)
+
+returns-2 : tie.Need-returns-2 Inv-loop μ-loop
+returns-2 c = let a = c .before .before .before .before .args in let p = c .before .before .before .before .pre in outside-done (now (a .px)) (now (a .py)) _ (c .before .loop .i) _ (c .loop-test .left) (c .before .loop .inv .2)
+
+pub first-outside-spec : {M : Type 1} → statement M
+first-outside-spec =
+    tie.close
+    (tie.spec
+    Inv-loop
+    μ-loop
+    loop-holds
+    mul-in-range
+    shared-slice-read-in-range
+    mul-in-range-2
+    shared-slice-read-in-range-2
+    in-range-requires
+    add-i
+    loop-less
+    loop-again
+    returns
+    returns-2)

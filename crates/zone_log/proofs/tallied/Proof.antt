@@ -1,0 +1,17 @@
+-- `zone_log::tallied` meets its contract. Assumes nothing.
+use native.Mathlib.Omega.{arith}
+use borrow.Author.Needs.{needs}
+use Rattle.zone_log.proofs.tallied.Statement.{statement}
+use Rattle.zone_log.proofs.tallied.Tie as tie
+
+add-t5 : tie.Need-add-t5
+add-t5 c = record { fits = omega (arith, c .before .before .pre) }
+
+returns : tie.Need-returns
+returns c = rw (c .before .before .if1 .taken)
+
+returns-2 : tie.Need-returns-2
+returns-2 c = search needs
+
+pub tallied-spec : {M : Type 1} → statement M
+tallied-spec = tie.close (tie.spec add-t5 returns returns-2)

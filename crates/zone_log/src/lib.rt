@@ -1,0 +1,277 @@
+// Zone logs over a run of positions.
+use celltable::Found;
+use paint::area;
+use position::Shown;
+use refusals::Refusal;
+ghost use mathlib.Core.Path.{_≡_};
+ghost use mathlib.Core.Bool.{true, cond};
+ghost use Prim.Native.Nat.{_+_, _≤_, _<_};
+ghost use lib.ListN.{length, set};
+ghost use lib.Seq.{sets};
+ghost use Rattle.split.specs.Tables.{tree};
+ghost use Rattle.find_leaf.specs.Leaf.{positionRange};
+ghost use Rattle.zone_log.specs.Logs.{outsideFrom, eachWord, knownFrom, zoneLog, logKnown, logRange, logAnswer, outAfter};
+ghost use Rattle.zone_log.specs.Numbers.{RunIn, loggedN, talliedN, countIn};
+
+// How many indices a log has, or why the call was refused and where.
+pub enum LogAnswer {
+    Indices(usize),
+    Not(Refusal, usize),
+}
+
+// How many indices are in a log so far, and whether a word holds each of them.
+pub struct Tally {
+    pub count: usize,
+    pub fits: bool,
+}
+
+// How many indices a log has and whether a word holds each of them, or 12.
+pub enum Count {
+    Known(usize, bool),
+    Broken,
+}
+
+// ---- the positions
+fn in_range(x: u32, y: u32) -> bool
+    ensures { λ r. ⌜ r ≡ positionRange x y ⌝ }
+{
+    (x < 65536) & (y < 65536)
+}
+
+// The lowest index whose position is out of range; the length of the run where there is none.
+fn first_outside(px: &[u32], py: &[u32]) -> usize
+    requires { ⌜ length (now px) ≡ length (now py) ⌝ }
+    ensures { λ r. ⌜ r ≡ outsideFrom (now (px .entry)) (now (py .entry)) 0 (length (now (px .entry))) ⌝ }
+{
+    let n = px.len();
+    let mut i: usize = 0;
+    while i < n {
+        if in_range(px[i], py[i]) {
+            i += 1;
+        } else {
+            return i;
+        }
+    }
+    i
+}
+
+// ---- one index
+fn is_logged(i: usize, before: u32, m: u32) -> bool
+    ensures { λ r. ⌜ r ≡ loggedN i before m ⌝ }
+{
+    (i == 0) | (m != before)
+}
+
+fn tallied(c: Tally, i: usize, logged: bool) -> Tally
+    requires { ⌜ c .count < 9223372036854775808 ⌝ }
+    ensures { λ r. ⌜ r ≡ talliedN c i logged ⌝ }
+{
+    if logged {
+        return Tally {
+            count: c.count + 1,
+            fits: c.fits & (i < 4294967296),
+        };
+    }
+    c
+}
+
+// Writes index i at place k, where it is in the log, and gives the place behind.
+fn put_logged(out: &mut [u32], k: usize, i: usize, logged: bool) -> usize
+    requires { ⌜ (logged ≡ true → (k < length (now out)) × (i < 4294967296)) ⌝ }
+    ensures { λ r. ⌜ r ≡ cond logged (k + 1) k ⌝ }
+    ensures { λ _. ⌜ now (out .exit) ≡ cond logged (set (now (out .entry)) k i) (now (out .entry)) ⌝ }
+{
+    if logged {
+        out[k] = i as u32;
+        return k + 1;
+    }
+    k
+}
+
+// ---- the passes over a run
+// How many indices the log of a run has and whether a word holds each of them, or 12. The positions are in range.
+fn count_log(
+    plan: &[u32],
+    areas: &[u32],
+    xs: &[u32],
+    ys: &[u32],
+    head: &[u32],
+    cells: &[u32],
+    entries: &[u32],
+    px: &[u32],
+    py: &[u32],
+) -> Count
+    requires { ⌜ RunIn (now px) (now py) ⌝ }
+    ensures { λ r. ⌜ r ≡ countIn (tree (now (plan .entry)) (now (areas .entry)) (now (xs .entry)) (now (ys .entry)) (now (head .entry)) (now (cells .entry)) (now (entries .entry))) (now (px .entry)) (now (py .entry)) ⌝ }
+{
+    let n = px.len();
+    let mut last = Found::Broken;
+    let mut prior: u32 = 0;
+    let mut c = Tally {
+        count: 0,
+        fits: true,
+    };
+    let mut i: usize = 0;
+    while i < n {
+        let s = position::shown_at(
+            plan,
+            areas,
+            xs,
+            ys,
+            head,
+            cells,
+            entries,
+            last,
+            px[i],
+            py[i],
+        );
+        match s {
+            Shown::Set(shown, f) => {
+                let m = area::material_of(areas, shown);
+                let logged = is_logged(i, prior, m);
+                c = tallied(c, i, logged);
+                prior = m;
+                last = f;
+                i += 1;
+            }
+            Shown::Broken => {
+                return Count::Broken;
+            }
+        }
+    }
+    Count::Known(c.count, c.fits)
+}
+
+// Writes the log of a run. Its positions are in range, none is met by 12, and there is room.
+fn write_log(
+    plan: &[u32],
+    areas: &[u32],
+    xs: &[u32],
+    ys: &[u32],
+    head: &[u32],
+    cells: &[u32],
+    entries: &[u32],
+    px: &[u32],
+    py: &[u32],
+    out: &mut [u32],
+)
+    requires { ⌜ RunIn (now px) (now py) ⌝ }
+    requires { ⌜ knownFrom (tree (now plan) (now areas) (now xs) (now ys) (now head) (now cells) (now entries)) (now px) (now py) 0 (length (now px)) ≡ true ⌝ }
+    requires { ⌜ length (zoneLog (tree (now plan) (now areas) (now xs) (now ys) (now head) (now cells) (now entries)) (now px) (now py)) ≤ length (now out) ⌝ }
+    requires { ⌜ eachWord (zoneLog (tree (now plan) (now areas) (now xs) (now ys) (now head) (now cells) (now entries)) (now px) (now py)) ≡ true ⌝ }
+    ensures { λ _. ⌜ now (out .exit) ≡ sets (now (out .entry)) 0 (zoneLog (tree (now (plan .entry)) (now (areas .entry)) (now (xs .entry)) (now (ys .entry)) (now (head .entry)) (now (cells .entry)) (now (entries .entry))) (now (px .entry)) (now (py .entry))) ⌝ }
+{
+    let n = px.len();
+    let mut last = Found::Broken;
+    let mut prior: u32 = 0;
+    let mut k: usize = 0;
+    let mut i: usize = 0;
+    while i < n {
+        let s = position::shown_at(
+            plan,
+            areas,
+            xs,
+            ys,
+            head,
+            cells,
+            entries,
+            last,
+            px[i],
+            py[i],
+        );
+        match s {
+            Shown::Set(shown, f) => {
+                let m = area::material_of(areas, shown);
+                let logged = is_logged(i, prior, m);
+                k = put_logged(out, k, i, logged);
+                prior = m;
+                last = f;
+                i += 1;
+            }
+            Shown::Broken => {
+                return;
+            }
+        }
+    }
+}
+
+// ---- the call
+// 12 and 11, and then the log. The positions are in range.
+fn log_known(
+    plan: &[u32],
+    areas: &[u32],
+    xs: &[u32],
+    ys: &[u32],
+    head: &[u32],
+    cells: &[u32],
+    entries: &[u32],
+    px: &[u32],
+    py: &[u32],
+    out: &mut [u32],
+) -> LogAnswer
+    requires { ⌜ RunIn (now px) (now py) ⌝ }
+    ensures { λ r. ⌜ r ≡ logKnown (tree (now (plan .entry)) (now (areas .entry)) (now (xs .entry)) (now (ys .entry)) (now (head .entry)) (now (cells .entry)) (now (entries .entry))) (now (px .entry)) (now (py .entry)) (length (now (out .entry))) ⌝ }
+    ensures { λ r. ⌜ now (out .exit) ≡ outAfter (tree (now (plan .entry)) (now (areas .entry)) (now (xs .entry)) (now (ys .entry)) (now (head .entry)) (now (cells .entry)) (now (entries .entry))) (now (px .entry)) (now (py .entry)) r (now (out .entry)) ⌝ }
+{
+    let c = count_log(plan, areas, xs, ys, head, cells, entries, px, py);
+    match c {
+        Count::Known(count, fits) => {
+            if (count <= out.len()) & fits {
+                write_log(plan, areas, xs, ys, head, cells, entries, px, py, out);
+                return LogAnswer::Indices(count);
+            }
+            LogAnswer::Not(Refusal::Room, 0)
+        }
+        Count::Broken => LogAnswer::Not(Refusal::Broken, 0),
+    }
+}
+
+// 7 at a position, and then the log. The run's tables are of one length.
+fn log_ranged(
+    plan: &[u32],
+    areas: &[u32],
+    xs: &[u32],
+    ys: &[u32],
+    head: &[u32],
+    cells: &[u32],
+    entries: &[u32],
+    px: &[u32],
+    py: &[u32],
+    out: &mut [u32],
+) -> LogAnswer
+    requires { ⌜ length (now px) ≡ length (now py) ⌝ }
+    ensures { λ r. ⌜ r ≡ logRange (tree (now (plan .entry)) (now (areas .entry)) (now (xs .entry)) (now (ys .entry)) (now (head .entry)) (now (cells .entry)) (now (entries .entry))) (now (px .entry)) (now (py .entry)) (length (now (out .entry))) ⌝ }
+    ensures { λ r. ⌜ now (out .exit) ≡ outAfter (tree (now (plan .entry)) (now (areas .entry)) (now (xs .entry)) (now (ys .entry)) (now (head .entry)) (now (cells .entry)) (now (entries .entry))) (now (px .entry)) (now (py .entry)) r (now (out .entry)) ⌝ }
+{
+    let place = first_outside(px, py);
+    if place < px.len() {
+        return LogAnswer::Not(Refusal::Argument, place);
+    }
+    log_known(plan, areas, xs, ys, head, cells, entries, px, py, out)
+}
+
+// The zone log of a run of positions: index 0 and each index whose material differs from the one before, from the table's beginning on.
+// Any tables may be handed in. Refusals, in this order: 7, 12, 11. Nothing is changed on a refusal.
+pub fn zone_log(
+    plan: &[u32],
+    areas: &[u32],
+    xs: &[u32],
+    ys: &[u32],
+    head: &[u32],
+    cells: &[u32],
+    entries: &[u32],
+    px: &[u32],
+    py: &[u32],
+    out: &mut [u32],
+) -> LogAnswer
+    ensures { λ r. ⌜ r ≡ logAnswer (tree (now (plan .entry)) (now (areas .entry)) (now (xs .entry)) (now (ys .entry)) (now (head .entry)) (now (cells .entry)) (now (entries .entry))) (now (px .entry)) (now (py .entry)) (length (now (out .entry))) ⌝ }
+    ensures { λ r. ⌜ now (out .exit) ≡ outAfter (tree (now (plan .entry)) (now (areas .entry)) (now (xs .entry)) (now (ys .entry)) (now (head .entry)) (now (cells .entry)) (now (entries .entry))) (now (px .entry)) (now (py .entry)) r (now (out .entry)) ⌝ }
+{
+    if xs.len() == ys.len() {
+        if px.len() == py.len() {
+            return log_ranged(plan, areas, xs, ys, head, cells, entries, px, py, out);
+        }
+        return LogAnswer::Not(Refusal::Argument, 0);
+    }
+    LogAnswer::Not(Refusal::Argument, 0)
+}
