@@ -143,7 +143,7 @@ fn on_tree(
 /// Opens by both. A refusal changes nothing; what is behind the new tree stays.
 pub fn open(drawing: &LentTables, before: &LentTree) -> (Answer, LentTree) {
     let (answer, after) = on_tree(drawing, before, zones::open, |drawing, tree| {
-        let opened = split::open(drawing, tree);
+        let opened = tree::open(drawing, tree);
         answer(opened.map(|()| tree.head[1]))
     });
     match answer {
@@ -171,7 +171,7 @@ pub fn split(drawing: &LentTables, before: &LentTree, cell: u32) -> (Answer, Len
         drawing,
         before,
         |drawing, tree| zones::split(drawing, tree, cell),
-        |drawing, tree| answer(split::split(drawing, tree, cell)),
+        |drawing, tree| answer(tree::split(drawing, tree, cell)),
     );
     match answer {
         Answer::Refused { place, .. } => {
@@ -205,7 +205,7 @@ pub fn grow(
         drawing,
         before,
         |drawing, tree| zones::grow(drawing, tree, threshold, limit),
-        |drawing, tree| answer(split::grow(drawing, tree, threshold, limit).map(grow_answer)),
+        |drawing, tree| answer(tree::grow(drawing, tree, threshold, limit).map(grow_answer)),
     );
     match answer {
         Answer::Refused { number, place } => {
@@ -245,7 +245,7 @@ pub fn find_leaf(
             answer
         },
         |drawing, tree| {
-            let found = split::find_leaf(drawing, tree.view(), x, y);
+            let found = tree::find_leaf(drawing, tree.view(), x, y);
             // "another output table too short for the whole result"
             let written = found.and_then(|leaf| {
                 let Square { x, y, side } = leaf.square;

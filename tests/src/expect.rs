@@ -54,13 +54,13 @@ pub fn all_calls(random: &mut Random, tables: &Tables, tree: &TreeTables, tally:
     };
 
     let mut after = tree.clone();
-    let opened = split::open(drawing, &mut after.lend());
+    let opened = tree::open(drawing, &mut after.lend());
     assert!(opened.is_ok() || after == *tree);
     note("open", opened.err().map(|refusal| refusal.number));
 
     let mut after = tree.clone();
     let number = random.below(14) as u32;
-    let split = split::split(drawing, &mut after.lend(), number);
+    let split = tree::split(drawing, &mut after.lend(), number);
     assert!(split.is_ok() || after == *tree);
     note("split", split.err().map(|refusal| refusal.number));
     if split.is_ok() {
@@ -69,7 +69,7 @@ pub fn all_calls(random: &mut Random, tables: &Tables, tree: &TreeTables, tally:
 
     let mut after = tree.clone();
     let limit = random.pick(&[0, 1, 2, 3, 4, 4, 16, 17]);
-    let grown = split::grow(drawing, &mut after.lend(), 3, limit);
+    let grown = tree::grow(drawing, &mut after.lend(), 3, limit);
     note("grow", grown.err().map(|refusal| refusal.number));
     if let Err(Refusal { number, place }) = grown {
         assert!(place == 0 && (number == 7 || number == 12));
@@ -82,16 +82,16 @@ pub fn all_calls(random: &mut Random, tables: &Tables, tree: &TreeTables, tally:
                 let next = cells(&by_hand);
                 let parent = |n: &u32| after.cells[CELL_WORDS * *n as usize + CHILD_WORD] == next;
                 let number = (0..next).find(parent).expect("a cell was split");
-                assert!(split::split(drawing, &mut by_hand.lend(), number).is_ok());
+                assert!(tree::split(drawing, &mut by_hand.lend(), number).is_ok());
             }
             note("grow with splits", Some(number));
         }
         assert!(after == by_hand);
     }
 
-    let found = split::find_leaf(drawing, tree.view(), x, y);
+    let found = tree::find_leaf(drawing, tree.view(), x, y);
     note("find", found.as_ref().err().map(|refusal| refusal.number));
-    let reading = position::position(drawing, tree.view(), x, y);
+    let reading = query::position(drawing, tree.view(), x, y);
     assert_eq!(reading.is_ok(), found.is_ok());
     if let (Err(one), Err(other)) = (&reading, &found) {
         assert_eq!(one, other);
@@ -101,7 +101,7 @@ pub fn all_calls(random: &mut Random, tables: &Tables, tree: &TreeTables, tally:
     // Near a border of cells, so that the row meets several.
     let border = random.pick(&[512, 1_024, 2_048, 3_072, 4_096]);
     let (row, first) = (y / 16, border - random.within(0..=40) as u32);
-    let drawn = position::pixel_row(drawing, tree.view(), row, first, &mut out);
+    let drawn = query::pixel_row(drawing, tree.view(), row, first, &mut out);
     note("row", drawn.err().map(|refusal| refusal.number));
     if let Err(Refusal { number, place }) = drawn {
         let stands = 3 * place as usize;
@@ -109,7 +109,7 @@ pub fn all_calls(random: &mut Random, tables: &Tables, tree: &TreeTables, tally:
         // Read one by one, the earlier pixels are drawn alike and the one at the place is not.
         for i in (0..=place).filter(|_| number == 12) {
             let mut one = [0xA5; 3];
-            let drawn = position::pixel_row(drawing, tree.view(), row, first + i, &mut one);
+            let drawn = query::pixel_row(drawing, tree.view(), row, first + i, &mut one);
             if i < place {
                 assert_eq!((drawn, &one[..]), (Ok(()), &out[3 * i as usize..][..3]));
             } else {
@@ -123,7 +123,7 @@ pub fn all_calls(random: &mut Random, tables: &Tables, tree: &TreeTables, tally:
 
     let (px, py) = scenes::run(random, tables, 5);
     let mut out = [77; 5];
-    let logged = position::zone_log(drawing, tree.view(), &px, &py, &mut out);
+    let logged = query::zone_log(drawing, tree.view(), &px, &py, &mut out);
     assert!(logged.is_ok() || out == [77; 5]);
     note("log", logged.err().map(|refusal| refusal.number));
 }

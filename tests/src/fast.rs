@@ -472,7 +472,7 @@ pub fn split(
     if tree.head.len() < HEAD_WORDS || number >= tree.head[0] {
         return Err(refusal(8, 0));
     }
-    let in_use = split::in_use(drawing, tree.view()).ok_or(refusal(12, 0))?;
+    let in_use = tree::in_use(drawing, tree.view()).ok_or(refusal(12, 0))?;
     let cell = checked_cell(tree.view(), in_use, number).ok_or(refusal(12, 0))?;
     if !cell.is_leaf() {
         return Err(refusal(9, 0));
@@ -494,7 +494,7 @@ pub fn grow(
     if drawing.xs.len() != drawing.ys.len() || limit > MOST_DEPTH {
         return Err(refusal(7, 0));
     }
-    let mut in_use = split::in_use(drawing, tree.view()).ok_or(refusal(12, 0))?;
+    let mut in_use = tree::in_use(drawing, tree.view()).ok_or(refusal(12, 0))?;
     let (mut number, mut splits) = (0, 0);
     while (number as usize) < in_use.cells {
         let cell = checked_cell(tree.view(), in_use, number).ok_or(refusal(12, 0))?;

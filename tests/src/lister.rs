@@ -40,8 +40,8 @@ fn listed(input: &[u8]) -> Result<String, Refusal> {
     }
     let drawing = Drawing::of(&tables);
     let mut tables = TreeTables::new(CELLS, ENTRIES);
-    split::open(drawing, &mut tables.lend())?;
-    let growth = split::grow(drawing, &mut tables.lend(), THRESHOLD, LIMIT)?;
+    tree::open(drawing, &mut tables.lend())?;
+    let growth = tree::grow(drawing, &mut tables.lend(), THRESHOLD, LIMIT)?;
     let mut leaves = tables.leaves();
     leaves.sort_by_key(|number| tables.view().cell(*number).square.key());
     let mut text = String::new();

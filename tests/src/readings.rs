@@ -77,7 +77,7 @@ impl Reader<'_> {
             blank,
             |drawing, tree, out| zones::position(drawing, tree, x, y, out),
             |drawing, tree, out| {
-                let reading = position::position(drawing, tree, x, y)?;
+                let reading = query::position(drawing, tree, x, y)?;
                 // "another output table too short for the whole result"
                 let room = out.get_mut(..SPOT_WORDS).ok_or(refusal(11, 0))?;
                 room.copy_from_slice(&spot_words(reading));
@@ -107,7 +107,7 @@ impl Reader<'_> {
                 black_box(&mut run);
                 answer
             },
-            |drawing, tree, out| position::zone_log(drawing, tree, px.table(), py.table(), out),
+            |drawing, tree, out| query::zone_log(drawing, tree, px.table(), py.table(), out),
         );
         assert!(run.0 == *px && run.1 == *py, "run changed");
         match answer {
@@ -129,11 +129,11 @@ impl Reader<'_> {
         let (answer, out) = self.by_both(
             blank,
             |drawing, tree, out| zones::pixel_row(drawing, tree, row, first, out),
-            |drawing, tree, out| position::pixel_row(drawing, tree, row, first, out).map(|()| 0),
+            |drawing, tree, out| query::pixel_row(drawing, tree, row, first, out).map(|()| 0),
         );
         if let Answer::Refused { number, place } = answer {
             assert!(place == 0 || number == 12);
-            let untouched = position::CHANNELS * place as usize;
+            let untouched = query::CHANNELS * place as usize;
             assert_eq!(out.table()[untouched..], blank.table()[untouched..]);
         }
         (answer, out)

@@ -56,7 +56,7 @@ impl Sample {
 
     /// The leaf at a position, if one is found.
     pub fn leaf_at(&self, (x, y): (u32, u32)) -> Option<Leaf> {
-        split::find_leaf(self.drawing.drawing(), self.tree.view(), x, y).ok()
+        tree::find_leaf(self.drawing.drawing(), self.tree.view(), x, y).ok()
     }
 
     // What a call changed stays.
@@ -94,13 +94,13 @@ pub fn grown(random: &mut Random) -> (Tables, TreeTables) {
     let (cells, entries) = (random.pick(&[9, 30, 60]), random.pick(&[900, 2_000]));
     let mut tree = TreeTables::new(cells, entries);
     let drawing = Drawing::of(&tables);
-    if split::open(drawing, &mut tree.lend()).is_err() {
+    if tree::open(drawing, &mut tree.lend()).is_err() {
         return grown(random);
     }
     for _ in 0..random.below(6) {
         let (x, y) = scenes::any_position(random, &tables);
-        let leaf = split::find_leaf(drawing, tree.view(), x, y).expect("a leaf is found");
-        _ = split::split(drawing, &mut tree.lend(), leaf.cell);
+        let leaf = tree::find_leaf(drawing, tree.view(), x, y).expect("a leaf is found");
+        _ = tree::split(drawing, &mut tree.lend(), leaf.cell);
     }
     (tables, tree)
 }

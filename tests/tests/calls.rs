@@ -153,7 +153,7 @@ fn cells_and_entries_up_to_their_limits() {
         let holds_cells = MOST_CELLS - 2 + random.below(5);
         let holds_entries = MOST_ENTRIES - 2 + random.below(5);
         let mut tree = TreeTables::new(holds_cells, holds_entries);
-        let opened = split::open(Drawing::of(&tables), &mut tree.lend());
+        let opened = tree::open(Drawing::of(&tables), &mut tree.lend());
         assert_eq!(opened, Ok(()));
         let used = tree.head[1];
         // What is said to be in use has no meaning, and is not met.

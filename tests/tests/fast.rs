@@ -28,7 +28,7 @@ fn the_fast_form_answers_as_the_literal_one() {
         let mut literal = fast_tree.clone();
         let (by_fast, by_literal) = (
             fast::open(drawing.drawing(), &mut fast_tree.lend(), &mut made).map(|_| ()),
-            split::open(drawing.drawing(), &mut literal.lend()),
+            tree::open(drawing.drawing(), &mut literal.lend()),
         );
         assert_eq!(by_fast, by_literal);
         if by_fast.is_err() {
@@ -58,14 +58,14 @@ fn the_fast_form_answers_as_the_literal_one() {
                 let (threshold, limit) = (random.pick(&[0, 1, 5]), random.pick(&[1, 3, 16, 17]));
                 let tree: &mut TreeTables = &mut fast_tree;
                 let by_fast = fast::grow(drawing, &mut tree.lend(), threshold, limit, &mut made);
-                let by_literal = split::grow(drawing, &mut literal.lend(), threshold, limit);
+                let by_literal = tree::grow(drawing, &mut literal.lend(), threshold, limit);
                 assert_eq!(by_fast, by_literal);
                 tally.note(format!("grow {:?}", by_fast.map(|growth| growth.end)));
                 continue;
             }
             let cell = random.below(fast_tree.head.first().map_or(1, |n| *n as usize % 50 + 1));
             let by_fast = fast::split(drawing, &mut fast_tree.lend(), cell as u32, &mut made);
-            let by_literal = split::split(drawing, &mut literal.lend(), cell as u32);
+            let by_literal = tree::split(drawing, &mut literal.lend(), cell as u32);
             assert_eq!(by_fast, by_literal);
             let number = by_fast.map_or_else(|refused| refused.number, |_| 0);
             tally.note(format!("split {number}"));

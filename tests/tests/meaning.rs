@@ -466,7 +466,7 @@ fn rewritten(text: &str) -> String {
     } = &tables;
     assert!(check_tables(plan, areas, xs, ys).is_some(), "{text}");
     let drawing = Drawing::of(&tables);
-    let stream = split::stream_in(drawing, Square::WHOLE);
+    let stream = tree::stream_in(drawing, Square::WHOLE);
     let letter = |(i, entry): (usize, &Entry)| match entry {
         Entry::Open => Some('('),
         Entry::Bar => Some('|'),
@@ -561,7 +561,7 @@ fn the_random_drawings() {
                 tally.note(what.to_string());
             }
         }
-        let stream = split::stream_in(drawing, Square::WHOLE);
+        let stream = tree::stream_in(drawing, Square::WHOLE);
         all_entries += stream.len();
         if stream.is_empty() {
             tally.note("empty stream".to_string());

@@ -190,12 +190,12 @@ fn refusals_over_damaged_tables_change_nothing() {
                     let tables = scenes::tables(random);
                     let drawing = Drawing::of(&tables);
                     let mut tree = TreeTables::new(random.within(1..=40), 600);
-                    if split::open(drawing, &mut tree.lend()).is_err() {
+                    if tree::open(drawing, &mut tree.lend()).is_err() {
                         continue;
                     }
                     for _ in 0..random.below(4) {
                         let number = random.pick(&tree.leaves());
-                        _ = split::split(drawing, &mut tree.lend(), number);
+                        _ = tree::split(drawing, &mut tree.lend(), number);
                     }
                     (tables, tree)
                 }

@@ -63,7 +63,7 @@ impl Sample {
             }
         };
         let stream = match random.below(3) {
-            0 => split::stream_in(Drawing::of(tables), square),
+            0 => tree::stream_in(Drawing::of(tables), square),
             _ => foreign::stream(random, tables, square),
         };
         let words = foreign::words(random, &stream);
@@ -101,7 +101,7 @@ impl Sample {
     /// The stream, if the second implementation says that it passes 12.
     fn expected(&self) -> Option<Vec<Entry>> {
         let drawing = Drawing::of(&self.tables);
-        let in_use = split::in_use(drawing, self.tree.view())
+        let in_use = tree::in_use(drawing, self.tree.view())
             .filter(|in_use| in_use.corners <= drawing.ys.len())?;
         let (first, count) = (self.tree.cells[4], self.tree.cells[5]);
         let entries = &self.tree.entries;
@@ -570,7 +570,7 @@ fn the_streams_on_the_way_down() {
             let made = lent.child(&mut entries, square);
             let count = made.expect("the table has room");
             stream = prune(drawing, &stream::in_square(drawing, &stream, square));
-            assert!(stream == split::stream_in(drawing, square), "{square:?}");
+            assert!(stream == tree::stream_in(drawing, square), "{square:?}");
             let at = ENTRY_WORDS * lent.in_use.entries;
             let words = &entries[at..at + ENTRY_WORDS * count];
             assert!(words == stream::words(&stream), "{square:?}");

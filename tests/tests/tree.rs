@@ -92,7 +92,7 @@ fn all_on<T>(side: &Side<T>) -> Vec<&T> {
 /// A position's leaf, windings and reading are those with no tree.
 fn expect_position(scene: &Scene, tree: &TreeTables, x: u32, y: u32) {
     let drawing = scene.drawing;
-    let leaf = split::find_leaf(drawing, tree.view(), x, y).expect("a leaf is found");
+    let leaf = tree::find_leaf(drawing, tree.view(), x, y).expect("a leaf is found");
     let cell = tree.view().cell(leaf.cell);
     assert!(cell.is_leaf() && cell.square == leaf.square && leaf.square.holds(x, y));
     assert_eq!(leaf.steps, leaf.square.depth());
@@ -109,7 +109,7 @@ fn expect_position(scene: &Scene, tree: &TreeTables, x: u32, y: u32) {
             assert_eq!(winding, Scene::winding(drawn[*number as usize], x, y));
         }
     }
-    let reading = position::position(drawing, tree.view(), x, y);
+    let reading = query::position(drawing, tree.view(), x, y);
     assert_eq!(reading, Ok(scene.position(x, y)), "at {x}, {y}");
 }
 
@@ -142,7 +142,7 @@ impl History {
             assert_eq!((cell.square, cell.is_leaf()), (*square, self.leaf[number]));
             if cell.is_leaf() && streams {
                 let stream = tree.stream(number as u32);
-                assert_eq!(stream, split::stream_in(drawing, *square), "{square:?}");
+                assert_eq!(stream, tree::stream_in(drawing, *square), "{square:?}");
             }
         }
     }
@@ -154,7 +154,7 @@ fn pick_leaf(random: &mut Random, tables: &Tables, tree: &TreeTables) -> u32 {
         return random.pick(&tree.leaves());
     }
     let (x, y) = scenes::position(random, tables);
-    let found = split::find_leaf(Drawing::of(tables), tree.view(), x, y);
+    let found = tree::find_leaf(Drawing::of(tables), tree.view(), x, y);
     found.expect("a leaf is found").cell
 }
 
@@ -171,7 +171,7 @@ fn readings_from_the_tree_are_those_with_no_tree() {
         let mut tree = blank_tree(random, cells, entries);
         let mut history = History::new();
         let before = tree.clone();
-        let opened = split::open(drawing, &mut tree.lend());
+        let opened = tree::open(drawing, &mut tree.lend());
         if opened == Err(refusal(11, 0)) {
             assert!(tree == before);
             tally.note("open 11".to_string());
@@ -181,7 +181,7 @@ fn readings_from_the_tree_are_those_with_no_tree() {
         for _ in 0..random.within(1..=8) {
             match random.below(4) {
                 0 => random_grow(random, drawing, &mut tree, &mut history, &mut tally),
-                1 => _ = split::open(drawing, &mut TreeTables::new(0, 0).lend()),
+                1 => _ = tree::open(drawing, &mut TreeTables::new(0, 0).lend()),
                 _ => {
                     let number = pick_leaf(random, &tables, &tree);
                     expect_split(drawing, &mut tree, &mut history, &mut tally, number);
@@ -215,14 +215,14 @@ fn expect_split(
 ) {
     let before = tree.clone();
     let cells = before.head[0];
-    match split::split(drawing, &mut tree.lend(), number) {
+    match tree::split(drawing, &mut tree.lend(), number) {
         Ok(first) => {
             tally.note("split".to_string());
             assert_eq!(first, cells);
             history.split(number);
             expect::split_words(&before, tree, number);
             let again = tree.clone();
-            let refused = split::split(drawing, &mut tree.lend(), number);
+            let refused = tree::split(drawing, &mut tree.lend(), number);
             assert_eq!(refused, Err(refusal(9, 0)));
             tally.note("split 9".to_string());
             assert!(*tree == again);
@@ -235,7 +235,7 @@ fn expect_split(
         }
     }
     let cells = tree.head[0];
-    let refused = split::split(drawing, &mut tree.lend(), cells);
+    let refused = tree::split(drawing, &mut tree.lend(), cells);
     assert_eq!(refused, Err(refusal(8, 0)));
 }
 
@@ -250,7 +250,7 @@ fn random_grow(
     let threshold = random.pick(&[0, 0, 1, 2, 5, 20]);
     let limit = random.pick(&[0, 1, 2, 3, 4, 6, 16]);
     let mut by_hand = tree.clone();
-    let growth = split::grow(drawing, &mut tree.lend(), threshold, limit);
+    let growth = tree::grow(drawing, &mut tree.lend(), threshold, limit);
     let Growth { end, splits } = growth.expect("growing is accepted");
     // One sweep upward finds the same leaves as beginning from cell 0 each time.
     let mut made = 0;
@@ -260,7 +260,7 @@ fn random_grow(
         let cell = by_hand.view().cell(number);
         let lines = stream::lines(&by_hand.stream(number));
         if cell.is_leaf() && lines > threshold && cell.square.depth() < limit {
-            if split::split(drawing, &mut by_hand.lend(), number).is_err() {
+            if tree::split(drawing, &mut by_hand.lend(), number).is_err() {
                 full = true;
                 break;
             }
@@ -279,7 +279,7 @@ fn expect_pixels(random: &mut Random, scene: &Scene, tables: &Tables, tree: &Tre
     let (row, first) = (y / 16, (x / 16).min(4_096 - 3));
     let pixels = random.within(0..=3);
     let mut out = [0xA5; 9];
-    let drawn = position::pixel_row(
+    let drawn = query::pixel_row(
         scene.drawing,
         tree.view(),
         row,
@@ -302,13 +302,13 @@ fn expect_log(random: &mut Random, scene: &Scene, tables: &Tables, tree: &TreeTa
     let expected = scene.zone_log(&px, &py);
     let room = expected.len() + random.below(4);
     let mut out = vec![77; room];
-    let logged = position::zone_log(scene.drawing, tree.view(), &px, &py, &mut out);
+    let logged = query::zone_log(scene.drawing, tree.view(), &px, &py, &mut out);
     assert_eq!(logged, Ok(expected.len() as u32));
     assert_eq!(out[..expected.len()], expected);
     assert!(out[expected.len()..].iter().all(|word| *word == 77));
     if !expected.is_empty() {
         let mut short = vec![77; expected.len() - 1];
-        let refused = position::zone_log(scene.drawing, tree.view(), &px, &py, &mut short);
+        let refused = query::zone_log(scene.drawing, tree.view(), &px, &py, &mut short);
         assert_eq!(refused, Err(refusal(11, 0)));
         assert!(short.iter().all(|word| *word == 77));
     }
@@ -332,24 +332,24 @@ fn every_position_of_small_drawings() {
         let drawing = Drawing::of(&tables);
         let scene = Scene::of(drawing);
         let mut tree = TreeTables::new(400, 9_000);
-        assert_eq!(split::open(drawing, &mut tree.lend()), Ok(()));
-        let grown = split::grow(drawing, &mut tree.lend(), 0, 16);
+        assert_eq!(tree::open(drawing, &mut tree.lend()), Ok(()));
+        let grown = tree::grow(drawing, &mut tree.lend(), 0, 16);
         assert!(grown.is_ok());
         for _ in 0..20 {
             let x = base.x + random.below(8) as u32;
             let y = base.y + random.below(8) as u32;
-            let leaf = split::find_leaf(drawing, tree.view(), x, y).unwrap();
-            _ = split::split(drawing, &mut tree.lend(), leaf.cell);
+            let leaf = tree::find_leaf(drawing, tree.view(), x, y).unwrap();
+            _ = tree::split(drawing, &mut tree.lend(), leaf.cell);
         }
         for x in base.x..base.x + 8 {
             for y in base.y..base.y + 8 {
                 expect_position(&scene, &tree, x, y);
-                let leaf = split::find_leaf(drawing, tree.view(), x, y).unwrap();
+                let leaf = tree::find_leaf(drawing, tree.view(), x, y).unwrap();
                 deepest = deepest.max(leaf.steps);
                 // "cell of side 1": its stream has no line, as one position has all or none.
                 if leaf.square.side == 1 {
                     assert_eq!(leaf.lines(), 0);
-                    let refused = split::split(drawing, &mut tree.lend(), leaf.cell);
+                    let refused = tree::split(drawing, &mut tree.lend(), leaf.cell);
                     assert_eq!(refused, Err(refusal(10, 0)));
                 }
             }
@@ -374,10 +374,10 @@ fn the_largest_drawings() {
         let drawing = Drawing::of(&tables);
         let scene = Scene::of(drawing);
         let mut tree = TreeTables::new(40, 40_000);
-        assert_eq!(split::open(drawing, &mut tree.lend()), Ok(()));
+        assert_eq!(tree::open(drawing, &mut tree.lend()), Ok(()));
         for _ in 0..4 {
             let number = pick_leaf(random, &tables, &tree);
-            _ = split::split(drawing, &mut tree.lend(), number);
+            _ = tree::split(drawing, &mut tree.lend(), number);
         }
         for _ in 0..30 {
             let (x, y) = scenes::position(random, &tables);
@@ -399,7 +399,7 @@ fn trees_written_by_others() {
         let tree = foreign::tree(random, &tables, splits);
         for _ in 0..10 {
             let (x, y) = scenes::position(random, &tables);
-            match split::find_leaf(drawing, tree.view(), x, y) {
+            match tree::find_leaf(drawing, tree.view(), x, y) {
                 Err(refused) => {
                     assert_eq!(refused, refusal(12, 0));
                     tally.note("12".to_string());
@@ -408,14 +408,14 @@ fn trees_written_by_others() {
                     tally.note("found".to_string());
                     assert!(leaf.square.holds(x, y));
                     let shown = machine::shown(drawing, &leaf.stream, x, y);
-                    let reading = position::position(drawing, tree.view(), x, y);
+                    let reading = query::position(drawing, tree.view(), x, y);
                     assert_eq!(reading, Ok(Reading::of_set(drawing, shown)));
                     // A split of the leaf changes no reading, unless a start passes its range.
                     let mut after = tree.clone();
-                    match split::split(drawing, &mut after.lend(), leaf.cell) {
+                    match tree::split(drawing, &mut after.lend(), leaf.cell) {
                         Ok(_) => {
                             expect::split_words(&tree, &after, leaf.cell);
-                            let again = position::position(drawing, after.view(), x, y);
+                            let again = query::position(drawing, after.view(), x, y);
                             if again != reading {
                                 assert_eq!(again, Err(refusal(12, 0)));
                                 tally.note("start out of range".to_string());

@@ -1,4 +1,4 @@
--- An answer as one number: the refusal's number times 2^32 and its place; the result where nothing is refused. Assumes nothing.
+-- An answer as one number: the refusal's number times 2^32 and its place; the result where nothing is refused.
 use mathlib.Core.Bool.{cond}
 use mathlib.Core.List.{List}
 use Prim.Native.Nat.{ℕ, _+_, _*_}

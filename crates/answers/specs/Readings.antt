@@ -1,4 +1,4 @@
--- The answers of the calls that read a tree: one number, and the words that are written. Assumes nothing.
+-- The answers of the calls that read a tree: one number, and the words that are written.
 use mathlib.Core.Bool.{cond}
 use mathlib.Core.List.{List}
 use Prim.Native.Nat.{ℕ, _/_, _%_}

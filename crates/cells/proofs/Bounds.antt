@@ -1,4 +1,4 @@
--- How large start numbers get: in a cell's stream the magnitude of an area's start number, with its lines and shortcuts, is at most the number of the area's edges. Assumes nothing.
+-- How large start numbers get: in a cell's stream the magnitude of an area's start number, with its lines and shortcuts, is at most the number of the area's edges.
 use mathlib.Core.Bool.{Bool, true, false, cond}
 use mathlib.Core.List.{List, [], _∷_, map}
 use Prim.Native.Nat.{ℕ, suc, _+_, _≤_}
@@ -19,7 +19,7 @@ use Rattle.cells.specs.Cells.{Cell}
 use Rattle.cells.specs.Segments.{Segment, drawn, edgeOf, signOf, classIn, keptBy, keptIn, startBy, startIn}
 use Rattle.cells.specs.Drawings.{Drawing}
 use Rattle.cells.specs.Streams.{Each, items, within, whole, source, made}
-use Rattle.cells.specs.Sizes.{Small, SignsIn}
+use Rattle.cells.specs.code.Sizes.{Small, SignsIn}
 use Rattle.cells.proofs.Each.{each-sub, each-mapped, on-any}
 use Rattle.cells.proofs.Streams.{made-normal}
 

@@ -1,4 +1,4 @@
--- The quarters of a cell: each lies in it, and the one that is picked holds the position. Assumes nothing.
+-- The quarters of a cell: each lies in it, and the one that is picked holds the position.
 use mathlib.Core.Path.{_≡_, refl}
 use mathlib.Core.Bool.{Bool, true, false}
 use Prim.Native.Nat.{ℕ, zero, suc, _+_, _*_, _^_, _≤_, _<_}

@@ -1,8 +1,8 @@
--- What holds of each item of a side holds of each item of its stream; what holds of each item and of the bare one holds of what pruning leaves. Assumes nothing.
+-- What holds of each item of a side holds of each item of its stream; what holds of each item and of the bare one holds of what pruning leaves.
 use mathlib.Core.List.{List, [], _∷_, _++_}
 use Rattle.pruning.specs.Sides.{Kind, clip, Side, end, leaf, group, Entry, item, push, activate, pop, flat, mapSide}
 use Rattle.pruning.specs.Items.{Items}
-use Rattle.pruning.specs.Survivors.{Sub, nothing, drops, keeps, bares}
+use Rattle.pruning.specs.code.Survivors.{Sub, nothing, drops, keeps, bares}
 use Rattle.cells.specs.Streams.{Each, On}
 
 module _ {A : Type 0} (P : Kind → A → Type 0) where

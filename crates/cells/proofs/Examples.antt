@@ -1,4 +1,4 @@
--- Streams of small cells, computed from the definitions. Assumes nothing.
+-- Streams of small cells, computed from the definitions.
 use mathlib.Core.Path.{_≡_, refl}
 use mathlib.Core.List.{[], _∷_}
 use Prim.Native.Nat.{ℕ}

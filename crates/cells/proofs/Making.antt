@@ -1,4 +1,4 @@
--- From any rows, in one pass, come the rows of what is made of the stream that they say. Assumes nothing.
+-- From any rows, in one pass, come the rows of what is made of the stream that they say.
 use mathlib.Core.Path.{_≡_, refl, sym, ap, _∙_}
 use mathlib.Core.List.{List, [], _∷_, _++_, map, append-assoc, append-nil}
 use Prim.Native.Nat.{_<_}
@@ -8,9 +8,9 @@ use Rattle.geometry.specs.declared.class.Class.{Class}
 use Rattle.geometry.specs.declared.class.Class.the-variants.{Dropped, Start, Shortcut, Kept}
 use Rattle.pruning.specs.Sides.{paint, clip, Side, Entry, item, push, activate, pop, flat, mapEntry, mapSide}
 use Rattle.pruning.specs.Normal.{normal}
-use Rattle.pruning.specs.Pruner as Pruner
-use Rattle.pruning.specs.Pruner.{st, going, run}
-use Rattle.pruning.specs.Effects.{outOf}
+use Rattle.pruning.specs.code.Pruner as Pruner
+use Rattle.pruning.specs.code.Pruner.{st, going, run}
+use Rattle.pruning.specs.code.Effects.{outOf}
 use Rattle.pruning.proofs.Pruner.{rows-flat, stream-normal}
 use Rattle.pruning.proofs.Sides.{flat-map}
 use Rattle.cells.specs.Cells.{Cell}
@@ -18,7 +18,7 @@ use Rattle.cells.specs.Segments.{Segment, classIn, keptBy, keptIn, start
 use Rattle.cells.specs.Drawings.{Drawing}
 use Rattle.cells.specs.Streams.{Item, always, area, items, within, made}
 use Rattle.cells.specs.Rows.{Row, opens, bar, closes, bare, named, segment, entryRows, rowsOf, Decoded, dec, entriesOf, decodeRow, decode, roleIn}
-use Rattle.cells.specs.Making.{nothing, held, Making, making, prune, settle, addTo, onRows, begun, madeRows}
+use Rattle.cells.specs.code.Making.{nothing, held, Making, making, prune, settle, addTo, onRows, begun, madeRows}
 use Rattle.cells.proofs.Streams.{made-normal}
 
 pub entry-some : (e : Entry Item) → 0 < length (entryRows e)

@@ -1,4 +1,4 @@
--- Any rows are read, in one pass, for the shown set of what they say; the rows of a stream say that stream. Assumes nothing.
+-- Any rows are read, in one pass, for the shown set of what they say; the rows of a stream say that stream.
 use mathlib.Core.Path.{_≡_, refl, sym, ap, _∙_, fun-ext}
 use mathlib.Core.Bool.{Bool, true}
 use mathlib.Core.List.{List, [], _∷_, _++_, map}

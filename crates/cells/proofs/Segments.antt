@@ -1,5 +1,5 @@
 -- In a cell the start number takes in what is no longer among the lines and shortcuts: the winding stays at every position of the cell. A cell and then
--- a quarter of it leave what the quarter alone leaves. Assumes nothing.
+-- a quarter of it leave what the quarter alone leaves.
 use mathlib.Core.Path.{_≡_, refl, sym, ap, _∙_}
 use mathlib.Core.Bool.{Bool, cond}
 use mathlib.Core.List.{List, [], _∷_}

@@ -1,5 +1,5 @@
 -- The stream of a cell is the drawing's, classed in the cell and pruned, however it was reached; its windings, and what is read from it, are the
--- drawing's at every position of the cell. Assumes nothing.
+-- drawing's at every position of the cell.
 use mathlib.Core.Path.{_≡_, refl, sym, ap, _∙_, fun-ext}
 use mathlib.Core.Bool.{Bool, true, false, cond}
 use mathlib.Core.List.{List, [], _∷_, map}

@@ -1,4 +1,4 @@
--- Document 01, "Winding and meaning" and "Cells": positions, the squares of cells, and their quarters. Assumes nothing.
+-- Document 01, "Winding and meaning" and "Cells": positions, the squares of cells, and their quarters.
 use mathlib.Core.Bool.{Bool, true, false}
 use Prim.Native.Nat.{ℕ, zero, suc, _+_, _*_, _^_, _<_}
 use lib.Dec.{leb}

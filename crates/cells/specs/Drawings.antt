@@ -1,4 +1,4 @@
--- Document 01, "Winding and meaning": a drawing, the winding of each of its areas, and the shown areas, with no tree. Assumes nothing.
+-- Document 01, "Winding and meaning": a drawing, the winding of each of its areas, and the shown areas, with no tree.
 use mathlib.Core.Bool.{Bool, cond}
 use mathlib.Core.List.{List, []}
 use Prim.Native.Nat.{ℕ}

@@ -4,5 +4,4 @@ pub mod Segments
 pub mod Drawings
 pub mod Streams
 pub mod Rows
-pub mod Making
-pub mod Sizes
+pub mod code

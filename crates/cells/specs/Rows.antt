@@ -1,4 +1,4 @@
--- A stream as rows, one for each entry of a table, what any rows say, and the reading of rows in one pass. Assumes nothing.
+-- A stream as rows, one for each entry of a table, what any rows say, and the reading of rows in one pass.
 use mathlib.Core.Path.{_≡_}
 use mathlib.Core.Bool.{Bool, true}
 use mathlib.Core.List.{List, [], _∷_, _++_, map}

@@ -1,4 +1,4 @@
--- Document 01, "Cells": the lines and shortcuts of an area, what they add at a position, and what is left of them in a cell. Assumes nothing.
+-- Document 01, "Cells": the lines and shortcuts of an area, what they add at a position, and what is left of them in a cell.
 use mathlib.Core.Bool.{Bool, cond}
 use mathlib.Core.List.{List, [], _∷_}
 use Prim.Native.Nat.{ℕ}

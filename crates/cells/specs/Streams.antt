@@ -1,4 +1,4 @@
--- Document 01, "Cells": the stream of a cell, and what is read from it. Assumes nothing.
+-- Document 01, "Cells": the stream of a cell, and what is read from it.
 use mathlib.Core.Path.{_≡_, refl}
 use mathlib.Core.Bool.{Bool, true, cond}
 use mathlib.Core.List.{List, [], _∷_, map}

@@ -1,4 +1,4 @@
--- Small trees, and what is found in them, computed from the definitions. Assumes nothing.
+-- Small trees, and what is found in them, computed from the definitions.
 use mathlib.Core.Path.{_≡_, refl}
 use mathlib.Core.Bool.{true, false}
 use mathlib.Core.List.{List, [], _∷_, _++_}

@@ -1,4 +1,4 @@
--- Cells of the grid: cell 0 and each child of one are such cells, and a square passes exactly where it is that of one. Assumes nothing.
+-- Cells of the grid: cell 0 and each child of one are such cells, and a square passes exactly where it is that of one.
 use Prim.Native.Nat.{ℕ, zero, suc, _+_, _*_, _-_, _/_, _%_, _^_, _≤_, _<_}
 use mathlib.Core.Path.{_≡_, refl, ap, _∙_}
 use mathlib.Core.Bool.{Bool, true, false, _&&_}

@@ -1,4 +1,4 @@
--- The way down over the code's numbers is that of document 01's cells and quarters. Assumes nothing.
+-- The way down over the code's numbers is that of document 01's cells and quarters.
 use Prim.Native.Nat.{ℕ, zero, suc, _+_, _*_, _/_, _^_, _≤_}
 use mathlib.Core.Path.{_≡_, refl, ap, _∙_}
 use mathlib.Core.Bool.{Bool, true, false, cond}
@@ -16,7 +16,7 @@ use Rattle.celltable.specs.declared.Found.the-variants.{At, Broken}
 use Rattle.celltable.specs.Table.{cellAt}
 use Rattle.celltable.specs.Ranges.{numbersRange, cellRange}
 use Rattle.celltable.specs.Descent.{placeOf, onSquare, leafOf, downFrom, descendIn}
-use Rattle.celltable.specs.Numbers.{halfN, deeperN, metN, goOn, walkN, startN}
+use Rattle.celltable.specs.code.Numbers.{halfN, deeperN, metN, goOn, walkN, startN}
 use Rattle.celltable.proofs.Grid.{Gridded, root-gridded, child-gridded, gridded-range}
 
 -- the cursor at cell i, which has to be the cell c

@@ -1,4 +1,4 @@
--- Powers of two: the level of a side, and that the powers of two up to 65,536 are the numbers that divide it. Assumes nothing.
+-- Powers of two: the level of a side, and that the powers of two up to 65,536 are the numbers that divide it.
 use Prim.Native.Nat.{ℕ, zero, suc, _+_, _*_, _-_, _/_, _%_, _^_, _≤_, _<_}
 use mathlib.Core.Path.{_≡_, refl, sym, ap, _∙_}
 use mathlib.Core.Bool.{Bool, true, false, cond, _||_}

@@ -1,4 +1,4 @@
--- The numbers of a quarter are those of document 01's child, and the places of the quarters are 0 to 3 in its order. Assumes nothing.
+-- The numbers of a quarter are those of document 01's child, and the places of the quarters are 0 to 3 in its order.
 use Prim.Native.Nat.{ℕ, zero, suc, _/_, _%_, _^_, _<_}
 use mathlib.Core.Path.{_≡_, refl, sym, ap, _∙_}
 use mathlib.Core.Bool.{Bool, true}
@@ -9,7 +9,7 @@ use Rattle.cells.specs.Cells.{Quarter, lowLow, highLow, lowHigh, highHigh, cell
 use Rattle.celltable.specs.declared.CellWords.{CellWords}
 use Rattle.celltable.specs.Ranges.{squareRange, levelOf, cellOf}
 use Rattle.celltable.specs.Descent.{placeOf, quarterAt}
-use Rattle.celltable.specs.Numbers.{halfN}
+use Rattle.celltable.specs.code.Numbers.{halfN}
 use Rattle.celltable.proofs.Ranges.{square-fits}
 use Rattle.celltable.proofs.Meaning.{half-pow, part-x, part-y}
 

@@ -1,4 +1,4 @@
--- What it says that a cell passes, and that the numbers in use do: its square is that of a cell of document 01, and the other numbers are below what is in use. Assumes nothing.
+-- What it says that a cell passes, and that the numbers in use do: its square is that of a cell of document 01, and the other numbers are below what is in use.
 use Prim.Native.Nat.{ℕ, _+_, _*_, _/_, _%_, _^_, _≤_, _<_}
 use mathlib.Core.Path.{_≡_, refl, sym, _∙_}
 use mathlib.Core.Bool.{Bool, true, false, cond, _&&_, _||_}
@@ -10,7 +10,7 @@ use lib.ListN.{length, getD}
 use borrow.Author.Tests.{eqb-true, eqb-false, ltb-true, leb-true, eq-eqb, le-leb, lt-ltb}
 use Rattle.laws.proofs.Booleans.{and-left, and-right, and-both, cond-left, cond-right}
 use Rattle.celltable.proofs.Powers.{level-is, level-most}
-use Rattle.geometry.specs.Reach.{SquareIn}
+use Rattle.geometry.specs.code.Reach.{SquareIn}
 use Rattle.cells.specs.Cells.{level, squareOf}
 use Rattle.celltable.specs.declared.CellWords.{CellWords}
 use Rattle.celltable.specs.Ranges.{sideRange, gridRange, squareRange, rootRange, childRange, entryRange, numbersRange, cellRange, cellsHeld, entriesHeld, headRange, CellsIn, levelOf, cellOf, squareIn}

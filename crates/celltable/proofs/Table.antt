@@ -1,4 +1,4 @@
--- Laws of a table of eight words a cell: reading back what was written, and what a write leaves as it was. Assumes nothing.
+-- Laws of a table of eight words a cell: reading back what was written, and what a write leaves as it was.
 use Prim.Native.Nat.{ℕ, _+_, _*_, _-_, _≤_, _<_}
 use mathlib.Core.Path.{_≡_, sym, ap, _∙_}
 use mathlib.Core.List.{List, _++_, append-assoc}

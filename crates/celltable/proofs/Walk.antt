@@ -1,4 +1,4 @@
--- The steps of a way down and the loop over them, as plain laws. Assumes nothing.
+-- The steps of a way down and the loop over them, as plain laws.
 use Prim.Native.Nat.{ℕ, suc, _+_, _-_, _/_, _≤_, _<_}
 use mathlib.Core.Path.{_≡_, refl, sym, ap, _∙_, subst}
 use mathlib.Core.Bool.{Bool, true, false, cond}
@@ -16,7 +16,7 @@ use Rattle.celltable.specs.declared.Found.the-variants.{At, Broken}
 use Rattle.celltable.specs.Table.{cellAt}
 use Rattle.celltable.specs.Ranges.{numbersRange}
 use Rattle.celltable.specs.Descent.{leafOf}
-use Rattle.celltable.specs.Numbers.{halfN, deeperN, standsN, metN, stepN, goOn, walkN, startN, CursorIn}
+use Rattle.celltable.specs.code.Numbers.{halfN, deeperN, standsN, metN, stepN, goOn, walkN, startN, CursorIn}
 use Rattle.celltable.proofs.Ranges.{child-in-use}
 
 -- ---- what one step gives: w is the cell that was read, f and s are the outcomes of its two tests

@@ -2,4 +2,4 @@
 pub mod Table
 pub mod Ranges
 pub mod Descent
-pub mod Numbers
+pub mod code

@@ -1,4 +1,4 @@
--- Document 01, "From the state", 12: when the numbers of a cell and the numbers in use are in range. Assumes nothing.
+-- Document 01, "From the state", 12: when the numbers of a cell and the numbers in use are in range.
 use Prim.Native.Nat.{ℕ, zero, suc, _+_, _*_, _/_, _%_, _^_, _≤_}
 use mathlib.Core.Bool.{Bool, true, false, cond, _&&_, _||_}
 use mathlib.Core.List.{List}

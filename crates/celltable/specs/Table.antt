@@ -1,5 +1,5 @@
 -- A table of eight words a cell: x, y, side, first child (0 for a leaf), first entry, entries, 0, 0; and the table after a cell is written.
--- `Rattle.celltable.proofs.Table` has the laws. Assumes nothing.
+-- `Rattle.celltable.proofs.Table` has the laws.
 use Prim.Native.Nat.{ℕ, _+_, _*_}
 use mathlib.Core.List.{List, [], _∷_}
 use lib.ListN.{getD, set}

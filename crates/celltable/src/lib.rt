@@ -9,7 +9,7 @@ ghost use Rattle.cells.specs.Cells.{squareOf, child};
 ghost use Rattle.celltable.specs.Table.{cellAt, putCellAt, putChildAt};
 ghost use Rattle.celltable.specs.Ranges.{sideRange, squareRange, rootRange, numbersRange, cellRange, headRange, CellsIn, cellOf};
 ghost use Rattle.celltable.specs.Descent.{quarterAt, descendIn};
-ghost use Rattle.celltable.specs.Numbers.{halfN, deeperN, standsN, stepN, CursorIn};
+ghost use Rattle.celltable.specs.code.Numbers.{halfN, deeperN, standsN, stepN, CursorIn};
 
 // The words of a cell that have a name. `child` is the first of its four children, or 0 for a leaf.
 pub struct CellWords {

@@ -1,4 +1,4 @@
--- The array of start numbers in the end: those of what is made, and zeros. Assumes nothing.
+-- The array of start numbers in the end: those of what is made, and zeros.
 use mathlib.Core.Path.{_≡_, refl, sym, ap, _∙_}
 use mathlib.Core.Bool.{Bool, true, false}
 use mathlib.Core.List.{List, [], _∷_}
@@ -10,7 +10,7 @@ use lib.ListN.{length, getD, set, length-set}
 use lib.Seq.{getD-set-same, getD-set-other, ext-getD}
 use lib.IntN.{ℤ, pos}
 use borrow.Author.Tests.{ltb-true, ltb-false}
-use Rattle.child_stream.specs.Numbers.{firstOf, filled}
+use Rattle.child_stream.specs.code.Numbers.{firstOf, filled}
 use Rattle.child_stream.proofs.Fronts.{Stands}
 
 -- ---- the first n numbers

@@ -1,4 +1,4 @@
--- A stream that is made of one that passes the check has at most 64 start numbers: the array holds them all. Assumes nothing.
+-- A stream that is made of one that passes the check has at most 64 start numbers: the array holds them all.
 use mathlib.Core.Path.{_≡_, ap}
 use mathlib.Core.Bool.{true, false}
 use mathlib.Core.List.{List, [], _∷_}
@@ -8,11 +8,11 @@ use lib.ListN.{length, length-append}
 use lib.IntN.{ℤ}
 use borrow.Author.Tests.{ltb-true}
 use Rattle.laws.proofs.Booleans.{clash}
-use Rattle.pruning.specs.Effects.{outOf}
+use Rattle.pruning.specs.code.Effects.{outOf}
 use Rattle.cells.specs.Cells.{Cell}
 use Rattle.cells.specs.Drawings.{Drawing}
 use Rattle.cells.specs.Rows.{Row, opens, bar, closes, bare, named, segment}
-use Rattle.cells.specs.Making.{Waiting, nothing, held, Making, making, settle, onRow, onRows, begun}
+use Rattle.cells.specs.code.Making.{Waiting, nothing, held, Making, making, settle, onRow, onRows, begun}
 use Rattle.stream.specs.declared.Words.{Words}
 use Rattle.stream.specs.Entry as Entries
 use Rattle.stream.specs.Entry.{decode}
@@ -23,7 +23,7 @@ use Rattle.making.proofs.Follows.{stateOf, waitingOf}
 use Rattle.making.proofs.Grammar.{Passes, one-passes}
 use Rattle.making.proofs.Standing.{Reads}
 use Rattle.making.proofs.Whole.{allOf, rows-all}
-use Rattle.child_stream.specs.Starts.{startsOf}
+use Rattle.child_stream.specs.code.Starts.{startsOf}
 use Rattle.child_stream.proofs.Fronts.{Front, withNext, settle-front, open-front, bar-front, close-front, bare-front}
 
 front-length : (zs ys : List ℤ) → Front zs ys → length zs ≤ length ys

@@ -1,4 +1,4 @@
--- The loop that writes a child's stream to the free end of the table that holds its parent's. Assumes nothing.
+-- The loop that writes a child's stream to the free end of the table that holds its parent's.
 use mathlib.Core.Path.{_≡_, refl, sym, ap, subst, _∙_}
 use mathlib.Core.List.{List, [], _∷_, _++_}
 use Prim.Native.Nat.{ℕ, _+_, _*_, _-_, _≤_, _<_}
@@ -8,23 +8,23 @@ use lib.IntN.{ℤ}
 use borrow.Rule.Slice.PartMut.{putMid}
 use Rattle.geometry.specs.declared.class.Class.{Class}
 use Rattle.geometry.specs.declared.class.Square.{Square}
-use Rattle.pruning.specs.Pruner.{going}
-use Rattle.pruning.specs.Counters.{ct}
+use Rattle.pruning.specs.code.Pruner.{going}
+use Rattle.pruning.specs.code.Counters.{ct}
 use Rattle.cells.specs.Cells.{Cell, squareOf}
 use Rattle.cells.specs.Drawings.{Drawing}
-use Rattle.cells.specs.Making.{Making, begun}
+use Rattle.cells.specs.code.Making.{Making, begun}
 use Rattle.stream.specs.declared.Words.{Words}
 use Rattle.stream.specs.Table.{wordsAt, wordsFrom, flat, written}
 use Rattle.stream.specs.Grammar.{Env, Passed}
 use Rattle.stream.proofs.Table.{words-step, words-none, at-agree}
-use Rattle.pruner.specs.Numbers.{counted}
+use Rattle.pruner.specs.code.Numbers.{counted}
 use Rattle.making.specs.declared.Maker.{Maker}
 use Rattle.making.specs.Made.{rowsMade, wordsMade}
-use Rattle.making.specs.Numbers.{resting, leftSign, leftClass, waitingN, prunedN}
+use Rattle.making.specs.code.Numbers.{resting, leftSign, leftClass, waitingN, prunedN}
 use Rattle.making.proofs.Made.{made-length}
 use Rattle.making.proofs.Standing.{Reads}
 use Rattle.making.proofs.Whole.{allOf, standing-start}
-use Rattle.writing.specs.Numbers.{settledPut, onePut}
+use Rattle.writing.specs.code.Numbers.{settledPut, onePut}
 use Rattle.writing.proofs.Same.{same-refl, same-one}
 use Rattle.writing.proofs.Written.{Writes}
 use Rattle.writing.proofs.Turn.{Writing, writing-next}

@@ -1,4 +1,4 @@
--- The start numbers of what is made so far stand in the array: one entry more. Assumes nothing.
+-- The start numbers of what is made so far stand in the array: one entry more.
 use mathlib.Core.Path.{_≡_, refl, sym, ap, subst, _∙_}
 use mathlib.Core.Bool.{Bool, true, false, cond}
 use mathlib.Core.List.{List, [], _∷_, _++_, map, append-nil, append-assoc}
@@ -12,22 +12,22 @@ use borrow.Author.Tests.{lt-ltb, ltb-true, ltb-false}
 use Rattle.pruning.specs.Sides.{Kind, paint, clip, item, push, activate, pop}
 use Rattle.pruning.specs.Items as Items
 use Rattle.pruning.specs.Items.{fails, passes, other}
-use Rattle.pruning.specs.Pruner as Pruning
-use Rattle.pruning.specs.Pruner.{Frame, going, shut, st, addItem}
-use Rattle.pruning.specs.Effects.{outOf}
-use Rattle.pruning.specs.Weights.{total}
+use Rattle.pruning.specs.code.Pruner as Pruning
+use Rattle.pruning.specs.code.Pruner.{Frame, going, shut, st, addItem}
+use Rattle.pruning.specs.code.Effects.{outOf}
+use Rattle.pruning.specs.code.Weights.{total}
 use Rattle.cells.specs.Cells.{Cell}
 use Rattle.cells.specs.Segments.{Segment, drawn, shortcut}
 use Rattle.cells.specs.Drawings.{Drawing}
 use Rattle.cells.specs.Streams.{always, area, items, classOf}
 use Rattle.cells.specs.Rows.{Row, opens, bar, closes, bare, named, segment, entryRows, roleIn}
-use Rattle.cells.specs.Making.{nothing, held, Making, making, prune, settle, addTo, onRows, rowSize}
+use Rattle.cells.specs.code.Making.{nothing, held, Making, making, prune, settle, addTo, onRows, rowSize}
 use Rattle.stream.specs.Entry as Entries
 use Rattle.evaluate.specs.Reading.{rowFor}
 use Rattle.making.proofs.Follows.{stateOf, waitingOf, waitingFor}
 use Rattle.writing.proofs.Places.{Moves, adds, cuts, open-moves, bar-moves, close-moves}
-use Rattle.child_stream.specs.Starts.{startsOf}
-use Rattle.child_stream.specs.Numbers.{putStart}
+use Rattle.child_stream.specs.code.Starts.{startsOf}
+use Rattle.child_stream.specs.code.Numbers.{putStart}
 
 -- ---- the start numbers of rows
 

@@ -1,4 +1,4 @@
--- The loop over a parent's stream. Assumes nothing.
+-- The loop over a parent's stream.
 use mathlib.Core.Path.{_≡_, sym, ap, subst, _∙_}
 use mathlib.Core.Bool.{true}
 use mathlib.Core.List.{List, [], _∷_}
@@ -8,20 +8,20 @@ use lib.ListN.{length}
 use lib.IntN.{ℤ, natAbs}
 use Rattle.geometry.specs.declared.class.Class.{Class}
 use Rattle.geometry.specs.declared.class.Square.{Square}
-use Rattle.pruning.specs.Pruner.{going}
-use Rattle.pruning.specs.Counters.{ct, lengthOf}
-use Rattle.pruning.specs.Weights.{total}
+use Rattle.pruning.specs.code.Pruner.{going}
+use Rattle.pruning.specs.code.Counters.{ct, lengthOf}
+use Rattle.pruning.specs.code.Weights.{total}
 use Rattle.cells.specs.Cells.{Cell, squareOf}
 use Rattle.cells.specs.Drawings.{Drawing}
-use Rattle.cells.specs.Making.{rowSize}
+use Rattle.cells.specs.code.Making.{rowSize}
 use Rattle.stream.specs.declared.Words.{Words}
 use Rattle.stream.specs.Table.{wordsAt, wordsFrom}
 use Rattle.stream.specs.Grammar.{Env, Passed}
 use Rattle.stream.proofs.Table.{words-step, words-none}
-use Rattle.pruner.specs.Numbers.{counted}
+use Rattle.pruner.specs.code.Numbers.{counted}
 use Rattle.making.specs.declared.Maker.{Maker}
 use Rattle.making.specs.Made.{rowsMade}
-use Rattle.making.specs.Numbers.{resting, leftSign, leftClass, leftRange, waitingN, settledN, prunedN, Inside, Asks}
+use Rattle.making.specs.code.Numbers.{resting, leftSign, leftClass, leftRange, waitingN, settledN, prunedN, Inside, Asks}
 use Rattle.making.proofs.Standing.{Reads, Standing}
 use Rattle.making.proofs.Turn.{standing-weight, standing-base, standing-inside, standing-room, standing-start, standing-left, standing-sign, standing-next}
 use Rattle.making.proofs.Whole.{allOf, standing-begin, weight-end}

@@ -1,4 +1,4 @@
--- The loop over a parent's stream with the start numbers. Assumes nothing.
+-- The loop over a parent's stream with the start numbers.
 use mathlib.Core.Path.{_≡_, sym, ap, ap₂, subst, _∙_}
 use mathlib.Core.List.{List, [], _∷_}
 use Prim.Native.Nat.{ℕ, _+_, _-_, _≤_, _<_}
@@ -8,32 +8,32 @@ use lib.ListN.{length}
 use lib.IntN.{ℤ}
 use Rattle.geometry.specs.declared.class.Class.{Class}
 use Rattle.geometry.specs.declared.class.Square.{Square}
-use Rattle.pruning.specs.Pruner.{going}
-use Rattle.pruning.specs.Counters.{ct, lengthOf}
-use Rattle.pruning.specs.Effects.{outOf}
-use Rattle.pruning.specs.Weights.{total}
+use Rattle.pruning.specs.code.Pruner.{going}
+use Rattle.pruning.specs.code.Counters.{ct, lengthOf}
+use Rattle.pruning.specs.code.Effects.{outOf}
+use Rattle.pruning.specs.code.Weights.{total}
 use Rattle.cells.specs.Cells.{Cell, squareOf}
 use Rattle.cells.specs.Drawings.{Drawing}
 use Rattle.cells.specs.Rows.{Row}
-use Rattle.cells.specs.Making.{Making, begun, settle, rowSize}
+use Rattle.cells.specs.code.Making.{Making, begun, settle, rowSize}
 use Rattle.stream.specs.declared.Words.{Words}
 use Rattle.stream.specs.Entry.{decode}
 use Rattle.stream.specs.Table.{wordsAt, wordsFrom}
 use Rattle.stream.specs.Grammar.{Env, Passed}
 use Rattle.stream.proofs.Table.{words-step, words-none}
-use Rattle.pruner.specs.Numbers.{counted}
+use Rattle.pruner.specs.code.Numbers.{counted}
 use Rattle.pruner.proofs.Near.{counted-weight}
 use Rattle.evaluate.specs.Reading.{rowsIn}
 use Rattle.making.specs.declared.Maker.{Maker}
 use Rattle.making.specs.declared.Waiting.{Waiting}
 use Rattle.making.specs.Made.{rowsMade}
-use Rattle.making.specs.Numbers.{resting, leftSign, leftClass, waitingN, prunedN}
+use Rattle.making.specs.code.Numbers.{resting, leftSign, leftClass, waitingN, prunedN}
 use Rattle.making.proofs.Follows.{stateOf, waitingOf, waitingFor, settle-short}
 use Rattle.making.proofs.Standing.{Reads, Standing}
 use Rattle.making.proofs.Turn.{standing-rows, weight-is}
 use Rattle.making.proofs.Whole.{allOf, standing-start, rows-all}
-use Rattle.child_stream.specs.Starts.{startsOf}
-use Rattle.child_stream.specs.Numbers.{starts, areasIn, putStart, firstOf, startsIn}
+use Rattle.child_stream.specs.code.Starts.{startsOf}
+use Rattle.child_stream.specs.code.Numbers.{starts, areasIn, putStart, firstOf, startsIn}
 use Rattle.child_stream.proofs.Loop.{Looping}
 use Rattle.child_stream.proofs.Fronts.{Stands, stands-front, stands-more, put-length, areas-is, withNext, settle-front, turn-front}
 use Rattle.child_stream.proofs.Clear.{first-filled}

@@ -1,4 +1,4 @@
--- The end of a table, lent as a slice of its own. Assumes nothing.
+-- The end of a table, lent as a slice of its own.
 use mathlib.Core.Path.{_≡_, sym, ap, _∙_}
 use mathlib.Core.List.{List, _++_, append-nil, append-assoc}
 use Prim.Native.Nat.{ℕ, _+_, _*_, _-_, _≤_, _<_}

@@ -1,3 +1,2 @@
 -- The start numbers of a child's areas, and the numbers of their counting.
-pub mod Starts
-pub mod Numbers
+pub mod code

@@ -8,16 +8,16 @@ ghost use mathlib.Core.Path.{_≡_};
 ghost use Prim.Native.Nat.{_+_, _*_, _≤_, _<_};
 ghost use lib.ListN.{length};
 ghost use lib.IntN.{natAbs};
-ghost use Rattle.geometry.specs.Reach.{SquareIn};
+ghost use Rattle.geometry.specs.code.Reach.{SquareIn};
 ghost use Rattle.cells.specs.Cells.{squareOf};
-ghost use Rattle.cells.specs.Making.{rowSize};
-ghost use Rattle.pruning.specs.Weights.{total};
+ghost use Rattle.cells.specs.code.Making.{rowSize};
+ghost use Rattle.pruning.specs.code.Weights.{total};
 ghost use Rattle.stream.specs.Table.{wordsFrom, written};
 ghost use Rattle.stream.specs.Grammar.{env, Passed};
 ghost use Rattle.ranges.specs.Held.{lent};
 ghost use Rattle.making.specs.Made.{rowsMade, wordsMade};
-ghost use Rattle.making.specs.Numbers.{cellIn};
-ghost use Rattle.child_stream.specs.Numbers.{starts, notedN, firstOf, startsIn};
+ghost use Rattle.making.specs.code.Numbers.{cellIn};
+ghost use Rattle.child_stream.specs.code.Numbers.{starts, notedN, firstOf, startsIn};
 
 // ---- the start numbers of the areas
 // How many, and the numbers, with zeros behind them: the `starts` of document 01's "child tallies (entries, lines, starts)". They are proved to be those

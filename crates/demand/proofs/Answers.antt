@@ -1,4 +1,4 @@
--- The answers of the calls on sound tables. Assumes nothing.
+-- The answers of the calls on sound tables.
 use mathlib.Core.Path.{_≡_, refl, sym, ap, _∙_, subst}
 use mathlib.Core.Bool.{Bool, true, false, cond, _&&_}
 use mathlib.Core.List.{List, []}

@@ -22,13 +22,13 @@ use Rattle.read.specs.Words.{spread}
 use Rattle.paint.specs.Sets.{each}
 use Rattle.paint.specs.Areas.{materialOf}
 use Rattle.paint.specs.Colours.{mixOf}
-use Rattle.drawing.specs.Held.{Acceptable, Holding}
+use Rattle.drawing.specs.code.Held.{Acceptable, Holding}
 use Rattle.drawing.proofs.Theorems.{drawn-records, holding-passes}
 use Rattle.cells.specs.Cells.{at, root}
 use Rattle.cells.specs.Drawings.{Drawing}
 use Rattle.cells.specs.Streams.{source, made}
 use Rattle.pruning.specs.Sides.{paint}
-use Rattle.ranges.specs.Valid.{weigh, lines}
+use Rattle.ranges.specs.code.Valid.{weigh, lines}
 use Rattle.ranges.proofs.Weights.{rows-length, made-rows}
 use Rattle.plans.specs.Plans.{drawingFrom}
 use Rattle.root_stream.specs.Opened.{rowsOpened}

@@ -1,5 +1,5 @@
 -- Growing in sound tables: it is never met by 12, leaves them sound with the cells that it split divided in the history, and says "done" and "full" as the
--- history has it. Assumes nothing.
+-- history has it.
 use mathlib.Core.Path.{_≡_, refl, sym, ap, _∙_, subst}
 use mathlib.Core.Bool.{Bool, true, false, cond}
 use mathlib.Core.List.{List}

@@ -1,4 +1,4 @@
--- The cells of a history: each lies on the grid, those of a split cell are its quarters, and the leaves tile the grid. Assumes nothing.
+-- The cells of a history: each lies on the grid, those of a split cell are its quarters, and the leaves tile the grid.
 use mathlib.Core.Path.{_≡_, refl, sym, ap, _∙_, subst}
 use mathlib.Core.List.{List, [], _∷_}
 use Prim.Native.Nat.{ℕ, zero, suc, _+_, _*_, _≤_, _<_}

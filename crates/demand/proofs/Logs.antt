@@ -1,4 +1,4 @@
--- Zone logs over sound tables are those worked out with no tree, and 12 meets none. Assumes nothing.
+-- Zone logs over sound tables are those worked out with no tree, and 12 meets none.
 use mathlib.Core.Path.{_≡_, refl, sym, ap, _∙_}
 use mathlib.Core.Bool.{Bool, true, false, cond, not, _&&_, _||_}
 use mathlib.Core.List.{List, _∷_}

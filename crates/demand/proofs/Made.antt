@@ -1,5 +1,5 @@
 -- A stream is made with the areas and corners of a drawing and nothing else of it: so a split, which has them from lent tables that hold the drawing,
--- makes of a cell's stream the streams of its quarters that are made from the drawing. Assumes nothing.
+-- makes of a cell's stream the streams of its quarters that are made from the drawing.
 use mathlib.Core.Path.{_≡_, refl, ap, _∙_, fun-ext}
 use mathlib.Core.Bool.{cond}
 use mathlib.Core.List.{List, [], _∷_, map}
@@ -22,7 +22,7 @@ use Rattle.stream.specs.declared.Bounds.{Bounds}
 use Rattle.evaluate.specs.Reading.{rowsIn}
 use Rattle.evaluate.specs.Words.{wordsOf}
 use Rattle.evaluate.proofs.Words.{rows-back, fits-rows}
-use Rattle.ranges.specs.Valid.{Valid}
+use Rattle.ranges.specs.code.Valid.{Valid}
 use Rattle.ranges.specs.Held.{Held, lent}
 use Rattle.making.specs.Made.{rowsMade, wordsMade}
 use Rattle.demand.specs.Stands.{wordsOfCell}

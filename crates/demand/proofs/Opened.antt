@@ -1,4 +1,4 @@
--- An accepted opening leaves tables that are sound, with the one cell of the history's begin. Assumes nothing.
+-- An accepted opening leaves tables that are sound, with the one cell of the history's begin.
 use mathlib.Core.Path.{_≡_, refl, sym, ap, _∙_, subst}
 use mathlib.Core.Bool.{true}
 use Prim.Native.Nat.{ℕ, zero, suc, _+_, _*_, _/_, _≤_, _<_}

@@ -1,4 +1,4 @@
--- What a split in sound tables answers: the first of its four cells, or a refusal that is not 12. Assumes nothing.
+-- What a split in sound tables answers: the first of its four cells, or a refusal that is not 12.
 use mathlib.Core.Path.{_≡_, refl, sym, ap, _∙_, subst}
 use mathlib.Core.Bool.{Bool, true, false, cond}
 use mathlib.Core.List.{List}
@@ -20,7 +20,7 @@ use Rattle.split.specs.declared.Answer.the-variants.{Split, Not}
 use Rattle.split.specs.Tables.{Tree, cellsUsed, entriesUsed, boundsOf}
 use Rattle.split.specs.Split.{words, against, made, roomAnswer, drawingSplit, cellSplit, countsSplit, splitAnswer}
 use Rattle.split_laws.specs.After.{splitTree}
-use Rattle.split_laws.specs.Accepted.{Splittable}
+use Rattle.split_laws.specs.code.Accepted.{Splittable}
 use Rattle.split_laws.proofs.Counts.{counts-head, counts-plan, counts-used}
 use Rattle.split_laws.proofs.Accepted.{able-answer, chosen}
 use Rattle.demand.specs.History.{Node, cellIn, splitAt, Leaf}

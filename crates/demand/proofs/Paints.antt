@@ -1,4 +1,4 @@
--- The areas that a drawing shows are among its own, so tables that hold it give their material and their colour. Assumes nothing.
+-- The areas that a drawing shows are among its own, so tables that hold it give their material and their colour.
 use mathlib.Core.Path.{_≡_, refl, sym, ap, _∙_, subst}
 use mathlib.Core.Bool.{Bool, true, false, cond, _||_}
 use mathlib.Core.List.{List, [], _∷_, _++_}
@@ -20,7 +20,7 @@ use Rattle.cells.specs.Cells.{Position}
 use Rattle.cells.specs.Drawings.{Drawing, passesAt, isOpaque, shownAt}
 use Rattle.cells.specs.Streams.{On}
 use Rattle.stream.specs.declared.Bounds.{Bounds}
-use Rattle.ranges.specs.Valid.{Valid}
+use Rattle.ranges.specs.code.Valid.{Valid}
 use Rattle.ranges.specs.Held.{Held}
 use Rattle.ranges.proofs.Reading.{fields-are}
 use Rattle.demand.specs.NoTree.{paintOf, setShown, materialShown, colourShown}

@@ -1,4 +1,4 @@
--- In tables that are sound every cell in use passes 12, and so does every leaf with its stream. Assumes nothing.
+-- In tables that are sound every cell in use passes 12, and so does every leaf with its stream.
 use mathlib.Core.Path.{_≡_, ap, _∙_}
 use mathlib.Core.Bool.{true}
 use mathlib.Core.List.{List}

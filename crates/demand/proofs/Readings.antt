@@ -1,4 +1,4 @@
--- What is read from sound tables at a position is what the drawing shows there: the set, the material, the colour. Assumes nothing.
+-- What is read from sound tables at a position is what the drawing shows there: the set, the material, the colour.
 use mathlib.Core.Path.{_≡_, refl, ap, _∙_}
 use mathlib.Core.Bool.{Bool, true, false, cond, _&&_}
 use mathlib.Core.List.{List, [], _∷_}

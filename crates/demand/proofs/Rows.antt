@@ -1,4 +1,4 @@
--- Rows of pixels over sound tables are those worked out with no tree, and 12 meets no pixel. Assumes nothing.
+-- Rows of pixels over sound tables are those worked out with no tree, and 12 meets no pixel.
 use mathlib.Core.Path.{_≡_, refl, ap, _∙_}
 use mathlib.Core.Bool.{Bool, true, false, cond}
 use mathlib.Core.List.{List}

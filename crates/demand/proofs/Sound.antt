@@ -1,5 +1,5 @@
 -- What every call of the list keeps: the numbers in the tables are in range, the cells are the history's, and the words of each leaf's stream are those
--- made from the drawing. From it follows what is claimed of the tables. Assumes nothing.
+-- made from the drawing. From it follows what is claimed of the tables.
 use mathlib.Core.Path.{_≡_, refl, sym, ap, _∙_, subst}
 use mathlib.Core.Bool.{true}
 use mathlib.Core.List.{List}
@@ -16,7 +16,7 @@ use Rattle.cells.proofs.Streams.{made-shown, source-shown, made-winds}
 use Rattle.cells.proofs.Rows.{decode-rows, made-on-side}
 use Rattle.stream.specs.Grammar.{bounds}
 use Rattle.evaluate.specs.Reading.{setAt}
-use Rattle.ranges.specs.Valid.{Valid}
+use Rattle.ranges.specs.code.Valid.{Valid}
 use Rattle.ranges.specs.Held.{Held}
 use Rattle.ranges.proofs.Reading.{valid-words-read}
 use Rattle.celltable.specs.Table.{cellAt}

@@ -1,4 +1,4 @@
--- A split in tables that are sound: it is accepted, and leaves them sound with the cell divided in the history, or it is refused, and not with 12. Assumes nothing.
+-- A split in tables that are sound: it is accepted, and leaves them sound with the cell divided in the history, or it is refused, and not with 12.
 use mathlib.Core.Path.{_≡_, refl, sym, ap, _∙_, subst}
 use mathlib.Core.List.{List}
 use Prim.Native.Nat.{ℕ, suc, _+_, _≤_, _<_}

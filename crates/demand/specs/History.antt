@@ -1,5 +1,5 @@
 -- Document 01, "Cells" and "The list of demand 3": the cells that a list of splits makes, with no table: their squares, which of them are divided, and
--- the leaves. Assumes nothing.
+-- the leaves.
 use mathlib.Core.Path.{_≡_}
 use mathlib.Core.List.{List, [], _∷_, _++_}
 use Prim.Native.Nat.{ℕ, _<_}

@@ -1,4 +1,4 @@
--- Document 01, "Cells": the seven tables after an opening. Assumes nothing.
+-- Document 01, "Cells": the seven tables after an opening.
 use Rattle.split.specs.Tables.{Tree, tree}
 use Rattle.open.specs.declared.Answer.{Answer}
 use Rattle.open.specs.Open.{openAnswer, headOpened, cellsOpened, entriesOpened}

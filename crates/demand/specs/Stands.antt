@@ -1,4 +1,4 @@
--- Document 01, "The list of demand 3": what is claimed of a tree in its tables, over a drawing, whose cells are those of a history. Assumes nothing.
+-- Document 01, "The list of demand 3": what is claimed of a tree in its tables, over a drawing, whose cells are those of a history.
 use mathlib.Core.Path.{_≡_}
 use mathlib.Core.Bool.{true}
 use mathlib.Core.List.{List, map}

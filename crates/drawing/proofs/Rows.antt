@@ -22,7 +22,7 @@ use Rattle.grammar.specs.declared.Scan.{Scan}
 use Rattle.grammar.specs.declared.Verdict.{Verdict}
 use Rattle.grammar.specs.declared.Verdict.the-variants.{Accepted, Refused}
 use Rattle.grammar.specs.Grammar.{checked}
-use Rattle.grammar.specs.Machine.{advanceN, startN, scanN, isStopped}
+use Rattle.grammar.specs.code.Machine.{advanceN, startN, scanN, isStopped}
 use Rattle.grammar.specs.Lists.{goods, areaOne, cornerOne}
 use Rattle.grammar.proofs.Laws.{sound, stopped-stays, refused-not}
 use Rattle.drawing.specs.declared.Cursor.{Cursor}

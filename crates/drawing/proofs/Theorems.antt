@@ -23,7 +23,7 @@ use Rattle.grammar.proofs.Laws.{sound, refused-not}
 use Rattle.read.specs.Words.{spread, planWords, areaWords, xWords, yWords, fileOf, Has, allRange}
 use Rattle.read.specs.Reading.{decodedFrom, decodedIn, recordsIn, verdictOf, holds, ifRoom, readAnswer, leftBy}
 use Rattle.drawing.specs.Tables.{Tables, tables, cursor, rebuilt, usedOf, rebuiltIn, drawnIn, agreed, countsJudged, drawingOf, writtenOf, writeAnswer}
-use Rattle.drawing.specs.Held.{Acceptable, Holding}
+use Rattle.drawing.specs.code.Held.{Acceptable, Holding}
 use Rattle.read.proofs.Files.{filed, filed-checked, length-good, kinds-length, areas-length, xs-length, ys-length, file-length, Holds, held}
 use Rattle.drawing.proofs.Rows.{drawn}
 use Rattle.drawing.proofs.Has.{has-sets, has-same, has-first, has-rest, has-cons, has-whole}

@@ -1,3 +1,3 @@
 -- A drawing in its tables, and when lent tables hold one.
 pub mod Tables
-pub mod Held
+pub mod code

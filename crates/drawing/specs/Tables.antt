@@ -1,4 +1,4 @@
--- A drawing in its tables (docs/TABLES.md), when lent tables hold one, and what writing them out answers and leaves. Assumes nothing.
+-- A drawing in its tables (docs/TABLES.md), when lent tables hold one, and what writing them out answers and leaves.
 use Prim.Native.Nat.{ℕ, zero, suc, _+_, _*_, _/_, _≤_}
 use mathlib.Core.Bool.{cond}
 use mathlib.Core.List.{List, [], _∷_}

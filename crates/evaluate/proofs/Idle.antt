@@ -1,4 +1,4 @@
--- Outside P no area is looked at, and a machine that has stopped is at its end: what follows gives the same set. Assumes nothing.
+-- Outside P no area is looked at, and a machine that has stopped is at its end: what follows gives the same set.
 use mathlib.Core.Path.{_≡_, refl, ap, _∙_}
 use mathlib.Core.Bool.{Bool, true}
 use mathlib.Core.List.{List, [], _∷_}

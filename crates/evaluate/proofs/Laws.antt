@@ -1,4 +1,4 @@
--- Signs and start numbers as words; an area on a clip side is not shown. Assumes nothing.
+-- Signs and start numbers as words; an area on a clip side is not shown.
 use mathlib.Core.Path.{_≡_, refl, sym, ap, ap₂, _∙_}
 use mathlib.Core.Bool.{Bool, true, false, cond, _&&_, _||_, true≢false}
 use mathlib.Core.List.{List}
@@ -17,7 +17,7 @@ use Rattle.pruning.specs.Sides.{clip}
 use Rattle.pruning.specs.Registers.{Registers, onItem}
 use Rattle.pruning.proofs.Registers.{clip-shows}
 use Rattle.laws.proofs.Booleans.{clash}
-use Rattle.geometry.specs.Reach.{EndsIn}
+use Rattle.geometry.specs.code.Reach.{EndsIn}
 use Rattle.geometry.specs.Windings.{adds}
 use Rattle.records.specs.Record.{cornerRange, ranged}
 use Rattle.records.specs.declared.Record.the-variants.{Area}

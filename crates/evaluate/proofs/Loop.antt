@@ -1,4 +1,4 @@
--- The loops over the lines and shortcuts of an area and over a stream. Assumes nothing.
+-- The loops over the lines and shortcuts of an area and over a stream.
 use mathlib.Core.Path.{_≡_, sym, ap, ap₂, subst, _∙_}
 use mathlib.Core.Bool.{true, false, cond}
 use mathlib.Core.List.{List}
@@ -11,18 +11,18 @@ use Rattle.stream.specs.declared.Words.{Words}
 use Rattle.paint.specs.Sets.{withArea}
 use Rattle.pruning.specs.Registers.{onItem}
 use Rattle.machine.specs.declared.Machine.{Machine}
-use Rattle.machine.specs.Registers.{machine, meant}
+use Rattle.machine.specs.code.Registers.{machine, meant}
 use Rattle.cells.specs.Rows.{settled, state}
 use Rattle.stream.specs.Entry.{decode, startRange}
 use Rattle.stream.specs.Table.{wordsAt, wordsFrom}
 use Rattle.stream.specs.Grammar.{Env, isGood, areaMet, inRange, Passed}
-use Rattle.stream.specs.Machine.{isSegment, segmentsIn}
+use Rattle.stream.specs.code.Machine.{isSegment, segmentsIn}
 use Rattle.stream.proofs.Table.{words-none}
 use Rattle.stream.proofs.Runs.{words-first, few-segments}
 use Rattle.stream.proofs.Passed.{in-range}
 use Rattle.evaluate.specs.declared.Reading.{Reading}
 use Rattle.evaluate.specs.Reading.{roleAt, passAt, opaqueAt, setAt}
-use Rattle.evaluate.specs.Numbers.{segmentAdds, segmentsSum, SegmentsIn, movedBy, Ranged, setFrom, Onward}
+use Rattle.evaluate.specs.code.Numbers.{segmentAdds, segmentsSum, SegmentsIn, movedBy, Ranged, setFrom, Onward}
 use Rattle.evaluate.proofs.Steps.{in-name, in-segment, area-step, idle-step, other-step}
 
 -- ---- the lines and shortcuts of an area

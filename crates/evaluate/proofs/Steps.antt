@@ -1,4 +1,4 @@
--- The words of an entry, read by the code, are its row read by the machine. Assumes nothing.
+-- The words of an entry, read by the code, are its row read by the machine.
 use mathlib.Core.Path.{_≡_, refl, sym, ap, ap₂, _∙_}
 use mathlib.Core.Bool.{Bool, true, false, cond, _&&_, _||_}
 use mathlib.Core.List.{List, [], _∷_}
@@ -14,7 +14,7 @@ use Rattle.geometry.specs.Windings.{adds}
 use Rattle.pruning.specs.Sides.{clip}
 use Rattle.pruning.specs.Registers.{P, S, SA, Registers, reg, halted, outOf, onItem, onPush, onActivate, onPop}
 use Rattle.machine.specs.declared.Machine.{Machine}
-use Rattle.machine.specs.Registers.{meant}
+use Rattle.machine.specs.code.Registers.{meant}
 use Rattle.cells.specs.Cells.{at}
 use Rattle.cells.specs.Segments.{addsAt}
 use Rattle.cells.specs.Rows.{settled, waits, State, state, settle, onRows}
@@ -22,11 +22,11 @@ use Rattle.stream.specs.declared.Words.{Words}
 use Rattle.stream.specs.Entry.{Entry, opens, bar, closes, area, line, shortcut, passes, bad, decode, startRange, signRange}
 use Rattle.stream.specs.Table.{wordsAt, wordsFrom}
 use Rattle.stream.specs.Grammar.{Env, isGood, areaMet, inRange}
-use Rattle.stream.specs.Machine.{isSegment, segmentsIn}
+use Rattle.stream.specs.code.Machine.{isSegment, segmentsIn}
 use Rattle.stream.proofs.Table.{words-step, words-none}
 use Rattle.stream.proofs.Runs.{by-kind}
 use Rattle.evaluate.specs.Reading.{roleAt, passAt, opaqueAt, rowFor, rowsIn}
-use Rattle.evaluate.specs.Numbers.{segmentRange, segmentAdds, segmentsSum, movedBy, setFrom}
+use Rattle.evaluate.specs.code.Numbers.{segmentRange, segmentAdds, segmentsSum, movedBy, setFrom}
 use Rattle.evaluate.proofs.Laws.{both}
 use Rattle.evaluate.proofs.Idle.{Idle, pending-idle, stopped}
 

@@ -1,4 +1,4 @@
--- The words of rows say those rows; so a cell's stream, in tables that hold the drawing, is read for the set that the drawing shows. Assumes nothing.
+-- The words of rows say those rows; so a cell's stream, in tables that hold the drawing, is read for the set that the drawing shows.
 use mathlib.Core.Path.{_≡_, refl, ap, _∙_}
 use mathlib.Core.List.{List, [], _∷_, _++_, map}
 use Prim.Native.Nat.{ℕ, _≤_}
@@ -20,7 +20,7 @@ use Rattle.cells.specs.Drawings.{Drawing, passesBy, isOpaque, shownAt}
 use Rattle.pruning.proofs.Sides.{map-map}
 use Rattle.pruning.proofs.Survivors.{normal-sub}
 use Rattle.cells.specs.Streams.{Item, always, area, Each, On, items, within, whole, source, made}
-use Rattle.cells.specs.Sizes.{SignsIn, Small}
+use Rattle.cells.specs.code.Sizes.{SignsIn, Small}
 use Rattle.cells.specs.Rows.{Row, opens, bar, closes, bare, named, segment, rowsOf, settled, waits, State, state, settle, addTo, onRow, onRows, readRows, roleIn, readAt, Fitted}
 use Rattle.cells.proofs.Each.{each-sub, each-mapped}
 use Rattle.cells.proofs.Streams.{made-normal}

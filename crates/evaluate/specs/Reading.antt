@@ -1,4 +1,4 @@
--- Document 01, "Cells": a stream in tables, read at a position in one pass. Assumes nothing.
+-- Document 01, "Cells": a stream in tables, read at a position in one pass.
 use mathlib.Core.Bool.{Bool}
 use mathlib.Core.List.{List, [], _∷_}
 use Prim.Native.Nat.{ℕ, _+_, _*_}

@@ -1,4 +1,4 @@
--- The rows of a stream as the words of entries: what opening and splitting write. Assumes nothing.
+-- The rows of a stream as the words of entries: what opening and splitting write.
 use mathlib.Core.Path.{_≡_}
 use mathlib.Core.List.{List, [], _∷_}
 use Prim.Native.Nat.{ℕ}

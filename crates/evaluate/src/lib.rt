@@ -14,17 +14,17 @@ ghost use lib.IntN.{pos, _+ℤ_, natAbs};
 ghost use mir.Syntax.{w32};
 ghost use mir.Val.{toZ};
 ghost use Rattle.geometry.specs.Edges.{isRow};
-ghost use Rattle.geometry.specs.Reach.{EndsIn, PositionIn};
+ghost use Rattle.geometry.specs.code.Reach.{EndsIn, PositionIn};
 ghost use Rattle.geometry.specs.Windings.{edgeBetween, adds};
 ghost use Rattle.paint.specs.Sets.{withArea};
 ghost use Rattle.pruning.specs.Registers.{onItem};
-ghost use Rattle.machine.specs.Registers.{meant};
+ghost use Rattle.machine.specs.code.Registers.{meant};
 ghost use Rattle.stream.specs.Entry.{startRange, signRange};
 ghost use Rattle.stream.specs.Table.{wordsAt, wordsFrom};
 ghost use Rattle.stream.specs.Grammar.{env, Passed};
-ghost use Rattle.stream.specs.Machine.{segmentsIn};
+ghost use Rattle.stream.specs.code.Machine.{segmentsIn};
 ghost use Rattle.evaluate.specs.Reading.{roleAt, passAt, opaqueAt, setAt};
-ghost use Rattle.evaluate.specs.Numbers.{segmentRange, segmentAdds, segmentsSum, movedBy, SegmentsIn, Ranged, Onward};
+ghost use Rattle.evaluate.specs.code.Numbers.{segmentRange, segmentAdds, segmentsSum, movedBy, SegmentsIn, Ranged, Onward};
 
 // What a shortcut adds in row y.
 fn shortcut_adds(w: Words, y: u32) -> i64

@@ -1,4 +1,4 @@
--- The answer of finding a leaf, test by test. Assumes nothing.
+-- The answer of finding a leaf, test by test.
 use mathlib.Core.Path.{_≡_, refl, sym, ap, subst, _∙_}
 use mathlib.Core.Bool.{true, false, cond}
 use Prim.Native.Nat.{ℕ, _+_, _*_, _≤_}

@@ -1,4 +1,4 @@
--- The check of the numbers in use, and what it says. Assumes nothing.
+-- The check of the numbers in use, and what it says.
 use mathlib.Core.Path.{_≡_, refl, sym, subst, _∙_}
 use mathlib.Core.Bool.{Bool, true, false, cond}
 use Prim.Native.Nat.{ℕ, _*_, _≤_, _<_}

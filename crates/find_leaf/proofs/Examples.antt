@@ -1,4 +1,4 @@
--- Small trees, and the answers of finding a leaf in them, computed from the definitions. Assumes nothing.
+-- Small trees, and the answers of finding a leaf in them, computed from the definitions.
 use mathlib.Core.Path.{_≡_, refl}
 use mathlib.Core.List.{List, [], _∷_, _++_}
 use Prim.Native.Nat.{ℕ}

@@ -1,4 +1,4 @@
--- The way to a leaf, test by test; and what the leaf that is found says: 12 has passed over it, and it holds the position. Assumes nothing.
+-- The way to a leaf, test by test; and what the leaf that is found says: 12 has passed over it, and it holds the position.
 use mathlib.Core.Path.{_≡_, refl, sym, subst, _∙_}
 use mathlib.Core.Bool.{Bool, true, false, cond}
 use Prim.Native.Nat.{ℕ, _+_, _≤_}

@@ -1,4 +1,4 @@
--- The loop that counts the lines of a stream. Assumes nothing.
+-- The loop that counts the lines of a stream.
 use mathlib.Core.Path.{_≡_, ap}
 use mathlib.Core.Bool.{Bool, true, false, cond}
 use mathlib.Core.List.{List}

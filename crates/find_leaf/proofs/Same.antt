@@ -1,4 +1,4 @@
--- A leaf that is found from one position is found from each position of its square. Assumes nothing.
+-- A leaf that is found from one position is found from each position of its square.
 use mathlib.Core.Path.{_≡_, refl, sym, subst}
 use mathlib.Core.Bool.{Bool, true, false, cond}
 use mathlib.Core.List.{List}

@@ -1,4 +1,4 @@
--- Document 01, "Cells" and "From the state": the leaf that holds a position, in a tree in lent tables. Assumes nothing.
+-- Document 01, "Cells" and "From the state": the leaf that holds a position, in a tree in lent tables.
 use mathlib.Core.Bool.{Bool, cond, _&&_}
 use mathlib.Core.List.{List, [], _∷_}
 use Prim.Native.Nat.{ℕ, _+_}

@@ -1,4 +1,4 @@
--- The loop that writes the streams of the four children. Assumes nothing.
+-- The loop that writes the streams of the four children.
 use mathlib.Core.Path.{_≡_, refl, sym, ap, subst, _∙_}
 use mathlib.Core.Bool as Bool
 use mathlib.Core.List.{List}
@@ -16,7 +16,7 @@ use Rattle.stream.proofs.Table.{from-agree, written-nil, written-append, writte
 use Rattle.making.proofs.Made.{made-length}
 use Rattle.four_children.specs.declared.Tally.{Tally}
 use Rattle.four_children.specs.Children.{cellOfChild, rowsOfChild, wordsOfChild, entriesOfChild, streamsTo}
-use Rattle.four_children.specs.Numbers.{tally, fourTallies, noTally}
+use Rattle.four_children.specs.code.Numbers.{tally, fourTallies, noTally}
 
 pub length-child : (D : Drawing) (c : Cell) (ws : List Words) (q : ℕ) → length (wordsOfChild D c ws q) ≡ entriesOfChild D c ws q
 length-child D c ws q = made-length D (cellOfChild D c ws q) ws

@@ -1,4 +1,4 @@
--- The streams of the children of a stream that passes the check. Assumes nothing.
+-- The streams of the children of a stream that passes the check.
 use mathlib.Core.List.{List}
 use Prim.Native.Nat.{ℕ, _≤_}
 use native.Mathlib.Omega.{arith}

@@ -1,4 +1,4 @@
--- The loop that writes the cells of the four children, and the table that it leaves. Assumes nothing.
+-- The loop that writes the cells of the four children, and the table that it leaves.
 use mathlib.Core.Path.{_≡_, refl, ap, subst, _∙_}
 use mathlib.Core.List.{List}
 use Prim.Native.Nat.{ℕ, zero, suc, _+_, _*_, _≤_, _<_}
@@ -14,7 +14,7 @@ use Rattle.celltable.specs.Descent.{quarterAt}
 use Rattle.celltable.proofs.Table.{length-put-cell}
 use Rattle.four_children.specs.declared.Tally.{Tally}
 use Rattle.four_children.specs.Children.{wordsWith, cellOfChild, streamsTo, cellsTo}
-use Rattle.four_children.specs.Numbers.{noTally, firstBy, cellsBy, fourTallies, FewEach}
+use Rattle.four_children.specs.code.Numbers.{noTally, firstBy, cellsBy, fourTallies, FewEach}
 use Rattle.four_children.proofs.Filled.{entries-at, streams-more}
 
 -- after q children, the stream of the next begins at `at`

@@ -1,9 +1,9 @@
--- The square of a child is one that the making of its stream takes. Assumes nothing.
+-- The square of a child is one that the making of its stream takes.
 use mathlib.Core.Path.{_≡_, sym, ap, _∙_}
 use mathlib.Core.Bool.{true}
 use Prim.Native.Nat.{ℕ}
 use native.Mathlib.Omega.{arith}
-use Rattle.geometry.specs.Reach.{SquareIn}
+use Rattle.geometry.specs.code.Reach.{SquareIn}
 use Rattle.geometry.specs.declared.class.Square.{Square}
 use Rattle.cells.specs.Cells.{Cell, cell, squareOf, child}
 use Rattle.cells.proofs.Cells.{some-side}
@@ -11,7 +11,7 @@ use Rattle.celltable.specs.declared.CellWords.{CellWords}
 use Rattle.celltable.specs.Ranges.{squareRange, cellOf}
 use Rattle.celltable.specs.Descent.{quarterAt}
 use Rattle.celltable.proofs.Grid.{Gridded, passes-gridded, child-gridded}
-use Rattle.making.specs.Numbers.{cellIn}
+use Rattle.making.specs.code.Numbers.{cellIn}
 use Rattle.making.proofs.Made.{level-from}
 
 cell-back : (c : Cell) → Gridded c → cellIn (squareOf c) ≡ c

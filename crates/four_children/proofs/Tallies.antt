@@ -1,16 +1,16 @@
--- The tally of a stream, from its weight and its start numbers. Assumes nothing.
+-- The tally of a stream, from its weight and its start numbers.
 use mathlib.Core.Path.{_≡_, refl}
 use mathlib.Core.List.{List, [], _∷_}
 use Prim.Native.Nat.{ℕ, _+_, _*_, _/_, _%_, _≤_}
 use native.Mathlib.Omega.{arith}
 use lib.ListN.{length}
-use Rattle.pruning.specs.Weights.{total}
+use Rattle.pruning.specs.code.Weights.{total}
 use Rattle.cells.specs.Segments.{drawn, shortcut}
 use Rattle.cells.specs.Rows.{Row, opens, bar, closes, bare, named, segment}
-use Rattle.cells.specs.Making.{rowSize}
+use Rattle.cells.specs.code.Making.{rowSize}
 use Rattle.child_stream.specs.declared.Count.{Count}
-use Rattle.child_stream.specs.Numbers.{startsIn}
-use Rattle.four_children.specs.Numbers.{lineOne, sumOf, tally, tallyN}
+use Rattle.child_stream.specs.code.Numbers.{startsIn}
+use Rattle.four_children.specs.code.Numbers.{lineOne, sumOf, tally, tallyN}
 
 abbrev areaOne : Row → ℕ
 areaOne opens = 0

@@ -1,4 +1,4 @@
--- Document 01, "Cells": what a split makes: four cells, "low x low y, high x low y, low x high y, high x high y", and their streams. Assumes nothing.
+-- Document 01, "Cells": what a split makes: four cells, "low x low y, high x low y, low x high y, high x high y", and their streams.
 use mathlib.Core.List.{List, [], _++_}
 use Prim.Native.Nat.{ℕ, zero, suc, _+_}
 use lib.ListN.{length}

@@ -1,3 +1,3 @@
 -- The four children of a cell.
 pub mod Children
-pub mod Numbers
+pub mod code

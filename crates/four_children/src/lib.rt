@@ -12,7 +12,7 @@ ghost use Rattle.stream.specs.Grammar.{env, Passed};
 ghost use Rattle.celltable.specs.Ranges.{squareRange, cellOf};
 ghost use Rattle.ranges.specs.Held.{lent};
 ghost use Rattle.four_children.specs.Children.{rowsOfChild, wordsOfChild, entriesOfChild, streamsTo, wordsWith};
-ghost use Rattle.four_children.specs.Numbers.{tally, tallyN, fourTallies, cellsBy, FewEach};
+ghost use Rattle.four_children.specs.code.Numbers.{tally, tallyN, fourTallies, cellsBy, FewEach};
 ghost use Rattle.cells.specs.Cells.{child};
 ghost use Rattle.celltable.specs.Descent.{quarterAt};
 

@@ -2,7 +2,7 @@
 -- L1 a dropped segment counts at no position of the square (`dropped-counts`);
 -- L2 one that counts everywhere counts in the square exactly at its rows there (`start-counts`, `shortcut-counts`);
 -- L3 in a square within a square, dropped stays dropped, and everywhere stays everywhere over the cut rows or has none (`child-class`).
--- And the class by four positions (`quick-dropped`, `quick-every`, `quick-kept`), which the code computes. Assumes nothing.
+-- And the class by four positions (`quick-dropped`, `quick-every`, `quick-kept`), which the code computes.
 use mathlib.Core.Path.{_≡_, refl, sym, ap, ap₂, _∙_, subst₂}
 use mathlib.Core.Bool.{Bool, true, false, not, cond, _&&_, _||_, or-true}
 use mathlib.Core.Logic.{_⊎_, inl, inr}

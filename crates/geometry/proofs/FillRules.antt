@@ -1,4 +1,4 @@
--- `odd` is what it should be: one more changes it; and what the machine tests. Assumes nothing.
+-- `odd` is what it should be: one more changes it; and what the machine tests.
 use mathlib.Core.Path.{_≡_, refl, sym, ap, _∙_}
 use mathlib.Core.Bool.{Bool, true, false, not}
 use Prim.Native.Nat.{ℕ, zero, suc, _-_, _/_, _%_, _^_, _<_}

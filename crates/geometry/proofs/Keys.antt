@@ -1,4 +1,4 @@
--- Bounds of a key, a key by halves, each bit of it, and the keys of a cell. Assumes nothing.
+-- Bounds of a key, a key by halves, each bit of it, and the keys of a cell.
 use mathlib.Core.Path.{_≡_, refl, sym, ap, ap₂, _∙_}
 use Prim.Native.Nat.{ℕ, zero, suc, _+_, _*_, _-_, _/_, _%_, _^_, _≤_, _<_}
 use native.Mathlib.Nat.{pow-suc, pow-succ', suc-add, one-le-pow, div-div-eq-div-mul}

@@ -1,4 +1,4 @@
--- A drawn edge is a segment. Assumes nothing.
+-- A drawn edge is a segment.
 use mathlib.Core.Path.{subst, subst₃, fun-ext, _≡_}
 use Prim.Native.Nat.{ℕ, _+_, _-_, _≤_, _<_}
 use native.Mathlib.Omega.{arith}

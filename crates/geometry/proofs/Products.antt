@@ -1,4 +1,4 @@
--- The signed product as a difference of two naturals, and its bounds. Assumes nothing.
+-- The signed product as a difference of two naturals, and its bounds.
 use mathlib.Core.Path.{_≡_, ap, ap₂, _∙_}
 use Prim.Native.Nat.{ℕ, _+_, _*_, _≤_}
 use native.Mathlib.Nat.{mul-le-mul}
@@ -10,7 +10,7 @@ use mir.Syntax.{w64}
 use mir.Val.{SFits}
 use Rattle.laws.proofs.Differences.{pos-pos, mul-sub, add-sub, above-zero}
 use Rattle.laws.proofs.Signed.{sub-fits}
-use Rattle.geometry.specs.Reach.{reach, EndsIn, PositionIn}
+use Rattle.geometry.specs.code.Reach.{reach, EndsIn, PositionIn}
 use Rattle.geometry.specs.Edges.{product}
 
 -- a product of two coordinates

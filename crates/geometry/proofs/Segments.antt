@@ -1,5 +1,5 @@
 -- Any segment: a test of positions f, with the rows b to d − 1. Where the test has the shape of a segment, four positions decide
--- whether it counts nowhere or everywhere in a square's rows. Curves and positions between grid points are further instances. Assumes nothing.
+-- whether it counts nowhere or everywhere in a square's rows. Curves and positions between grid points are further instances.
 use mathlib.Core.Path.{_≡_}
 use mathlib.Core.Bool.{Bool, not, _&&_}
 use Prim.Native.Nat.{ℕ, _+_, _≤_, _<_}

@@ -1,4 +1,4 @@
--- Sums over the edges of contours: edge by edge, contour by contour, and how large they get. Assumes nothing.
+-- Sums over the edges of contours: edge by edge, contour by contour, and how large they get.
 use mathlib.Core.Path.{_≡_, refl, sym, ap, _∙_}
 use mathlib.Core.Bool.{Bool, true, false, cond}
 use mathlib.Core.List.{List, [], _∷_, _++_}
@@ -15,7 +15,7 @@ use borrow.Author.Tests.{lt-ltb, le-ltb}
 use Rattle.laws.proofs.Booleans.{&&-left, &&-right}
 use Rattle.laws.proofs.Differences.{abs-add}
 use Rattle.laws.proofs.Signed.{Running, running-end}
-use Rattle.geometry.specs.Reach.{EndsIn, CornersIn}
+use Rattle.geometry.specs.code.Reach.{EndsIn, CornersIn}
 use Rattle.geometry.specs.Edges.{counts, sign}
 use Rattle.geometry.specs.Windings.{edgeBetween, Line, line, linesFrom, linesOf, nextCorner, adds, sumOf, winding, contoursTo, follow}
 use Rattle.geometry.specs.declared.edge.Edge.{Edge}

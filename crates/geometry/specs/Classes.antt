@@ -1,5 +1,5 @@
 -- Document 01, "Cells": what becomes of a segment in a cell's square. A segment is a test of positions, f x y: it counts at (x, y);
--- with the rows b to d − 1. The square has the low corner (X, Y) and the side S. Assumes nothing.
+-- with the rows b to d − 1. The square has the low corner (X, Y) and the side S.
 use mathlib.Core.Bool.{Bool, true, false, not, cond, _&&_, _||_}
 use Prim.Native.Nat.{ℕ, _+_, _≤_, _<_, min, max}
 use lib.Dec.{leb, eqb}

@@ -1,4 +1,4 @@
--- Document 01, "Winding and meaning": where a drawn edge counts, and what it adds. Assumes nothing.
+-- Document 01, "Winding and meaning": where a drawn edge counts, and what it adds.
 use mathlib.Core.Bool.{Bool, cond, _&&_}
 use Prim.Native.Nat.{ℕ, min, max}
 use lib.Dec.{leb, ltb}

@@ -1,4 +1,4 @@
--- Document 01, "Winding and meaning": the fill rules. Assumes nothing.
+-- Document 01, "Winding and meaning": the fill rules.
 use mathlib.Core.Bool.{Bool, not}
 use Prim.Native.Nat.{_%_}
 use lib.Dec.{eqb}

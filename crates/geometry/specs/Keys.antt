@@ -1,4 +1,4 @@
--- Document 01, "Cells": the key of a position. Assumes nothing.
+-- Document 01, "Cells": the key of a position.
 use Prim.Native.Nat.{ℕ, zero, suc, _+_, _*_, _/_, _%_}
 
 -- "a byte with its bits spread to even places": the n low bits of x, bit i at place 2i

@@ -1,4 +1,4 @@
--- Document 01, "Drawing" and "Winding and meaning": the edges of an area, and its winding at a position. Assumes nothing.
+-- Document 01, "Drawing" and "Winding and meaning": the edges of an area, and its winding at a position.
 use mathlib.Core.Bool.{Bool, cond, _&&_}
 use mathlib.Core.List.{List, [], _∷_, _++_}
 use Prim.Native.Nat.{ℕ, zero, suc, _+_, _-_}

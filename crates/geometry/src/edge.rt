@@ -1,6 +1,6 @@
 // A drawn edge: where it counts, its sign and its rows.
 ghost use mathlib.Core.Path.{_≡_};
-ghost use Rattle.geometry.specs.Reach.{EndsIn, PositionIn};
+ghost use Rattle.geometry.specs.code.Reach.{EndsIn, PositionIn};
 ghost use Rattle.geometry.specs.Edges.{product, lineCounts, counts, sign, firstRow, endRow};
 
 // An edge drawn from (x0, y0) to (x1, y1).

@@ -5,7 +5,7 @@ ghost use mathlib.Core.Path.{_≡_};
 ghost use lib.Dec.{T};
 ghost use lib.ListN.{length};
 ghost use Prim.Native.Nat.{_-_, _≤_, _<_};
-ghost use Rattle.geometry.specs.Reach.{EndsIn, PositionIn, CornersIn};
+ghost use Rattle.geometry.specs.code.Reach.{EndsIn, PositionIn, CornersIn};
 ghost use Rattle.geometry.specs.Windings.{edgeBetween, nextCorner, linesFrom, adds, sumOf, winding, contoursTo, follow};
 
 // The edge drawn from corner p to corner q.

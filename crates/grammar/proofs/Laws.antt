@@ -1,4 +1,4 @@
--- What an accepted list of records has; and a scan that stopped stays so. Assumes nothing.
+-- What an accepted list of records has; and a scan that stopped stays so.
 use Prim.Native.Nat.{ℕ, _+_, _≤_, max}
 use mathlib.Core.Path.{_≡_, refl, sym, ap, _∙_}
 use mathlib.Core.Bool.{Bool, true, false, cond}
@@ -19,7 +19,7 @@ use Rattle.grammar.specs.declared.Verdict.the-variants.{Accepted, Refuse
 use Rattle.grammar.specs.Grammar.{Progress, progress, fits, isShort, ends, limit, after, Course, at, stopped, next, course, begin, counts, final, checked, met, Verdict·place}
 use Rattle.grammar.specs.declared.Scan.{Scan}
 use Rattle.grammar.specs.declared.Scan.the-variants.{At, Stopped}
-use Rattle.grammar.specs.Machine.{scanN, isStopped}
+use Rattle.grammar.specs.code.Machine.{scanN, isStopped}
 use Rattle.grammar.specs.Lists.{goods, areaOne, cornerOne, areasIn, cornersIn}
 
 pub record Ran (p q : Progress) (ds : List Decoded) : Type 0 where

@@ -5,7 +5,7 @@ use mathlib.Core.Bool.{Bool, true, false, cond}
 use mathlib.Core.List.{List, [], _∷_}
 use lib.ListN.{length}
 use Rattle.refusals.specs.declared.Refusal.the-variants.{Unfit, Short, Limit}
-use Rattle.groups.specs.Stack.{num}
+use Rattle.groups.specs.code.Stack.{num}
 use Rattle.groups.proofs.Stack.{paint-is, left-is, right-is, room-is, bar-is, close-is, open-is, empty-is}
 use Rattle.records.specs.declared.Record.{Record}
 use Rattle.records.specs.declared.Record.the-variants.{Area, First, Next, Open, Bar, Close}
@@ -16,7 +16,7 @@ use Rattle.grammar.specs.declared.Step.the-variants.{On, Off}
 use Rattle.grammar.specs.declared.Scan.{Scan}
 use Rattle.grammar.specs.declared.Scan.the-variants.{At, Stopped}
 use Rattle.grammar.specs.Grammar.{Progress, fits, ends, limit, after, Course, at, stopped, next, met, course, begin, final, checked}
-use Rattle.grammar.specs.Machine.{mk, fitsN, endsN, limitN, afterN, stepN, settledN, advanceN, startN, endedN, scanN}
+use Rattle.grammar.specs.code.Machine.{mk, fitsN, endsN, limitN, afterN, stepN, settledN, advanceN, startN, endedN, scanN}
 
 abbrev enc : Progress → State
 enc p = mk (num (p .groups)) (p .held) (p .run) (p .areas) (p .corners)

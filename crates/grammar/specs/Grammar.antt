@@ -1,4 +1,4 @@
--- Document 01, "Drawing" and "From the input": which records may follow each other, and the first refusal of a list of records. Assumes nothing.
+-- Document 01, "Drawing" and "From the input": which records may follow each other, and the first refusal of a list of records.
 use Prim.Native.Nat.{ℕ, _+_}
 use mathlib.Core.Bool.{Bool, true, false, cond, _&&_}
 use mathlib.Core.List.{List, [], _∷_}

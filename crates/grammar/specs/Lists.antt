@@ -1,4 +1,4 @@
--- The abstract drawing is its list of records: how many areas and corners it has. Assumes nothing.
+-- The abstract drawing is its list of records: how many areas and corners it has.
 use Prim.Native.Nat.{ℕ, _+_}
 use mathlib.Core.List.{List, [], _∷_}
 use Rattle.records.specs.declared.Record.{Record}

@@ -1,4 +1,4 @@
--- Each test and each move of the number is that of the list of open groups. Assumes nothing.
+-- Each test and each move of the number is that of the list of open groups.
 use mathlib.Core.Path.{_≡_, refl}
 use mathlib.Core.Bool.{Bool, true, false, cond}
 use mathlib.Core.List.{List, [], _∷_}
@@ -9,7 +9,7 @@ use lib.Dec.{eqb, ltb, leb}
 use lib.ListN.{length}
 use borrow.Author.Tests.{lt-ltb, le-ltb, le-leb, eq-eqb, ne-eqb, ltb-true, ltb-false}
 use Rattle.groups.specs.Sides.{Frame, paintLeft, paintRight, clipLeft, clipRight, isPaint, onLeft, onRight, opening, toRight, toOuter, isEmpty}
-use Rattle.groups.specs.Stack.{digit, num, paintN, leftN, rightN, roomN, openN, barN, closeN}
+use Rattle.groups.specs.code.Stack.{digit, num, paintN, leftN, rightN, roomN, openN, barN, closeN}
 
 digit-small : (f : Frame) → digit f < 4
 digit-small paintLeft = omega arith

@@ -1,4 +1,4 @@
--- Document 01, "Drawing": sides and open groups. Assumes nothing.
+-- Document 01, "Drawing": sides and open groups.
 use mathlib.Core.Bool.{Bool, true, false, cond}
 use mathlib.Core.List.{List, [], _∷_}
 

@@ -3,7 +3,7 @@
 ghost use mathlib.Core.Path.{_≡_};
 ghost use mathlib.Core.Bool.{true};
 ghost use Prim.Native.Nat.{_<_};
-ghost use Rattle.groups.specs.Stack.{paintN, leftN, rightN, roomN, openN, barN, closeN};
+ghost use Rattle.groups.specs.code.Stack.{paintN, leftN, rightN, roomN, openN, barN, closeN};
 
 // Whether what stands here stands on a paint side.
 pub fn on_paint(stack: u32) -> bool

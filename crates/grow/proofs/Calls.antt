@@ -1,4 +1,4 @@
--- The call, test by test. Assumes nothing.
+-- The call, test by test.
 use mathlib.Core.Path.{_≡_, sym, ap, _∙_}
 use mathlib.Core.Bool.{Bool, false, cond}
 use Prim.Native.Nat.{ℕ, _≤_, _<_}

@@ -1,4 +1,4 @@
--- The loop that finds the depth of a side. Assumes nothing.
+-- The loop that finds the depth of a side.
 use mathlib.Core.Path.{_≡_, sym, ap, _∙_}
 use mathlib.Core.Bool.{true}
 use Prim.Native.Nat.{ℕ, suc, _+_, _*_, _^_, _≤_, _<_}

@@ -1,4 +1,4 @@
--- What growing leaves: it keeps what each accepted split keeps, and "done", "full" and 12 are true of the tables that it leaves. Assumes nothing.
+-- What growing leaves: it keeps what each accepted split keeps, and "done", "full" and 12 are true of the tables that it leaves.
 use mathlib.Core.Path.{_≡_, refl, sym, ap, subst, _∙_}
 use mathlib.Core.Bool.{Bool, true, false, cond}
 use Prim.Native.Nat.{ℕ, zero, suc, _+_, _*_, _-_, _≤_, _<_}

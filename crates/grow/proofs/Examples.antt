@@ -1,4 +1,4 @@
--- Growing small trees, computed. Assumes nothing.
+-- Growing small trees, computed.
 use Prim.Native.Nat.{ℕ}
 use mathlib.Core.Path.{_≡_, refl}
 use mathlib.Core.List.{List, [], _∷_}

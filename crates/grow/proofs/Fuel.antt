@@ -1,4 +1,4 @@
--- The rounds of growing never run out: each accepted split takes four cells of at most 4,096. Assumes nothing.
+-- The rounds of growing never run out: each accepted split takes four cells of at most 4,096.
 use mathlib.Core.Path.{_≡_, refl, sym, ap, subst, _∙_}
 use mathlib.Core.Bool.{Bool, true, false, cond}
 use Prim.Native.Nat.{ℕ, zero, suc, _+_, _*_, _-_, _/_, _≤_, _<_}

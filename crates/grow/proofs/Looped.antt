@@ -1,4 +1,4 @@
--- The loop of the sweep over the tables as the code holds them. Assumes nothing.
+-- The loop of the sweep over the tables as the code holds them.
 use mathlib.Core.Path.{_≡_, refl, sym, subst, _∙_}
 use mathlib.Core.List.{List}
 use Prim.Native.Nat.{ℕ, _-_, _≤_, _<_}
@@ -11,7 +11,7 @@ use Rattle.grow.specs.declared.Sweep.{Sweep}
 use Rattle.grow.specs.declared.Turn.{Turn}
 use Rattle.grow.specs.declared.Turn.the-variants.{Further, NoRoom, Stopped}
 use Rattle.grow.specs.Grow.{tried, grown, answerOf}
-use Rattle.grow.specs.Numbers.{turnBy, treeBy}
+use Rattle.grow.specs.code.Numbers.{turnBy, treeBy}
 use Rattle.grow.proofs.Swept.{Sweeping, turn-further, turn-full, turn-stopped, turn-moves}
 use Rattle.grow.proofs.Turned.{tree-is}
 

@@ -1,4 +1,4 @@
--- A round, where all the cells below one are passed over. Assumes nothing.
+-- A round, where all the cells below one are passed over.
 use mathlib.Core.Path.{_≡_, refl, ap, _∙_}
 use mathlib.Core.Bool.{Bool, true, cond}
 use Prim.Native.Nat.{ℕ, zero, suc, _+_, _-_, _≤_, _<_}

@@ -1,4 +1,4 @@
--- One ascending sweep that reads no cell twice is growing: the same tables, splits and answer as "the lowest numbered leaf ..., again and again". Assumes nothing.
+-- One ascending sweep that reads no cell twice is growing: the same tables, splits and answer as "the lowest numbered leaf ..., again and again".
 use mathlib.Core.Path.{_≡_, refl, sym, ap, subst, _∙_}
 use mathlib.Core.Logic.{_⊎_, inl, inr}
 use mathlib.Core.Bool.{Bool, true, false}
@@ -23,7 +23,7 @@ use Rattle.grow.specs.declared.Sweep.{Sweep}
 use Rattle.grow.specs.declared.Turn.{Turn}
 use Rattle.grow.specs.declared.Turn.the-variants.{Further, NoRoom, Stopped}
 use Rattle.grow.specs.Grow.{tried, Round, splits, done, full, broken, roundAt, round, Ending, none-left, no-room, not-passed, Grown, ended, alsoSplit, goOn, grown, answerBy, answerOf}
-use Rattle.grow.specs.Numbers.{pastN, splitN, byRoom, turnBy, treeBy}
+use Rattle.grow.specs.code.Numbers.{pastN, splitN, byRoom, turnBy, treeBy}
 use Rattle.grow.proofs.Tries.{past-keeps, past-split, wanted-answer}
 use Rattle.grow.proofs.Fuel.{grown-step}
 use Rattle.grow.proofs.Rounds.{round-wanted, round-bad, round-done}

@@ -1,4 +1,4 @@
--- What growing meets at a cell, before and after a split of another, and that a leaf to split has only 11 left to refuse it. Assumes nothing.
+-- What growing meets at a cell, before and after a split of another, and that a leaf to split has only 11 left to refuse it.
 use mathlib.Core.Path.{_≡_, refl, sym, ap, subst, _∙_}
 use mathlib.Core.Logic.{_⊎_, inl, inr}
 use mathlib.Core.Bool.{Bool, true, false, cond}
@@ -20,7 +20,7 @@ use Rattle.split.specs.declared.Answer.the-variants.{Split, Not}
 use Rattle.split.specs.Tables.{Tree, cellsUsed, entriesUsed, boundsOf, countsIn}
 use Rattle.split.specs.Split.{words, against, made, splitAnswer}
 use Rattle.split_laws.specs.After.{splitTree}
-use Rattle.split_laws.specs.Accepted.{Splittable}
+use Rattle.split_laws.specs.code.Accepted.{Splittable}
 use Rattle.split_laws.proofs.Counts.{used-some}
 use Rattle.split_laws.proofs.Accepted.{able-answer, split-able}
 use Rattle.split_laws.proofs.Trees.{tree-keeps-cell, tree-cell, tree-stream}

@@ -1,4 +1,4 @@
--- A turn of the sweep by its numbers and by its tables. Assumes nothing.
+-- A turn of the sweep by its numbers and by its tables.
 use mathlib.Core.Path.{_≡_, refl, sym, ap, _∙_}
 use mathlib.Core.Bool.{Bool, true, false, cond, _&&_}
 use mathlib.Core.List.{List}
@@ -19,7 +19,7 @@ use Rattle.split.specs.declared.Answer.the-variants as split
 use Rattle.split.specs.Tables.{Tree, tree, cellsUsed, entriesUsed, boundsOf, countsIn}
 use Rattle.split.specs.Split.{words, roomAnswer, madeBy, headBy, cellsOf, entriesBy, splitAnswer, headAfter, cellsAfter, entriesAfter}
 use Rattle.split_laws.specs.After.{splitTree}
-use Rattle.split_laws.specs.Accepted.{Splittable}
+use Rattle.split_laws.specs.code.Accepted.{Splittable}
 use Rattle.split_laws.proofs.Accepted.{able-answer, able-square, able-entries, able-stream}
 use Rattle.grow.specs.declared.Tried.{Tried}
 use Rattle.grow.specs.declared.Tried.the-variants.{Bad, Past, Wanted}
@@ -27,7 +27,7 @@ use Rattle.grow.specs.declared.Sweep.{Sweep}
 use Rattle.grow.specs.declared.Turn.{Turn}
 use Rattle.grow.specs.declared.Turn.the-variants.{Further, NoRoom}
 use Rattle.grow.specs.Grow.{triedCell, tried}
-use Rattle.grow.specs.Numbers.{splitN, byRoom, turnBy, treeBy}
+use Rattle.grow.specs.code.Numbers.{splitN, byRoom, turnBy, treeBy}
 use Rattle.grow.proofs.Tries.{wanted-able}
 
 -- ---- a leaf to split, by the answer x of the split, which is R

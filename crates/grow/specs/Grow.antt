@@ -1,4 +1,4 @@
--- Document 01, "Cells" and "From the state": growing a tree in lent tables: the answer, and every table afterwards. Assumes nothing.
+-- Document 01, "Cells" and "From the state": growing a tree in lent tables: the answer, and every table afterwards.
 use mathlib.Core.Bool.{Bool, cond, _&&_}
 use mathlib.Core.List.{List, [], _∷_}
 use Prim.Native.Nat.{ℕ, zero, suc, _+_, _-_}

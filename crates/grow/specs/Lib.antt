@@ -1,3 +1,3 @@
 -- Growing: what document 01 says and what the code computes.
 pub mod Grow
-pub mod Numbers
+pub mod code

@@ -13,7 +13,7 @@ ghost use Rattle.ranges.specs.Held.{lent};
 ghost use Rattle.split.specs.Tables.{tree, cellsUsed, entriesUsed, countsIn};
 ghost use Rattle.split.specs.Split.{roomAnswer, madeBy, headBy, cellsOf, entriesBy};
 ghost use Rattle.grow.specs.Grow.{depthAt, isWanted, triedLeaf, triedCell, tried, grown, answerOf, growAnswer, growTree};
-ghost use Rattle.grow.specs.Numbers.{pastN, splitN, byRoom, turnBy, treeBy};
+ghost use Rattle.grow.specs.code.Numbers.{pastN, splitN, byRoom, turnBy, treeBy};
 
 // Growing's answer: done or full with the splits made, or why it was refused.
 pub enum Answer {

@@ -1,4 +1,4 @@
--- Tests as facts: `T b` says that the test b passes. Assumes nothing.
+-- Tests as facts: `T b` says that the test b passes.
 use mathlib.Core.Path.{_≡_, refl, sym, subst}
 use mathlib.Core.Bool.{Bool, true, false, cond, not, _&&_, _||_}
 use Prim.Native.Nat.{ℕ}

@@ -1,5 +1,5 @@
 -- Integers as differences of two naturals: sum, product, order and magnitude of `subℕ a b`, so that a fact about signed numbers
--- becomes one about naturals, which omega reads. Assumes nothing.
+-- becomes one about naturals, which omega reads.
 use mathlib.Core.Path.{_≡_, sym, ap, _∙_}
 use mathlib.Core.Bool.{Bool, true, false, not, cond}
 use Prim.Native.Nat.{ℕ, zero, suc, _+_, _*_, _-_, _≤_, _<_}

@@ -1,4 +1,4 @@
--- The test of two integers means that they are equal, and an equality passes it. Assumes nothing.
+-- The test of two integers means that they are equal, and an equality passes it.
 use mathlib.Core.Path.{_≡_, ap, subst}
 use mathlib.Core.Bool.{true}
 use native.Mathlib.Omega.{arith}

@@ -1,4 +1,4 @@
--- What a test over a range says, and how to show it. Assumes nothing.
+-- What a test over a range says, and how to show it.
 use mathlib.Core.Path.{subst}
 use mathlib.Core.Bool.{Bool}
 use Prim.Native.Nat.{ℕ, zero, suc, _+_, _-_, _≤_, _<_}

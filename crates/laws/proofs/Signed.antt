@@ -1,4 +1,4 @@
--- What a 64-bit signed number holds and reads back. Assumes nothing.
+-- What a 64-bit signed number holds and reads back.
 use mathlib.Core.Path.{_≡_, refl, sym, ap, _∙_, subst}
 use Prim.Native.Nat.{ℕ, _+_, _^_, _≤_, _<_}
 use native.Mathlib.Omega.{arith}

@@ -1,4 +1,4 @@
--- A rule of a table, shown at each index by one test that the checker computes over the whole table. Assumes nothing.
+-- A rule of a table, shown at each index by one test that the checker computes over the whole table.
 use mathlib.Core.Bool.{Bool}
 use mathlib.Core.List.{List, [], _∷_}
 use Prim.Native.Nat.{ℕ, zero, suc, _<_}

@@ -1,4 +1,4 @@
--- What a test says, for `search`: each law turns a test in the goal into its outcome, where the fact is at hand. Assumes nothing.
+-- What a test says, for `search`: each law turns a test in the goal into its outcome, where the fact is at hand.
 use mathlib.Core.Path.{_≡_}
 use mathlib.Core.Bool.{false}
 use Prim.Native.Nat.{ℕ}

@@ -1,4 +1,4 @@
--- Every number of a range passes a test. `Rattle.laws.proofs.Ranges` says what that means. Assumes nothing.
+-- Every number of a range passes a test. `Rattle.laws.proofs.Ranges` says what that means.
 use mathlib.Core.Bool.{Bool, true, _&&_}
 use Prim.Native.Nat.{ℕ, zero, suc, _-_}
 

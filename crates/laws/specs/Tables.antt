@@ -1,4 +1,4 @@
--- Every entry of a table passes a test. `Rattle.laws.proofs.Tables` says what that means. Assumes nothing.
+-- Every entry of a table passes a test. `Rattle.laws.proofs.Tables` says what that means.
 use mathlib.Core.Bool.{Bool, true, _&&_}
 use mathlib.Core.List.{List, [], _∷_}
 use Prim.Native.Nat.{ℕ, zero, suc}

@@ -1,4 +1,4 @@
--- Growing to depth limit 4 leaves no cell deeper than 4, so the leaf of every position is printed. Assumes nothing.
+-- Growing to depth limit 4 leaves no cell deeper than 4, so the leaf of every position is printed.
 use mathlib.Core.Path.{_≡_, refl, sym, subst}
 use mathlib.Core.Bool.{Bool, true, false, cond}
 use Prim.Native.Nat.{ℕ, zero, suc, _+_, _-_, _^_, _≤_, _<_}

@@ -1,4 +1,4 @@
--- The lister prints each leaf: a cell in use with no child is found from its low corner, and so it is listed. Assumes nothing.
+-- The lister prints each leaf: a cell in use with no child is found from its low corner, and so it is listed.
 use mathlib.Core.Path.{_≡_, refl, sym, subst, ap, _∙_}
 use mathlib.Core.Bool.{true}
 use mathlib.Core.List.{List}

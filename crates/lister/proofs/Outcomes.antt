@@ -1,4 +1,4 @@
--- The tables that opening and growing leave are those of the tree that is listed. Assumes nothing.
+-- The tables that opening and growing leave are those of the tree that is listed.
 use mathlib.Core.Path.{_≡_, sym, ap, ap₂, _∙_}
 use mathlib.Core.List.{List}
 use Prim.Native.Nat.{ℕ}

@@ -1,4 +1,4 @@
--- Document 01, "Spots to try": that the lister prints each leaf. Assumes nothing.
+-- Document 01, "Spots to try": that the lister prints each leaf.
 use mathlib.Core.Path.{_≡_}
 use mathlib.Core.List.{List, _∷_, _++_}
 use Prim.Native.Nat.{ℕ, _≤_}

@@ -1,5 +1,4 @@
 -- Document 01, "Spots to try": what the leaf lister works out before it prints, in the tables t that it lends; u are those of a tree that is opened.
--- Assumes nothing.
 use mathlib.Core.List.{List}
 use Prim.Native.Nat.{ℕ}
 use lib.ListN.{length}

@@ -1,4 +1,4 @@
--- Every leaf that is found at a depth of at most 4 is listed. Assumes nothing.
+-- Every leaf that is found at a depth of at most 4 is listed.
 use mathlib.Core.Path.{_≡_, refl, sym, subst, ap, _∙_}
 use mathlib.Core.Bool.{Bool, true, false, cond, _&&_}
 use mathlib.Core.List.{List, [], _∷_}

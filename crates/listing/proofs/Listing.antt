@@ -1,4 +1,4 @@
--- Lines written to a table one after the other, the loop over the corners, and the lines read back. Assumes nothing.
+-- Lines written to a table one after the other, the loop over the corners, and the lines read back.
 use mathlib.Core.Path.{_≡_, refl, sym, ap, _∙_}
 use mathlib.Core.List.{List, [], _∷_, _++_}
 use Prim.Native.Nat.{ℕ, zero, suc, _+_, _*_, _-_, _≤_, _<_}

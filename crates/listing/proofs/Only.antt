@@ -1,4 +1,4 @@
--- Each line that is listed is that of a leaf, and no cell has two. Assumes nothing.
+-- Each line that is listed is that of a leaf, and no cell has two.
 use mathlib.Core.Path.{_≡_, refl, sym, subst, ap, _∙_}
 use mathlib.Core.Bool.{Bool, true, false, cond, _&&_}
 use mathlib.Core.List.{List, [], _∷_, _++_, append-assoc}

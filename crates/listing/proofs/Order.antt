@@ -1,4 +1,4 @@
--- The lines that the lister prints are in key order. Assumes nothing.
+-- The lines that the lister prints are in key order.
 use mathlib.Core.Path.{_≡_, refl, ap₂}
 use mathlib.Core.Bool.{Bool, true, false, cond, _&&_}
 use mathlib.Core.List.{List, [], _∷_}

@@ -1,5 +1,5 @@
 -- Document 01, "Spots to try": the lines of the leaves of a tree. Leaves of a depth above 4 are left out: the leaf lister grows to depth limit 4, so it
--- has none (`PrintsEachLeaf`, `Rattle.lister.specs`). Assumes nothing.
+-- has none (`PrintsEachLeaf`, `Rattle.lister.specs`).
 use mathlib.Core.Path.{_≡_}
 use mathlib.Core.Bool.{cond, _&&_}
 use mathlib.Core.List.{List, [], _∷_, _++_}

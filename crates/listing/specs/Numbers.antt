@@ -1,5 +1,5 @@
 -- The lines in a lent table, five words a line, as the code writes and reads them. `Rattle.listing.proofs` says that the table read back is the lines
--- (`written-read`). Assumes nothing.
+-- (`written-read`).
 use mathlib.Core.List.{List, [], _∷_}
 use Prim.Native.Nat.{ℕ, zero, suc, _+_, _*_}
 use lib.ListN.{getD, set}

@@ -1,2 +1,2 @@
 -- What the machine's numbers mean.
-pub mod Registers
+pub mod code

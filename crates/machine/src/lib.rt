@@ -6,7 +6,7 @@ ghost use Prim.Native.Nat.{_+_, _<_, pred};
 ghost use Rattle.pruning.specs.Sides.{paint, clip};
 ghost use Rattle.pruning.specs.Registers.{onItem, onPush, onActivate, onPop};
 ghost use Rattle.paint.specs.Sets.{withArea};
-ghost use Rattle.machine.specs.Registers.{meant, machine};
+ghost use Rattle.machine.specs.code.Registers.{meant, machine};
 
 // The state (0 P, 1 S, 2 SA, 3 stopped on an alpha of 255), the depth, the stopping depth, and the shown set.
 pub struct Machine {

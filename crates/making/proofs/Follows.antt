@@ -1,4 +1,4 @@
--- The numbers go as the rows do: one entry more. Assumes nothing.
+-- The numbers go as the rows do: one entry more.
 use mathlib.Core.Path.{_≡_, refl, sym, ap, subst, _∙_}
 use mathlib.Core.Bool.{Bool, true, false, cond, _&&_, _||_}
 use mathlib.Core.List.{List, [], _∷_, _++_, map, append-nil}
@@ -14,11 +14,11 @@ use Rattle.geometry.specs.declared.class.Class as Classes
 use Rattle.geometry.specs.declared.class.Class.the-variants.{Dropped, Start, Shortcut, Kept}
 use Rattle.pruning.specs.Sides.{Kind, paint, clip, Entry, item}
 use Rattle.pruning.specs.Items.{fails, passes, other}
-use Rattle.pruning.specs.Pruner as Pruning
-use Rattle.pruning.specs.Pruner.{st, going}
-use Rattle.pruning.specs.Counters.{ct, lengthOf, countStep}
-use Rattle.pruning.specs.Effects.{outOf}
-use Rattle.pruning.specs.Weights.{total, weighed}
+use Rattle.pruning.specs.code.Pruner as Pruning
+use Rattle.pruning.specs.code.Pruner.{st, going}
+use Rattle.pruning.specs.code.Counters.{ct, lengthOf, countStep}
+use Rattle.pruning.specs.code.Effects.{outOf}
+use Rattle.pruning.specs.code.Weights.{total, weighed}
 use Rattle.pruning.proofs.Counters.{Fit, count, step-counts, count-grows}
 use Rattle.pruning.proofs.Weights.{step-weighs, sized-step}
 use Rattle.cells.specs.Cells.{Cell, low, side}
@@ -26,15 +26,15 @@ use Rattle.cells.specs.Segments.{Segment, drawn, shortcut, signOf, classIn, kep
 use Rattle.cells.specs.Drawings.{Drawing, passesBy, isOpaque}
 use Rattle.cells.specs.Streams.{Item, always, area, items, classOf, passing}
 use Rattle.cells.specs.Rows.{Row, opens, bar, closes, bare, named, segment, itemRows, entryRows, roleIn}
-use Rattle.cells.specs.Making.{Waiting, nothing, held, Making, making, prune, settle, addTo, begun, rowSize}
+use Rattle.cells.specs.code.Making.{Waiting, nothing, held, Making, making, prune, settle, addTo, begun, rowSize}
 use Rattle.cells.proofs.Making.{entry-some}
 use Rattle.pruner.specs.declared.Pruner.{Pruner}
-use Rattle.pruner.specs.Numbers as Numbers
-use Rattle.pruner.specs.Numbers.{counted}
+use Rattle.pruner.specs.code.Numbers as Numbers
+use Rattle.pruner.specs.code.Numbers.{counted}
 use Rattle.evaluate.specs.Reading.{opaqueAt}
 use Rattle.evaluate.specs.Words.{Agrees}
 use Rattle.making.specs.declared.Waiting as Declared
-use Rattle.making.specs.Numbers.{waiting, resting, withClass, withLeft, classN, settledN}
+use Rattle.making.specs.code.Numbers.{waiting, resting, withClass, withLeft, classN, settledN}
 
 abbrev pub stateOf : Making → Pruning.State Row
 stateOf (making x w) = x

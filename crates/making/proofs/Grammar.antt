@@ -1,4 +1,4 @@
--- A stream that passes the check fits the grammar of streams: its entries are the stream of its tree. Assumes nothing.
+-- A stream that passes the check fits the grammar of streams: its entries are the stream of its tree.
 use mathlib.Core.Path.{_≡_, refl, sym, _∙_}
 use mathlib.Core.Bool.{Bool, true, false, cond, not}
 use mathlib.Core.List.{List, [], _∷_}

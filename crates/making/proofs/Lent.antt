@@ -1,4 +1,4 @@
--- Lent tables say of their areas and corners what the drawing of lent tables says. Assumes nothing.
+-- Lent tables say of their areas and corners what the drawing of lent tables says.
 use mathlib.Core.Path.{_≡_, refl, sym, ap, _∙_}
 use mathlib.Core.List.{List}
 use Prim.Native.Nat.{ℕ, zero, suc, _+_, _<_}

@@ -1,4 +1,4 @@
--- The level of a square's side, and the number of words that are made. Assumes nothing.
+-- The level of a square's side, and the number of words that are made.
 use mathlib.Core.Path.{_≡_, refl}
 use mathlib.Core.List.{List}
 use Prim.Native.Nat.{ℕ, zero, suc, _*_, _^_, _/_, _≤_}
@@ -11,7 +11,7 @@ use Rattle.cells.specs.Drawings.{Drawing}
 use Rattle.stream.specs.declared.Words.{Words}
 use Rattle.evaluate.specs.Words.{wordsOf}
 use Rattle.making.specs.Made.{rowsMade, wordsMade}
-use Rattle.making.specs.Numbers.{levelFrom}
+use Rattle.making.specs.code.Numbers.{levelFrom}
 
 -- the level of a power of two is its exponent
 pub level-from : (n k : ℕ) → k ≤ n → levelFrom n (2 ^ k) ≡ k

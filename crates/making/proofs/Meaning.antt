@@ -1,5 +1,5 @@
 -- "Tables that pass 12 but were written by others are read for what they say": the shown set of a stream that passes, whoever wrote it, is by "Winding and
--- meaning" over that stream. Assumes nothing.
+-- meaning" over that stream.
 use mathlib.Core.Path.{_≡_, refl, sym, ap, _∙_}
 use mathlib.Core.Bool.{true, false, cond}
 use mathlib.Core.List.{List, [], _∷_}

@@ -1,4 +1,4 @@
--- The numbers of a pruner after an area has settled are still far from their ends. Assumes nothing.
+-- The numbers of a pruner after an area has settled are still far from their ends.
 use mathlib.Core.Path.{_≡_, sym, ap, _∙_}
 use mathlib.Core.Bool.{Bool, true, false, cond}
 use mathlib.Core.List.{List}
@@ -9,15 +9,15 @@ use borrow.Author.Tests.{ne-eqb}
 use mir.Syntax.{w64}
 use mir.Val.{toZ, ofZ}
 use Rattle.pruning.specs.Sides.{item}
-use Rattle.pruning.specs.Counters.{Count, countStep}
-use Rattle.pruning.specs.Weights.{sized, sizedItems, sizeOf}
+use Rattle.pruning.specs.code.Counters.{Count, countStep}
+use Rattle.pruning.specs.code.Weights.{sized, sizedItems, sizeOf}
 use Rattle.pruner.specs.declared.Pruner.{Pruner}
-use Rattle.pruner.specs.Numbers.{counted, classOf}
+use Rattle.pruner.specs.code.Numbers.{counted, classOf}
 use Rattle.pruner.proofs.Near.{Near, near-same, item-near, counted-weight, counted-base, counted-skip, counted-depth}
 use Rattle.evaluate.specs.Reading.{roleAt, passAt}
 use Rattle.evaluate.proofs.Laws.{small-back}
 use Rattle.making.specs.declared.Waiting.{Waiting}
-use Rattle.making.specs.Numbers.{classN, settledN, movedN, prunedN, Room}
+use Rattle.making.specs.code.Numbers.{classN, settledN, movedN, prunedN, Room}
 
 pub settled-near : (areas : List ℕ) (c : Count) (a : Waiting) → Near (a .weight) c (settledN areas c a)
 settled-near areas c a = go (a .waits)

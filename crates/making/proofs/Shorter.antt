@@ -1,4 +1,4 @@
--- A stream that is made has no more entries than the stream that it is made of. Assumes nothing.
+-- A stream that is made has no more entries than the stream that it is made of.
 use mathlib.Core.Path.{_≡_, ap}
 use mathlib.Core.Bool.{true}
 use mathlib.Core.List.{List, [], _∷_, _++_, append-nil}
@@ -8,14 +8,14 @@ use lib.ListN.{length, length-append, length-map}
 use Rattle.geometry.specs.declared.class.Class as Classes
 use Rattle.geometry.specs.declared.class.Class.the-variants.{Dropped, Start, Shortcut, Kept}
 use Rattle.pruning.specs.Sides.{clip, Entry, item, push, activate, pop}
-use Rattle.pruning.specs.Effects.{outOf}
+use Rattle.pruning.specs.code.Effects.{outOf}
 use Rattle.pruning.proofs.Counters.{Fit, count}
 use Rattle.cells.specs.Cells.{Cell}
 use Rattle.cells.specs.Segments.{Segment, shortcut, signOf, classIn, keptBy}
 use Rattle.cells.specs.Drawings.{Drawing}
 use Rattle.cells.specs.Streams.{Item, always, area, items}
 use Rattle.cells.specs.Rows.{Row, opens, bar, closes, bare, named, segment, entryRows, roleIn}
-use Rattle.cells.specs.Making.{nothing, held, Making, making, prune, settle, addTo, onRow, onRows, begun}
+use Rattle.cells.specs.code.Making.{nothing, held, Making, making, prune, settle, addTo, onRow, onRows, begun}
 use Rattle.cells.proofs.Making.{entry-some}
 use Rattle.stream.specs.declared.Words.{Words}
 use Rattle.stream.specs.Entry as Entries

@@ -1,5 +1,5 @@
 -- Where a making stands in a stream that passes the check: the numbers follow the rows, the frames are the open groups, and what is left leads to
--- the whole. Assumes nothing.
+-- the whole.
 use mathlib.Core.Path.{_≡_, refl, sym, subst}
 use mathlib.Core.Bool.{Bool, true, false, cond}
 use mathlib.Core.List.{List, [], _∷_}
@@ -11,9 +11,9 @@ use Rattle.laws.proofs.Booleans.{clash}
 use Rattle.geometry.specs.Windings.{edgeBetween}
 use Rattle.groups.specs.Sides.{Frame, paintLeft, paintRight, clipLeft, clipRight, isPaint, onLeft, onRight, opening, toRight, toOuter}
 use Rattle.pruning.specs.Sides.{paint, clip, Entry, item, push, activate, pop}
-use Rattle.pruning.specs.Pruner as Pruning
-use Rattle.pruning.specs.Counters.{Count, countStep}
-use Rattle.pruning.specs.Weights.{total, weighed}
+use Rattle.pruning.specs.code.Pruner as Pruning
+use Rattle.pruning.specs.code.Counters.{Count, countStep}
+use Rattle.pruning.specs.code.Weights.{total, weighed}
 use Rattle.pruning.proofs.Counters.{Fit, count}
 use Rattle.pruning.proofs.Bounded.{Tracks, tracks-item, tracks-push, tracks-activate, tracks-pop}
 use Rattle.pruning.proofs.Weights.{step-weighs}
@@ -21,7 +21,7 @@ use Rattle.cells.specs.Cells.{Cell}
 use Rattle.cells.specs.Drawings.{Drawing}
 use Rattle.cells.specs.Streams.{Item, always, area, items}
 use Rattle.cells.specs.Rows.{Row, entryRows, roleIn}
-use Rattle.cells.specs.Making.{nothing, held, Making, making, prune, settle, onRows, rowSize}
+use Rattle.cells.specs.code.Making.{nothing, held, Making, making, prune, settle, onRows, rowSize}
 use Rattle.cells.proofs.Making.{entry-some}
 use Rattle.stream.specs.declared.Words.{Words}
 use Rattle.stream.specs.Entry as Entries

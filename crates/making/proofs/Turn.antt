@@ -1,4 +1,4 @@
--- One entry more of a stream that passes the check: what the code asks holds, and the making stands one entry further. Assumes nothing.
+-- One entry more of a stream that passes the check: what the code asks holds, and the making stands one entry further.
 use mathlib.Core.Path.{_≡_, refl, sym, ap, _∙_}
 use mathlib.Core.Bool.{true}
 use mathlib.Core.List.{List, [], _∷_, map}
@@ -17,11 +17,11 @@ use Rattle.geometry.specs.Classes.{edgeClass}
 use Rattle.groups.specs.Sides.{Frame, paintLeft, paintRight, clipLeft, clipRight, toRight, toOuter}
 use Rattle.pruning.specs.Sides.{clip, Entry, item, push, activate, pop}
 use Rattle.pruning.specs.Items as Items
-use Rattle.pruning.specs.Pruner as Pruning
-use Rattle.pruning.specs.Pruner.{st, going, shut}
-use Rattle.pruning.specs.Counters.{Count, ct, lengthOf, opened, countStep}
-use Rattle.pruning.specs.Effects.{outOf}
-use Rattle.pruning.specs.Weights.{total, before, weighed, sized, sizedItems, sizeOf}
+use Rattle.pruning.specs.code.Pruner as Pruning
+use Rattle.pruning.specs.code.Pruner.{st, going, shut}
+use Rattle.pruning.specs.code.Counters.{Count, ct, lengthOf, opened, countStep}
+use Rattle.pruning.specs.code.Effects.{outOf}
+use Rattle.pruning.specs.code.Weights.{total, before, weighed, sized, sizedItems, sizeOf}
 use Rattle.pruning.proofs.Counters.{Fit, count}
 use Rattle.pruning.proofs.Bounded.{Tracks, frames, tracks-length, tracks-opened}
 use Rattle.pruning.proofs.Weights.{total-append, asSized, sized-step}
@@ -31,20 +31,20 @@ use Rattle.cells.specs.Segments.{Segment, drawn, signOf, classIn}
 use Rattle.cells.specs.Drawings.{Drawing}
 use Rattle.cells.specs.Streams.{Item, always, items}
 use Rattle.cells.specs.Rows.{Row, segment, entryRows}
-use Rattle.cells.specs.Making.{Waiting, nothing, held, Making, making, prune, settle, addTo, onRows, rowSize}
+use Rattle.cells.specs.code.Making.{Waiting, nothing, held, Making, making, prune, settle, addTo, onRows, rowSize}
 use Rattle.stream.specs.declared.Words.{Words}
 use Rattle.stream.specs.Entry as Entries
 use Rattle.stream.specs.Entry.{decode, startRange, signRange}
 use Rattle.stream.specs.Grammar.{Env, at, after, inRange, isGood, areaMet}
 use Rattle.pruner.specs.declared.Pruner.{Pruner}
-use Rattle.pruner.specs.Numbers.{counted, baseOf, skipIn}
+use Rattle.pruner.specs.code.Numbers.{counted, baseOf, skipIn}
 use Rattle.pruner.proofs.Near.{counted-weight, counted-base, counted-skip, counted-depth}
 use Rattle.evaluate.specs.Reading.{rowFor, rowsIn}
 use Rattle.evaluate.proofs.Laws.{both, area-below, start-small, shortcut-small, line-used}
 use Rattle.cells.proofs.Bounds.{sign-abs}
 use Rattle.ranges.proofs.Groups.{opens, opens-length}
 use Rattle.making.specs.declared.Waiting as Declared
-use Rattle.making.specs.Numbers.{leftSign, leftClass, leftRange, waiting, resting, withLeft, waitingN, settledN, prunedN, Room, Inside}
+use Rattle.making.specs.code.Numbers.{leftSign, leftClass, leftRange, waiting, resting, withLeft, waitingN, settledN, prunedN, Room, Inside}
 use Rattle.cells.proofs.Making.{entry-some}
 use Rattle.making.proofs.Follows.{stateOf, waitingOf, waitingFor, rowsFor, WaitsIn, row-some, Follows, total-most, settle-fits, mark-follows, area-follows, segment-follows}
 use Rattle.making.proofs.Grammar.{Passes, one-passes}

@@ -1,28 +1,28 @@
--- A making from its begin to its end: what a stream that passes the check gives is the stream that document 01 defines. Assumes nothing.
+-- A making from its begin to its end: what a stream that passes the check gives is the stream that document 01 defines.
 use mathlib.Core.Path.{_≡_, refl, ap, _∙_}
 use mathlib.Core.Bool as Bool
 use mathlib.Core.Bool.{true}
 use mathlib.Core.List.{List, []}
 use Prim.Native.Nat.{ℕ}
 use native.Mathlib.Omega.{arith}
-use Rattle.pruning.specs.Pruner.{going}
-use Rattle.pruning.specs.Counters.{ct, lengthOf}
-use Rattle.pruning.specs.Effects.{outOf}
-use Rattle.pruning.specs.Weights.{total, weighed}
+use Rattle.pruning.specs.code.Pruner.{going}
+use Rattle.pruning.specs.code.Counters.{ct, lengthOf}
+use Rattle.pruning.specs.code.Effects.{outOf}
+use Rattle.pruning.specs.code.Weights.{total, weighed}
 use Rattle.cells.specs.Cells.{Cell}
 use Rattle.cells.specs.Drawings.{Drawing}
 use Rattle.cells.specs.Rows.{streamOf, roleIn}
-use Rattle.cells.specs.Making.{Making, settle, onRows, begun, rowSize}
+use Rattle.cells.specs.code.Making.{Making, settle, onRows, begun, rowSize}
 use Rattle.cells.proofs.Making.{rows-made}
 use Rattle.stream.specs.declared.Words.{Words}
 use Rattle.stream.specs.Grammar as Stream
 use Rattle.stream.specs.Grammar.{Env, accepts}
 use Rattle.pruner.specs.declared.Pruner.{Pruner}
-use Rattle.pruner.specs.Numbers.{counted}
+use Rattle.pruner.specs.code.Numbers.{counted}
 use Rattle.evaluate.specs.Reading.{rowsIn}
 use Rattle.making.specs.declared.Waiting.{Waiting}
 use Rattle.making.specs.Made.{rowsMade}
-use Rattle.making.specs.Numbers.{resting, settledN}
+use Rattle.making.specs.code.Numbers.{resting, settledN}
 use Rattle.making.proofs.Follows.{begun-follows, settle-counts}
 use Rattle.making.proofs.Grammar.{entries-flat}
 use Rattle.making.proofs.Standing.{Reads, Standing}

@@ -1,3 +1,3 @@
 -- A stream made from another, in tables, and the numbers of its making.
 pub mod Made
-pub mod Numbers
+pub mod code

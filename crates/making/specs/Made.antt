@@ -1,4 +1,4 @@
--- Document 01, "Cells": the words of the stream that is made, in a cell, of the stream that the words of entries say. Assumes nothing.
+-- Document 01, "Cells": the words of the stream that is made, in a cell, of the stream that the words of entries say.
 use mathlib.Core.List.{List, map}
 use Rattle.pruning.specs.Sides.{paint, flat}
 use Rattle.cells.specs.Cells.{Cell}

@@ -16,11 +16,11 @@ ghost use mir.Val.{toZ};
 ghost use Rattle.geometry.specs.Edges.{sign};
 ghost use Rattle.geometry.specs.Windings.{edgeBetween};
 ghost use Rattle.geometry.specs.Classes.{edgeClass, cut};
-ghost use Rattle.geometry.specs.Reach.{EndsIn, SquareIn};
+ghost use Rattle.geometry.specs.code.Reach.{EndsIn, SquareIn};
 ghost use Rattle.stream.specs.Entry.{startRange, signRange};
-ghost use Rattle.pruning.specs.Counters.{lengthOf};
-ghost use Rattle.pruner.specs.Numbers.{counted};
-ghost use Rattle.making.specs.Numbers.{leftSign, leftClass, leftRange, waiting, resting, withLeft, waitingN, classN, settledN, movedN, prunesN, prunedN, Room, Inside};
+ghost use Rattle.pruning.specs.code.Counters.{lengthOf};
+ghost use Rattle.pruner.specs.code.Numbers.{counted};
+ghost use Rattle.making.specs.code.Numbers.{leftSign, leftClass, leftRange, waiting, resting, withLeft, waitingN, classN, settledN, movedN, prunesN, prunedN, Room, Inside};
 
 // ---- what is left of a line or a shortcut in a square
 pub struct Left {

@@ -1,4 +1,4 @@
--- What an accepted opening says of the tables: the drawing passes, there is room, and what the tree's tables are then. Assumes nothing.
+-- What an accepted opening says of the tables: the drawing passes, there is room, and what the tree's tables are then.
 use mathlib.Core.Path.{_≡_, refl, sym, ap, _∙_}
 use mathlib.Core.Bool.{Bool, true, false, cond}
 use Prim.Native.Nat.{ℕ, _*_, _≤_}

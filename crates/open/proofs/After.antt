@@ -1,4 +1,4 @@
--- The tables that an accepted opening leaves: one cell in use, cell 0 and its stream, and all of them pass 12. Assumes nothing.
+-- The tables that an accepted opening leaves: one cell in use, cell 0 and its stream, and all of them pass 12.
 use mathlib.Core.Path.{_≡_, sym, ap, subst, _∙_}
 use mathlib.Core.Bool.{true}
 use mathlib.Core.List.{List}

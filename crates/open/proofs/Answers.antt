@@ -1,4 +1,4 @@
--- The answers of an opening, check by check. Assumes nothing.
+-- The answers of an opening, check by check.
 use mathlib.Core.Path.{_≡_, sym, ap}
 use Prim.Native.Nat.{ℕ}
 use lib.ListN.{length}

@@ -1,4 +1,4 @@
--- Openings of a few tables, computed from the definitions. Assumes nothing.
+-- Openings of a few tables, computed from the definitions.
 use mathlib.Core.Path.{_≡_, refl}
 use mathlib.Core.List.{List, [], _∷_}
 use Prim.Native.Nat.{ℕ}

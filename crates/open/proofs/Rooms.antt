@@ -1,4 +1,4 @@
--- The room that an opening asks for. Assumes nothing.
+-- The room that an opening asks for.
 use mathlib.Core.Path.{_≡_}
 use mathlib.Core.Bool.{true, false, _&&_}
 use Prim.Native.Nat.{ℕ, _*_, _%_, _≤_}
@@ -14,12 +14,12 @@ use Rattle.stream.specs.declared.Words.{Words}
 use Rattle.stream.specs.Grammar.{bounds}
 use Rattle.evaluate.specs.Words.{wordsOf}
 use Rattle.evaluate.proofs.Laws.{both}
-use Rattle.pruning.specs.Weights.{total}
-use Rattle.cells.specs.Making.{rowSize}
+use Rattle.pruning.specs.code.Weights.{total}
+use Rattle.cells.specs.code.Making.{rowSize}
 use Rattle.celltable.specs.Ranges.{cellsHeld, entriesHeld}
 use Rattle.split.specs.Tables.{Tree}
 use Rattle.split.proofs.Rooms.{cells-room, entries-room}
-use Rattle.root_stream.specs.Numbers.{Opened}
+use Rattle.root_stream.specs.code.Numbers.{Opened}
 use Rattle.root_stream.specs.Opened.{rowsOpened, wordsOpened}
 use Rattle.root_stream.proofs.Opened.{accepted-opened, opened-short, opened-count}
 use Rattle.open.specs.declared.Answer.the-variants as Answers

@@ -1,4 +1,4 @@
--- Document 01, "Cells" and "From the state": opening a tree over a lent drawing: the answer, and every table afterwards. Assumes nothing.
+-- Document 01, "Cells" and "From the state": opening a tree over a lent drawing: the answer, and every table afterwards.
 use mathlib.Core.Bool.{Bool, cond, _&&_}
 use mathlib.Core.List.{List}
 use Prim.Native.Nat.{ℕ}

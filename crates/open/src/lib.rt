@@ -11,7 +11,7 @@ ghost use Rattle.grammar.specs.declared.Verdict.the-variants.{Accepted};
 ghost use Rattle.drawing.specs.Tables.{tables, drawingOf};
 ghost use Rattle.stream.specs.Table.{written};
 ghost use Rattle.celltable.specs.Table.{putCellAt};
-ghost use Rattle.root_stream.specs.Numbers.{Opened};
+ghost use Rattle.root_stream.specs.code.Numbers.{Opened};
 ghost use Rattle.root_stream.specs.Opened.{rowsOpened, wordsOpened};
 ghost use Rattle.split.specs.Tables.{tree};
 ghost use Rattle.open.specs.Open.{rootWords, roomFor, roomAnswer, openAnswer, headOpened, cellsOpened, entriesOpened};

@@ -1,4 +1,4 @@
--- Weights, what is left, and the range of the sums. Assumes nothing.
+-- Weights, what is left, and the range of the sums.
 use mathlib.Core.Path.{_≡_, refl, ap, _∙_}
 use mathlib.Core.Bool.{Bool, true, false, cond}
 use Prim.Native.Nat.{ℕ, zero, suc, _+_, _*_, _-_, _/_, _^_, _≤_, _<_}

@@ -1,4 +1,4 @@
--- Sets as masks: which areas they have, the lowest of them, and steps over all of them. Assumes nothing.
+-- Sets as masks: which areas they have, the lowest of them, and steps over all of them.
 use mathlib.Core.Path.{_≡_, refl, sym, ap, ap₂, _∙_}
 use mathlib.Core.Bool.{true, false, cond, _||_}
 use mathlib.Core.List.{List, [], _∷_}

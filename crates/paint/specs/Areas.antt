@@ -1,4 +1,4 @@
--- Document 01, "Winding and meaning": the paint of each area, and the material. Assumes nothing.
+-- Document 01, "Winding and meaning": the paint of each area, and the material.
 use mathlib.Core.Path.{_≡_}
 use mathlib.Core.Bool.{true, cond}
 use mathlib.Core.List.{List}

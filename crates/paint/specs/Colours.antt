@@ -1,4 +1,4 @@
--- Document 01, "Winding and meaning": the colour of a shown set. Assumes nothing.
+-- Document 01, "Winding and meaning": the colour of a shown set.
 use Prim.Native.Nat.{ℕ, _+_, _*_, _-_, _/_, _≤_}
 use Rattle.paint.specs.Sets.{each}
 use Rattle.paint.specs.declared.area.Paint.{Paint}

@@ -1,4 +1,4 @@
--- Document 01, "Winding and meaning": pixels. Assumes nothing.
+-- Document 01, "Winding and meaning": pixels.
 use mathlib.Core.List.{List, [], _∷_}
 use Prim.Native.Nat.{ℕ, zero, suc, _+_, _*_, _/_, _≤_}
 use lib.ListN.{getD}

@@ -1,4 +1,4 @@
--- Document 01, "Winding and meaning": the shown set as a 64-bit mask. Assumes nothing.
+-- Document 01, "Winding and meaning": the shown set as a 64-bit mask.
 use mathlib.Core.Bool.{Bool, false, cond, _||_}
 use mathlib.Core.List.{List, [], _∷_}
 use Prim.Native.Nat.{ℕ, zero, suc, _/_, _%_, _^_}

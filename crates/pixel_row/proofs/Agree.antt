@@ -1,4 +1,4 @@
--- What the definition of a row says: which pixels stand, and that a row is decided by the colours at its samples. Assumes nothing.
+-- What the definition of a row says: which pixels stand, and that a row is decided by the colours at its samples.
 use mathlib.Core.Path.{_≡_, refl, sym, ap, subst, _∙_}
 use mathlib.Core.Bool.{Bool, true, false, cond}
 use mathlib.Core.List.{List, []}
@@ -17,7 +17,7 @@ use Rattle.split.proofs.Choices.{pick-true}
 use Rattle.position.specs.Spots.{known, colourIn}
 use Rattle.pixel_row.specs.declared.RowAnswer.the-variants.{Done, Not}
 use Rattle.pixel_row.specs.Rows.{Filled, filled, putPixel, rowBytes, samplesKnown, pixelKnown, pixelIn, fillFrom, rowSpan, rowFilled}
-use Rattle.pixel_row.specs.Numbers.{noChannels}
+use Rattle.pixel_row.specs.code.Numbers.{noChannels}
 
 -- ---- a pixel is decided by the colours at its samples
 

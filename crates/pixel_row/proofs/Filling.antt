@@ -1,4 +1,4 @@
--- The pixels of a row, one after the other. Assumes nothing.
+-- The pixels of a row, one after the other.
 use mathlib.Core.Path.{_≡_, refl, sym, ap, subst, _∙_}
 use mathlib.Core.Bool.{Bool, true, false, cond}
 use mathlib.Core.List.{List}
@@ -12,13 +12,13 @@ use Rattle.paint.specs.Pixels.{sampleX, sampleY}
 use Rattle.celltable.specs.declared.Found.{Found}
 use Rattle.split.specs.Tables.{Tree}
 use Rattle.find_leaf.specs.Leaf.{leafIn}
-use Rattle.position.specs.Numbers.{LastIn}
+use Rattle.position.specs.code.Numbers.{LastIn}
 use Rattle.position.proofs.Known.{last-in}
 use Rattle.pixel_row.specs.declared.Pixel.{Pixel}
 use Rattle.pixel_row.specs.declared.Pixel.the-variants.{Known, Broken}
 use Rattle.pixel_row.specs.declared.RowAnswer.the-variants.{Done, Not}
 use Rattle.pixel_row.specs.Rows.{filled, putPixel, pixelKnown, pixelIn, fillFrom}
-use Rattle.pixel_row.specs.Numbers.{pixelTold, PixelBytes}
+use Rattle.pixel_row.specs.code.Numbers.{pixelTold, PixelBytes}
 
 less-one : (e i : ℕ) → i < e → e - i ≡ suc (e - (i + 1))
 less-one e i h = omega arith

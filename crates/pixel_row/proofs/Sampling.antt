@@ -1,4 +1,4 @@
--- The samples of a pixel, one after the other. Assumes nothing.
+-- The samples of a pixel, one after the other.
 use mathlib.Core.Path.{_≡_, refl, sym, ap, ap₂, subst, _∙_}
 use mathlib.Core.Bool.{true, false}
 use Prim.Native.Nat.{ℕ, suc, _+_, _-_, _≤_, _<_}
@@ -14,11 +14,11 @@ use Rattle.split.specs.Tables.{Tree}
 use Rattle.split.proofs.Choices.{pick-true, pick-false}
 use Rattle.find_leaf.specs.Leaf.{leafIn}
 use Rattle.position.specs.Spots.{known, colourIn}
-use Rattle.position.specs.Numbers.{LastIn}
+use Rattle.position.specs.code.Numbers.{LastIn}
 use Rattle.position.proofs.Known.{Known}
 use Rattle.pixel_row.specs.declared.Pixel.the-variants as Pixels
 use Rattle.pixel_row.specs.Rows.{samplesKnown, pixelKnown, pixelIn}
-use Rattle.pixel_row.specs.Numbers.{pixelTold, noChannels, sampled}
+use Rattle.pixel_row.specs.code.Numbers.{pixelTold, noChannels, sampled}
 
 less-one : (e i : ℕ) → i < e → e - i ≡ suc (e - (i + 1))
 less-one e i h = omega arith

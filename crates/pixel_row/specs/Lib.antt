@@ -1,3 +1,3 @@
 -- Rows of pixels.
 pub mod Rows
-pub mod Numbers
+pub mod code

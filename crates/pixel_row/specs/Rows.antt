@@ -1,4 +1,4 @@
--- Document 01, "Winding and meaning", "From the input" and "From the state": a row of pixels. Assumes nothing.
+-- Document 01, "Winding and meaning", "From the input" and "From the state": a row of pixels.
 use mathlib.Core.Bool.{Bool, true, false, cond}
 use mathlib.Core.List.{List, [], _∷_}
 use Prim.Native.Nat.{ℕ, zero, suc, _+_, _*_, _/_, _%_}

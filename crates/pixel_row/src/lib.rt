@@ -11,9 +11,9 @@ ghost use Prim.Native.Nat.{_+_, _*_, _/_, _≤_};
 ghost use lib.ListN.{length};
 ghost use Rattle.paint.specs.Colours.{ColourIn};
 ghost use Rattle.split.specs.Tables.{tree};
-ghost use Rattle.position.specs.Numbers.{LastIn};
+ghost use Rattle.position.specs.code.Numbers.{LastIn};
 ghost use Rattle.pixel_row.specs.Rows.{putPixel, fillFrom, rowSpan, rowFilled};
-ghost use Rattle.pixel_row.specs.Numbers.{pixelTold, PixelBytes};
+ghost use Rattle.pixel_row.specs.code.Numbers.{pixelTold, PixelBytes};
 
 // The row is filled, or why the call was refused and where.
 pub enum RowAnswer {

@@ -1,4 +1,4 @@
--- The plan of an accepted list of records has at most 8 open groups. Assumes nothing.
+-- The plan of an accepted list of records has at most 8 open groups.
 use Prim.Native.Nat.{ℕ, suc, pred, _+_, _≤_, _<_}
 use mathlib.Core.Path.{_≡_, refl, _∙_, subst}
 use mathlib.Core.List.{List, [], _∷_}
@@ -12,7 +12,7 @@ use Rattle.grammar.specs.Grammar.{Progress, after}
 use Rattle.pruning.specs.Sides.{Kind, paint, clip, Side, end, leaf, group, Entry, item, push, activate, pop}
 use Rattle.pruning.proofs.Sides.{flatOver, flat-is-over}
 use Rattle.pruning.specs.Grammar.{tree}
-use Rattle.ranges.specs.Valid.{depth}
+use Rattle.ranges.specs.code.Valid.{depth}
 use Rattle.plans.specs.Plans.{entriesFrom}
 use Rattle.plans.proofs.Runs.{Runs, start}
 use Rattle.plans.proofs.Fits.{entries-flat}

@@ -1,4 +1,4 @@
--- Drawings and rows of a few records, computed from the definitions. Assumes nothing.
+-- Drawings and rows of a few records, computed from the definitions.
 use mathlib.Core.Path.{_≡_, refl}
 use mathlib.Core.List.{List, [], _∷_}
 use native.Mathlib.Omega.{arith}
@@ -11,15 +11,15 @@ use Rattle.records.specs.declared.Record.the-variants.{Area, First, Next, Open,
 use Rattle.records.specs.Record.{areaRange}
 use Rattle.grammar.specs.Grammar as Grammar
 use Rattle.read.specs.Words.{spread}
-use Rattle.drawing.specs.Held.{Acceptable}
+use Rattle.drawing.specs.code.Held.{Acceptable}
 use Rattle.pruning.specs.Sides.{end, leaf, group}
 use Rattle.cells.specs.Cells.{at}
 use Rattle.cells.specs.Segments.{drawn}
 use Rattle.cells.specs.Drawings.{winding}
 use Rattle.cells.specs.Rows.{opens, bar, closes, named, segment}
-use Rattle.ranges.specs.Valid.{lines, Valid}
+use Rattle.ranges.specs.code.Valid.{lines, Valid}
 use Rattle.plans.specs.Plans.{drawingFrom}
-use Rattle.plans.specs.Source.{sourceOf}
+use Rattle.plans.specs.code.Source.{sourceOf}
 use Rattle.plans.proofs.Valid.{accepted-valid}
 
 abbrev black : Fields

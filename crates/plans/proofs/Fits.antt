@@ -1,4 +1,4 @@
--- The entries of an accepted list of records fit the grammar of streams: so they are the stream of their tree. Assumes nothing.
+-- The entries of an accepted list of records fit the grammar of streams: so they are the stream of their tree.
 use Prim.Native.Nat.{ℕ, suc}
 use mathlib.Core.Path.{_≡_}
 use mathlib.Core.Bool.{true}

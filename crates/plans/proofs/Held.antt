@@ -1,4 +1,4 @@
--- Tables that hold an accepted list of records hold the areas and corners of its drawing. Assumes nothing.
+-- Tables that hold an accepted list of records hold the areas and corners of its drawing.
 use Prim.Native.Nat.{ℕ, zero, suc, _+_, _*_, _≤_, _<_}
 use mathlib.Core.Path.{_≡_, refl, sym, ap, _∙_, subst}
 use mathlib.Core.Bool.{true}
@@ -16,7 +16,7 @@ use Rattle.grammar.specs.Lists.{areasIn, cornersIn}
 use Rattle.read.specs.Words.{Has, rowW, spread, allRange, areaWords, xWords, yWords}
 use Rattle.read.proofs.Files.{areas-length, xs-length, ys-length}
 use Rattle.drawing.specs.Tables.{Tables, cursor, areaRow}
-use Rattle.drawing.specs.Held.{Acceptable, Holding}
+use Rattle.drawing.specs.code.Held.{Acceptable, Holding}
 use Rattle.drawing.proofs.Has.{has-left, has-right, has-at, has-same, has-take}
 use Rattle.drawing.proofs.Rowlaws.{row-fields, area-read}
 use Rattle.stream.specs.declared.Bounds.{Bounds}

@@ -1,4 +1,4 @@
--- The numbers of a drawing made from records: its areas, their roles and fields, and its corners. Assumes nothing.
+-- The numbers of a drawing made from records: its areas, their roles and fields, and its corners.
 use Prim.Native.Nat.{ℕ, zero, suc, _+_, _≤_, _<_}
 use mathlib.Core.Path.{_≡_, refl, sym, ap, _∙_, subst}
 use mathlib.Core.Bool.{true}
@@ -17,7 +17,7 @@ use Rattle.read.specs.Words.{spread, xWords, yWords, allRange}
 use Rattle.pruning.specs.Sides.{Kind, paint, clip, Side, end, leaf, group, Entry, item, push, activate, pop, flat}
 use Rattle.cells.specs.Drawings.{noFields, kindOf}
 use Rattle.cells.specs.Streams.{Each, On}
-use Rattle.ranges.specs.Valid.{CornersBelow}
+use Rattle.ranges.specs.code.Valid.{CornersBelow}
 use Rattle.plans.specs.Plans.{fieldsIn, nexts, contoursHere, contoursFrom, entriesFrom}
 
 -- ---- the areas' fields

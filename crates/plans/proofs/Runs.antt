@@ -1,4 +1,4 @@
--- An accepted list of records: each record fits where it stands, ends no short contour and is within the limits. Assumes nothing.
+-- An accepted list of records: each record fits where it stands, ends no short contour and is within the limits.
 use Prim.Native.Nat.{ℕ, _+_, _≤_}
 use mathlib.Core.Path.{_≡_, refl, sym, ap, _∙_}
 use mathlib.Core.Bool.{Bool, true, false, cond}
@@ -16,7 +16,7 @@ use Rattle.grammar.specs.declared.Verdict.the-variants.{Accepted, Refused}
 use Rattle.grammar.specs.Grammar.{Progress, progress, fits, isShort, ends, limit, after, Course, at, stopped, course, counts, final, checked}
 use Rattle.grammar.specs.Lists.{areasIn, cornersIn}
 use Rattle.grammar.proofs.Laws.{sound, refused-not, stays}
-use Rattle.drawing.specs.Held.{Acceptable}
+use Rattle.drawing.specs.code.Held.{Acceptable}
 use Rattle.drawing.proofs.Lists.{goods-map}
 
 -- a record is accepted here

@@ -1,4 +1,4 @@
--- One record gives exactly one row of what cell 0's stream is made from. Assumes nothing.
+-- One record gives exactly one row of what cell 0's stream is made from.
 use Prim.Native.Nat.{ℕ, suc}
 use mathlib.Core.Path.{_≡_, refl, sym, ap, ap₂, _∙_}
 use mathlib.Core.Bool.{Bool, true, false}
@@ -12,7 +12,7 @@ use Rattle.records.specs.declared.Record.{Record}
 use Rattle.records.specs.declared.Record.the-variants.{Area, First, Next, Open, Bar, Close}
 use Rattle.grammar.specs.declared.Counts.{Counts}
 use Rattle.grammar.specs.Grammar.{Progress, after}
-use Rattle.drawing.specs.Held.{Acceptable}
+use Rattle.drawing.specs.code.Held.{Acceptable}
 use Rattle.pruning.specs.Sides.{Kind, paint, clip, Side, end, leaf, group, Entry, item, push, activate, pop, flat, mapSide}
 use Rattle.pruning.proofs.Sides.{flatOver, flat-is-over}
 use Rattle.cells.specs.Segments.{drawn}
@@ -20,7 +20,7 @@ use Rattle.cells.specs.Drawings.{Drawing}
 use Rattle.cells.specs.Streams.{Item, whole, source}
 use Rattle.cells.specs.Rows.{Row, opens, bar, closes, named, segment, rowsOf}
 use Rattle.plans.specs.Plans.{nexts, contoursHere, contoursFrom, entriesFrom, drawingFrom}
-use Rattle.plans.specs.Source.{edgeEnd, sourceFrom, sourceOf}
+use Rattle.plans.specs.code.Source.{edgeEnd, sourceFrom, sourceOf}
 use Rattle.plans.proofs.Runs.{Runs, start, runs}
 use Rattle.plans.proofs.Fits.{entries-flat}
 use Rattle.plans.proofs.Numbers.{Follows, follows-here, follows-rest, follows-all}

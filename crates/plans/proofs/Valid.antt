@@ -1,4 +1,4 @@
--- The drawing of an accepted list of records: every number is in range, every role fits its side, nothing is over its limit. Assumes nothing.
+-- The drawing of an accepted list of records: every number is in range, every role fits its side, nothing is over its limit.
 use mathlib.Core.Path.{_≡_, sym, _∙_}
 use mathlib.Core.List.{List}
 use native.Mathlib.Omega.{arith}
@@ -7,10 +7,10 @@ use Rattle.records.specs.declared.Record.{Record}
 use Rattle.grammar.specs.declared.Counts.{Counts}
 use Rattle.read.specs.Words.{xWords}
 use Rattle.read.proofs.Files.{xs-length, ys-length}
-use Rattle.drawing.specs.Held.{Acceptable}
+use Rattle.drawing.specs.code.Held.{Acceptable}
 use Rattle.pruning.specs.Sides.{paint, flat}
 use Rattle.pruning.specs.Grammar.{tree}
-use Rattle.ranges.specs.Valid.{Valid}
+use Rattle.ranges.specs.code.Valid.{Valid}
 use Rattle.plans.specs.Plans.{entriesFrom, drawingFrom}
 use Rattle.plans.proofs.Runs.{Runs, start, runs, counted}
 use Rattle.plans.proofs.Fits.{entries-flat}

@@ -1,4 +1,4 @@
--- The plan of a list of records has no more entries, areas and lines than the list has records, areas and corners. Assumes nothing.
+-- The plan of a list of records has no more entries, areas and lines than the list has records, areas and corners.
 use Prim.Native.Nat.{ℕ, zero, suc, _+_, _≤_}
 use mathlib.Core.Path.{_≡_, refl, sym, ap, _∙_}
 use mathlib.Core.List.{List, [], _∷_}
@@ -11,7 +11,7 @@ use Rattle.records.specs.declared.Record.the-variants.{Area, First, Next, Open,
 use Rattle.grammar.specs.Lists.{areasIn, cornersIn}
 use Rattle.pruning.specs.Sides.{Kind, paint, clip, Side, end, leaf, group, Entry, item, push, activate, pop, flat}
 use Rattle.pruning.proofs.Sides.{flatOver, flat-is-over}
-use Rattle.ranges.specs.Valid.{weigh}
+use Rattle.ranges.specs.code.Valid.{weigh}
 use Rattle.plans.specs.Plans.{nexts, contoursHere, contoursFrom, entriesFrom}
 use Rattle.plans.proofs.Numbers.{Follows, follows-here, follows-rest, follows-all}
 

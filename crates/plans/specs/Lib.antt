@@ -1,3 +1,3 @@
 -- The drawing of a list of records, and its rows.
 pub mod Plans
-pub mod Source
+pub mod code

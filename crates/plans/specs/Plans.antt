@@ -1,4 +1,4 @@
--- Document 01, "Drawing": the drawing of a list of records. Areas and corners count from 0, in the order of the records. Assumes nothing.
+-- Document 01, "Drawing": the drawing of a list of records. Areas and corners count from 0, in the order of the records.
 use mathlib.Core.List.{List, [], _∷_}
 use Prim.Native.Nat.{ℕ, suc}
 use Rattle.geometry.specs.Windings.{Contour, contour}

@@ -1,4 +1,4 @@
--- A leaf that is found: what is read there, and which positions it serves. Assumes nothing.
+-- A leaf that is found: what is read there, and which positions it serves.
 use mathlib.Core.Path.{_≡_, refl, sym, ap, ap₂, _∙_}
 use mathlib.Core.Bool.{Bool, true, false, cond}
 use Prim.Native.Nat.{ℕ, _+_, _-_, _≤_, _<_}
@@ -27,7 +27,7 @@ use Rattle.position.specs.declared.Shown.{Shown}
 use Rattle.position.specs.declared.Shown.the-variants.{Set}
 use Rattle.position.specs.declared.Shown.the-variants as Seen
 use Rattle.position.specs.Spots.{isFound, spotOf, setBy, setMeant, known, setIn, spotIn, positionAnswer}
-use Rattle.position.specs.Numbers.{between, inSquare, LeafIn, LastIn, shownIn}
+use Rattle.position.specs.code.Numbers.{between, inSquare, LeafIn, LastIn, shownIn}
 use Rattle.position.proofs.Painted.{set-painted, none-painted}
 
 -- ---- the square of a leaf

@@ -1,4 +1,4 @@
--- A set that is read from a stream that passes names areas in use alone, with all their fields in range. Assumes nothing.
+-- A set that is read from a stream that passes names areas in use alone, with all their fields in range.
 use mathlib.Core.Path.{_≡_, refl, sym, subst, _∙_}
 use mathlib.Core.Bool.{Bool, true, false, cond, _&&_, _||_}
 use mathlib.Core.List.{List, [], _∷_}

@@ -1,3 +1,3 @@
 -- What is read from a tree at a position.
 pub mod Spots
-pub mod Numbers
+pub mod code

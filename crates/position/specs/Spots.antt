@@ -1,4 +1,4 @@
--- Document 01, "Winding and meaning" and "The list of demand 3": what is read from a tree at a position. Assumes nothing.
+-- Document 01, "Winding and meaning" and "The list of demand 3": what is read from a tree at a position.
 use mathlib.Core.Bool.{Bool, true, false, cond}
 use mathlib.Core.List.{List}
 use Prim.Native.Nat.{ℕ}

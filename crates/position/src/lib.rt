@@ -14,7 +14,7 @@ ghost use Rattle.evaluate.specs.Reading.{setAt};
 ghost use Rattle.split.specs.Tables.{tree};
 ghost use Rattle.find_leaf.specs.Leaf.{leafIn};
 ghost use Rattle.position.specs.Spots.{spotOf, spotIn, positionAnswer};
-ghost use Rattle.position.specs.Numbers.{between, inSquare, LastIn, shownIn};
+ghost use Rattle.position.specs.code.Numbers.{between, inSquare, LastIn, shownIn};
 
 // What shows at a position: the set of areas, the material of the front one, and the colour.
 pub struct Spot {

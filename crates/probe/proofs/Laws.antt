@@ -1,5 +1,5 @@
 -- What the tests of the calls say: that a position is in range, that a square is the square of a cell, where the stream lies, and that the entries of
--- a child are counted. Assumes nothing.
+-- a child are counted.
 use mathlib.Core.Path.{_≡_, refl, sym, ap, _∙_}
 use mathlib.Core.Bool.{Bool, true, false, cond, _&&_}
 use mathlib.Core.List.{List}
@@ -10,11 +10,11 @@ use lib.Dec.{eqb, leb, ltb}
 use lib.ListN.{length}
 use borrow.Author.Tests.{leb-true, ltb-true, le-leb, lt-leb}
 use Rattle.laws.proofs.Booleans.{clash, and-left, and-right, and-true}
-use Rattle.geometry.specs.Reach.{PositionIn, SquareIn}
+use Rattle.geometry.specs.code.Reach.{PositionIn, SquareIn}
 use Rattle.geometry.specs.declared.class.Square.{Square}
-use Rattle.pruning.specs.Weights.{total}
+use Rattle.pruning.specs.code.Weights.{total}
 use Rattle.cells.specs.Cells.{squareOf}
-use Rattle.cells.specs.Making.{rowSize}
+use Rattle.cells.specs.code.Making.{rowSize}
 use Rattle.celltable.specs.Ranges.{sideRange, gridRange, squareRange, cellRange, levelUpTo}
 use Rattle.celltable.proofs.Powers.{level-is, level-most}
 use Rattle.stream.specs.declared.Bounds.{Bounds}
@@ -23,7 +23,7 @@ use Rattle.stream.specs.Grammar.{Env, env, accepts, usedRange, checkStream, Pas
 use Rattle.stream.proofs.Laws.{used-entries}
 use Rattle.ranges.specs.Held.{lent}
 use Rattle.ranges.proofs.Streams.{words-length}
-use Rattle.making.specs.Numbers.{cellIn, levelFrom}
+use Rattle.making.specs.code.Numbers.{cellIn, levelFrom}
 use Rattle.making.proofs.Made.{level-from}
 use Rattle.making.proofs.Lent.{lent-reads}
 use Rattle.making.proofs.Shorter.{made-shorter}

@@ -1,4 +1,4 @@
--- What the calls for the tests answer, by the check of the stream that is handed in. Assumes nothing.
+-- What the calls for the tests answer, by the check of the stream that is handed in.
 use Prim.Native.Nat.{ℕ, _+_, _/_}
 use mathlib.Core.Bool.{Bool, false, cond, _&&_}
 use mathlib.Core.List.{List}
@@ -14,7 +14,7 @@ use Rattle.stream.specs.Grammar.{Env, checkStream}
 use Rattle.evaluate.specs.Reading.{setAt}
 use Rattle.ranges.specs.Held.{lent}
 use Rattle.making.specs.Made.{rowsMade, wordsMade}
-use Rattle.making.specs.Numbers.{cellIn}
+use Rattle.making.specs.code.Numbers.{cellIn}
 
 -- "Positions are whole x, y from 0 to 65,535."
 abbrev pub positionRange : (x y : ℕ) → Bool

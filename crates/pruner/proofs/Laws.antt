@@ -1,4 +1,4 @@
--- The frames of an array, and the moves by numbers as the moves of the pruner's counters. Assumes nothing.
+-- The frames of an array, and the moves by numbers as the moves of the pruner's counters.
 use mathlib.Core.Path.{_≡_, refl, ap, ap₂, _∙_}
 use mathlib.Core.Bool.{Bool, true, false, cond}
 use mathlib.Core.List.{List, [], _∷_, map}
@@ -12,13 +12,13 @@ use lib.Seq.{getD-set-same, getD-set-other}
 use borrow.Author.Tests.{ne-eqb}
 use Rattle.pruning.specs.Sides.{item, push, activate, pop}
 use Rattle.pruning.specs.Items.{fails, passes, other}
-use Rattle.pruning.specs.Pruner as Pruning
-use Rattle.pruning.specs.Pruner.{left, right, through, dead, going, shut}
-use Rattle.pruning.specs.Counters.{ct, countStep, countKeepLeft, countKeepRight}
-use Rattle.pruning.specs.Weights.{sized, sizedItems, sizeOf}
+use Rattle.pruning.specs.code.Pruner as Pruning
+use Rattle.pruning.specs.code.Pruner.{left, right, through, dead, going, shut}
+use Rattle.pruning.specs.code.Counters.{ct, countStep, countKeepLeft, countKeepRight}
+use Rattle.pruning.specs.code.Weights.{sized, sizedItems, sizeOf}
 use Rattle.pruner.specs.declared.Frame.{Frame}
 use Rattle.pruner.specs.declared.Pruner.{Pruner}
-use Rattle.pruner.specs.Numbers.{skipOf, frameOf, noFrame, framesOf, counted, classOf, kindOf, inPlace, itemN, openN, barN, closeN}
+use Rattle.pruner.specs.code.Numbers.{skipOf, frameOf, noFrame, framesOf, counted, classOf, kindOf, inPlace, itemN, openN, barN, closeN}
 
 -- ---- frames
 

@@ -1,4 +1,4 @@
--- How far an item moves the pruner's numbers. Assumes nothing.
+-- How far an item moves the pruner's numbers.
 use mathlib.Core.Path.{_≡_, refl, ap}
 use mathlib.Core.List.{List}
 use Prim.Native.Nat.{ℕ, zero, suc, _+_, _≤_}
@@ -7,13 +7,13 @@ use lib.ListN.{length}
 use Rattle.pruning.specs.Sides.{Kind, paint, clip, item}
 use Rattle.pruning.specs.Items as Items
 use Rattle.pruning.specs.Items.{fails, passes, other}
-use Rattle.pruning.specs.Pruner.{going, shut}
-use Rattle.pruning.specs.Counters.{Count, ct, lengthOf, countStep}
-use Rattle.pruning.specs.Weights.{sized, sizedItems, sizeOf}
+use Rattle.pruning.specs.code.Pruner.{going, shut}
+use Rattle.pruning.specs.code.Counters.{Count, ct, lengthOf, countStep}
+use Rattle.pruning.specs.code.Weights.{sized, sizedItems, sizeOf}
 use Rattle.pruning.proofs.Bounded.{frames}
 use Rattle.pruner.specs.declared.Frame.{Frame}
 use Rattle.pruner.specs.declared.Pruner.{Pruner}
-use Rattle.pruner.specs.Numbers.{skipOf, framesOf, counted, baseOf, skipNumber, skipIn}
+use Rattle.pruner.specs.code.Numbers.{skipOf, framesOf, counted, baseOf, skipNumber, skipIn}
 
 -- ---- the numbers of a count
 

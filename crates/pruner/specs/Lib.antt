@@ -1,2 +1,2 @@
 -- The one-pass pruner as the numbers that the code holds.
-pub mod Numbers
+pub mod code

@@ -5,10 +5,10 @@ ghost use mathlib.Core.List.{[], _∷_};
 ghost use Prim.Native.Nat.{_+_, _^_, _≤_, _<_};
 ghost use lib.ListN.{length, getD};
 ghost use Rattle.pruning.specs.Sides.{item, push, activate, pop};
-ghost use Rattle.pruning.specs.Pruner.{going};
-ghost use Rattle.pruning.specs.Counters.{ct, countStep};
-ghost use Rattle.pruning.specs.Weights.{sized, sizedItems, sizeOf};
-ghost use Rattle.pruner.specs.Numbers.{counted, skipOf, frameOf, framesOf, noFrame, classOf, kindOf, barN, closeN};
+ghost use Rattle.pruning.specs.code.Pruner.{going};
+ghost use Rattle.pruning.specs.code.Counters.{ct, countStep};
+ghost use Rattle.pruning.specs.code.Weights.{sized, sizedItems, sizeOf};
+ghost use Rattle.pruner.specs.code.Numbers.{counted, skipOf, frameOf, framesOf, noFrame, classOf, kindOf, barN, closeN};
 
 // An open group. `mode`: 0 on its left side, 1 on its right side, 2 on its right side where its left always passes, 3 on its right side where its
 // left is empty. `start`: the weight of what was written at its `(`. `outer`: where the side around it begins.

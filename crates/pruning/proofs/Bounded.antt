@@ -1,4 +1,4 @@
--- The pruner's frames, and the groups that it skips, are the open groups: as many frames as a stream has open groups at once are enough. Assumes nothing.
+-- The pruner's frames, and the groups that it skips, are the open groups: as many frames as a stream has open groups at once are enough.
 use mathlib.Core.Path.{_≡_, refl, ap}
 use mathlib.Core.Bool.{Bool, true, false}
 use mathlib.Core.List.{List, [], _∷_}
@@ -8,8 +8,8 @@ use lib.Dec.{eqb}
 use lib.ListN.{length}
 use Rattle.pruning.specs.Sides.{Kind, paint, clip, Entry, item, push, activate, pop}
 use Rattle.pruning.specs.Items.{Items, Class, fails, passes, other}
-use Rattle.pruning.specs.Pruner.{left, right, through, dead, Frame, frame, going, shut}
-use Rattle.pruning.specs.Counters.{Count, ct, opened, countStep, countItem, countKeepLeft, countLeft, countKeepRight, countRight}
+use Rattle.pruning.specs.code.Pruner.{left, right, through, dead, Frame, frame, going, shut}
+use Rattle.pruning.specs.code.Counters.{Count, ct, opened, countStep, countItem, countKeepLeft, countLeft, countKeepRight, countRight}
 use Rattle.pruning.specs.Grammar.{Open, inLeft, inRight}
 
 -- the frames are those of the open groups

@@ -1,4 +1,4 @@
--- The counters go in step with the pruner: the counting pass gives the length of what the writing pass writes. Assumes nothing.
+-- The counters go in step with the pruner: the counting pass gives the length of what the writing pass writes.
 use mathlib.Core.Path.{_≡_, refl, ap, sym, _∙_}
 use mathlib.Core.Bool.{Bool, true, false}
 use mathlib.Core.List.{List, [], _∷_}
@@ -10,8 +10,8 @@ use lib.Seq.{length-take-le}
 use Rattle.pruning.specs.Sides.{Kind, paint, clip, Entry, item, push, activate, pop, Side, flat}
 use Rattle.pruning.specs.Items.{Items, Class, fails, passes, other}
 use Rattle.pruning.specs.Normal.{normal}
-use Rattle.pruning.specs.Pruner.{left, right, through, dead, Frame, frame, Skip, going, shut, State, st, step, run, addItem, keepLeft, keepRight, endLeft, endRight, rows}
-use Rattle.pruning.specs.Counters.{Count, ct, lengthOf, skipped, opened, countItem, countKeepLeft, countLeft, countKeepRight, countRight, countStep, counts}
+use Rattle.pruning.specs.code.Pruner.{left, right, through, dead, Frame, frame, Skip, going, shut, State, st, step, run, addItem, keepLeft, keepRight, endLeft, endRight, rows}
+use Rattle.pruning.specs.code.Counters.{Count, ct, lengthOf, skipped, opened, countItem, countKeepLeft, countLeft, countKeepRight, countRight, countStep, counts}
 use Rattle.pruning.proofs.Pruner.{stream-normal}
 
 -- the frames under a side that begins at b

@@ -1,4 +1,4 @@
--- A step of the pruner in a buffer: rows written at a place that the counters give. Assumes nothing.
+-- A step of the pruner in a buffer: rows written at a place that the counters give.
 use mathlib.Core.Path.{_≡_, refl, ap, sym, _∙_}
 use mathlib.Core.Bool.{Bool, true, false, cond}
 use mathlib.Core.List.{List, [], _∷_, _++_, append-nil}
@@ -9,8 +9,8 @@ use lib.ListN.{length, take, drop, length-append}
 use lib.Seq.{length-take-le, take-length, sets, sets-eq, take-at, take-take}
 use Rattle.pruning.specs.Sides.{Kind, paint, clip, Entry, item, push, activate, pop}
 use Rattle.pruning.specs.Items.{Items, Class, fails, passes, other}
-use Rattle.pruning.specs.Pruner.{left, right, through, dead, Frame, frame, Skip, going, shut, State, st, step, addItem, keepLeft, keepRight, endLeft, endRight}
-use Rattle.pruning.specs.Effects.{Effect, back, place, new, outOf, itemEffect, leftEffect, rightEffect, effect}
+use Rattle.pruning.specs.code.Pruner.{left, right, through, dead, Frame, frame, Skip, going, shut, State, st, step, addItem, keepLeft, keepRight, endLeft, endRight}
+use Rattle.pruning.specs.code.Effects.{Effect, back, place, new, outOf, itemEffect, leftEffect, rightEffect, effect}
 use Rattle.pruning.proofs.Counters.{Chain, Fit, count}
 
 module _ (I : Items) (Row : Type 0) (enc : Entry (I .Item) → List Row) (enc-some : (e : Entry (I .Item)) → 0 < length (enc e)) where

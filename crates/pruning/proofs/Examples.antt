@@ -1,4 +1,4 @@
--- Worked streams, computed from the definitions: the literal order gives what stands on the right. Assumes nothing.
+-- Worked streams, computed from the definitions: the literal order gives what stands on the right.
 use mathlib.Core.Path.{_≡_, refl}
 use mathlib.Core.Bool.{true}
 use mathlib.Core.List.{[]}

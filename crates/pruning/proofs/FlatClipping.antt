@@ -1,4 +1,4 @@
--- Document 000's machine shows what the side of its stream shows, whatever u it starts with. Assumes nothing.
+-- Document 000's machine shows what the side of its stream shows, whatever u it starts with.
 use mathlib.Core.Path.{_≡_, refl, ap, sym, _∙_}
 use mathlib.Core.Bool.{Bool, true, false, _||_, _&&_, cond}
 use mathlib.Core.List.{List, [], _∷_, _++_}

@@ -1,4 +1,4 @@
--- A stream is in the grammar exactly when it is the stream of a tree; the tree of a stream gives it back. Assumes nothing.
+-- A stream is in the grammar exactly when it is the stream of a tree; the tree of a stream gives it back.
 use mathlib.Core.Path.{_≡_, refl, ap, sym, _∙_}
 use mathlib.Core.Bool.{Bool, true, false, _&&_, false≢true}
 use mathlib.Core.List.{List, [], _∷_}

@@ -1,4 +1,4 @@
--- The machine shows what the side of its stream shows, and the same as document 000's machine with u. Assumes nothing.
+-- The machine shows what the side of its stream shows, and the same as document 000's machine with u.
 use mathlib.Core.Path.{_≡_, refl, ap, sym, _∙_}
 use mathlib.Core.Bool.{Bool, true, false, cond}
 use mathlib.Core.List.{List, [], _∷_}

@@ -1,4 +1,4 @@
--- Pruning keeps what a side shows, wherever the classes of its items are true. Assumes nothing.
+-- Pruning keeps what a side shows, wherever the classes of its items are true.
 use mathlib.Core.Path.{_≡_, refl, ap, sym, _∙_}
 use mathlib.Core.Bool.{Bool, true, false, _||_, _&&_, cond, false≢true}
 use mathlib.Core.List.{List, [], _∷_, _++_, append-nil, append-assoc, map}

@@ -1,4 +1,4 @@
--- The algebra of the normal form: it takes one side behind another to a sealed join. Assumes nothing.
+-- The algebra of the normal form: it takes one side behind another to a sealed join.
 use mathlib.Core.Path.{_≡_, refl, ap, sym, _∙_}
 use mathlib.Core.Bool.{Bool, true, false, _||_, cond}
 use Rattle.laws.proofs.Booleans.{or-or}

@@ -1,4 +1,4 @@
--- The literal order ends in the normal form, and so does any other order, wherever in it a C1 becomes bare. Assumes nothing.
+-- The literal order ends in the normal form, and so does any other order, wherever in it a C1 becomes bare.
 use mathlib.Core.Path.{_≡_, refl, ap, sym, _∙_}
 use mathlib.Core.Bool.{Bool, true, false, _||_, _&&_, false≢true, true≢false}
 use mathlib.Core.Option.{Option, none, some}

@@ -1,4 +1,4 @@
--- The one-pass pruner writes the pruned stream. Assumes nothing.
+-- The one-pass pruner writes the pruned stream.
 use mathlib.Core.Path.{_≡_, refl, ap, sym, _∙_}
 use mathlib.Core.Bool.{Bool, true, false, _||_, cond, false≢true, true≢false}
 use mathlib.Core.List.{List, [], _∷_, _++_, append-nil, append-assoc, map}
@@ -12,7 +12,7 @@ use Rattle.pruning.specs.Sides.{isEnd, Kind, paint, clip, Side, end, lea
 use Rattle.pruning.specs.Items.{Items, Class, fails, passes, other, isPasses}
 use Rattle.pruning.specs.Normal.{normal, put, groupOf, oneGroup, oneLeaf, status, always-side, join, cutLeaf, seal, hasOne, mixed}
 use Rattle.pruning.specs.Order.{pruned}
-use Rattle.pruning.specs.Pruner.{Place, left, right, through, dead, Frame, frame, going, shut, State, st, rows, written, addPasses, addItem, endRight, step, run, skipOf}
+use Rattle.pruning.specs.code.Pruner.{Place, left, right, through, dead, Frame, frame, going, shut, State, st, rows, written, addPasses, addItem, endRight, step, run, skipOf}
 use Rattle.pruning.proofs.Sides.{append-end, flatOver, flat-is-over, flat-map}
 use Rattle.pruning.proofs.Normal.{join-join, seal-seal, seal-none, seal-one, hasOne-join, hasOne-seal, status-cases, put-put, normal-sealed, seal-join-right, one-left, one-right, hasOne-always}
 use Rattle.pruning.proofs.Order.{pruned-normal}

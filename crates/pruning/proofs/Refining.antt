@@ -1,5 +1,5 @@
 -- Refining each item and pruning does not care whether the side was pruned before; C1 may become bare before or after; pruning twice is
--- pruning once. Assumes nothing.
+-- pruning once.
 use mathlib.Core.Path.{_≡_, refl, ap, sym, _∙_}
 use mathlib.Core.Bool.{Bool, true, false, _||_, cond}
 use Rattle.pruning.specs.Sides.{Kind, paint, clip, Side, end, leaf, group, mapSide}

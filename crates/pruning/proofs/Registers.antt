@@ -1,4 +1,4 @@
--- The registers end with what the machine shows, and so with what the side shows. Assumes nothing.
+-- The registers end with what the machine shows, and so with what the side shows.
 use mathlib.Core.Path.{_≡_, refl, ap, _∙_}
 use mathlib.Core.Bool.{Bool, true, false, cond}
 use mathlib.Core.List.{List, [], _∷_}

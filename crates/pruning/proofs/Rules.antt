@@ -1,4 +1,4 @@
--- Each step of any rule at any place keeps the normal form and shortens the stream; one C1 made bare at any place keeps the normal form. Assumes nothing.
+-- Each step of any rule at any place keeps the normal form and shortens the stream; one C1 made bare at any place keeps the normal form.
 use mathlib.Core.Path.{_≡_, refl, ap, sym, _∙_}
 use Prim.Native.Nat.{_<_}
 use native.Mathlib.Omega.{arith}

@@ -1,4 +1,4 @@
--- Rules applied and single C1 made bare in any sequence: where no step of either kind is left it is the pruned side, and every sequence ends. Assumes nothing.
+-- Rules applied and single C1 made bare in any sequence: where no step of either kind is left it is the pruned side, and every sequence ends.
 use mathlib.Core.Path.{_≡_, refl, sym, _∙_}
 use Prim.Native.Nat.{ℕ, _+_, _<_, _≤_}
 use native.Mathlib.Omega.{arith}

@@ -1,4 +1,4 @@
--- Laws of sides and of their streams. Assumes nothing.
+-- Laws of sides and of their streams.
 use mathlib.Core.Path.{_≡_, refl, ap, sym, _∙_}
 use mathlib.Core.List.{List, [], _∷_, _++_, append-nil, append-assoc, map}
 use Prim.Native.Nat.{_+_}

@@ -1,5 +1,5 @@
 -- Pruning removes entries and reorders none; what is left stands as it stood, but for the bare items. Where the literal order stops, no rule
--- applies anywhere. Assumes nothing.
+-- applies anywhere.
 use mathlib.Core.Path.{_≡_, refl, ap, sym, _∙_}
 use mathlib.Core.Bool.{Bool, true, false, _||_, cond, false≢true}
 use mathlib.Core.List.{List, [], _∷_, _++_, append-assoc}
@@ -12,7 +12,7 @@ use Rattle.pruning.specs.Items.{Items, Class, fails, passes, other, isPa
 use Rattle.pruning.specs.Normal.{mixed, normal, groupOf, oneGroup, oneLeaf, status, always-side, join, cutLeaf, seal, hasOne}
 use Rattle.pruning.specs.Rules.{Top, Irreducible}
 use Rattle.pruning.specs.Order.{bareSide, steps, again, walkTop}
-use Rattle.pruning.specs.Survivors.{Sub, nothing, drops, keeps, bares}
+use Rattle.pruning.specs.code.Survivors.{Sub, nothing, drops, keeps, bares}
 use Rattle.pruning.proofs.Sides.{size-flat}
 use Rattle.pruning.proofs.Normal.{status-cases}
 use Rattle.pruning.proofs.Rules.{top-normal, top-size}

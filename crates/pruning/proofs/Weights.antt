@@ -1,4 +1,4 @@
--- The counters by weights go in step with the pruner. Assumes nothing.
+-- The counters by weights go in step with the pruner.
 use mathlib.Core.Path.{_≡_, refl, ap, sym, _∙_}
 use mathlib.Core.Bool.{Bool, true, false}
 use mathlib.Core.List.{List, [], _∷_, _++_, map}
@@ -11,9 +11,9 @@ use lib.Seq.{take-take, take-length, take-append-le, length-take-le}
 use borrow.Author.Tests.{eq-eqb, ne-eqb, eqb-true, eqb-false}
 use Rattle.pruning.specs.Sides.{Kind, paint, clip, Entry, item, push, activate, pop}
 use Rattle.pruning.specs.Items.{Items, Class, fails, passes, other}
-use Rattle.pruning.specs.Pruner.{left, right, through, dead, Frame, frame, Skip, going, shut, State, st, step, addItem, keepLeft, keepRight, endLeft, endRight}
-use Rattle.pruning.specs.Counters.{Count, ct, countItem, countKeepLeft, countLeft, countKeepRight, countRight, countStep}
-use Rattle.pruning.specs.Weights.{total, before, frameAt, weighed, Sized, sized, sizedItems, sizeOf}
+use Rattle.pruning.specs.code.Pruner.{left, right, through, dead, Frame, frame, Skip, going, shut, State, st, step, addItem, keepLeft, keepRight, endLeft, endRight}
+use Rattle.pruning.specs.code.Counters.{Count, ct, countItem, countKeepLeft, countLeft, countKeepRight, countRight, countStep}
+use Rattle.pruning.specs.code.Weights.{total, before, frameAt, weighed, Sized, sized, sizedItems, sizeOf}
 use Rattle.pruning.proofs.Counters.{Chain, Fit, count}
 
 module _ {Row : Type 0} (weight : Row → ℕ) where

@@ -1,4 +1,4 @@
--- The grammar of a stream's delimiters and sides, tested from the front, and the tree of a stream, built from the back. Assumes nothing.
+-- The grammar of a stream's delimiters and sides, tested from the front, and the tree of a stream, built from the back.
 use mathlib.Core.Bool.{Bool, true, false, _&&_}
 use mathlib.Core.List.{List, [], _∷_}
 use Rattle.pruning.specs.Sides.{Kind, paint, clip, Side, end, leaf, group, Entry, item, push, activate, pop}

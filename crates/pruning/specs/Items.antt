@@ -1,4 +1,4 @@
--- What pruning knows of an item. Assumes nothing.
+-- What pruning knows of an item.
 use mathlib.Core.Path.{_≡_}
 use mathlib.Core.Bool.{Bool, true, false}
 use Rattle.pruning.specs.Sides.{Kind, clip}

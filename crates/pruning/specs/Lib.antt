@@ -5,12 +5,8 @@ pub mod Items
 pub mod Normal
 pub mod Rules
 pub mod Order
-pub mod Survivors
 pub mod Machine
 pub mod FlatClipping
 pub mod Registers
-pub mod Pruner
-pub mod Counters
-pub mod Effects
-pub mod Weights
 pub mod Grammar
+pub mod code

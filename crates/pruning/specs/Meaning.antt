@@ -1,4 +1,4 @@
--- Document 01, "Winding and meaning": what a side shows at a position, given which items pass there and which have alpha 255. Assumes nothing.
+-- Document 01, "Winding and meaning": what a side shows at a position, given which items pass there and which have alpha 255.
 use mathlib.Core.Bool.{Bool, false, _||_, _&&_, cond}
 use mathlib.Core.List.{List, [], _∷_, _++_}
 use Rattle.pruning.specs.Sides.{Side, end, leaf, group}

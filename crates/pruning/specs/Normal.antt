@@ -1,5 +1,5 @@
 -- The normal form of a side under the pruning rules, by recursion over the side. `Rattle.pruning.proofs.Order` says that the rules in their literal
--- order, and in every other, end in it. Assumes nothing.
+-- order, and in every other, end in it.
 use mathlib.Core.Bool.{Bool, true, false, _||_, cond}
 use Rattle.pruning.specs.Sides.{Kind, paint, clip, Side, end, leaf, group}
 use Rattle.pruning.specs.Items.{Items, Class, fails, passes, other, isPasses}

@@ -1,4 +1,4 @@
--- Document 01, "Cells": pruning "by rules 12 to 18 of document 000, leftmost place first, lowest rule first". Assumes nothing.
+-- Document 01, "Cells": pruning "by rules 12 to 18 of document 000, leftmost place first, lowest rule first".
 use mathlib.Core.Bool.{Bool, true, false, _&&_}
 use mathlib.Core.Option.{Option, none, some}
 use Prim.Native.Nat.{ℕ, suc, zero}

@@ -1,5 +1,5 @@
 -- The flat clipping machine as a program keeps it: its state, two depths and what is shown so far, moved by one entry at a time.
--- `Rattle.pruning.proofs.Registers` says that it ends with what `scan` gives. Assumes nothing.
+-- `Rattle.pruning.proofs.Registers` says that it ends with what `scan` gives.
 use mathlib.Core.Bool.{Bool, true, false, cond}
 use mathlib.Core.List.{List, [], _∷_}
 use Prim.Native.Nat.{ℕ, suc, pred}

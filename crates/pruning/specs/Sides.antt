@@ -1,4 +1,4 @@
--- Document 01, "Drawing" and "Cells": what stands on a side, and the stream of a side. Assumes nothing.
+-- Document 01, "Drawing" and "Cells": what stands on a side, and the stream of a side.
 use mathlib.Core.Bool.{Bool, true, false}
 use mathlib.Core.List.{List, [], _∷_, _++_}
 use Prim.Native.Nat.{ℕ, _+_}

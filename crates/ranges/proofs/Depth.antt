@@ -1,4 +1,4 @@
--- Neither classing in a cell nor pruning opens more groups at once: a made stream has at most the open groups of the drawing. Assumes nothing.
+-- Neither classing in a cell nor pruning opens more groups at once: a made stream has at most the open groups of the drawing.
 use mathlib.Core.Path.{_≡_, refl}
 use mathlib.Core.Bool.{Bool, true, false, cond}
 use Prim.Native.Nat.{suc, _≤_, max}
@@ -10,7 +10,7 @@ use Rattle.cells.specs.Cells.{Cell}
 use Rattle.cells.specs.Drawings.{Drawing}
 use Rattle.cells.specs.Streams.{items, within, whole, source, made}
 use Rattle.cells.proofs.Streams.{made-normal}
-use Rattle.ranges.specs.Valid.{depth}
+use Rattle.ranges.specs.code.Valid.{depth}
 
 pub depth-map : {A B : Type 0} (f : A → B) (s : Side A) → depth (mapSide f s) ≡ depth s
 depth-map f end = refl

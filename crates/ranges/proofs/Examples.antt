@@ -1,4 +1,4 @@
--- A small drawing that has what an accepted drawing has, and tables that hold it: what the laws ask can be met. Assumes nothing.
+-- A small drawing that has what an accepted drawing has, and tables that hold it: what the laws ask can be met.
 use mathlib.Core.Path.{_≡_, refl}
 use mathlib.Core.Bool.{true}
 use mathlib.Core.List.{List, [], _∷_, map}
@@ -18,7 +18,7 @@ use Rattle.cells.specs.Drawings.{Drawing, fieldsOf}
 use Rattle.cells.specs.Streams.{source, made}
 use Rattle.cells.specs.Rows.{rowsOf}
 use Rattle.evaluate.specs.Words.{wordsOf}
-use Rattle.ranges.specs.Valid.{CornersBelow, lines, Valid}
+use Rattle.ranges.specs.code.Valid.{CornersBelow, lines, Valid}
 use Rattle.ranges.specs.Held.{Held}
 use Rattle.ranges.proofs.Streams.{made-passes}
 

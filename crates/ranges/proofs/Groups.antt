@@ -1,5 +1,4 @@
 -- The open groups of a drawing or a stream, by sides (`Rattle.groups.specs.Sides`), as the open groups of the grammar of streams (`Rattle.pruning.specs.Grammar`).
--- Assumes nothing.
 use Prim.Native.Nat.{ℕ, suc}
 use mathlib.Core.Path.{_≡_, refl, ap}
 use mathlib.Core.Bool.{Bool, true, false, cond}

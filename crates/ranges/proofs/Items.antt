@@ -1,4 +1,4 @@
--- Every item of a cell's stream is in range: its area's number, role and start number, and its lines and shortcuts. Assumes nothing.
+-- Every item of a cell's stream is in range: its area's number, role and start number, and its lines and shortcuts.
 use mathlib.Core.Path.{_≡_, ap, _∙_}
 use mathlib.Core.Bool.{true}
 use mathlib.Core.List.{List, [], _∷_, _++_}
@@ -18,13 +18,13 @@ use Rattle.cells.specs.Cells.{Cell, low, side}
 use Rattle.cells.specs.Segments.{Segment}
 use Rattle.cells.specs.Drawings.{Drawing, fieldsOf}
 use Rattle.cells.specs.Streams.{Item, always, area, Each, On, items, within, whole, source, made}
-use Rattle.cells.specs.Sizes.{Small}
+use Rattle.cells.specs.code.Sizes.{Small}
 use Rattle.cells.specs.Rows.{OnSide, roleIn}
 use Rattle.cells.proofs.Each.{each-sub, each-mapped}
 use Rattle.cells.proofs.Streams.{made-normal}
 use Rattle.cells.proofs.Bounds.{made-small}
 use Rattle.cells.proofs.Rows.{made-on-side}
-use Rattle.ranges.specs.Valid.{Valid, lines}
+use Rattle.ranges.specs.code.Valid.{Valid, lines}
 use Rattle.ranges.specs.Held.{Held}
 use Rattle.ranges.proofs.Segments.{EachIn, lines-kept}
 use Rattle.ranges.proofs.Passing.{isPaintSide, AreaPasses, ItemPasses}

@@ -1,4 +1,4 @@
--- The numbers of an accepted drawing, as words in tables that hold it, are in the ranges of the check of streams. Assumes nothing.
+-- The numbers of an accepted drawing, as words in tables that hold it, are in the ranges of the check of streams.
 use mathlib.Core.Path.{_≡_, refl, sym, ap, ap₂, _∙_}
 use mathlib.Core.Bool.{Bool, true, false, cond}
 use mathlib.Core.List.{List, [], _∷_}
@@ -23,7 +23,7 @@ use Rattle.stream.specs.Grammar.{env, cornerMet, shortcutRange, recordFits}
 use Rattle.cells.specs.Cells.{Cell, low, side}
 use Rattle.cells.specs.Segments.{Segment, drawn, shortcut}
 use Rattle.cells.specs.Drawings.{Drawing, kindOf}
-use Rattle.ranges.specs.Valid.{Valid}
+use Rattle.ranges.specs.code.Valid.{Valid}
 use Rattle.ranges.specs.Held.{Held}
 use Rattle.ranges.proofs.Segments.{EachIn}
 use Rattle.ranges.proofs.Passing.{isPaintSide, EachPasses}

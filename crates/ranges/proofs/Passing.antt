@@ -1,4 +1,4 @@
--- The words of a side whose items are in range pass the check of streams, where there is room for its groups, its areas, and its lines and shortcuts. Assumes nothing.
+-- The words of a side whose items are in range pass the check of streams, where there is room for its groups, its areas, and its lines and shortcuts.
 use mathlib.Core.Path.{_≡_, refl, ap, ap₂, _∙_}
 use mathlib.Core.Bool.{Bool, true, false, cond, not}
 use mathlib.Core.List.{List, [], _∷_, _++_, map}
@@ -20,7 +20,7 @@ use Rattle.cells.specs.Segments.{Segment, drawn, shortcut}
 use Rattle.cells.specs.Streams.{Item, always, area, On}
 use Rattle.cells.specs.Rows.{bar, closes, segment, itemRows, rowsOf}
 use Rattle.evaluate.specs.Words.{words, wordsOf}
-use Rattle.ranges.specs.Valid.{depth, weigh}
+use Rattle.ranges.specs.code.Valid.{depth, weigh}
 use Rattle.ranges.proofs.Weights.{oneArea, segments, rows-append}
 
 -- ---- items in range

@@ -1,4 +1,4 @@
--- The stream of each cell of an accepted drawing, read in tables that hold the drawing, gives at each position of the cell the set that the drawing shows. Assumes nothing.
+-- The stream of each cell of an accepted drawing, read in tables that hold the drawing, gives at each position of the cell the set that the drawing shows.
 use mathlib.Core.Path.{_≡_, refl, sym, ap, _∙_}
 use mathlib.Core.Bool.{Bool, cond}
 use mathlib.Core.List.{List, [], _∷_, _++_, map}
@@ -25,7 +25,7 @@ use Rattle.cells.specs.Rows.{Row, opens, bar, closes, bare, named, segment, row
 use Rattle.evaluate.specs.Reading.{rowsIn, roleAt, passAt, opaqueAt, setAt}
 use Rattle.evaluate.specs.Words.{wordsOf, Agrees}
 use Rattle.evaluate.proofs.Words.{cell-words-read}
-use Rattle.ranges.specs.Valid.{Valid}
+use Rattle.ranges.specs.code.Valid.{Valid}
 use Rattle.ranges.specs.Held.{fieldsFrom, Held}
 use Rattle.ranges.proofs.Segments.{EachIn}
 use Rattle.ranges.proofs.Numbers.{same-x, same-y}

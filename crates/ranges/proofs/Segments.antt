@@ -1,4 +1,4 @@
--- What is kept of a drawing's lines in a cell is in range: a line has corners in use, a shortcut the sign 1 or −1 and some rows, all inside the cell. Assumes nothing.
+-- What is kept of a drawing's lines in a cell is in range: a line has corners in use, a shortcut the sign 1 or −1 and some rows, all inside the cell.
 use mathlib.Core.Path.{_≡_, refl}
 use mathlib.Core.Bool.{Bool, true, false, cond, _&&_, _||_}
 use mathlib.Core.List.{List, [], _∷_, map}
@@ -16,7 +16,7 @@ use Rattle.geometry.specs.declared.class.Class.{Class}
 use Rattle.geometry.specs.declared.class.Class.the-variants.{Dropped, Start, Shortcut, Kept}
 use Rattle.cells.specs.Cells.{Cell, left, low, side}
 use Rattle.cells.specs.Segments.{Segment, drawn, shortcut, edgeOf, classIn, keptBy, keptIn}
-use Rattle.ranges.specs.Valid.{CornersBelow}
+use Rattle.ranges.specs.code.Valid.{CornersBelow}
 
 -- an edge that has rows is drawn upward or downward
 sign-one : (e : Edge) → firstRow e < endRow e → natAbs (sign e) ≡ 1

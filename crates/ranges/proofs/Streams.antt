@@ -1,4 +1,4 @@
--- The stream of each cell of an accepted drawing passes the check of streams, in tables that hold the drawing. Assumes nothing.
+-- The stream of each cell of an accepted drawing passes the check of streams, in tables that hold the drawing.
 use mathlib.Core.Path.{_≡_, refl, sym, ap, _∙_}
 use mathlib.Core.Bool.{Bool, true, false, cond}
 use mathlib.Core.List.{List, [], map}
@@ -16,7 +16,7 @@ use Rattle.cells.specs.Drawings.{Drawing}
 use Rattle.cells.specs.Streams.{source, made}
 use Rattle.cells.specs.Rows.{rowsOf}
 use Rattle.evaluate.specs.Words.{wordsOf}
-use Rattle.ranges.specs.Valid.{Valid}
+use Rattle.ranges.specs.code.Valid.{Valid}
 use Rattle.ranges.specs.Held.{Held}
 use Rattle.ranges.proofs.Depth.{made-depth}
 use Rattle.ranges.proofs.Weights.{made-areas, made-segments, made-short}

@@ -1,4 +1,4 @@
--- Neither classing in a cell nor pruning adds to a sum over items and delimiters: a made stream has at most the rows, areas, lines and shortcuts of the drawing. Assumes nothing.
+-- Neither classing in a cell nor pruning adds to a sum over items and delimiters: a made stream has at most the rows, areas, lines and shortcuts of the drawing.
 use mathlib.Core.Path.{_≡_, refl, sym, ap, _∙_}
 use mathlib.Core.List.{List, [], _∷_, _++_, append-assoc, map}
 use Prim.Native.Nat.{ℕ, suc, _+_, _≤_}
@@ -9,7 +9,7 @@ use Rattle.geometry.specs.declared.class.Class.the-variants.{Dropped, Start, Sh
 use Rattle.pruning.specs.Sides.{Kind, paint, clip, Side, end, leaf, group, Entry, item, push, activate, pop, flat, mapSide}
 use Rattle.pruning.specs.Items.{Items}
 use Rattle.pruning.specs.Normal.{normal}
-use Rattle.pruning.specs.Survivors.{Sub, nothing, drops, keeps, bares}
+use Rattle.pruning.specs.code.Survivors.{Sub, nothing, drops, keeps, bares}
 use Rattle.pruning.proofs.Survivors.{normal-sub}
 use Rattle.cells.specs.Cells.{Cell}
 use Rattle.cells.specs.Segments.{Segment, drawn, classIn, keptBy, keptIn}
@@ -17,7 +17,7 @@ use Rattle.cells.specs.Drawings.{Drawing}
 use Rattle.cells.specs.Streams.{Item, always, area, items, within, whole, source, made}
 use Rattle.cells.specs.Rows.{Row, bar, closes, segment, itemRows, entryRows, rowsOf}
 use Rattle.cells.proofs.Streams.{made-normal}
-use Rattle.ranges.specs.Valid.{Valid, weigh, lines}
+use Rattle.ranges.specs.code.Valid.{Valid, weigh, lines}
 
 pub weigh-map : {A B : Type 0} (f : A → B) (v : B → ℕ) (u : A → ℕ) (d : ℕ) → ((a : A) → v (f a) ≤ u a) → (s : Side A) → weigh v d (mapSide f s) ≤ weigh u d s
 weigh-map f v u d h end = omega arith

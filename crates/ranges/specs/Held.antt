@@ -1,4 +1,4 @@
--- When lent tables hold the areas and corners of a drawing. Assumes nothing.
+-- When lent tables hold the areas and corners of a drawing.
 use mathlib.Core.Path.{_≡_}
 use mathlib.Core.List.{List, [], _∷_}
 use Prim.Native.Nat.{ℕ, zero, suc, _+_, _<_}

@@ -1,3 +1,3 @@
 -- What an accepted drawing has, and when lent tables hold it.
-pub mod Valid
 pub mod Held
+pub mod code

@@ -10,7 +10,7 @@ use Rattle.records.specs.declared.Record.{Record}
 use Rattle.records.specs.declared.Decoded.{Decoded}
 use Rattle.records.specs.Bytes.{rawAt, decodedRaw}
 use Rattle.grammar.specs.declared.Scan.{Scan}
-use Rattle.grammar.specs.Machine.{advanceN, startN, scanN, isStopped}
+use Rattle.grammar.specs.code.Machine.{advanceN, startN, scanN, isStopped}
 use Rattle.grammar.proofs.Laws.{stopped-stays}
 use Rattle.grammar.specs.Lists.{goods}
 use Rattle.read.specs.Words.{spread, onGood}

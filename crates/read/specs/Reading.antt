@@ -1,4 +1,4 @@
--- Document 01, "From the input": what reading a file answers and leaves. Assumes nothing.
+-- Document 01, "From the input": what reading a file answers and leaves.
 use Prim.Native.Nat.{ℕ, zero, suc, _+_, _*_, _-_, _/_, _%_, _≤_}
 use mathlib.Core.Path.{_≡_}
 use mathlib.Core.Bool.{Bool, false, cond, _&&_}

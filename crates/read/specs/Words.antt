@@ -1,4 +1,4 @@
--- The words of a list of records in the four tables (docs/TABLES.md), and its bytes in a file. Assumes nothing.
+-- The words of a list of records in the four tables (docs/TABLES.md), and its bytes in a file.
 use Prim.Native.Nat.{ℕ, zero, suc, _+_, _≤_}
 use mathlib.Core.Path.{_≡_}
 use mathlib.Core.Bool.{Bool, true, cond, _&&_}

@@ -11,7 +11,7 @@ ghost use Prim.Native.Nat.{_+_, _*_, _≤_};
 ghost use lib.ListN.{length, set};
 ghost use lib.Seq.{sets};
 ghost use Rattle.grammar.specs.declared.Verdict.the-variants.{Accepted};
-ghost use Rattle.grammar.specs.Machine.{scanN, startN};
+ghost use Rattle.grammar.specs.code.Machine.{scanN, startN};
 ghost use Rattle.grammar.specs.Lists.{goods};
 ghost use Rattle.records.specs.Record.{kindOf};
 ghost use Rattle.records.specs.Bytes.{rawAt, decodedRaw};

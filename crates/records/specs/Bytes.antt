@@ -1,4 +1,4 @@
--- Document 01, "Drawing": a record as sixteen bytes. Assumes nothing.
+-- Document 01, "Drawing": a record as sixteen bytes.
 use Prim.Native.Nat.{ℕ, _+_, _*_, _/_, _%_}
 use mathlib.Core.Bool.{Bool, cond}
 use mathlib.Core.List.{List, [], _∷_}

@@ -1,4 +1,4 @@
--- Document 01, "Drawing": a record, and the ranges of its fields. Assumes nothing.
+-- Document 01, "Drawing": a record, and the ranges of its fields.
 use Prim.Native.Nat.{ℕ}
 use mathlib.Core.Bool.{Bool, true, false, cond, _&&_}
 use mathlib.Core.List.{List, [], _∷_}

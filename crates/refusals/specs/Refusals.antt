@@ -1,4 +1,4 @@
--- Document 01, "From the input" and "From the state": the number of each refusal. Assumes nothing.
+-- Document 01, "From the input" and "From the state": the number of each refusal.
 use Prim.Native.Nat.{ℕ}
 use Rattle.refusals.specs.declared.Refusal.{Refusal}
 use Rattle.refusals.specs.declared.Refusal.the-variants.{Length, Kind, Field, Unfit, Short, Limit, Argument, NoCell, AlreadySplit, Smallest, Room, Broken}

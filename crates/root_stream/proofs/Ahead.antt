@@ -1,4 +1,4 @@
--- The entries of a plan that holds the kinds of records are the words of the rows of those records, one after the other. Assumes nothing.
+-- The entries of a plan that holds the kinds of records are the words of the rows of those records, one after the other.
 use mathlib.Core.Path.{_≡_, refl, sym, ap, _∙_}
 use mathlib.Core.List.{List, [], _∷_, map}
 use Prim.Native.Nat.{ℕ, zero, suc, _+_, _≤_, _<_}
@@ -13,9 +13,9 @@ use Rattle.read.specs.Words.{Has, kindW, spread}
 use Rattle.drawing.proofs.Has.{has-at, has-first, has-rest}
 use Rattle.stream.specs.declared.Words.{Words}
 use Rattle.evaluate.specs.Words.{wordsOf}
-use Rattle.plans.specs.Source.{edgeEnd, sourceFrom}
+use Rattle.plans.specs.code.Source.{edgeEnd, sourceFrom}
 use Rattle.root_stream.specs.declared.Source.{Source}
-use Rattle.root_stream.specs.Numbers.{sourceAt, endN, entryN, afterN, entriesN}
+use Rattle.root_stream.specs.code.Numbers.{sourceAt, endN, entryN, afterN, entriesN}
 
 module _ (plan : List ℕ) (records : ℕ) where
   -- the words ws of the records from record i on

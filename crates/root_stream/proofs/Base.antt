@@ -1,4 +1,4 @@
--- What is known before the first record, where lent tables hold an accepted drawing. Assumes nothing.
+-- What is known before the first record, where lent tables hold an accepted drawing.
 use mathlib.Core.Path.{_≡_, refl, ap, subst, _∙_}
 use mathlib.Core.Bool.{true}
 use mathlib.Core.List.{List, map}
@@ -20,16 +20,16 @@ use Rattle.stream.specs.declared.Words.{Words}
 use Rattle.stream.specs.declared.Bounds.{Bounds}
 use Rattle.stream.specs.Grammar.{Env, env, accepts, Ready}
 use Rattle.evaluate.specs.Words.{wordsOf}
-use Rattle.ranges.specs.Valid.{Valid}
+use Rattle.ranges.specs.code.Valid.{Valid}
 use Rattle.ranges.specs.Held.{Held}
 use Rattle.making.specs.Made.{rowsMade}
 use Rattle.making.proofs.Standing.{Reads}
-use Rattle.plans.specs.Source.{sourceOf}
+use Rattle.plans.specs.code.Source.{sourceOf}
 use Rattle.plans.proofs.Runs.{counted}
 use Rattle.plans.proofs.Valid.{accepted-valid}
 use Rattle.plans.proofs.Held.{accepted-held}
 use Rattle.plans.proofs.Source.{source-rows}
-use Rattle.root_stream.specs.Numbers.{sourceAt, Opened}
+use Rattle.root_stream.specs.code.Numbers.{sourceAt, Opened}
 use Rattle.root_stream.specs.Opened.{drawingIn, rowsOpened}
 use Rattle.root_stream.proofs.Ahead.{Ahead}
 use Rattle.root_stream.proofs.Whole.{held-reads, source-passes, source-made}

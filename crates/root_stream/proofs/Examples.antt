@@ -1,4 +1,4 @@
--- Entries of a few plans, computed from the definitions, and tables that may be opened. Assumes nothing.
+-- Entries of a few plans, computed from the definitions, and tables that may be opened.
 use mathlib.Core.Path.{_≡_, refl, sym, subst}
 use mathlib.Core.List.{List, [], _∷_}
 use Prim.Native.Nat.{ℕ}
@@ -10,11 +10,11 @@ use Rattle.grammar.specs.Grammar as Grammar
 use Rattle.grammar.specs.Grammar.{counts}
 use Rattle.read.specs.Words.{spread}
 use Rattle.drawing.specs.Tables.{Tables, tables, drawnIn}
-use Rattle.drawing.specs.Held.{Acceptable, Holding}
+use Rattle.drawing.specs.code.Held.{Acceptable, Holding}
 use Rattle.drawing.proofs.Theorems.{drawn-records}
 use Rattle.stream.specs.Grammar.{bounds}
 use Rattle.evaluate.specs.Words.{words}
-use Rattle.root_stream.specs.Numbers.{sourceAt, entriesN, Opened}
+use Rattle.root_stream.specs.code.Numbers.{sourceAt, entriesN, Opened}
 
 -- ---- one area: the triangle (0, 0) (10, 0) (10, 10)
 

@@ -1,4 +1,4 @@
--- The loop that writes cell 0's stream to a table. Assumes nothing.
+-- The loop that writes cell 0's stream to a table.
 use mathlib.Core.Path.{_≡_, refl, sym, ap, subst, _∙_}
 use mathlib.Core.List.{List, [], _∷_, _++_, map}
 use Prim.Native.Nat.{ℕ, _+_, _*_, _≤_, _<_}
@@ -7,30 +7,30 @@ use lib.ListN.{length, getD, drop}
 use lib.IntN.{ℤ}
 use Rattle.geometry.specs.declared.class.Class.{Class}
 use Rattle.geometry.specs.declared.class.Square.{Square}
-use Rattle.pruning.specs.Pruner.{going}
-use Rattle.pruning.specs.Counters.{ct}
+use Rattle.pruning.specs.code.Pruner.{going}
+use Rattle.pruning.specs.code.Counters.{ct}
 use Rattle.cells.specs.Cells.{root, squareOf}
 use Rattle.cells.specs.Drawings.{Drawing}
-use Rattle.cells.specs.Making.{Making, begun}
+use Rattle.cells.specs.code.Making.{Making, begun}
 use Rattle.drawing.specs.Tables.{Tables}
 use Rattle.stream.specs.declared.Words.{Words}
 use Rattle.stream.specs.Table.{flat, written}
 use Rattle.stream.specs.Grammar.{Env}
 use Rattle.stream.proofs.Table.{written-eq}
-use Rattle.pruner.specs.Numbers.{counted}
+use Rattle.pruner.specs.code.Numbers.{counted}
 use Rattle.evaluate.specs.Words.{wordsOf}
 use Rattle.making.specs.declared.Maker.{Maker}
 use Rattle.making.specs.Made.{rowsMade, wordsMade}
-use Rattle.making.specs.Numbers.{resting, leftSign, leftClass, waitingN, prunedN}
+use Rattle.making.specs.code.Numbers.{resting, leftSign, leftClass, waitingN, prunedN}
 use Rattle.making.proofs.Made.{made-length}
 use Rattle.making.proofs.Whole.{allOf, standing-start}
-use Rattle.writing.specs.Numbers.{settledPut, onePut}
+use Rattle.writing.specs.code.Numbers.{settledPut, onePut}
 use Rattle.writing.proofs.Same.{same-refl}
 use Rattle.writing.proofs.Written.{Writes}
 use Rattle.writing.proofs.Turn.{Writing, writing-next}
 use Rattle.writing.proofs.Whole.{written-end}
 use Rattle.root_stream.specs.declared.Source.{Source}
-use Rattle.root_stream.specs.Numbers.{sourceAt, entryN, afterN}
+use Rattle.root_stream.specs.code.Numbers.{sourceAt, entryN, afterN}
 use Rattle.root_stream.specs.Opened.{rowsOpened, wordsOpened}
 use Rattle.root_stream.proofs.Ahead.{Ahead, ahead-next, ahead-none}
 use Rattle.root_stream.proofs.Base.{Base}

@@ -1,4 +1,4 @@
--- The loop over the records of a drawing. Assumes nothing.
+-- The loop over the records of a drawing.
 use mathlib.Core.Path.{_≡_, ap, subst, _∙_}
 use mathlib.Core.Bool.{true}
 use mathlib.Core.List.{List, [], _∷_}
@@ -6,26 +6,26 @@ use Prim.Native.Nat.{ℕ, _+_, _^_, _≤_, _<_}
 use native.Mathlib.Omega.{arith}
 use lib.ListN.{length, getD}
 use lib.IntN.{ℤ, natAbs}
-use Rattle.geometry.specs.Reach.{SquareIn}
+use Rattle.geometry.specs.code.Reach.{SquareIn}
 use Rattle.geometry.specs.declared.class.Class.{Class}
 use Rattle.geometry.specs.declared.class.Square.{Square}
-use Rattle.pruning.specs.Pruner.{going}
-use Rattle.pruning.specs.Counters.{ct, lengthOf}
-use Rattle.pruning.specs.Weights.{total}
+use Rattle.pruning.specs.code.Pruner.{going}
+use Rattle.pruning.specs.code.Counters.{ct, lengthOf}
+use Rattle.pruning.specs.code.Weights.{total}
 use Rattle.cells.specs.Cells.{root, squareOf}
 use Rattle.cells.specs.Drawings.{Drawing}
-use Rattle.cells.specs.Making.{rowSize}
+use Rattle.cells.specs.code.Making.{rowSize}
 use Rattle.stream.specs.declared.Words.{Words}
 use Rattle.stream.specs.Grammar.{Env}
-use Rattle.pruner.specs.Numbers.{counted}
+use Rattle.pruner.specs.code.Numbers.{counted}
 use Rattle.making.specs.declared.Maker.{Maker}
 use Rattle.making.specs.Made.{rowsMade}
-use Rattle.making.specs.Numbers.{resting, leftSign, leftClass, leftRange, waitingN, settledN, prunedN, Inside, Asks}
+use Rattle.making.specs.code.Numbers.{resting, leftSign, leftClass, leftRange, waitingN, settledN, prunedN, Inside, Asks}
 use Rattle.making.proofs.Standing.{Standing}
 use Rattle.making.proofs.Turn.{standing-weight, standing-base, standing-inside, standing-room, standing-start, standing-left, standing-sign, standing-next}
 use Rattle.making.proofs.Whole.{allOf, standing-begin, weight-end}
 use Rattle.root_stream.specs.declared.Source.{Source}
-use Rattle.root_stream.specs.Numbers.{sourceAt, entryN, afterN}
+use Rattle.root_stream.specs.code.Numbers.{sourceAt, entryN, afterN}
 use Rattle.root_stream.proofs.Ahead.{Ahead, ahead-next, ahead-none}
 use Rattle.root_stream.proofs.Base.{Base}
 

@@ -1,4 +1,4 @@
--- What a caller has where a lent drawing is accepted: the entries of the plan are the rows of the records, and what is written passes as the stream of cell 0. Assumes nothing.
+-- What a caller has where a lent drawing is accepted: the entries of the plan are the rows of the records, and what is written passes as the stream of cell 0.
 use mathlib.Core.Path.{_≡_, refl, ap, subst, _∙_}
 use mathlib.Core.Bool.{true}
 use mathlib.Core.List.{List, map}
@@ -9,9 +9,9 @@ use Rattle.grammar.specs.declared.Counts.{Counts}
 use Rattle.grammar.specs.declared.Verdict.the-variants.{Accepted}
 use Rattle.drawing.specs.Tables.{Tables, drawnIn, drawingOf}
 use Rattle.drawing.proofs.Theorems.{passes-holding}
-use Rattle.pruning.specs.Weights.{total}
+use Rattle.pruning.specs.code.Weights.{total}
 use Rattle.cells.specs.Cells.{root}
-use Rattle.cells.specs.Making.{rowSize}
+use Rattle.cells.specs.code.Making.{rowSize}
 use Rattle.stream.specs.declared.Words.{Words}
 use Rattle.stream.specs.declared.Bounds.{Bounds}
 use Rattle.stream.specs.Table.{wordsFrom, written}
@@ -21,8 +21,8 @@ use Rattle.evaluate.specs.Words.{wordsOf}
 use Rattle.ranges.proofs.Weights.{made-short}
 use Rattle.ranges.proofs.Streams.{made-passes}
 use Rattle.writing.proofs.Places.{place-is}
-use Rattle.plans.specs.Source.{sourceOf}
-use Rattle.root_stream.specs.Numbers.{sourceAt, entriesN, Opened}
+use Rattle.plans.specs.code.Source.{sourceOf}
+use Rattle.root_stream.specs.code.Numbers.{sourceAt, entriesN, Opened}
 use Rattle.root_stream.specs.Opened.{drawingIn, rowsOpened, wordsOpened}
 use Rattle.root_stream.proofs.Ahead.{entries-ahead}
 use Rattle.root_stream.proofs.Base.{base, valid, held}

@@ -1,4 +1,4 @@
--- What cell 0's stream is made from, of a drawing in tables that hold it: its words pass the check of streams and say the drawing's own stream. Assumes nothing.
+-- What cell 0's stream is made from, of a drawing in tables that hold it: its words pass the check of streams and say the drawing's own stream.
 use mathlib.Core.Path.{_≡_, refl, sym, ap, _∙_}
 use mathlib.Core.Bool.{true, false}
 use mathlib.Core.List.{List, [], _∷_, map}
@@ -15,7 +15,7 @@ use Rattle.records.specs.declared.Record.the-variants.{Area, First, Next, Open,
 use Rattle.records.specs.declared.Decoded.the-variants.{Good}
 use Rattle.grammar.specs.declared.Counts.{Counts}
 use Rattle.drawing.specs.Tables.{areaRow}
-use Rattle.drawing.specs.Held.{Acceptable}
+use Rattle.drawing.specs.code.Held.{Acceptable}
 use Rattle.pruning.specs.Sides.{Kind, paint, clip, Side, end, leaf, group, flat, mapSide}
 use Rattle.cells.specs.Cells.{Cell, root}
 use Rattle.cells.specs.Segments.{Segment, drawn}
@@ -28,7 +28,7 @@ use Rattle.stream.specs.declared.Bounds.{Bounds}
 use Rattle.stream.specs.Grammar.{env, isGood, roleFits, isWhole, accepts}
 use Rattle.evaluate.specs.Words.{wordsOf, EachFits, Agrees}
 use Rattle.evaluate.proofs.Words.{rows-back}
-use Rattle.ranges.specs.Valid.{Valid, CornersBelow, lines, weigh}
+use Rattle.ranges.specs.code.Valid.{Valid, CornersBelow, lines, weigh}
 use Rattle.ranges.specs.Held.{Held}
 use Rattle.ranges.proofs.Segments.{EachIn}
 use Rattle.ranges.proofs.Passing.{isPaintSide, ItemPasses, AreaPasses, side-passes}
@@ -40,7 +40,7 @@ use Rattle.ranges.proofs.Reading.{fields-are}
 use Rattle.making.specs.Made.{rowsMade}
 use Rattle.making.proofs.Standing.{Reads}
 use Rattle.plans.specs.Plans.{drawingFrom}
-use Rattle.plans.specs.Source.{sourceFrom, sourceOf}
+use Rattle.plans.specs.code.Source.{sourceFrom, sourceOf}
 use Rattle.plans.proofs.Source.{source-rows}
 
 -- what holds of each item holds of what it is mapped to

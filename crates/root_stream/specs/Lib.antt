@@ -1,3 +1,3 @@
 -- What cell 0's stream is made from, entry by entry, and what is asked of the lent tables.
-pub mod Numbers
 pub mod Opened
+pub mod code

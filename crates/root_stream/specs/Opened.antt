@@ -1,4 +1,4 @@
--- Document 01, "Cells": the rows of cell 0's stream. Assumes nothing.
+-- Document 01, "Cells": the rows of cell 0's stream.
 use mathlib.Core.List.{List, map}
 use Rattle.drawing.specs.Tables.{Tables, drawnIn}
 use Rattle.pruning.specs.Sides.{paint, flat}

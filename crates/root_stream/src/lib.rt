@@ -7,12 +7,12 @@ ghost use mathlib.Core.Path.{_≡_};
 ghost use Prim.Native.Nat.{_+_, _*_, _≤_, _<_};
 ghost use lib.ListN.{length};
 ghost use Rattle.cells.specs.Cells.{squareOf, root};
-ghost use Rattle.cells.specs.Making.{rowSize};
-ghost use Rattle.pruning.specs.Weights.{total};
+ghost use Rattle.cells.specs.code.Making.{rowSize};
+ghost use Rattle.pruning.specs.code.Weights.{total};
 ghost use Rattle.drawing.specs.Tables.{tables};
 ghost use Rattle.stream.specs.Table.{written};
 ghost use Rattle.evaluate.specs.Words.{words};
-ghost use Rattle.root_stream.specs.Numbers.{sourceAt, endN, edgeN, markN, entryN, afterN, Opened};
+ghost use Rattle.root_stream.specs.code.Numbers.{sourceAt, endN, edgeN, markN, entryN, afterN, Opened};
 ghost use Rattle.root_stream.specs.Opened.{rowsOpened, wordsOpened};
 
 // The areas and the corners before a record, and the first corner of the contour in progress.

@@ -1,4 +1,4 @@
--- A test that came out one way. Assumes nothing.
+-- A test that came out one way.
 use mathlib.Core.Path.{_≡_, sym, ap}
 use mathlib.Core.Bool.{Bool, true, false, cond}
 

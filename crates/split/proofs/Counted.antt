@@ -1,4 +1,4 @@
--- The call by its numbers and by its tables. Assumes nothing.
+-- The call by its numbers and by its tables.
 use mathlib.Core.Path.{_≡_, _∙_}
 use mathlib.Core.Bool.{Bool, true, false}
 use mathlib.Core.List.{List}

@@ -1,4 +1,4 @@
--- What a head that has passed says. Assumes nothing.
+-- What a head that has passed says.
 use mathlib.Core.Path.{_≡_, ap}
 use mathlib.Core.Bool.{Bool, true, cond}
 use mathlib.Core.List.{List}

@@ -1,4 +1,4 @@
--- The room that a split asks for. Assumes nothing.
+-- The room that a split asks for.
 use mathlib.Core.Path.{_≡_}
 use mathlib.Core.Bool.{true, false, _&&_}
 use mathlib.Core.List.{List}
@@ -21,7 +21,7 @@ use Rattle.split.specs.declared.Answer.the-variants.{Split, Not}
 use Rattle.split.specs.Split.{roomAnswer}
 use Rattle.four_children.specs.declared.Tally.{Tally}
 use Rattle.four_children.specs.Children.{cellOfChild, wordsOfChild, entriesOfChild, streamsTo}
-use Rattle.four_children.specs.Numbers.{noTally, fourTallies, FewEach}
+use Rattle.four_children.specs.code.Numbers.{noTally, fourTallies, FewEach}
 use Rattle.four_children.proofs.Filled.{length-child, entries-at}
 use Rattle.four_children.proofs.Made.{few-rows}
 

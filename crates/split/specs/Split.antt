@@ -1,4 +1,4 @@
--- Document 01, "Cells" and "From the state": splitting a cell of a tree in lent tables: the answer, and every table afterwards. Assumes nothing.
+-- Document 01, "Cells" and "From the state": splitting a cell of a tree in lent tables: the answer, and every table afterwards.
 use mathlib.Core.Bool.{cond}
 use mathlib.Core.List.{List}
 use Prim.Native.Nat.{ℕ, _+_}

@@ -1,4 +1,4 @@
--- The tables of a drawing and of its tree, together, and the numbers in use that every call on a tree meets. Assumes nothing.
+-- The tables of a drawing and of its tree, together, and the numbers in use that every call on a tree meets.
 use mathlib.Core.Bool.{Bool, false, cond}
 use mathlib.Core.List.{List}
 use Prim.Native.Nat.{ℕ}

@@ -13,7 +13,7 @@ ghost use Rattle.celltable.specs.Table.{putChildAt};
 ghost use Rattle.celltable.specs.Ranges.{squareRange, cellOf, cellsHeld, entriesHeld};
 ghost use Rattle.ranges.specs.Held.{lent};
 ghost use Rattle.four_children.specs.Children.{streamsTo};
-ghost use Rattle.four_children.specs.Numbers.{noTally, fourTallies, cellsBy, FewEach};
+ghost use Rattle.four_children.specs.code.Numbers.{noTally, fourTallies, cellsBy, FewEach};
 ghost use Rattle.split.specs.Tables.{tree, cellsUsed, entriesUsed};
 ghost use Rattle.split.specs.Split.{roomAnswer, leafAnswer, cellAnswer, madeBy, headBy, cellsOf, entriesBy, drawingSplit, countsSplit, splitAnswer, headAfter, cellsAfter, entriesAfter};
 

@@ -1,4 +1,4 @@
--- When a split is accepted. Assumes nothing.
+-- When a split is accepted.
 use mathlib.Core.Path.{_≡_, refl, sym, ap, _∙_}
 use mathlib.Core.Bool.{Bool, true, false, cond}
 use Prim.Native.Nat.{ℕ, _+_, _≤_}
@@ -18,7 +18,7 @@ use Rattle.split.specs.declared.Answer.the-variants.{Split, Not}
 use Rattle.split.specs.Tables.{Tree, cellsUsed, entriesUsed, boundsOf}
 use Rattle.split.specs.Split.{words, against, made, roomAnswer, cellSplit, drawingSplit, countsSplit, splitAnswer}
 use Rattle.split.proofs.Rooms.{cells-room, entries-room}
-use Rattle.split_laws.specs.Accepted.{Splittable, Accepted}
+use Rattle.split_laws.specs.code.Accepted.{Splittable, Accepted}
 use Rattle.split_laws.proofs.Counts.{counts-head, counts-plan, counts-used, counts-of}
 
 abbrev isSplit : Answer → Bool

@@ -1,4 +1,4 @@
--- What it says that the numbers in use pass. Assumes nothing.
+-- What it says that the numbers in use pass.
 use mathlib.Core.Path.{_≡_}
 use mathlib.Core.Bool.{Bool, true, false, cond, _&&_}
 use mathlib.Core.List.{List}

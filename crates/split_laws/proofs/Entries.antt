@@ -1,4 +1,4 @@
--- "Entries of split cells are not used again.": of every accepted split, of any tables, and of one split after another. Assumes nothing.
+-- "Entries of split cells are not used again.": of every accepted split, of any tables, and of one split after another.
 use mathlib.Core.Path.{_≡_, ap, _∙_}
 use Prim.Native.Nat.{ℕ, suc, _+_, _≤_, _<_}
 use native.Mathlib.Omega.{arith}

@@ -1,4 +1,4 @@
--- An accepted split: what it leaves as it was, and what it makes. Assumes nothing.
+-- An accepted split: what it leaves as it was, and what it makes.
 use mathlib.Core.Path.{_≡_, ap, _∙_}
 use mathlib.Core.List.{List}
 use Prim.Native.Nat.{ℕ, _+_, _*_, _≤_, _<_}
@@ -18,7 +18,7 @@ use Rattle.split.specs.declared.Answer.the-variants.{Split}
 use Rattle.split.specs.Tables.{Tree, cellsUsed, entriesUsed}
 use Rattle.split.specs.Split.{words, drawing, stream, made, splitAnswer, headAfter, cellsAfter, entriesAfter}
 use Rattle.split.proofs.Heads.{used-is}
-use Rattle.split_laws.specs.Accepted.{Accepted}
+use Rattle.split_laws.specs.code.Accepted.{Accepted}
 use Rattle.split_laws.proofs.Counts.{counts-long}
 use Rattle.split_laws.proofs.Accepted.{split-accepted}
 use Rattle.split_laws.proofs.Rows.{length-cells-to, cells-to-keeps, cells-to-child, streams-read}

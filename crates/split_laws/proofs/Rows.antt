@@ -1,4 +1,4 @@
--- The rows of four children, and their streams, as they are read back. Assumes nothing.
+-- The rows of four children, and their streams, as they are read back.
 use mathlib.Core.Path.{_≡_, refl, sym, ap, subst, _∙_}
 use mathlib.Core.List.{List}
 use Prim.Native.Nat.{ℕ, zero, suc, _+_, _*_, _≤_, _<_}

@@ -1,4 +1,4 @@
--- The seven tables after a split, together: `Kept` of them, and the numbers in use. Assumes nothing.
+-- The seven tables after a split, together: `Kept` of them, and the numbers in use.
 use mathlib.Core.Path.{_≡_, refl, sym, ap, _∙_}
 use mathlib.Core.Bool.{true}
 use mathlib.Core.List.{List}
@@ -19,7 +19,7 @@ use Rattle.split.specs.Tables.{Tree, tree, cellsUsed, entriesUsed, boundsOf, co
 use Rattle.split.specs.Split.{words, drawing, stream, made, splitAnswer, headAfter, cellsAfter, entriesAfter}
 use Rattle.split.proofs.Heads.{used-is}
 use Rattle.split_laws.specs.After.{splitTree}
-use Rattle.split_laws.specs.Accepted.{Accepted}
+use Rattle.split_laws.specs.code.Accepted.{Accepted}
 use Rattle.split_laws.proofs.Counts.{counts-plan, counts-used, counts-long, counts-of, used-more, head-fits}
 use Rattle.split_laws.proofs.Accepted.{split-accepted}
 use Rattle.split_laws.proofs.Kept.{split-length-head, split-length-cells, split-length-entries, split-used, split-free, split-keeps-cell, split-cell, split-child, split-stream, split-child-stream}

@@ -1,4 +1,4 @@
--- Document 01, "Cells": a tree in lent tables after cell i is split. Assumes nothing.
+-- Document 01, "Cells": a tree in lent tables after cell i is split.
 use Prim.Native.Nat.{ℕ}
 use Rattle.split.specs.Tables.{Tree, tree}
 use Rattle.split.specs.Split.{splitAnswer, headAfter, cellsAfter, entriesAfter}

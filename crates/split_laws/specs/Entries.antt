@@ -1,4 +1,4 @@
--- Document 01, "Cells": what becomes of entries. Assumes nothing.
+-- Document 01, "Cells": what becomes of entries.
 use mathlib.Core.Path.{_≡_}
 use Prim.Native.Nat.{ℕ, _+_, _≤_, _<_}
 use Rattle.celltable.specs.declared.CellWords.{CellWords}

@@ -1,4 +1,4 @@
--- Every starred spot of the table is right: one test, computed from the definitions. Assumes nothing.
+-- Every starred spot of the table is right: one test, computed from the definitions.
 use lib.Dec.{T}
 use Rattle.geometry.specs.Edges.{product, lineCounts, counts, sign}
 use Rattle.geometry.specs.Windings.{adds, sumOf}

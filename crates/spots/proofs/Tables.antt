@@ -1,4 +1,4 @@
--- Tables that are written out are in range: one test over each. Assumes nothing.
+-- Tables that are written out are in range: one test over each.
 use mathlib.Core.Path.{_≡_}
 use mathlib.Core.List.{List}
 use Prim.Native.Nat.{ℕ, _+_, _*_, _^_, _≤_, _<_}
@@ -7,7 +7,7 @@ use lib.Dec.{T, leb, leb→le}
 use lib.ListN.{length, getD}
 use Rattle.laws.specs.Tables.{allEntries}
 use Rattle.laws.proofs.Tables.{entry-at}
-use Rattle.geometry.specs.Reach.{reach, CornersIn}
+use Rattle.geometry.specs.code.Reach.{reach, CornersIn}
 use Rattle.paint.specs.Areas.{Painted}
 use Rattle.paint.proofs.Sets.{has-below}
 

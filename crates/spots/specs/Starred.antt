@@ -1,5 +1,5 @@
 -- Document 01, "Spots to try": the starred ones, as one table. `Rattle.spots.proofs.Checked`
--- has the theorem that every row is right. Assumes nothing.
+-- has the theorem that every row is right.
 use mathlib.Core.Bool.{Bool, true, false, _&&_}
 use mathlib.Core.List.{List, [], _∷_}
 use Prim.Native.Nat.{ℕ}

@@ -4,7 +4,7 @@ use geometry::class::Square;
 use geometry::edge::Edge;
 use geometry::fill::FillRule;
 ghost use Prim.Native.Nat.{_<_};
-ghost use Rattle.geometry.specs.Reach.{PositionIn, EndsIn, SquareIn};
+ghost use Rattle.geometry.specs.code.Reach.{PositionIn, EndsIn, SquareIn};
 ghost use Rattle.paint.specs.Areas.{Painted};
 
 // A space and a number.

@@ -1,4 +1,4 @@
--- Streams that pass and streams that do not, computed. Assumes nothing.
+-- Streams that pass and streams that do not, computed.
 use Prim.Native.Nat.{ℕ}
 use mathlib.Core.Path.{_≡_, refl}
 use mathlib.Core.Bool.{Bool, true, false}

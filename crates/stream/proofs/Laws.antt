@@ -1,4 +1,4 @@
--- The loop over a stream, and what the test of the numbers in use says. Assumes nothing.
+-- The loop over a stream, and what the test of the numbers in use says.
 use Prim.Native.Nat.{ℕ, _+_, _*_, _-_, _/_, _≤_}
 use mathlib.Core.Path.{_≡_, ap}
 use mathlib.Core.Bool.{Bool, true, _&&_}
@@ -12,7 +12,7 @@ use Rattle.stream.specs.declared.Bounds.{Bounds}
 use Rattle.stream.specs.declared.Scan.{Scan}
 use Rattle.stream.specs.Table.{wordsFrom}
 use Rattle.stream.specs.Grammar.{Env, usedRange, Ready}
-use Rattle.stream.specs.Machine.{scanN}
+use Rattle.stream.specs.code.Machine.{scanN}
 use Rattle.stream.proofs.Table.{words-none}
 
 -- where the loop begins, and where it ends: what is left gives what the whole gives

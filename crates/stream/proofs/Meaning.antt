@@ -1,4 +1,4 @@
--- The state that the code holds says what the grammar of streams says. Assumes nothing.
+-- The state that the code holds says what the grammar of streams says.
 use Prim.Native.Nat.{ℕ, _+_}
 use mathlib.Core.Path.{_≡_, refl}
 use mathlib.Core.Bool.{Bool, true, false, cond, not, _&&_}
@@ -8,7 +8,7 @@ use lib.ListN.{length}
 use lib.Dec.{eqb, ltb}
 use borrow.Author.Tests.{ne-eqb}
 use Rattle.groups.specs.Sides.{Frame, isPaint, onLeft, onRight, toOuter}
-use Rattle.groups.specs.Stack.{num, closeN}
+use Rattle.groups.specs.code.Stack.{num, closeN}
 use Rattle.groups.proofs.Stack.{paint-is, left-is, right-is, room-is, bar-is, close-is, open-is, empty-is, num-pos}
 use Rattle.records.specs.declared.Decoded.{Decoded}
 use Rattle.records.specs.declared.Decoded.the-variants.{Good, Bad}
@@ -16,7 +16,7 @@ use Rattle.stream.specs.declared.Words.{Words}
 use Rattle.stream.specs.declared.Scan.{Scan}
 use Rattle.stream.specs.Entry.{Entry, opens, bar, closes, area, line, shortcut, passes, decode, startRange}
 use Rattle.stream.specs.Grammar.{Env, isGood, areaMet, roleFits, inRange, Place, place, Course, at, off, next, met, course, begin, isWhole, accepts}
-use Rattle.stream.specs.Machine.{mk, offN, startN, inGroups, afterOpenN, afterBarN, afterCloseN, afterPassesN, withAreaN, areaFitsN, withLineN, stepN, scanN}
+use Rattle.stream.specs.code.Machine.{mk, offN, startN, inGroups, afterOpenN, afterBarN, afterCloseN, afterPassesN, withAreaN, areaFitsN, withLineN, stepN, scanN}
 
 abbrev enc : Course → Scan
 enc (at p) = mk (num (p .groups)) (p .held) (p .areas) (p .lines)

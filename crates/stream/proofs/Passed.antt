@@ -1,4 +1,4 @@
--- What holds of a stream that passes: where it lies, and that each of its entries is in range. Assumes nothing.
+-- What holds of a stream that passes: where it lies, and that each of its entries is in range.
 use Prim.Native.Nat.{ℕ, zero, suc, _+_, _-_, _<_}
 use mathlib.Core.Path.{_≡_, refl, sym, subst, _∙_}
 use mathlib.Core.Bool.{Bool, true, false, cond}

@@ -1,4 +1,4 @@
--- Lines and shortcuts in a row: how many there are, and that a scan of the run is a scan of its entries. Assumes nothing.
+-- Lines and shortcuts in a row: how many there are, and that a scan of the run is a scan of its entries.
 use mathlib.Core.Path.{_≡_, refl, sym, ap, ap₂, _∙_}
 use mathlib.Core.Bool.{Bool, true, false, cond, _&&_, _||_}
 use mathlib.Core.List.{List, [], _∷_}
@@ -13,7 +13,7 @@ use Rattle.stream.specs.declared.Scan.{Scan}
 use Rattle.stream.specs.declared.Scanned.{Scanned}
 use Rattle.stream.specs.Table.{wordsAt, wordsFrom}
 use Rattle.stream.specs.Grammar.{Env, lineRange, shortcutRange}
-use Rattle.stream.specs.Machine.{mk, offN, stepN, scanN, isSegment, segmentFits, segmentsIn, runFits, afterRunN, Onward}
+use Rattle.stream.specs.code.Machine.{mk, offN, stepN, scanN, isSegment, segmentFits, segmentsIn, runFits, afterRunN, Onward}
 use Rattle.stream.proofs.Table.{words-step, words-none}
 
 -- a line or a shortcut is one of two kinds

@@ -1,4 +1,4 @@
--- The ranges of a start number and of a sign, said of the words that hold them, are those of the signed numbers that the words stand for. Assumes nothing.
+-- The ranges of a start number and of a sign, said of the words that hold them, are those of the signed numbers that the words stand for.
 use Prim.Native.Nat.{ℕ, suc, _-_, _≤_, _<_}
 use mathlib.Core.Path.{_≡_, refl, sym, ap, _∙_}
 use mathlib.Core.Bool.{Bool, true, false, _&&_, _||_}

@@ -1,4 +1,4 @@
--- Laws of a table of four words an entry: reading it one entry at a time, what a write leaves as it was, and reading back what was written. Assumes nothing.
+-- Laws of a table of four words an entry: reading it one entry at a time, what a write leaves as it was, and reading back what was written.
 use Prim.Native.Nat.{ℕ, zero, suc, _+_, _*_, _-_, _≤_, _<_}
 use mathlib.Core.Path.{_≡_, refl, sym, ap, _∙_}
 use mathlib.Core.List.{List, [], _∷_, _++_}

@@ -1,4 +1,4 @@
--- Document 01, "Cells": an entry of a stream, and what the four words say that hold it. Assumes nothing.
+-- Document 01, "Cells": an entry of a stream, and what the four words say that hold it.
 use Prim.Native.Nat.{ℕ}
 use mathlib.Core.Bool.{Bool, cond, _||_}
 use lib.Dec.{eqb, leb}

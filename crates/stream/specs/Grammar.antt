@@ -1,4 +1,4 @@
--- Document 01, "From the state", 12: when the entries of a stream are in range and in the grammar. Assumes nothing.
+-- Document 01, "From the state", 12: when the entries of a stream are in range and in the grammar.
 use Prim.Native.Nat.{ℕ, _+_, _*_, _-_, _/_, _≤_}
 use mathlib.Core.Path.{_≡_}
 use mathlib.Core.Bool.{Bool, true, false, cond, not, _&&_}

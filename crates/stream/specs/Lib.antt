@@ -2,4 +2,4 @@
 pub mod Entry
 pub mod Table
 pub mod Grammar
-pub mod Machine
+pub mod code

@@ -1,4 +1,4 @@
--- A table of four words an entry, as a list of entries, and the table after entries are written. `Rattle.stream.proofs.Table` has the laws. Assumes nothing.
+-- A table of four words an entry, as a list of entries, and the table after entries are written. `Rattle.stream.proofs.Table` has the laws.
 use Prim.Native.Nat.{ℕ, zero, suc, _+_, _*_}
 use mathlib.Core.List.{List, [], _∷_}
 use lib.ListN.{getD, set}

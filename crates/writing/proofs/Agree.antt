@@ -1,4 +1,4 @@
--- Rows that stand in a table below a limit. Assumes nothing.
+-- Rows that stand in a table below a limit.
 use mathlib.Core.Path.{_≡_, refl, sym, ap₂, subst, _∙_}
 use mathlib.Core.Bool.{Bool, true, false, cond}
 use mathlib.Core.List.{List, [], _∷_, _++_, map}
@@ -14,7 +14,7 @@ use Rattle.stream.specs.Table.{wordsAt, wordsFrom, putAt}
 use Rattle.stream.proofs.Table.{put-same, length-put}
 use Rattle.cells.specs.Rows.{Row}
 use Rattle.evaluate.specs.Words.{wordsOf}
-use Rattle.writing.specs.Numbers.{putBelow}
+use Rattle.writing.specs.code.Numbers.{putBelow}
 
 -- ---- one entry
 

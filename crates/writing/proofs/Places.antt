@@ -1,4 +1,4 @@
--- Places by weights, and what an entry does to the output of the pruner. Assumes nothing.
+-- Places by weights, and what an entry does to the output of the pruner.
 use mathlib.Core.Path.{_≡_, refl, sym}
 use mathlib.Core.Bool.{Bool, true, false}
 use mathlib.Core.List.{List, [], _∷_, _++_}
@@ -8,17 +8,17 @@ use lib.Dec.{eqb}
 use lib.ListN.{length, take}
 use lib.Seq.{take-length}
 use Rattle.pruning.specs.Sides.{push, activate, pop}
-use Rattle.pruning.specs.Pruner as Pruning
-use Rattle.pruning.specs.Pruner.{left, right, through, dead, Frame, frame, Skip, going, shut, st, keepLeft, keepRight, endLeft, endRight}
-use Rattle.pruning.specs.Effects.{outOf}
-use Rattle.pruning.specs.Weights.{total}
+use Rattle.pruning.specs.code.Pruner as Pruning
+use Rattle.pruning.specs.code.Pruner.{left, right, through, dead, Frame, frame, Skip, going, shut, st, keepLeft, keepRight, endLeft, endRight}
+use Rattle.pruning.specs.code.Effects.{outOf}
+use Rattle.pruning.specs.code.Weights.{total}
 use Rattle.cells.specs.Cells.{Cell}
 use Rattle.cells.specs.Segments.{drawn, shortcut}
 use Rattle.cells.specs.Drawings.{Drawing}
 use Rattle.cells.specs.Streams.{items}
 use Rattle.cells.specs.Rows.{Row, opens, bar, closes, bare, named, segment, entryRows}
-use Rattle.cells.specs.Making.{prune, rowSize}
-use Rattle.writing.specs.Numbers.{placeOf}
+use Rattle.cells.specs.code.Making.{prune, rowSize}
+use Rattle.writing.specs.code.Numbers.{placeOf}
 
 -- ---- a place
 

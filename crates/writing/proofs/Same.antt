@@ -1,4 +1,4 @@
--- What stands from the limit on, and the length of the table, stay. Assumes nothing.
+-- What stands from the limit on, and the length of the table, stay.
 use mathlib.Core.Path.{_≡_, refl, _∙_}
 use mathlib.Core.Bool.{Bool, true, false, cond}
 use mathlib.Core.List.{List}
@@ -10,13 +10,13 @@ use mir.Syntax.{w32}
 use mir.Val.{ofZ}
 use Rattle.geometry.specs.declared.class.Class.{Class}
 use Rattle.geometry.specs.declared.class.Class.the-variants.{Dropped, Start, Shortcut, Kept}
-use Rattle.pruning.specs.Counters.{Count, lengthOf}
-use Rattle.pruner.specs.Numbers.{counted, baseOf, skipIn}
+use Rattle.pruning.specs.code.Counters.{Count, lengthOf}
+use Rattle.pruner.specs.code.Numbers.{counted, baseOf, skipIn}
 use Rattle.stream.specs.declared.Words.{Words}
 use Rattle.evaluate.specs.Words.{words}
 use Rattle.making.specs.declared.Maker.{Maker}
-use Rattle.making.specs.Numbers.{classN, settledN}
-use Rattle.writing.specs.Numbers.{putBelow, placeOf, keptPut, segmentPut, classPut, settledPut, markOn, onePut}
+use Rattle.making.specs.code.Numbers.{classN, settledN}
+use Rattle.writing.specs.code.Numbers.{putBelow, placeOf, keptPut, segmentPut, classPut, settledPut, markOn, onePut}
 use Rattle.writing.proofs.Agree.{below-length, below-rest}
 
 module _ (limit : ℕ) where

@@ -1,4 +1,4 @@
--- A signed number that is small, as a word of 32 bits. Assumes nothing.
+-- A signed number that is small, as a word of 32 bits.
 use mathlib.Core.Path.{_≡_, refl, sym, ap, subst, _∙_}
 use mathlib.Core.Bool.{true, false}
 use Prim.Native.Nat.{ℕ, suc, _-_, _≤_, _<_}

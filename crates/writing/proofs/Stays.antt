@@ -1,4 +1,4 @@
--- What is written for a line or a shortcut, and for another entry. Assumes nothing.
+-- What is written for a line or a shortcut, and for another entry.
 use mathlib.Core.Path.{_≡_, refl, sym}
 use mathlib.Core.Bool.{Bool, true, false, cond, not}
 use mathlib.Core.List.{List}
@@ -7,11 +7,11 @@ use lib.Dec.{eqb}
 use lib.IntN.{ℤ}
 use Rattle.laws.proofs.Booleans.{clash}
 use Rattle.geometry.specs.declared.class.Class.{Class}
-use Rattle.pruner.specs.Numbers.{counted}
+use Rattle.pruner.specs.code.Numbers.{counted}
 use Rattle.stream.specs.declared.Words.{Words}
 use Rattle.making.specs.declared.Maker.{Maker}
-use Rattle.making.specs.Numbers.{settledN, prunesN}
-use Rattle.writing.specs.Numbers.{segmentPut, settledPut, markOn, onePut}
+use Rattle.making.specs.code.Numbers.{settledN, prunesN}
+use Rattle.writing.specs.code.Numbers.{segmentPut, settledPut, markOn, onePut}
 
 choice : (x y : Bool) (s o : List ℕ) → false ≡ cond x false (not y) → s ≡ cond x s (cond y s o)
 choice true y s o h = refl

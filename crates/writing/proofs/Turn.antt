@@ -1,4 +1,4 @@
--- One entry more of a stream that passes the check is written. Assumes nothing.
+-- One entry more of a stream that passes the check is written.
 use mathlib.Core.Path.{_≡_, refl, sym, ap, subst, _∙_}
 use mathlib.Core.Bool.{cond}
 use mathlib.Core.List.{List, [], _∷_}
@@ -18,11 +18,11 @@ use Rattle.geometry.specs.Classes.{edgeClass}
 use Rattle.geometry.specs.declared.class.Class.{Class}
 use Rattle.geometry.specs.declared.class.Class.the-variants.{Kept}
 use Rattle.pruning.specs.Sides.{clip, item, push, activate, pop}
-use Rattle.pruning.specs.Pruner as Pruning
-use Rattle.pruning.specs.Pruner.{st, going, shut}
-use Rattle.pruning.specs.Counters.{lengthOf}
-use Rattle.pruning.specs.Effects.{outOf}
-use Rattle.pruning.specs.Weights.{total, weighed}
+use Rattle.pruning.specs.code.Pruner as Pruning
+use Rattle.pruning.specs.code.Pruner.{st, going, shut}
+use Rattle.pruning.specs.code.Counters.{lengthOf}
+use Rattle.pruning.specs.code.Effects.{outOf}
+use Rattle.pruning.specs.code.Weights.{total, weighed}
 use Rattle.cells.specs.Cells.{Cell, squareOf}
 use Rattle.cells.specs.Segments as Segments
 use Rattle.cells.specs.Segments.{Segment, drawn, signOf, classIn}
@@ -30,23 +30,23 @@ use Rattle.cells.specs.Drawings.{Drawing}
 use Rattle.cells.specs.Streams.{always}
 use Rattle.cells.specs.Rows as Rows
 use Rattle.cells.specs.Rows.{Row}
-use Rattle.cells.specs.Making.{nothing, Making, making, prune, settle, addTo, onRows, rowSize}
+use Rattle.cells.specs.code.Making.{nothing, Making, making, prune, settle, addTo, onRows, rowSize}
 use Rattle.stream.specs.declared.Words.{Words}
 use Rattle.stream.specs.Entry as Entries
 use Rattle.stream.specs.Entry.{decode}
 use Rattle.stream.specs.Grammar.{Env}
-use Rattle.pruner.specs.Numbers.{counted, skipIn, baseOf}
+use Rattle.pruner.specs.code.Numbers.{counted, skipIn, baseOf}
 use Rattle.pruner.proofs.Near.{counted-weight}
 use Rattle.evaluate.specs.Reading.{rowFor}
 use Rattle.evaluate.specs.Words.{words, wordsOf}
 use Rattle.evaluate.proofs.Laws.{line-used}
 use Rattle.making.specs.declared.Maker.{Maker}
-use Rattle.making.specs.Numbers.{leftSign, leftClass, waitingN, settledN, prunedN}
+use Rattle.making.specs.code.Numbers.{leftSign, leftClass, waitingN, settledN, prunedN}
 use Rattle.making.proofs.Follows.{stateOf, settle-counts, settle-fits, settle-short, kept-weight}
 use Rattle.making.proofs.Grammar.{Passes, one-passes}
 use Rattle.making.proofs.Standing.{Reads, Standing, by-kind}
 use Rattle.making.proofs.Turn.{standing-rows, weight-is}
-use Rattle.writing.specs.Numbers.{putBelow, placeOf, segmentPut, settledPut, onePut}
+use Rattle.writing.specs.code.Numbers.{putBelow, placeOf, segmentPut, settledPut, onePut}
 use Rattle.writing.proofs.Agree.{Agree}
 use Rattle.writing.proofs.Same.{Same, same-then, same-settled, same-one}
 use Rattle.writing.proofs.Places.{Moves, open-moves, bar-moves, close-moves}

@@ -1,4 +1,4 @@
--- A table whose front is what was made: as a whole. Assumes nothing.
+-- A table whose front is what was made: as a whole.
 use mathlib.Core.Path.{_≡_, refl, sym, ap, ap₂, subst, _∙_}
 use mathlib.Core.Bool.{true}
 use mathlib.Core.List.{List, [], _∷_, _++_}
@@ -6,11 +6,11 @@ use Prim.Native.Nat.{ℕ, zero, suc, _+_, _*_, _-_, _≤_, _<_}
 use native.Mathlib.Omega.{arith}
 use lib.ListN.{length, getD, take, drop, take-append-drop}
 use lib.Seq.{drop-cons}
-use Rattle.pruning.specs.Effects.{outOf}
+use Rattle.pruning.specs.code.Effects.{outOf}
 use Rattle.cells.specs.Cells.{Cell}
 use Rattle.cells.specs.Drawings.{Drawing}
 use Rattle.cells.specs.Rows.{Row}
-use Rattle.cells.specs.Making.{Making, settle}
+use Rattle.cells.specs.code.Making.{Making, settle}
 use Rattle.stream.specs.declared.Words.{Words}
 use Rattle.stream.specs.Table.{wordsFrom, flat}
 use Rattle.stream.specs.Grammar.{Env, accepts}
@@ -20,7 +20,7 @@ use Rattle.making.specs.Made.{rowsMade, wordsMade}
 use Rattle.making.proofs.Made.{made-length}
 use Rattle.making.proofs.Standing.{Reads}
 use Rattle.making.proofs.Whole.{allOf, rows-all}
-use Rattle.writing.specs.Numbers.{settledPut}
+use Rattle.writing.specs.code.Numbers.{settledPut}
 use Rattle.writing.proofs.Agree.{Agree, agree-all}
 use Rattle.writing.proofs.Same.{Same, same-then, same-settled}
 use Rattle.writing.proofs.Written.{settle-agrees}

@@ -1,4 +1,4 @@
--- What is written stands in the table as the rows do: one entry more. Assumes nothing.
+-- What is written stands in the table as the rows do: one entry more.
 use mathlib.Core.Path.{_≡_, refl, sym, ap, subst, _∙_}
 use mathlib.Core.Bool.{Bool, true, false, cond}
 use mathlib.Core.List.{List, [], _∷_, _++_, map, append-nil}
@@ -17,11 +17,11 @@ use Rattle.geometry.specs.declared.class.Class.{Class}
 use Rattle.geometry.specs.declared.class.Class.the-variants.{Dropped, Start, Shortcut, Kept}
 use Rattle.pruning.specs.Sides.{paint, clip, item}
 use Rattle.pruning.specs.Items.{fails, passes, other}
-use Rattle.pruning.specs.Pruner as Pruning
-use Rattle.pruning.specs.Pruner.{Frame, going, shut, st, addItem}
-use Rattle.pruning.specs.Counters.{lengthOf}
-use Rattle.pruning.specs.Effects.{outOf}
-use Rattle.pruning.specs.Weights.{total, weighed}
+use Rattle.pruning.specs.code.Pruner as Pruning
+use Rattle.pruning.specs.code.Pruner.{Frame, going, shut, st, addItem}
+use Rattle.pruning.specs.code.Counters.{lengthOf}
+use Rattle.pruning.specs.code.Effects.{outOf}
+use Rattle.pruning.specs.code.Weights.{total, weighed}
 use Rattle.pruning.proofs.Counters.{Fit, count}
 use Rattle.pruning.proofs.Weights.{total-append}
 use Rattle.cells.specs.Cells.{Cell}
@@ -29,18 +29,18 @@ use Rattle.cells.specs.Segments.{Segment, shortcut, signOf, classIn, keptBy, st
 use Rattle.cells.specs.Drawings.{Drawing}
 use Rattle.cells.specs.Streams.{always, area, items}
 use Rattle.cells.specs.Rows.{Row, bare, named, segment, itemRows, entryRows}
-use Rattle.cells.specs.Making.{Waiting, nothing, held, Making, making, prune, settle, addTo, rowSize}
+use Rattle.cells.specs.code.Making.{Waiting, nothing, held, Making, making, prune, settle, addTo, rowSize}
 use Rattle.cells.proofs.Making.{entry-some}
 use Rattle.stream.specs.declared.Words.{Words}
 use Rattle.pruner.specs.declared.Pruner.{Pruner}
-use Rattle.pruner.specs.Numbers.{counted, baseOf, skipIn}
+use Rattle.pruner.specs.code.Numbers.{counted, baseOf, skipIn}
 use Rattle.pruner.proofs.Near.{counted-weight, counted-base, counted-skip}
 use Rattle.evaluate.specs.Words.{words, wordsOf, Agrees}
 use Rattle.making.specs.declared.Maker.{Maker}
-use Rattle.making.specs.Numbers.{classN}
+use Rattle.making.specs.code.Numbers.{classN}
 use Rattle.making.proofs.Follows.{stateOf, waitingOf, waitingFor, Follows, class-is}
 use Rattle.making.proofs.Turn.{before-most}
-use Rattle.writing.specs.Numbers.{putBelow, placeOf, keptPut, segmentPut, settledPut}
+use Rattle.writing.specs.code.Numbers.{putBelow, placeOf, keptPut, segmentPut, settledPut}
 use Rattle.writing.proofs.Agree.{Agree, agree-append, agree-take, agree-behind, agree-before, agree-more, below-here}
 use Rattle.writing.proofs.Places.{place-is, Moves, adds, cuts}
 

@@ -1,2 +1,2 @@
 -- What a making writes.
-pub mod Numbers
+pub mod code

@@ -12,9 +12,9 @@ ghost use lib.ListN.{length};
 ghost use lib.IntN.{natAbs};
 ghost use mir.Syntax.{w32};
 ghost use mir.Val.{ofZ};
-ghost use Rattle.pruner.specs.Numbers.{counted};
-ghost use Rattle.making.specs.Numbers.{settledN, prunedN, maker, Inside, Room};
-ghost use Rattle.writing.specs.Numbers.{putBelow, placeOf, keptPut, segmentPut, namedPut, barePut, classPut, settledPut, markPut, markOn};
+ghost use Rattle.pruner.specs.code.Numbers.{counted};
+ghost use Rattle.making.specs.code.Numbers.{settledN, prunedN, maker, Inside, Room};
+ghost use Rattle.writing.specs.code.Numbers.{putBelow, placeOf, keptPut, segmentPut, namedPut, barePut, classPut, settledPut, markPut, markOn};
 
 // A signed number as a word in two's complement.
 fn word_of(z: i64) -> u32

@@ -1,5 +1,4 @@
 -- A log is decided by the materials at its positions: where 12 is met at none of them and the materials are those of another reading, so is the log.
--- Assumes nothing.
 use mathlib.Core.Path.{_≡_, refl, sym, ap, ap₂, _∙_}
 use mathlib.Core.Bool.{Bool, true, cond, not, _&&_, _||_}
 use mathlib.Core.List.{List, []}
@@ -17,7 +16,7 @@ use Rattle.position.specs.Spots.{known}
 use Rattle.zone_log.specs.declared.LogAnswer.{LogAnswer}
 use Rattle.zone_log.specs.declared.LogAnswer.the-variants.{Indices, Not}
 use Rattle.zone_log.specs.Logs.{isLogged, logFrom, outsideFrom, eachWord, materialAt, knownFrom, zoneLog, logRoom, logKnown, logRange, logAnswer, outAfter}
-use Rattle.zone_log.specs.Numbers.{RunIn}
+use Rattle.zone_log.specs.code.Numbers.{RunIn}
 
 pub logged-agrees : (m m′ : ℕ → ℕ) (i : ℕ) → m i ≡ m′ i → m (i - 1) ≡ m′ (i - 1) → isLogged m i ≡ isLogged m′ i
 logged-agrees m m′ i p q = ap₂ (λ (u v : ℕ). eqb i 0 || not (eqb u v)) p q

@@ -1,4 +1,4 @@
--- What a count says of the answer. Assumes nothing.
+-- What a count says of the answer.
 use mathlib.Core.Path.{_≡_, refl, sym, ap, ap₂, _∙_}
 use mathlib.Core.Bool.{Bool, true, false, cond, _&&_}
 use mathlib.Core.List.{List}
@@ -15,7 +15,7 @@ use Rattle.zone_log.specs.declared.Count.{Count}
 use Rattle.zone_log.specs.declared.Count.the-variants.{Known, Broken}
 use Rattle.zone_log.specs.declared.LogAnswer.the-variants.{Indices, Not}
 use Rattle.zone_log.specs.Logs.{eachWord, knownFrom, zoneLog, logRoom, logKnown}
-use Rattle.zone_log.specs.Numbers.{countIn}
+use Rattle.zone_log.specs.code.Numbers.{countIn}
 
 module _ (t : Tree) (px py : List ℕ) where
   abbrev pub all : Bool

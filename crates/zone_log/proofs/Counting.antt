@@ -1,4 +1,4 @@
--- The pass that counts the indices of a log, and the pass that writes them. Assumes nothing.
+-- The pass that counts the indices of a log, and the pass that writes them.
 use mathlib.Core.Path.{_≡_, refl, sym, ap, ap₂, subst, _∙_}
 use mathlib.Core.Bool.{Bool, true, false, cond, not, _&&_, _||_}
 use mathlib.Core.List.{List, [], _∷_}
@@ -16,12 +16,12 @@ use Rattle.celltable.specs.declared.Found.{Found}
 use Rattle.split.specs.Tables.{Tree}
 use Rattle.split.proofs.Choices.{pick-true, pick-false}
 use Rattle.position.specs.Spots.{known}
-use Rattle.position.specs.Numbers.{LastIn}
+use Rattle.position.specs.code.Numbers.{LastIn}
 use Rattle.position.proofs.Known.{Known}
 use Rattle.zone_log.specs.declared.Tally.{Tally}
 use Rattle.zone_log.specs.declared.Count.the-variants as Counts
 use Rattle.zone_log.specs.Logs.{isLogged, logFrom, eachWord, materialAt, knownFrom, zoneLog}
-use Rattle.zone_log.specs.Numbers.{loggedN, tally, talliedN, countIn}
+use Rattle.zone_log.specs.code.Numbers.{loggedN, tally, talliedN, countIn}
 use Rattle.zone_log.proofs.Runs.{less-one, less-none}
 
 -- ---- what the code tests is whether the index is in the log

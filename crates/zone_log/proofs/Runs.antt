@@ -1,4 +1,4 @@
--- The lowest position out of range. Assumes nothing.
+-- The lowest position out of range.
 use mathlib.Core.Path.{_≡_, refl, ap, _∙_}
 use mathlib.Core.Bool.{Bool, true, false, cond}
 use mathlib.Core.List.{List}
@@ -10,7 +10,7 @@ use borrow.Author.Tests.{ltb-true, ltb-false}
 use Rattle.evaluate.proofs.Laws.{both}
 use Rattle.find_leaf.specs.Leaf.{positionRange}
 use Rattle.zone_log.specs.Logs.{outsideFrom}
-use Rattle.zone_log.specs.Numbers.{RunIn}
+use Rattle.zone_log.specs.code.Numbers.{RunIn}
 
 -- n is one more than n - 1
 pub less-one : (e i : ℕ) → i < e → e - i ≡ suc (e - (i + 1))

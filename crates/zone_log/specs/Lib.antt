@@ -1,3 +1,3 @@
 -- Zone logs.
 pub mod Logs
-pub mod Numbers
+pub mod code

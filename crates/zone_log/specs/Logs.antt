@@ -1,4 +1,4 @@
--- Document 01, "Winding and meaning", "From the input" and "From the state": a zone log over a run of positions. Assumes nothing.
+-- Document 01, "Winding and meaning", "From the input" and "From the state": a zone log over a run of positions.
 use mathlib.Core.Bool.{Bool, true, false, cond, not, _&&_, _||_}
 use mathlib.Core.List.{List, [], _∷_}
 use Prim.Native.Nat.{ℕ, zero, suc, _+_, _-_}

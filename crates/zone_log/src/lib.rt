@@ -11,7 +11,7 @@ ghost use lib.Seq.{sets};
 ghost use Rattle.split.specs.Tables.{tree};
 ghost use Rattle.find_leaf.specs.Leaf.{positionRange};
 ghost use Rattle.zone_log.specs.Logs.{outsideFrom, eachWord, knownFrom, zoneLog, logKnown, logRange, logAnswer, outAfter};
-ghost use Rattle.zone_log.specs.Numbers.{RunIn, loggedN, talliedN, countIn};
+ghost use Rattle.zone_log.specs.code.Numbers.{RunIn, loggedN, talliedN, countIn};
 
 // How many indices a log has, or why the call was refused and where.
 pub enum LogAnswer {

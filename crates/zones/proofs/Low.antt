@@ -1,4 +1,4 @@
--- Places and results fit the low half of an answer. Assumes nothing.
+-- Places and results fit the low half of an answer.
 use mathlib.Core.Path.{_≡_, refl}
 use mathlib.Core.Bool.{Bool, true, false, cond}
 use mathlib.Core.List.{List}

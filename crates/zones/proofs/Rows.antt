@@ -1,4 +1,4 @@
--- The place of a refused row of pixels fits the low half of an answer. Assumes nothing.
+-- The place of a refused row of pixels fits the low half of an answer.
 use mathlib.Core.Path.{_≡_, refl}
 use mathlib.Core.Bool.{Bool, true, false, cond}
 use mathlib.Core.List.{List}

@@ -1,4 +1,3 @@
--- `answers::pack_grow` meets its contract. Assumes nothing.
 use native.Mathlib.Omega.{arith}
 use borrow.Author.Needs.{needs}
 use Rattle.answers.proofs.pack_grow.Statement.{statement}

@@ -1,4 +1,3 @@
--- `answers::pack_log` meets its contract. Assumes nothing.
 use borrow.Author.Needs.{needs}
 use Rattle.answers.proofs.pack_log.Statement.{statement}
 use Rattle.answers.proofs.pack_log.Tie as tie

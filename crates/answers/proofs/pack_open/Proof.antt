@@ -1,4 +1,3 @@
--- `answers::pack_open` meets its contract. Assumes nothing.
 use borrow.Author.Needs.{needs}
 use Rattle.answers.proofs.pack_open.Statement.{statement}
 use Rattle.answers.proofs.pack_open.Tie as tie

@@ -1,4 +1,3 @@
--- `answers::pack_split` meets its contract. Assumes nothing.
 use borrow.Author.Needs.{needs}
 use Rattle.answers.proofs.pack_split.Statement.{statement}
 use Rattle.answers.proofs.pack_split.Tie as tie

@@ -1,4 +1,3 @@
--- `answers::refused` meets its contract. Assumes nothing.
 use borrow.Author.Needs.{needs}
 use Rattle.answers.proofs.refused.Statement.{statement}
 use Rattle.answers.proofs.refused.Tie as tie

@@ -1,4 +1,3 @@
--- `celltable::cell_fits` meets its contract. Assumes nothing.
 use Rattle.celltable.specs.Ranges.{cellRange}
 use borrow.Author.Needs.{needs}
 use Rattle.celltable.proofs.cell_fits.Statement.{statement}

@@ -1,8 +1,7 @@
--- `celltable::descend` meets its contract. Assumes nothing.
 use mathlib.Core.Path.{_≡_}
 use borrow.Author.Needs.{needs}
 use Rattle.celltable.specs.Descent.{descendIn}
-use Rattle.celltable.specs.Numbers.{walkN}
+use Rattle.celltable.specs.code.Numbers.{walkN}
 use Rattle.celltable.proofs.Meaning.{walk-is}
 use Rattle.celltable.proofs.Walk.{walk-deeper, walk-landed, walk-bad, walk-done, Going, going-start, going-in, going-on}
 use Rattle.celltable.proofs.descend.Statement.{statement}

@@ -1,4 +1,3 @@
--- `celltable::half_of` meets its contract. Assumes nothing.
 use borrow.Author.Needs.{needs}
 use Rattle.celltable.proofs.half_of.Statement.{statement}
 use Rattle.celltable.proofs.half_of.Tie as tie

@@ -1,4 +1,3 @@
--- `celltable::head_fits` meets its contract. Assumes nothing.
 use borrow.Author.Tests.{le-leb, lt-leb}
 use Rattle.celltable.specs.Ranges.{headRange}
 use borrow.Author.Needs.{needs}

@@ -1,4 +1,3 @@
--- `celltable::numbers_fit` meets its contract. Assumes nothing.
 use borrow.Author.Needs.{needs}
 use Rattle.celltable.proofs.numbers_fit.Statement.{statement}
 use Rattle.celltable.proofs.numbers_fit.Tie as tie

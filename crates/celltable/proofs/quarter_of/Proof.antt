@@ -1,4 +1,3 @@
--- `celltable::quarter_of` meets its contract. Assumes nothing.
 use native.Mathlib.Omega.{arith}
 use Rattle.celltable.proofs.Grid.{passes-east, passes-north}
 use Rattle.celltable.proofs.Quarters.{quarter-is}

@@ -1,4 +1,3 @@
--- `celltable::root_fits` meets its contract. Assumes nothing.
 use Rattle.laws.proofs.Tests.{tests}
 use Rattle.celltable.proofs.root_fits.Statement.{statement}
 use Rattle.celltable.proofs.root_fits.Tie as tie

@@ -1,4 +1,3 @@
--- `celltable::side_fits` meets its contract. Assumes nothing.
 use Rattle.celltable.proofs.Powers.{divides-side, zero-side}
 use borrow.Author.Needs.{needs}
 use Rattle.celltable.proofs.side_fits.Statement.{statement}

@@ -1,4 +1,3 @@
--- `celltable::square_fits` meets its contract. Assumes nothing.
 use mathlib.Core.Path.{sym, _∙_}
 use Rattle.celltable.proofs.Ranges.{side-some}
 use borrow.Author.Needs.{needs}

@@ -1,4 +1,3 @@
--- `child_stream::count_child` meets its contract. Assumes nothing.
 use Rattle.child_stream.proofs.count_child.Statement.{statement}
 use Rattle.child_stream.proofs.count_child.Tie as tie
 use mathlib.Core.Path.{refl, sym, ap, _∙_}
@@ -9,9 +8,9 @@ use denote.Ref.{now}
 use borrow.Author.Needs.{needs}
 use Rattle.stream.specs.Grammar.{env}
 use Rattle.ranges.specs.Held.{lent}
-use Rattle.pruner.specs.Numbers.{counted}
-use Rattle.making.specs.Numbers.{cellIn}
-use Rattle.making.specs.Numbers.{maker}
+use Rattle.pruner.specs.code.Numbers.{counted}
+use Rattle.making.specs.code.Numbers.{cellIn}
+use Rattle.making.specs.code.Numbers.{maker}
 use Rattle.making.proofs.Stays.{stays-pruned}
 use Rattle.making.proofs.Lent.{lent-reads}
 use Rattle.child_stream.proofs.Loop.{loop-left, loop-sign, loop-asks, end-inside, end-room, end-weight}

@@ -1,10 +1,9 @@
--- `child_stream::ended` meets its contract. Assumes nothing.
 use borrow.Author.Needs.{needs}
 use Rattle.child_stream.proofs.ended.Statement.{statement}
 use Rattle.child_stream.proofs.ended.Tie as tie
 use Prim.Native.Nat.{_-_}
 use mathlib.Core.Path.{ap}
-use Rattle.child_stream.specs.Numbers.{starts}
+use Rattle.child_stream.specs.code.Numbers.{starts}
 use Rattle.child_stream.proofs.Clear.{Cleared, clear-begin, clear-turn, clear-end}
 
 abbrev Inv-loop : tie.InvT-loop

@@ -1,10 +1,9 @@
--- `child_stream::note` meets its contract. Assumes nothing.
 use borrow.Author.Needs.{needs}
 use Rattle.child_stream.proofs.note.Statement.{statement}
 use Rattle.child_stream.proofs.note.Tie as tie
 use Prim.Native.Nat.{_/_}
 use borrow.Author.Tests.{lt-ltb, le-ltb}
-use Rattle.child_stream.specs.Numbers.{putStart}
+use Rattle.child_stream.specs.code.Numbers.{putStart}
 use Rattle.evaluate.proofs.Laws.{small-back}
 
 mul-z : tie.Need-mul-z

@@ -1,4 +1,3 @@
--- `child_stream::write_child` meets its contract. Assumes nothing.
 use Rattle.child_stream.proofs.write_child.Statement.{statement}
 use Rattle.child_stream.proofs.write_child.Tie as tie
 use mathlib.Core.Path.{sym, _∙_}
@@ -8,11 +7,11 @@ use native.Mathlib.Omega.{arith}
 use lib.ListN.{length}
 use denote.Ref.{now}
 use borrow.Author.Needs.{needs}
-use Rattle.pruner.specs.Numbers.{counted}
+use Rattle.pruner.specs.code.Numbers.{counted}
 use Rattle.stream.specs.Grammar.{env}
 use Rattle.ranges.specs.Held.{lent}
-use Rattle.making.specs.Numbers.{cellIn}
-use Rattle.making.specs.Numbers.{maker}
+use Rattle.making.specs.code.Numbers.{cellIn}
+use Rattle.making.specs.code.Numbers.{maker}
 use Rattle.making.proofs.Lent.{lent-reads}
 use Rattle.making.proofs.Stays.{stays-pruned}
 use Rattle.writing.proofs.Stays.{segment-put, other-put}

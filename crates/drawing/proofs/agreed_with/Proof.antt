@@ -1,4 +1,3 @@
--- `drawing::agreed_with` meets its contract. Assumes nothing.
 use borrow.Author.Tests.{eq-eqb, ne-eqb}
 use borrow.Author.Needs.{needs}
 use Rattle.drawing.proofs.agreed_with.Statement.{statement}

@@ -1,4 +1,3 @@
--- `drawing::area_row` meets its contract. Assumes nothing.
 use Rattle.drawing.specs.Tables.{areaRow}
 use borrow.Author.Tests.{lt-ltb, le-ltb, eq-eqb, ne-eqb}
 use borrow.Author.Needs.{needs}

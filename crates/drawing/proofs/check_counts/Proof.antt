@@ -1,4 +1,3 @@
--- `drawing::check_counts` meets its contract. Assumes nothing.
 use Rattle.drawing.specs.Tables.{countsJudged, agreed}
 use Rattle.grammar.specs.declared.Verdict.{Verdict}
 use Rattle.grammar.proofs.Meaning.{checked-is}

@@ -1,4 +1,3 @@
--- `drawing::check_drawing` meets its contract. Assumes nothing.
 use borrow.Author.Needs.{needs}
 use borrow.Author.Tests.{eq-eqb, ne-eqb, le-leb, lt-leb}
 use Rattle.drawing.specs.Tables.{drawingOf}

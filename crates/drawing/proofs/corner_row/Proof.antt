@@ -1,4 +1,3 @@
--- `drawing::corner_row` meets its contract. Assumes nothing.
 use Rattle.drawing.specs.Tables.{cornerRow}
 use borrow.Author.Tests.{lt-ltb, le-ltb}
 use borrow.Author.Needs.{needs}

@@ -1,4 +1,3 @@
--- `drawing::past` meets its contract. Assumes nothing.
 use borrow.Author.Needs.{needs}
 use Rattle.drawing.proofs.past.Statement.{statement}
 use Rattle.drawing.proofs.past.Tie as tie

@@ -1,4 +1,3 @@
--- `drawing::past_record` meets its contract. Assumes nothing.
 use borrow.Author.Needs.{needs}
 use Rattle.drawing.proofs.past_record.Statement.{statement}
 use Rattle.drawing.proofs.past_record.Tie as tie

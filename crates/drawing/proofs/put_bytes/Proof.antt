@@ -1,4 +1,3 @@
--- `drawing::put_bytes` meets its contract. Assumes nothing.
 use Rattle.drawing.proofs.Rows.{bytes-table}
 use Rattle.read.proofs.Writes.{none-at, none-table}
 use Rattle.read.specs.Words.{onGood}

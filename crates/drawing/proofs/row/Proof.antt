@@ -1,4 +1,3 @@
--- `drawing::row` meets its contract. Assumes nothing.
 use Rattle.drawing.specs.Tables.{rowOf}
 use borrow.Author.Tests.{le-leb, lt-leb}
 use borrow.Author.Needs.{needs}

@@ -1,9 +1,9 @@
--- `drawing::scan_tables` meets its contract: what is left to scan gives what the whole gives. Assumes nothing.
+-- `drawing::scan_tables` meets its contract: what is left to scan gives what the whole gives.
 use borrow.Author.Needs.{needs}
 use mathlib.Core.Path.{_≡_}
 use Prim.Native.Nat.{_≤_, _-_}
 use native.Mathlib.Omega.{arith}
-use Rattle.grammar.specs.Machine.{scanN, startN}
+use Rattle.grammar.specs.code.Machine.{scanN, startN}
 use Rattle.drawing.specs.Tables.{tables, cursor, rebuilt}
 use Rattle.drawing.proofs.Rows.{walk-begin, walk-turn, walk-stops, walk-done, past-area, past-corner}
 use Rattle.drawing.proofs.scan_tables.Statement.{statement}

@@ -1,4 +1,3 @@
--- `drawing::write` meets its contract. Assumes nothing.
 use Rattle.drawing.specs.Tables.{writeAnswer}
 use mathlib.Core.Path.{sym, refl, _∙_}
 use borrow.Author.Needs.{needs}

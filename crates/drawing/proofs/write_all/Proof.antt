@@ -1,4 +1,3 @@
--- `drawing::write_all` meets its contract. Assumes nothing.
 use Rattle.drawing.proofs.Rows.{Copying, copy-begin, copy-room, copy-turn, copy-done, past-area, past-corner}
 use Rattle.drawing.specs.Tables.{tables}
 use borrow.Author.Needs.{needs}

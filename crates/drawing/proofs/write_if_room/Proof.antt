@@ -1,4 +1,3 @@
--- `drawing::write_if_room` meets its contract. Assumes nothing.
 use native.Mathlib.Omega.{arith}
 use Rattle.drawing.proofs.Rows.{ready, drawn, drawn-left}
 use mathlib.Core.Path.{refl}

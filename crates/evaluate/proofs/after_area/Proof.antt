@@ -1,4 +1,3 @@
--- `evaluate::after_area` meets its contract. Assumes nothing.
 use Rattle.evaluate.proofs.Laws.{clip-plain}
 use borrow.Author.Tests.{ne-eqb}
 use Rattle.laws.proofs.Signed.{read-back}

@@ -1,4 +1,3 @@
--- `evaluate::area_passes` meets its contract. Assumes nothing.
 use borrow.Author.Tests.{ne-eqb}
 use Rattle.geometry.specs.declared.fill.FillRule.the-variants.{NonZero, EvenOdd}
 use Rattle.geometry.specs.FillRules.{passes}

@@ -1,4 +1,3 @@
--- `evaluate::line_adds` meets its contract. Assumes nothing.
 use mathlib.Core.Path.{_∙_}
 use Rattle.laws.proofs.Signed.{read-back}
 use borrow.Author.Needs.{needs}

@@ -1,4 +1,3 @@
--- `evaluate::moved` meets its contract. Assumes nothing.
 use Rattle.laws.proofs.Tests.{tests}
 use native.Mathlib.Omega.{arith}
 use borrow.Author.Needs.{needs}

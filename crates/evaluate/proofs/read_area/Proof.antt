@@ -1,4 +1,3 @@
--- `evaluate::read_area` meets its contract. Assumes nothing.
 use native.Mathlib.Omega.{arith}
 use denote.Ref.{now}
 use borrow.Author.Needs.{needs}
@@ -10,7 +9,7 @@ use Rattle.laws.proofs.Signed.{read-back}
 use Prim.Native.Nat.{_+_, _-_}
 use Rattle.stream.specs.Table.{wordsFrom}
 use Rattle.stream.specs.Grammar.{env}
-use Rattle.evaluate.specs.Numbers.{segmentsSum}
+use Rattle.evaluate.specs.code.Numbers.{segmentsSum}
 use Rattle.evaluate.proofs.Laws.{small-back, start-small, area-below}
 use Rattle.evaluate.proofs.Loop.{ranged-segments, ranged-name, area-onward, idle-onward}
 use Rattle.evaluate.proofs.read_area.Statement.{statement}

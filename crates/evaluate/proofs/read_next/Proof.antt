@@ -1,4 +1,3 @@
--- `evaluate::read_next` meets its contract. Assumes nothing.
 use denote.Ref.{now}
 use mathlib.Core.Path.{refl}
 use borrow.Author.Needs.{needs}

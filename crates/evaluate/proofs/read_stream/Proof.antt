@@ -1,15 +1,15 @@
--- `evaluate::read_stream` meets its contract: the entries that are left give, from where the machine stands, the set of the whole. Assumes nothing.
+-- `evaluate::read_stream` meets its contract: the entries that are left give, from where the machine stands, the set of the whole.
 use mathlib.Core.Path.{_≡_, _∙_}
 use Prim.Native.Nat.{_+_, _-_, _≤_}
 use native.Mathlib.Omega.{arith}
 use denote.Ref.{now}
 use borrow.Author.Needs.{needs}
-use Rattle.machine.specs.Registers.{meant}
+use Rattle.machine.specs.code.Registers.{meant}
 use Rattle.cells.specs.Rows.{settled, state}
 use Rattle.stream.specs.Table.{wordsFrom}
 use Rattle.stream.specs.Grammar.{env}
 use Rattle.evaluate.specs.Reading.{setAt}
-use Rattle.evaluate.specs.Numbers.{setFrom}
+use Rattle.evaluate.specs.code.Numbers.{setFrom}
 use Rattle.evaluate.proofs.Steps.{stopped-set, last-set}
 use Rattle.evaluate.proofs.Loop.{passed-ranged, begin}
 use Rattle.evaluate.proofs.read_stream.Statement.{statement}

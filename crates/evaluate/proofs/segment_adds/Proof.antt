@@ -1,4 +1,3 @@
--- `evaluate::segment_adds` meets its contract. Assumes nothing.
 use Rattle.evaluate.proofs.Laws.{line-below, line-ends, shortcut-small}
 use Rattle.geometry.proofs.Windings.{adds-abs}
 use Rattle.geometry.specs.Windings.{edgeBetween}

@@ -1,4 +1,3 @@
--- `evaluate::shortcut_adds` meets its contract. Assumes nothing.
 use Rattle.evaluate.proofs.Laws.{other-sign}
 use Rattle.laws.proofs.Tests.{tests}
 use Rattle.evaluate.proofs.shortcut_adds.Statement.{statement}

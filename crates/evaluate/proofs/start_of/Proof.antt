@@ -1,4 +1,3 @@
--- `evaluate::start_of` meets its contract. Assumes nothing.
 use mathlib.Core.Path.{_≡_, ap₂, _∙_}
 use lib.IntN.{_+ℤ_}
 use mir.Syntax.{w32, w64}

@@ -1,4 +1,4 @@
--- `evaluate::winding_from` meets its contract: the running sum and the lines and shortcuts that are left make the winding. Assumes nothing.
+-- `evaluate::winding_from` meets its contract: the running sum and the lines and shortcuts that are left make the winding.
 use mathlib.Core.Path.{_≡_, refl, sym, ap, subst, _∙_}
 use Prim.Native.Nat.{_+_, _-_, _≤_}
 use native.Mathlib.Omega.{arith}
@@ -9,8 +9,8 @@ use denote.Ref.{now}
 use borrow.Author.Needs.{needs}
 use Rattle.laws.proofs.Signed.{Running, running-fits, running-more, running-from, running-done}
 use Rattle.stream.specs.Table.{wordsFrom}
-use Rattle.evaluate.specs.Numbers.{segmentAdds, segmentsSum}
-use Rattle.stream.specs.Machine.{segmentsIn}
+use Rattle.evaluate.specs.code.Numbers.{segmentAdds, segmentsSum}
+use Rattle.stream.specs.code.Machine.{segmentsIn}
 use Rattle.stream.proofs.Runs.{count-more, count-stop, count-last}
 use Rattle.evaluate.proofs.Laws.{small-back}
 use Rattle.evaluate.proofs.Loop.{sum-more, sum-stop, sum-last}

@@ -1,4 +1,3 @@
--- `find_leaf::counts_fit` meets its contract. Assumes nothing.
 use borrow.Author.Needs.{needs}
 use Rattle.find_leaf.proofs.counts_fit.Statement.{statement}
 use Rattle.find_leaf.proofs.counts_fit.Tie as tie

@@ -1,4 +1,3 @@
--- `find_leaf::find_leaf` meets its contract. Assumes nothing.
 use borrow.Author.Needs.{needs}
 use Rattle.find_leaf.proofs.find_leaf.Statement.{statement}
 use Rattle.find_leaf.proofs.find_leaf.Tie as tie

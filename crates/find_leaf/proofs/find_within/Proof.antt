@@ -1,4 +1,3 @@
--- `find_leaf::find_within` meets its contract. Assumes nothing.
 use borrow.Author.Needs.{needs}
 use Rattle.find_leaf.proofs.find_within.Statement.{statement}
 use Rattle.find_leaf.proofs.find_within.Tie as tie

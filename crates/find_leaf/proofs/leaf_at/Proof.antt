@@ -1,4 +1,3 @@
--- `find_leaf::leaf_at` meets its contract. Assumes nothing.
 use borrow.Author.Needs.{needs}
 use Rattle.find_leaf.proofs.leaf_at.Statement.{statement}
 use Rattle.find_leaf.proofs.leaf_at.Tie as tie

@@ -1,4 +1,3 @@
--- `find_leaf::leaf_passes` meets its contract. Assumes nothing.
 use borrow.Author.Needs.{needs}
 use Rattle.find_leaf.proofs.leaf_passes.Statement.{statement}
 use Rattle.find_leaf.proofs.leaf_passes.Tie as tie

@@ -1,4 +1,3 @@
--- `find_leaf::line_of` meets its contract. Assumes nothing.
 use borrow.Author.Needs.{needs}
 use Rattle.find_leaf.proofs.line_of.Statement.{statement}
 use Rattle.find_leaf.proofs.line_of.Tie as tie

@@ -1,4 +1,3 @@
--- `find_leaf::lines_in` meets its contract. Assumes nothing.
 use borrow.Author.Needs.{needs}
 use Rattle.find_leaf.proofs.lines_in.Statement.{statement}
 use Rattle.find_leaf.proofs.lines_in.Tie as tie

@@ -1,4 +1,3 @@
--- `find_leaf::report` meets its contract. Assumes nothing.
 use borrow.Author.Needs.{needs}
 use Rattle.find_leaf.proofs.report.Statement.{statement}
 use Rattle.find_leaf.proofs.report.Tie as tie

@@ -1,4 +1,3 @@
--- `four_children::child_words` meets its contract. Assumes nothing.
 use borrow.Author.Needs.{needs}
 use Rattle.four_children.proofs.child_words.Statement.{statement}
 use Rattle.four_children.proofs.child_words.Tie as tie

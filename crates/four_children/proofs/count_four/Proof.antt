@@ -1,4 +1,3 @@
--- `four_children::count_four` meets its contract. Assumes nothing.
 use borrow.Author.Needs.{needs}
 use Rattle.four_children.proofs.count_four.Statement.{statement}
 use Rattle.four_children.proofs.count_four.Tie as tie

@@ -1,16 +1,15 @@
--- `four_children::count_one` meets its contract. Assumes nothing.
 use borrow.Author.Needs.{needs}
 use Rattle.four_children.proofs.count_one.Statement.{statement}
 use Rattle.four_children.proofs.count_one.Tie as tie
 use mathlib.Core.Path.{ap, _∙_}
 use denote.Ref.{now}
-use Rattle.pruning.specs.Weights.{total}
+use Rattle.pruning.specs.code.Weights.{total}
 use Rattle.cells.specs.Cells.{Cell}
-use Rattle.cells.specs.Making.{rowSize}
+use Rattle.cells.specs.code.Making.{rowSize}
 use Rattle.stream.specs.Table.{wordsFrom}
 use Rattle.ranges.specs.Held.{lent}
 use Rattle.making.specs.Made.{rowsMade}
-use Rattle.child_stream.specs.Numbers.{startsIn}
+use Rattle.child_stream.specs.code.Numbers.{startsIn}
 use Rattle.four_children.specs.Children.{rowsOfChild}
 use Rattle.celltable.specs.Ranges.{cellOf}
 use Rattle.four_children.proofs.Squares.{kid-square, kid-in, kid-back}

@@ -1,4 +1,3 @@
--- `four_children::put_four` meets its contract. Assumes nothing.
 use Rattle.four_children.proofs.put_four.Statement.{statement}
 use Rattle.four_children.proofs.put_four.Tie as tie
 use Prim.Native.Nat.{_-_}

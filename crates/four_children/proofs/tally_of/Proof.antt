@@ -1,4 +1,3 @@
--- `four_children::tally_of` meets its contract. Assumes nothing.
 use Rattle.four_children.proofs.tally_of.Statement.{statement}
 use Rattle.four_children.proofs.tally_of.Tie as tie
 use mathlib.Core.Path.{refl}

@@ -1,4 +1,3 @@
--- `four_children::write_child` meets its contract. Assumes nothing.
 use borrow.Author.Needs.{needs}
 use Rattle.four_children.proofs.write_child.Statement.{statement}
 use Rattle.four_children.proofs.write_child.Tie as tie

@@ -1,4 +1,3 @@
--- `grammar::advance` meets its contract. Assumes nothing.
 use borrow.Author.Needs.{needs}
 use Rattle.grammar.proofs.advance.Statement.{statement}
 use Rattle.grammar.proofs.advance.Tie as tie

@@ -1,4 +1,3 @@
--- `grammar::advance_at` meets its contract. Assumes nothing.
 use borrow.Author.Needs.{needs}
 use Rattle.grammar.proofs.advance_at.Statement.{statement}
 use Rattle.grammar.proofs.advance_at.Tie as tie

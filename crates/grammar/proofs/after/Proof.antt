@@ -1,4 +1,3 @@
--- `grammar::after` meets its contract. Assumes nothing.
 use borrow.Author.Tests.{ltb-true}
 use borrow.Author.Needs.{needs}
 use Rattle.grammar.proofs.after.Statement.{statement}

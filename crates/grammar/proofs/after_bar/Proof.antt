@@ -1,4 +1,3 @@
--- `grammar::after_bar` meets its contract. Assumes nothing.
 use borrow.Author.Needs.{needs}
 use Rattle.grammar.proofs.after_bar.Statement.{statement}
 use Rattle.grammar.proofs.after_bar.Tie as tie

@@ -1,4 +1,3 @@
--- `grammar::after_close` meets its contract. Assumes nothing.
 use borrow.Author.Needs.{needs}
 use Rattle.grammar.proofs.after_close.Statement.{statement}
 use Rattle.grammar.proofs.after_close.Tie as tie

@@ -1,4 +1,3 @@
--- `grammar::after_next` meets its contract. Assumes nothing.
 use borrow.Author.Needs.{needs}
 use Rattle.grammar.proofs.after_next.Statement.{statement}
 use Rattle.grammar.proofs.after_next.Tie as tie

@@ -1,4 +1,3 @@
--- `grammar::after_open` meets its contract. Assumes nothing.
 use borrow.Author.Needs.{needs}
 use Rattle.grammar.proofs.after_open.Statement.{statement}
 use Rattle.grammar.proofs.after_open.Tie as tie

@@ -1,4 +1,3 @@
--- `grammar::end_state` meets its contract. Assumes nothing.
 use borrow.Author.Tests.{eq-eqb, ne-eqb}
 use mathlib.Core.Path.{sym, _∙_}
 use borrow.Author.Needs.{needs}

@@ -1,4 +1,3 @@
--- `grammar::ended` meets its contract. Assumes nothing.
 use borrow.Author.Needs.{needs}
 use Rattle.grammar.proofs.ended.Statement.{statement}
 use Rattle.grammar.proofs.ended.Tie as tie

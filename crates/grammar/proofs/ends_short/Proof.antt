@@ -1,4 +1,3 @@
--- `grammar::ends_short` meets its contract. Assumes nothing.
 use borrow.Author.Needs.{needs}
 use Rattle.grammar.proofs.ends_short.Statement.{statement}
 use Rattle.grammar.proofs.ends_short.Tie as tie

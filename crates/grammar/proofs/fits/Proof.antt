@@ -1,4 +1,3 @@
--- `grammar::fits` meets its contract. Assumes nothing.
 use borrow.Author.Needs.{needs}
 use Rattle.grammar.proofs.fits.Statement.{statement}
 use Rattle.grammar.proofs.fits.Tie as tie

@@ -1,4 +1,3 @@
--- `grammar::in_limit` meets its contract. Assumes nothing.
 use borrow.Author.Needs.{needs}
 use Rattle.grammar.proofs.in_limit.Statement.{statement}
 use Rattle.grammar.proofs.in_limit.Tie as tie

@@ -1,4 +1,3 @@
--- `grammar::more` meets its contract. Assumes nothing.
 use borrow.Author.Tests.{lt-ltb, le-ltb}
 use borrow.Author.Needs.{needs}
 use Rattle.grammar.proofs.more.Statement.{statement}

@@ -1,4 +1,3 @@
--- `grammar::role_here` meets its contract. Assumes nothing.
 use mathlib.Core.Path.{sym, _∙_}
 use borrow.Author.Needs.{needs}
 use Rattle.grammar.proofs.role_here.Statement.{statement}

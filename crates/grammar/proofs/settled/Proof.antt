@@ -1,4 +1,3 @@
--- `grammar::settled` meets its contract. Assumes nothing.
 use borrow.Author.Needs.{needs}
 use Rattle.grammar.proofs.settled.Statement.{statement}
 use Rattle.grammar.proofs.settled.Tie as tie

@@ -1,4 +1,3 @@
--- `grammar::stepped` meets its contract. Assumes nothing.
 use mathlib.Core.Path.{sym, _∙_}
 use borrow.Author.Needs.{needs}
 use Rattle.grammar.proofs.stepped.Statement.{statement}

@@ -1,4 +1,3 @@
--- `groups::opened` meets its contract. Assumes nothing.
 use native.Mathlib.Omega.{arith}
 use borrow.Author.Tests.{ltb-true}
 use Rattle.laws.proofs.Tests.{tests}

@@ -1,4 +1,3 @@
--- `grow::depth_of` meets its contract. Assumes nothing.
 use borrow.Author.Needs.{needs}
 use Rattle.grow.proofs.depth_of.Statement.{statement}
 use Rattle.grow.proofs.depth_of.Tie as tie

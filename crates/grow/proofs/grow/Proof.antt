@@ -1,4 +1,3 @@
--- `grow::grow` meets its contract. Assumes nothing.
 use borrow.Author.Needs.{needs}
 use Rattle.grow.proofs.grow.Statement.{statement}
 use Rattle.grow.proofs.grow.Tie as tie

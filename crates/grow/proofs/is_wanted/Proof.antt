@@ -1,4 +1,3 @@
--- `grow::is_wanted` meets its contract. Assumes nothing.
 use borrow.Author.Needs.{needs}
 use Rattle.grow.proofs.is_wanted.Statement.{statement}
 use Rattle.grow.proofs.is_wanted.Tie as tie

@@ -1,4 +1,3 @@
--- `grow::split_past` meets its contract. Assumes nothing.
 use borrow.Author.Needs.{needs}
 use Rattle.grow.proofs.split_past.Statement.{statement}
 use Rattle.grow.proofs.split_past.Tie as tie

@@ -1,4 +1,3 @@
--- `grow::split_wanted` meets its contract. Assumes nothing.
 use borrow.Author.Needs.{needs}
 use Rattle.grow.proofs.split_wanted.Statement.{statement}
 use Rattle.grow.proofs.split_wanted.Tie as tie

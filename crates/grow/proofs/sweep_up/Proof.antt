@@ -1,4 +1,3 @@
--- `grow::sweep_up` meets its contract. Assumes nothing.
 use borrow.Author.Needs.{needs}
 use Rattle.grow.proofs.sweep_up.Statement.{statement}
 use Rattle.grow.proofs.sweep_up.Tie as tie

@@ -1,4 +1,3 @@
--- `grow::take_turn` meets its contract. Assumes nothing.
 use borrow.Author.Needs.{needs}
 use Rattle.grow.proofs.take_turn.Statement.{statement}
 use Rattle.grow.proofs.take_turn.Tie as tie
@@ -12,7 +11,7 @@ use Rattle.split_laws.proofs.Counts.{counts-plan, counts-long, used-most, used-
 use Rattle.grow.specs.declared.Tried.{Tried}
 use Rattle.grow.specs.declared.Sweep.{Sweep}
 use Rattle.grow.specs.declared.Turn.the-variants.{Further}
-use Rattle.grow.specs.Numbers.{turnBy, treeBy}
+use Rattle.grow.specs.code.Numbers.{turnBy, treeBy}
 use Rattle.grow.proofs.Turned.{tried-here, here-stream, here-square, here-halves, here-entries, head-is, cells-is, entries-is, turn-is}
 
 cast-i : tie.Need-cast-i

@@ -1,4 +1,3 @@
--- `grow::try_cell` meets its contract. Assumes nothing.
 use borrow.Author.Needs.{needs}
 use Rattle.grow.proofs.try_cell.Statement.{statement}
 use Rattle.grow.proofs.try_cell.Tie as tie

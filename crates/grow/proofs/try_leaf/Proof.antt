@@ -1,4 +1,3 @@
--- `grow::try_leaf` meets its contract. Assumes nothing.
 use borrow.Author.Needs.{needs}
 use Rattle.grow.proofs.try_leaf.Statement.{statement}
 use Rattle.grow.proofs.try_leaf.Tie as tie

@@ -1,4 +1,4 @@
--- `laws::difference` meets its contract: both numbers are read as they are, and their difference fits. Assumes nothing.
+-- `laws::difference` meets its contract: both numbers are read as they are, and their difference fits.
 use borrow.Author.Needs.{needs}
 use mathlib.Core.Path.{_≡_, ap₂, _∙_}
 use native.Mathlib.Omega.{arith}

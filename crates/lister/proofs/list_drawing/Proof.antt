@@ -1,4 +1,3 @@
--- `lister::list_drawing` meets its contract. Assumes nothing.
 use native.Mathlib.Omega.{arith}
 use denote.Ref.{now}
 use Rattle.split.specs.Tables.{tree}

@@ -1,4 +1,3 @@
--- `lister::list_grown` meets its contract. Assumes nothing.
 use denote.Ref.{now}
 use Rattle.split.specs.Tables.{tree}
 use Rattle.lister.proofs.Outcomes.{handed-grown, grown-outcome, grown-rows}

@@ -1,4 +1,3 @@
--- `lister::outcome_of` meets its contract. Assumes nothing.
 use native.Mathlib.Omega.{arith}
 use borrow.Author.Needs.{needs}
 use Rattle.lister.proofs.outcome_of.Statement.{statement}

@@ -1,4 +1,3 @@
--- `lister::print_drawing` meets its contract. Assumes nothing.
 use native.Mathlib.Omega.{arith}
 use borrow.Author.Needs.{needs}
 use Rattle.lister.proofs.print_drawing.Statement.{statement}

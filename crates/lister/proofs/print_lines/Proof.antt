@@ -1,4 +1,3 @@
--- `lister::print_lines` meets its contract. Assumes nothing.
 use Prim.Native.Nat.{_-_, _≤_}
 use borrow.Author.Needs.{needs}
 use Rattle.lister.proofs.print_lines.Statement.{statement}

@@ -1,4 +1,3 @@
--- `listing::corner_at` meets its contract. Assumes nothing.
 use mathlib.Core.Path.{_∙_}
 use denote.Ref.{now}
 use Rattle.split.specs.Tables.{tree}

@@ -1,4 +1,3 @@
--- `listing::corner_x` meets its contract. Assumes nothing.
 use native.Mathlib.Omega.{arith}
 use Rattle.listing.specs.Listed.{cornerX}
 use borrow.Author.Needs.{needs}

@@ -1,4 +1,3 @@
--- `listing::corner_y` meets its contract. Assumes nothing.
 use native.Mathlib.Omega.{arith}
 use Rattle.listing.specs.Listed.{cornerY}
 use borrow.Author.Needs.{needs}

@@ -1,4 +1,3 @@
--- `listing::if_low` meets its contract. Assumes nothing.
 use Rattle.listing.proofs.Order.{low-key}
 use borrow.Author.Needs.{needs}
 use Rattle.listing.proofs.if_low.Statement.{statement}

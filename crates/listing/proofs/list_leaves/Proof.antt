@@ -1,4 +1,3 @@
--- `listing::list_leaves` meets its contract. Assumes nothing.
 use Prim.Native.Nat.{_-_}
 use native.Mathlib.Omega.{arith}
 use Rattle.split.specs.Tables.{tree}

@@ -1,4 +1,3 @@
--- `listing::of_answer` meets its contract. Assumes nothing.
 use borrow.Author.Needs.{needs}
 use Rattle.listing.proofs.of_answer.Statement.{statement}
 use Rattle.listing.proofs.of_answer.Tie as tie

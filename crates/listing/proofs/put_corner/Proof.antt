@@ -1,4 +1,3 @@
--- `listing::put_corner` meets its contract. Assumes nothing.
 use Rattle.listing.proofs.Listing.{one-count, one-table, none-count, none-table}
 use borrow.Author.Needs.{needs}
 use Rattle.listing.proofs.put_corner.Statement.{statement}

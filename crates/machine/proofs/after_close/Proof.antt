@@ -1,4 +1,3 @@
--- `machine::after_close` meets its contract. Assumes nothing.
 use Rattle.laws.proofs.Tests.{tests}
 use borrow.Author.Needs.{needs}
 use Rattle.machine.proofs.after_close.Statement.{statement}

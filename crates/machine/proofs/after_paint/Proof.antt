@@ -1,4 +1,3 @@
--- `machine::after_paint` meets its contract. Assumes nothing.
 use mathlib.Core.Path.{refl}
 use Rattle.laws.proofs.Tests.{tests}
 use borrow.Author.Needs.{needs}

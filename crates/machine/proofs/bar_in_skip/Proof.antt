@@ -1,4 +1,3 @@
--- `machine::bar_in_skip` meets its contract. Assumes nothing.
 use mathlib.Core.Path.{refl}
 use Rattle.laws.proofs.Tests.{tests}
 use Rattle.machine.proofs.bar_in_skip.Statement.{statement}

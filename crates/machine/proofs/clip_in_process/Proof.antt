@@ -1,4 +1,3 @@
--- `machine::clip_in_process` meets its contract. Assumes nothing.
 use mathlib.Core.Path.{refl}
 use Rattle.machine.proofs.clip_in_process.Statement.{statement}
 use Rattle.machine.proofs.clip_in_process.Tie as tie

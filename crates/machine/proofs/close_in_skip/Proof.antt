@@ -1,4 +1,3 @@
--- `machine::close_in_skip` meets its contract. Assumes nothing.
 use Rattle.laws.proofs.Tests.{tests}
 use borrow.Author.Needs.{needs}
 use Rattle.machine.proofs.close_in_skip.Statement.{statement}

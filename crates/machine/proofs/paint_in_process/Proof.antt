@@ -1,4 +1,3 @@
--- `machine::paint_in_process` meets its contract. Assumes nothing.
 use mathlib.Core.Path.{refl}
 use borrow.Author.Needs.{needs}
 use Rattle.machine.proofs.paint_in_process.Statement.{statement}

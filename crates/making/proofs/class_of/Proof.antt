@@ -1,4 +1,3 @@
--- `making::class_of` meets its contract. Assumes nothing.
 use borrow.Author.Needs.{needs}
 use Rattle.making.proofs.class_of.Statement.{statement}
 use Rattle.making.proofs.class_of.Tie as tie

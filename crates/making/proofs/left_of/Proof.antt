@@ -1,4 +1,3 @@
--- `making::left_of` meets its contract. Assumes nothing.
 use Rattle.making.proofs.left_of.Statement.{statement}
 use Rattle.making.proofs.left_of.Tie as tie
 use Rattle.laws.proofs.Tests.{tests}

@@ -1,4 +1,3 @@
--- `making::line_left` meets its contract. Assumes nothing.
 use borrow.Author.Needs.{needs}
 use Rattle.making.proofs.line_left.Statement.{statement}
 use Rattle.making.proofs.line_left.Tie as tie

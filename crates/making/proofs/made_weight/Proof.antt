@@ -1,9 +1,8 @@
--- `making::made_weight` meets its contract. Assumes nothing.
 use borrow.Author.Needs.{needs}
 use Rattle.making.proofs.made_weight.Statement.{statement}
 use Rattle.making.proofs.made_weight.Tie as tie
 use mathlib.Core.Path.{sym, ap, _∙_}
-use Rattle.pruning.specs.Counters.{lengthOf}
+use Rattle.pruning.specs.code.Counters.{lengthOf}
 use Rattle.pruner.proofs.Near.{counted-weight}
 
 settled-requires : tie.Need-settled-requires

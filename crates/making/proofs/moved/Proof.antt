@@ -1,4 +1,3 @@
--- `making::moved` meets its contract. Assumes nothing.
 use borrow.Author.Needs.{needs}
 use Rattle.making.proofs.moved.Statement.{statement}
 use Rattle.making.proofs.moved.Tie as tie

@@ -1,4 +1,3 @@
--- `making::named` meets its contract. Assumes nothing.
 use borrow.Author.Needs.{needs}
 use Rattle.making.proofs.named.Statement.{statement}
 use Rattle.making.proofs.named.Tie as tie

@@ -1,4 +1,3 @@
--- `making::pruner_after` meets its contract. Assumes nothing.
 use borrow.Author.Needs.{needs}
 use Rattle.making.proofs.pruner_after.Statement.{statement}
 use Rattle.making.proofs.pruner_after.Tie as tie
@@ -6,7 +5,7 @@ use Rattle.laws.proofs.Tests.{tests}
 use denote.Ref.{now}
 use Rattle.making.proofs.Rooms.{room-after}
 use Rattle.making.proofs.Rooms.{pruned-by}
-use Rattle.pruner.specs.Numbers.{counted}
+use Rattle.pruner.specs.code.Numbers.{counted}
 
 returns : tie.Need-returns
 returns c = search tests

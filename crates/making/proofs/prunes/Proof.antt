@@ -1,4 +1,3 @@
--- `making::prunes` meets its contract. Assumes nothing.
 use Rattle.making.proofs.prunes.Statement.{statement}
 use Rattle.making.proofs.prunes.Tie as tie
 use Rattle.laws.proofs.Tests.{tests}

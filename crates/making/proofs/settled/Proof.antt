@@ -1,4 +1,3 @@
--- `making::settled` meets its contract. Assumes nothing.
 use borrow.Author.Needs.{needs}
 use Rattle.making.proofs.settled.Statement.{statement}
 use Rattle.making.proofs.settled.Tie as tie

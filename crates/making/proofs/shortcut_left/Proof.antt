@@ -1,4 +1,3 @@
--- `making::shortcut_left` meets its contract. Assumes nothing.
 use borrow.Author.Needs.{needs}
 use Rattle.making.proofs.shortcut_left.Statement.{statement}
 use Rattle.making.proofs.shortcut_left.Tie as tie

@@ -1,4 +1,3 @@
--- `making::waiting_after` meets its contract. Assumes nothing.
 use borrow.Author.Needs.{needs}
 use Rattle.making.proofs.waiting_after.Statement.{statement}
 use Rattle.making.proofs.waiting_after.Tie as tie

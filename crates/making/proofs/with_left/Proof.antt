@@ -1,4 +1,3 @@
--- `making::with_left` meets its contract. Assumes nothing.
 use borrow.Author.Needs.{needs}
 use Rattle.making.proofs.with_left.Statement.{statement}
 use Rattle.making.proofs.with_left.Tie as tie

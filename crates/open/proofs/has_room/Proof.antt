@@ -1,4 +1,3 @@
--- `open::has_room` meets its contract. Assumes nothing.
 use borrow.Author.Needs.{needs}
 use Rattle.open.proofs.has_room.Statement.{statement}
 use Rattle.open.proofs.has_room.Tie as tie

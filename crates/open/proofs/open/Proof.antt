@@ -1,4 +1,3 @@
--- `open::open` meets its contract. Assumes nothing.
 use borrow.Author.Needs.{needs}
 use Rattle.open.proofs.open.Statement.{statement}
 use Rattle.open.proofs.open.Tie as tie

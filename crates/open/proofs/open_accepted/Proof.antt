@@ -1,4 +1,3 @@
--- `open::open_accepted` meets its contract. Assumes nothing.
 use borrow.Author.Needs.{needs}
 use Rattle.open.proofs.open_accepted.Statement.{statement}
 use Rattle.open.proofs.open_accepted.Tie as tie

@@ -1,4 +1,3 @@
--- `open::put_opened` meets its contract. Assumes nothing.
 use borrow.Author.Needs.{needs}
 use Rattle.open.proofs.put_opened.Statement.{statement}
 use Rattle.open.proofs.put_opened.Tie as tie

@@ -1,4 +1,3 @@
--- `open::put_root` meets its contract. Assumes nothing.
 use borrow.Author.Needs.{needs}
 use Rattle.open.proofs.put_root.Statement.{statement}
 use Rattle.open.proofs.put_root.Tie as tie

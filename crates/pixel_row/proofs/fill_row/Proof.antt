@@ -1,4 +1,3 @@
--- `pixel_row::fill_row` meets its contract. Assumes nothing.
 use Rattle.pixel_row.proofs.Filling.{Filling, pixel-told, pixel-broken, filling-begin, filling-turn, filling-done, filling-broken}
 use Rattle.pixel_row.specs.Rows.{Filled}
 use Rattle.split.specs.Tables.{tree}

@@ -1,4 +1,3 @@
--- `pixel_row::pixel_at` meets its contract. Assumes nothing.
 use Rattle.pixel_row.proofs.Sampling.{Sampling, fewer-in, known-at, unknown-at, sampling-begin, sampling-turn, sampling-done, sampling-broken}
 use Rattle.position.proofs.Known.{known-set, unknown-set, in-painted}
 use Rattle.split.specs.Tables.{tree}

@@ -1,4 +1,3 @@
--- `pixel_row::pixel_row` meets its contract. Assumes nothing.
 use Rattle.pixel_row.specs.Rows.{Filled, filled, rowSpan}
 use borrow.Author.Tests.{eq-eqb, ne-eqb, le-leb, lt-leb}
 use lib.Dec.{eqb, leb}

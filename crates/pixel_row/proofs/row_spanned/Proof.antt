@@ -1,4 +1,3 @@
--- `pixel_row::row_spanned` meets its contract. Assumes nothing.
 use Rattle.pixel_row.specs.Rows.{Filled, filled, fillFrom}
 use borrow.Author.Tests.{le-leb, lt-leb}
 use lib.Dec.{leb}

@@ -1,4 +1,3 @@
--- `position::is_between` meets its contract. Assumes nothing.
 use borrow.Author.Tests.{le-leb, lt-leb}
 use Rattle.position.proofs.is_between.Statement.{statement}
 use Rattle.position.proofs.is_between.Tie as tie

@@ -1,4 +1,3 @@
--- `position::is_inside` meets its contract. Assumes nothing.
 use Rattle.split.proofs.Choices.{pick-true, pick-false}
 use mathlib.Core.Path.{sym, _∙_}
 use borrow.Author.Needs.{needs}

@@ -1,6 +1,5 @@
--- `position::leaf_for` meets its contract. Assumes nothing.
 use Rattle.position.proofs.Known.{leaf-again}
-use Rattle.position.specs.Numbers.{LastIn}
+use Rattle.position.specs.code.Numbers.{LastIn}
 use Rattle.celltable.specs.declared.Found.{Found}
 use mathlib.Core.Path.{sym, subst, _∙_}
 use Rattle.split.specs.Tables.{tree}

@@ -1,4 +1,3 @@
--- `position::position` meets its contract. Assumes nothing.
 use Rattle.position.specs.Spots.{spotIn}
 use Rattle.position.specs.declared.Answer.the-variants.{Not}
 use Rattle.split.proofs.Choices.{pick-true, pick-false}

@@ -1,4 +1,3 @@
--- `position::set_in` meets its contract. Assumes nothing.
 use Rattle.position.proofs.Painted.{set-painted}
 use Rattle.stream.specs.Grammar.{env, bounds}
 use lib.ListN.{getD}

@@ -1,4 +1,3 @@
--- `position::shown_at` meets its contract. Assumes nothing.
 use Rattle.position.proofs.Known.{leaf-plan, leaf-stream, shown-known, shown-broken}
 use mathlib.Core.Path.{sym, _∙_}
 use Rattle.split.specs.Tables.{tree}

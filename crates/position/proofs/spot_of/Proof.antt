@@ -1,4 +1,3 @@
--- `position::spot_of` meets its contract. Assumes nothing.
 use borrow.Author.Needs.{needs}
 use Rattle.position.proofs.spot_of.Statement.{statement}
 use Rattle.position.proofs.spot_of.Tie as tie

@@ -1,4 +1,3 @@
--- `probe::entries_made` meets its contract. Assumes nothing.
 use native.Mathlib.Omega.{arith}
 use denote.Ref.{now}
 use Rattle.probe.proofs.Laws.{square-in, square-cell, made-count}

@@ -1,4 +1,3 @@
--- `probe::probe_check` meets its contract. Assumes nothing.
 use mathlib.Core.Path.{sym, _∙_}
 use borrow.Author.Needs.{needs}
 use Rattle.probe.proofs.probe_check.Statement.{statement}

@@ -1,4 +1,3 @@
--- `probe::probe_child` meets its contract. Assumes nothing.
 use mathlib.Core.Path.{refl, sym, _∙_}
 use borrow.Author.Needs.{needs}
 use Rattle.probe.proofs.probe_child.Statement.{statement}

@@ -1,4 +1,3 @@
--- `probe::probe_read` meets its contract. Assumes nothing.
 use mathlib.Core.Path.{sym, _∙_}
 use borrow.Author.Needs.{needs}
 use Rattle.stream.proofs.Passed.{passed}

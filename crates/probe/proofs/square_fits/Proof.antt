@@ -1,4 +1,3 @@
--- `probe::square_fits` meets its contract. Assumes nothing.
 use mathlib.Core.Path.{_∙_}
 use borrow.Author.Needs.{needs}
 use Rattle.probe.proofs.Laws.{square-alone}

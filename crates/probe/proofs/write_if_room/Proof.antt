@@ -1,4 +1,3 @@
--- `probe::write_if_room` meets its contract. Assumes nothing.
 use mathlib.Core.Path.{refl, ap}
 use Prim.Native.Nat.{ℕ, _+_}
 use native.Mathlib.Omega.{arith}

@@ -1,4 +1,3 @@
--- `pruner::after_bar` meets its contract. Assumes nothing.
 use borrow.Author.Needs.{needs}
 use Rattle.pruner.proofs.after_bar.Statement.{statement}
 use Rattle.pruner.proofs.after_bar.Tie as tie

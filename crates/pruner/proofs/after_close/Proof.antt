@@ -1,4 +1,3 @@
--- `pruner::after_close` meets its contract. Assumes nothing.
 use borrow.Author.Needs.{needs}
 use Rattle.pruner.proofs.after_close.Statement.{statement}
 use Rattle.pruner.proofs.after_close.Tie as tie

@@ -1,4 +1,3 @@
--- `pruner::after_item` meets its contract. Assumes nothing.
 use borrow.Author.Needs.{needs}
 use Rattle.pruner.proofs.after_item.Statement.{statement}
 use Rattle.pruner.proofs.after_item.Tie as tie

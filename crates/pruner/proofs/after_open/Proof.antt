@@ -1,4 +1,3 @@
--- `pruner::after_open` meets its contract. Assumes nothing.
 use borrow.Author.Needs.{needs}
 use Rattle.pruner.proofs.after_open.Statement.{statement}
 use Rattle.pruner.proofs.after_open.Tie as tie

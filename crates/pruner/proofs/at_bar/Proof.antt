@@ -1,4 +1,3 @@
--- `pruner::at_bar` meets its contract. Assumes nothing.
 use borrow.Author.Needs.{needs}
 use Rattle.pruner.proofs.at_bar.Statement.{statement}
 use Rattle.pruner.proofs.at_bar.Tie as tie

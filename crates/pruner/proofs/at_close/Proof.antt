@@ -1,4 +1,3 @@
--- `pruner::at_close` meets its contract. Assumes nothing.
 use borrow.Author.Needs.{needs}
 use Rattle.pruner.proofs.at_close.Statement.{statement}
 use Rattle.pruner.proofs.at_close.Tie as tie

@@ -1,8 +1,7 @@
--- `pruner::framed` meets its contract. Assumes nothing.
 use borrow.Author.Needs.{needs}
 use Rattle.pruner.proofs.framed.Statement.{statement}
 use Rattle.pruner.proofs.framed.Tie as tie
-use Rattle.pruner.specs.Numbers.{counted}
+use Rattle.pruner.specs.code.Numbers.{counted}
 use Rattle.pruner.proofs.Laws.{set-top-of-eight}
 
 mul-frames : tie.Need-mul-frames

@@ -1,7 +1,6 @@
--- `pruner::unframed` meets its contract. Assumes nothing.
 use Rattle.pruner.proofs.unframed.Statement.{statement}
 use Rattle.pruner.proofs.unframed.Tie as tie
-use Rattle.pruner.specs.Numbers.{counted}
+use Rattle.pruner.specs.code.Numbers.{counted}
 use mathlib.Core.Path.{refl}
 
 returns : tie.Need-returns

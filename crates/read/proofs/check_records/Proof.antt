@@ -1,4 +1,3 @@
--- `read::check_records` meets its contract. Assumes nothing.
 use Rattle.read.specs.Reading.{verdictOf}
 use Rattle.grammar.proofs.Meaning.{checked-is}
 use Rattle.read.proofs.Files.{length-from}

@@ -1,4 +1,4 @@
--- `read::fill` meets its contract: in each table, what is left to write gives what the whole gives. Assumes nothing.
+-- `read::fill` meets its contract: in each table, what is left to write gives what the whole gives.
 use borrow.Author.Needs.{needs}
 use Prim.Native.Nat.{_≤_, _-_}
 use Rattle.read.specs.Words.{wordsOf}

@@ -1,4 +1,3 @@
--- `read::fill_all` meets its contract. Assumes nothing.
 use native.Mathlib.Omega.{arith}
 use lib.ListN.{length-set}
 use Rattle.read.proofs.Files.{room-0, room-1, room-2, room-3, left-0, left-1, left-2, left-3}

@@ -1,4 +1,3 @@
--- `read::fill_if_room` meets its contract. Assumes nothing.
 use native.Mathlib.Omega.{arith}
 use mathlib.Core.Path.{sym, refl, _∙_}
 use Rattle.read.proofs.Files.{held}

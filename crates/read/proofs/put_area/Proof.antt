@@ -1,4 +1,3 @@
--- `read::put_area` meets its contract. Assumes nothing.
 use Rattle.read.specs.Words.{areaW}
 use Rattle.read.proofs.Writes.{none-at, none-table, row-at, row-table, row-room}
 use mathlib.Core.Path.{ap}

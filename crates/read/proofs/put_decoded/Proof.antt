@@ -1,4 +1,3 @@
--- `read::put_decoded` meets its contract. Assumes nothing.
 use Rattle.read.specs.Words.{wordsOf, onGood}
 use Rattle.read.proofs.Writes.{none-at, none-table}
 use mathlib.Core.Path.{ap}

@@ -1,4 +1,3 @@
--- `read::put_kind` meets its contract. Assumes nothing.
 use borrow.Author.Needs.{needs}
 use Rattle.read.proofs.put_kind.Statement.{statement}
 use Rattle.read.proofs.put_kind.Tie as tie

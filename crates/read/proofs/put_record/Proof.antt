@@ -1,4 +1,3 @@
--- `read::put_record` meets its contract. Assumes nothing.
 use Rattle.read.proofs.Writes.{words-0, words-1, words-2, words-3}
 use borrow.Author.Needs.{needs}
 use Rattle.read.proofs.put_record.Statement.{statement}

@@ -1,4 +1,3 @@
--- `read::put_row` meets its contract. Assumes nothing.
 use lib.ListN.{length-set}
 use native.Mathlib.Omega.{arith}
 use borrow.Author.Needs.{needs}

@@ -1,4 +1,3 @@
--- `read::put_x` meets its contract. Assumes nothing.
 use Rattle.read.specs.Words.{xW}
 use Rattle.read.proofs.Writes.{none-at, none-table, one-at, one-table, one-room}
 use mathlib.Core.Path.{ap}

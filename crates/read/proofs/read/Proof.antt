@@ -1,4 +1,3 @@
--- `read::read` meets its contract. Assumes nothing.
 use Rattle.read.specs.Reading.{readAnswer}
 use borrow.Author.Tests.{eq-eqb, ne-eqb}
 use mathlib.Core.Path.{refl}

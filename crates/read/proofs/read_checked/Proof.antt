@@ -1,4 +1,3 @@
--- `read::read_checked` meets its contract. Assumes nothing.
 use mathlib.Core.Path.{sym, refl, _∙_}
 use Rattle.read.proofs.Files.{filed}
 use borrow.Author.Needs.{needs}

@@ -1,4 +1,3 @@
--- `read::read_record` meets its contract. Assumes nothing.
 use borrow.Author.Needs.{needs}
 use Rattle.read.proofs.read_record.Statement.{statement}
 use Rattle.read.proofs.read_record.Tie as tie

@@ -1,8 +1,8 @@
--- `read::scan_records` meets its contract: what is left to scan gives what the whole gives. Assumes nothing.
+-- `read::scan_records` meets its contract: what is left to scan gives what the whole gives.
 use borrow.Author.Needs.{needs}
 use mathlib.Core.Path.{_≡_}
 use Prim.Native.Nat.{_≤_, _-_}
-use Rattle.grammar.specs.Machine.{scanN, startN}
+use Rattle.grammar.specs.code.Machine.{scanN, startN}
 use Rattle.read.specs.Reading.{decodedFrom}
 use Rattle.read.proofs.Loops.{scan-begin, scan-turn, scan-stops, scan-done}
 use Rattle.read.proofs.scan_records.Statement.{statement}

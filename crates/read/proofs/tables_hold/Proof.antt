@@ -1,4 +1,3 @@
--- `read::tables_hold` meets its contract. Assumes nothing.
 use Rattle.read.specs.Reading.{holds}
 use borrow.Author.Tests.{le-leb, lt-leb}
 use Rattle.read.proofs.tables_hold.Statement.{statement}

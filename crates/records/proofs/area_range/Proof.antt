@@ -1,4 +1,3 @@
--- `records::area_range` meets its contract. Assumes nothing.
 use Rattle.records.specs.Record.{areaRange}
 use Rattle.laws.proofs.Tests.{tests}
 use borrow.Author.Needs.{needs}

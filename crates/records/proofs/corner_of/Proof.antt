@@ -1,4 +1,3 @@
--- `records::corner_of` meets its contract. Assumes nothing.
 use Rattle.records.specs.Record.{cornerOf}
 use Rattle.laws.proofs.Tests.{tests}
 use Rattle.records.proofs.corner_of.Statement.{statement}

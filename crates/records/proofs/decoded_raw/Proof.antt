@@ -1,4 +1,3 @@
--- `records::decoded_raw` meets its contract. Assumes nothing.
 use borrow.Author.Tests.{le-leb}
 use mathlib.Core.Path.{sym, _∙_}
 use Rattle.records.specs.Bytes.{decodedRaw}

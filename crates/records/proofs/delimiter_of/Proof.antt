@@ -1,4 +1,3 @@
--- `records::delimiter_of` meets its contract. Assumes nothing.
 use Rattle.records.specs.Record.{delimiterOf}
 use Rattle.laws.proofs.Tests.{tests}
 use Rattle.records.proofs.delimiter_of.Statement.{statement}

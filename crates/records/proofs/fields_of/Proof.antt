@@ -1,4 +1,3 @@
--- `records::fields_of` meets its contract. Assumes nothing.
 use Rattle.records.specs.Bytes.{fieldsOf}
 use borrow.Author.Needs.{needs}
 use Rattle.records.proofs.fields_of.Statement.{statement}

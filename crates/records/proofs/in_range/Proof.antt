@@ -1,4 +1,3 @@
--- `records::in_range` meets its contract. Assumes nothing.
 use Rattle.laws.proofs.Tests.{tests}
 use borrow.Author.Needs.{needs}
 use Rattle.records.proofs.in_range.Statement.{statement}

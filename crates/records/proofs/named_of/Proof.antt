@@ -1,4 +1,3 @@
--- `records::named_of` meets its contract. Assumes nothing.
 use borrow.Author.Tests.{lt-ltb, le-ltb, ne-eqb}
 use Rattle.records.specs.Bytes.{named}
 use Rattle.laws.proofs.Tests.{tests}

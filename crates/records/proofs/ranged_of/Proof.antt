@@ -1,4 +1,3 @@
--- `records::ranged_of` meets its contract. Assumes nothing.
 use mathlib.Core.Path.{sym, _∙_}
 use borrow.Author.Needs.{needs}
 use Rattle.records.proofs.ranged_of.Statement.{statement}

@@ -1,4 +1,3 @@
--- `records::raw_of` meets its contract. Assumes nothing.
 use borrow.Author.Needs.{needs}
 use Rattle.records.proofs.raw_of.Statement.{statement}
 use Rattle.records.proofs.raw_of.Tie as tie

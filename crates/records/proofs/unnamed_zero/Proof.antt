@@ -1,4 +1,3 @@
--- `records::unnamed_zero` meets its contract. Assumes nothing.
 use Rattle.records.specs.Bytes.{unnamed}
 use Rattle.laws.proofs.Tests.{tests}
 use borrow.Author.Needs.{needs}

@@ -1,4 +1,3 @@
--- `root_stream::count_open` meets its contract. Assumes nothing.
 use Rattle.root_stream.proofs.count_open.Statement.{statement}
 use Rattle.root_stream.proofs.count_open.Tie as tie
 use mathlib.Core.Path.{sym, ap, _∙_}
@@ -7,12 +6,12 @@ use Prim.Native.Nat.{_-_}
 use native.Mathlib.Omega.{arith}
 use denote.Ref.{now}
 use borrow.Author.Needs.{needs}
-use Rattle.pruning.specs.Weights.{total}
-use Rattle.cells.specs.Making.{rowSize}
-use Rattle.pruner.specs.Numbers.{counted}
+use Rattle.pruning.specs.code.Weights.{total}
+use Rattle.cells.specs.code.Making.{rowSize}
+use Rattle.pruner.specs.code.Numbers.{counted}
 use Rattle.drawing.specs.Tables.{tables}
 use Rattle.stream.specs.Grammar.{env}
-use Rattle.making.specs.Numbers.{maker}
+use Rattle.making.specs.code.Numbers.{maker}
 use Rattle.making.proofs.Stays.{stays-pruned}
 use Rattle.root_stream.specs.Opened.{drawingIn}
 use Rattle.root_stream.proofs.Base.{wordsIn, base, base-made}

@@ -1,4 +1,3 @@
--- `root_stream::delimiter` meets its contract. Assumes nothing.
 use borrow.Author.Needs.{needs}
 use Rattle.root_stream.proofs.delimiter.Statement.{statement}
 use Rattle.root_stream.proofs.delimiter.Tie as tie

@@ -1,4 +1,3 @@
--- `root_stream::edge_end` meets its contract. Assumes nothing.
 use borrow.Author.Needs.{needs}
 use Rattle.root_stream.proofs.edge_end.Statement.{statement}
 use Rattle.root_stream.proofs.edge_end.Tie as tie

@@ -1,4 +1,3 @@
--- `root_stream::edge_from` meets its contract. Assumes nothing.
 use borrow.Author.Needs.{needs}
 use Rattle.root_stream.proofs.edge_from.Statement.{statement}
 use Rattle.root_stream.proofs.edge_from.Tie as tie

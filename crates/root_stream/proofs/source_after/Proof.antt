@@ -1,4 +1,3 @@
--- `root_stream::source_after` meets its contract. Assumes nothing.
 use borrow.Author.Needs.{needs}
 use Rattle.root_stream.proofs.source_after.Statement.{statement}
 use Rattle.root_stream.proofs.source_after.Tie as tie

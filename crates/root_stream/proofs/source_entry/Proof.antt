@@ -1,4 +1,3 @@
--- `root_stream::source_entry` meets its contract. Assumes nothing.
 use borrow.Author.Needs.{needs}
 use Rattle.root_stream.proofs.source_entry.Statement.{statement}
 use Rattle.root_stream.proofs.source_entry.Tie as tie

@@ -1,4 +1,3 @@
--- `root_stream::write_open` meets its contract. Assumes nothing.
 use Rattle.root_stream.proofs.write_open.Statement.{statement}
 use Rattle.root_stream.proofs.write_open.Tie as tie
 use mathlib.Core.Path.{sym, ap, _∙_}
@@ -8,11 +7,11 @@ use native.Mathlib.Omega.{arith}
 use lib.ListN.{length}
 use denote.Ref.{now}
 use borrow.Author.Needs.{needs}
-use Rattle.pruner.specs.Numbers.{counted}
+use Rattle.pruner.specs.code.Numbers.{counted}
 use Rattle.drawing.specs.Tables.{tables}
 use Rattle.stream.specs.Table.{written}
 use Rattle.stream.specs.Grammar.{env}
-use Rattle.making.specs.Numbers.{maker}
+use Rattle.making.specs.code.Numbers.{maker}
 use Rattle.making.proofs.Stays.{stays-pruned}
 use Rattle.writing.proofs.Stays.{segment-put, other-put}
 use Rattle.root_stream.specs.Opened.{drawingIn}

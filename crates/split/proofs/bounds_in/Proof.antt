@@ -1,4 +1,3 @@
--- `split::bounds_in` meets its contract. Assumes nothing.
 use borrow.Author.Needs.{needs}
 use Rattle.split.proofs.bounds_in.Statement.{statement}
 use Rattle.split.proofs.bounds_in.Tie as tie

@@ -1,4 +1,3 @@
--- `split::cells_used` meets its contract. Assumes nothing.
 use borrow.Author.Needs.{needs}
 use Rattle.split.proofs.cells_used.Statement.{statement}
 use Rattle.split.proofs.cells_used.Tie as tie

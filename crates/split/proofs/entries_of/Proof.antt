@@ -1,4 +1,3 @@
--- `split::entries_of` meets its contract. Assumes nothing.
 use borrow.Author.Needs.{needs}
 use Rattle.split.proofs.entries_of.Statement.{statement}
 use Rattle.split.proofs.entries_of.Tie as tie

@@ -1,4 +1,3 @@
--- `split::put_cells` meets its contract. Assumes nothing.
 use borrow.Author.Needs.{needs}
 use Rattle.split.proofs.put_cells.Statement.{statement}
 use Rattle.split.proofs.put_cells.Tie as tie

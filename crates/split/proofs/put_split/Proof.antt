@@ -1,4 +1,3 @@
--- `split::put_split` meets its contract. Assumes nothing.
 use borrow.Author.Needs.{needs}
 use Rattle.split.proofs.put_split.Statement.{statement}
 use Rattle.split.proofs.put_split.Tie as tie

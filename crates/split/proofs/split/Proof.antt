@@ -1,4 +1,3 @@
--- `split::split` meets its contract. Assumes nothing.
 use borrow.Author.Needs.{needs}
 use Rattle.split.proofs.split.Statement.{statement}
 use Rattle.split.proofs.split.Tie as tie

@@ -1,4 +1,3 @@
--- `split::split_cell` meets its contract. Assumes nothing.
 use borrow.Author.Needs.{needs}
 use Rattle.split.proofs.split_cell.Statement.{statement}
 use Rattle.split.proofs.split_cell.Tie as tie

@@ -1,4 +1,3 @@
--- `split::split_counted` meets its contract. Assumes nothing.
 use borrow.Author.Needs.{needs}
 use Rattle.split.proofs.split_counted.Statement.{statement}
 use Rattle.split.proofs.split_counted.Tie as tie

@@ -1,4 +1,3 @@
--- `split::split_headed` meets its contract. Assumes nothing.
 use borrow.Author.Needs.{needs}
 use Rattle.split.proofs.split_headed.Statement.{statement}
 use Rattle.split.proofs.split_headed.Tie as tie

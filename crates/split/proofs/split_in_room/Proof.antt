@@ -1,4 +1,3 @@
--- `split::split_in_room` meets its contract. Assumes nothing.
 use borrow.Author.Needs.{needs}
 use Rattle.split.proofs.split_in_room.Statement.{statement}
 use Rattle.split.proofs.split_in_room.Tie as tie

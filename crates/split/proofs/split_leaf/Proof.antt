@@ -1,4 +1,3 @@
--- `split::split_leaf` meets its contract. Assumes nothing.
 use borrow.Author.Needs.{needs}
 use Rattle.split.proofs.split_leaf.Statement.{statement}
 use Rattle.split.proofs.split_leaf.Tie as tie

@@ -1,4 +1,3 @@
--- `spots::colours` meets its contract. Assumes nothing.
 use mathlib.Core.Path.{refl}
 use native.Mathlib.Omega.{arith}
 use Rattle.spots.proofs.Tables.{painted}

@@ -1,4 +1,3 @@
--- `spots::write_samples` meets its contract. Assumes nothing.
 use borrow.Author.Needs.{needs}
 use Prim.Native.Nat.{_-_, _≤_}
 use Rattle.spots.proofs.write_samples.Statement.{statement}

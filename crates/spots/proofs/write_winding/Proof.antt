@@ -1,7 +1,6 @@
--- `spots::write_winding` meets its contract. Assumes nothing.
 use mathlib.Core.Path.{refl}
 use borrow.Author.Tests.{le-leb}
-use Rattle.geometry.specs.Reach.{reach}
+use Rattle.geometry.specs.code.Reach.{reach}
 use Rattle.spots.proofs.Tables.{corners-in}
 use borrow.Author.Needs.{needs}
 use Rattle.spots.proofs.write_winding.Statement.{statement}

@@ -1,4 +1,3 @@
--- `stream::after_close` meets its contract. Assumes nothing.
 use mathlib.Core.Path.{sym, _∙_}
 use borrow.Author.Needs.{needs}
 use Rattle.stream.proofs.after_close.Statement.{statement}

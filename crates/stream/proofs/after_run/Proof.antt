@@ -1,4 +1,3 @@
--- `stream::after_run` meets its contract. Assumes nothing.
 use borrow.Author.Needs.{needs}
 use Rattle.stream.proofs.after_run.Statement.{statement}
 use Rattle.stream.proofs.after_run.Tie as tie

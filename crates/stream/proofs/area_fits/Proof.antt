@@ -1,4 +1,3 @@
--- `stream::area_fits` meets its contract. Assumes nothing.
 use borrow.Author.Needs.{needs}
 use Rattle.stream.proofs.area_fits.Statement.{statement}
 use Rattle.stream.proofs.area_fits.Tie as tie

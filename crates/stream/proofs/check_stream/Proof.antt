@@ -1,4 +1,3 @@
--- `stream::check_stream` meets its contract. Assumes nothing.
 use Rattle.stream.proofs.Laws.{used-entries, used-ready, run-fits}
 use Rattle.stream.proofs.Meaning.{accepts-is}
 use borrow.Author.Tests.{le-leb, lt-leb}

@@ -1,4 +1,3 @@
--- `stream::corner_met` meets its contract. Assumes nothing.
 use borrow.Author.Tests.{lt-ltb, le-ltb}
 use borrow.Author.Needs.{needs}
 use Rattle.stream.proofs.corner_met.Statement.{statement}

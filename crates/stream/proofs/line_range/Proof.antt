@@ -1,4 +1,3 @@
--- `stream::line_range` meets its contract. Assumes nothing.
 use borrow.Author.Needs.{needs}
 use Rattle.stream.proofs.line_range.Statement.{statement}
 use Rattle.stream.proofs.line_range.Tie as tie

@@ -1,4 +1,3 @@
--- `stream::record_fits` meets its contract. Assumes nothing.
 use borrow.Author.Needs.{needs}
 use Rattle.stream.proofs.record_fits.Statement.{statement}
 use Rattle.stream.proofs.record_fits.Tie as tie

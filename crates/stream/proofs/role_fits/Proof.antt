@@ -1,4 +1,3 @@
--- `stream::role_fits` meets its contract. Assumes nothing.
 use borrow.Author.Needs.{needs}
 use Rattle.stream.proofs.role_fits.Statement.{statement}
 use Rattle.stream.proofs.role_fits.Tie as tie

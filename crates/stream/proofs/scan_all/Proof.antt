@@ -1,11 +1,10 @@
--- `stream::scan_all` meets its contract. Assumes nothing.
 use Prim.Native.Nat.{_-_, _≤_}
 use mathlib.Core.Path.{_≡_, _∙_}
 use native.Mathlib.Omega.{arith}
 use borrow.Author.Needs.{needs}
 use Rattle.stream.specs.Table.{wordsFrom}
 use Rattle.stream.specs.Grammar.{env}
-use Rattle.stream.specs.Machine.{scanN, startN}
+use Rattle.stream.specs.code.Machine.{scanN, startN}
 use Rattle.stream.proofs.Laws.{scan-begin, scan-done}
 use Rattle.stream.proofs.scan_all.Statement.{statement}
 use Rattle.stream.proofs.scan_all.Tie as tie

@@ -1,4 +1,4 @@
--- `stream::scan_run` meets its contract: what was found so far and what is left make the whole. Assumes nothing.
+-- `stream::scan_run` meets its contract: what was found so far and what is left make the whole.
 use mathlib.Core.Path.{_≡_, refl, sym, ap, _∙_}
 use mathlib.Core.Bool.{_&&_}
 use Prim.Native.Nat.{_+_, _-_, _≤_}
@@ -7,7 +7,7 @@ use lib.Dec.{ltb}
 use denote.Ref.{now}
 use borrow.Author.Needs.{needs}
 use Rattle.stream.specs.Table.{wordsFrom}
-use Rattle.stream.specs.Machine.{segmentsIn, runFits}
+use Rattle.stream.specs.code.Machine.{segmentsIn, runFits}
 use Rattle.laws.proofs.Booleans.{and-assoc, and-true}
 use Rattle.stream.proofs.Runs.{count-more, count-stop, count-last, fits-more, fits-stop, fits-last}
 use Rattle.stream.proofs.scan_run.Statement.{statement}

@@ -1,4 +1,3 @@
--- `stream::segment_fits` meets its contract. Assumes nothing.
 use borrow.Author.Tests.{ne-eqb}
 use borrow.Author.Needs.{needs}
 use Rattle.stream.proofs.segment_fits.Statement.{statement}

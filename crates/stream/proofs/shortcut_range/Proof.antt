@@ -1,4 +1,3 @@
--- `stream::shortcut_range` meets its contract. Assumes nothing.
 use mathlib.Core.Path.{refl}
 use borrow.Author.Needs.{needs}
 use Rattle.stream.proofs.shortcut_range.Statement.{statement}

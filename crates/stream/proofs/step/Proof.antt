@@ -1,4 +1,3 @@
--- `stream::step` meets its contract. Assumes nothing.
 use Rattle.laws.proofs.Tests.{tests}
 use borrow.Author.Tests.{eq-eqb, ne-eqb}
 use borrow.Author.Needs.{needs}

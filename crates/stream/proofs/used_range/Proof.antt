@@ -1,4 +1,3 @@
--- `stream::used_range` meets its contract. Assumes nothing.
 use mathlib.Core.Path.{refl}
 use Rattle.stream.specs.Grammar.{usedRange}
 use Rattle.stream.proofs.used_range.Statement.{statement}

@@ -1,4 +1,3 @@
--- `stream::with_line` meets its contract. Assumes nothing.
 use borrow.Author.Tests.{lt-ltb, le-ltb}
 use borrow.Author.Needs.{needs}
 use Rattle.stream.proofs.with_line.Statement.{statement}

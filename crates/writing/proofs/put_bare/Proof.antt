@@ -1,4 +1,3 @@
--- `writing::put_bare` meets its contract. Assumes nothing.
 use borrow.Author.Needs.{needs}
 use Rattle.writing.proofs.put_bare.Statement.{statement}
 use Rattle.writing.proofs.put_bare.Tie as tie

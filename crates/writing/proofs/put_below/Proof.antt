@@ -1,10 +1,9 @@
--- `writing::put_below` meets its contract. Assumes nothing.
 use borrow.Author.Needs.{needs}
 use Rattle.writing.proofs.put_below.Statement.{statement}
 use Rattle.writing.proofs.put_below.Tie as tie
 use native.Mathlib.Omega.{arith}
 use borrow.Author.Tests.{lt-ltb, le-ltb}
-use Rattle.writing.specs.Numbers.{putBelow}
+use Rattle.writing.specs.code.Numbers.{putBelow}
 
 put-entry-requires : tie.Need-put-entry-requires
 put-entry-requires c κs = search needs

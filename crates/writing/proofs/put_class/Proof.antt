@@ -1,4 +1,3 @@
--- `writing::put_class` meets its contract. Assumes nothing.
 use borrow.Author.Needs.{needs}
 use Rattle.writing.proofs.put_class.Statement.{statement}
 use Rattle.writing.proofs.put_class.Tie as tie

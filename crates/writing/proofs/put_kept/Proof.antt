@@ -1,4 +1,3 @@
--- `writing::put_kept` meets its contract. Assumes nothing.
 use borrow.Author.Needs.{needs}
 use Rattle.writing.proofs.put_kept.Statement.{statement}
 use Rattle.writing.proofs.put_kept.Tie as tie

@@ -1,4 +1,3 @@
--- `writing::put_mark` meets its contract. Assumes nothing.
 use borrow.Author.Needs.{needs}
 use Rattle.writing.proofs.put_mark.Statement.{statement}
 use Rattle.writing.proofs.put_mark.Tie as tie

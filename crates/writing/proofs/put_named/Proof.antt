@@ -1,4 +1,3 @@
--- `writing::put_named` meets its contract. Assumes nothing.
 use borrow.Author.Needs.{needs}
 use Rattle.writing.proofs.put_named.Statement.{statement}
 use Rattle.writing.proofs.put_named.Tie as tie

@@ -1,13 +1,12 @@
--- `writing::put_other` meets its contract. Assumes nothing.
 use borrow.Author.Needs.{needs}
 use Rattle.writing.proofs.put_other.Statement.{statement}
 use Rattle.writing.proofs.put_other.Tie as tie
 use mathlib.Core.Path.{_∙_}
 use Rattle.writing.proofs.Marks.{mark-is}
 use denote.Ref.{now}
-use Rattle.pruner.specs.Numbers.{counted}
-use Rattle.making.specs.Numbers.{settledN}
-use Rattle.writing.specs.Numbers.{settledPut}
+use Rattle.pruner.specs.code.Numbers.{counted}
+use Rattle.making.specs.code.Numbers.{settledN}
+use Rattle.writing.specs.code.Numbers.{settledPut}
 
 settled-requires : tie.Need-settled-requires
 settled-requires c κs = search needs

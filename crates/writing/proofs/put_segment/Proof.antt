@@ -1,4 +1,3 @@
--- `writing::put_segment` meets its contract. Assumes nothing.
 use borrow.Author.Needs.{needs}
 use Rattle.writing.proofs.put_segment.Statement.{statement}
 use Rattle.writing.proofs.put_segment.Tie as tie

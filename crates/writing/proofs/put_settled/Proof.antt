@@ -1,4 +1,3 @@
--- `writing::put_settled` meets its contract. Assumes nothing.
 use borrow.Author.Needs.{needs}
 use Rattle.writing.proofs.put_settled.Statement.{statement}
 use Rattle.writing.proofs.put_settled.Tie as tie

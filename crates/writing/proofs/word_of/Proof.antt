@@ -1,4 +1,3 @@
--- `writing::word_of` meets its contract. Assumes nothing.
 use Rattle.writing.proofs.word_of.Statement.{statement}
 use Rattle.writing.proofs.word_of.Tie as tie
 use Rattle.writing.proofs.Signed.{cast-up, down-fits, cast-down}

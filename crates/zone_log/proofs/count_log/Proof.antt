@@ -1,4 +1,3 @@
--- `zone_log::count_log` meets its contract. Assumes nothing.
 use Rattle.zone_log.proofs.Counting.{Counting, counting-begin, counting-turn, counting-done, counting-broken}
 use Rattle.celltable.specs.declared.Found.the-variants.{Broken}
 use Rattle.position.proofs.Known.{known-set, unknown-set, in-painted}

@@ -1,4 +1,3 @@
--- `zone_log::first_outside` meets its contract. Assumes nothing.
 use Rattle.zone_log.proofs.Runs.{less-none, outside-turn, outside-here, outside-done}
 use borrow.Author.Needs.{needs}
 use mathlib.Core.Path.{_≡_, refl, sym, ap, _∙_}

@@ -1,4 +1,3 @@
--- `zone_log::is_logged` meets its contract. Assumes nothing.
 use mathlib.Core.Path.{refl}
 use Rattle.zone_log.proofs.is_logged.Statement.{statement}
 use Rattle.zone_log.proofs.is_logged.Tie as tie

@@ -1,4 +1,3 @@
--- `zone_log::log_known` meets its contract. Assumes nothing.
 use Rattle.zone_log.proofs.Answers.{count-told, count-broken, log-room, log-written, log-full, log-broken}
 use Rattle.split.specs.Tables.{tree}
 use lib.ListN.{length}

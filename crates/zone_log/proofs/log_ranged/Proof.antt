@@ -1,4 +1,3 @@
--- `zone_log::log_ranged` meets its contract. Assumes nothing.
 use Rattle.zone_log.proofs.Runs.{run-in}
 use Rattle.zone_log.specs.Logs.{outsideFrom, logKnown}
 use Rattle.zone_log.specs.declared.LogAnswer.the-variants.{Not}

@@ -1,4 +1,3 @@
--- `zone_log::tallied` meets its contract. Assumes nothing.
 use native.Mathlib.Omega.{arith}
 use borrow.Author.Needs.{needs}
 use Rattle.zone_log.proofs.tallied.Statement.{statement}

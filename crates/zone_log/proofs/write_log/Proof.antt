@@ -1,4 +1,3 @@
--- `zone_log::write_log` meets its contract. Assumes nothing.
 use Rattle.zone_log.proofs.Counting.{Writing, writing-begin, writing-room, writing-turn, writing-done, writing-known}
 use Rattle.celltable.specs.declared.Found.the-variants.{Broken}
 use Rattle.position.proofs.Known.{known-set, unknown-set, in-painted}

@@ -1,4 +1,3 @@
--- `zone_log::zone_log` meets its contract. Assumes nothing.
 use Rattle.zone_log.specs.Logs.{logRange}
 use Rattle.zone_log.specs.declared.LogAnswer.the-variants.{Not}
 use Rattle.split.proofs.Choices.{pick-true, pick-false}

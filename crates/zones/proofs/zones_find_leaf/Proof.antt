@@ -1,4 +1,3 @@
--- `zones::zones_find_leaf` meets its contract. Assumes nothing.
 use borrow.Author.Needs.{needs}
 use Rattle.zones.proofs.zones_find_leaf.Statement.{statement}
 use Rattle.zones.proofs.zones_find_leaf.Tie as tie

@@ -1,4 +1,3 @@
--- `zones::zones_open` meets its contract. Assumes nothing.
 use mathlib.Core.Path.{ap, _∙_}
 use Rattle.answers.specs.Answers.{openNumber}
 use borrow.Author.Needs.{needs}

@@ -1,4 +1,3 @@
--- `zones::zones_read` meets its contract. Assumes nothing.
 use mathlib.Core.Path.{ap, _∙_}
 use Rattle.answers.specs.Answers.{readNumber}
 use Rattle.zones.proofs.Low.{read-low}

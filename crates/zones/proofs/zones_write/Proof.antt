@@ -1,4 +1,3 @@
--- `zones::zones_write` meets its contract. Assumes nothing.
 use mathlib.Core.Path.{ap, _∙_}
 use Rattle.answers.specs.Answers.{writeNumber}
 use Rattle.zones.proofs.Low.{write-low}

@@ -1,4 +1,3 @@
--- `celltable::Cursor::deeper` meets its contract. Assumes nothing.
 use borrow.Author.Needs.{needs}
 use Rattle.celltable.proofs.Cursor.deeper.Statement.{statement}
 use Rattle.celltable.proofs.Cursor.deeper.Tie as tie

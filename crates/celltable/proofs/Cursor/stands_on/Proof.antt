@@ -1,4 +1,3 @@
--- `celltable::Cursor::stands_on` meets its contract. Assumes nothing.
 use borrow.Author.Needs.{needs}
 use Rattle.celltable.proofs.Cursor.stands_on.Statement.{statement}
 use Rattle.celltable.proofs.Cursor.stands_on.Tie as tie

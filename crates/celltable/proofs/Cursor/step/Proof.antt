@@ -1,4 +1,3 @@
--- `celltable::Cursor::step` meets its contract. Assumes nothing.
 use Rattle.celltable.proofs.Ranges.{child-few}
 use Rattle.celltable.proofs.Walk.{step-astray, step-unfit, step-landed, step-deeper}
 use borrow.Author.Needs.{needs}

@@ -1,4 +1,4 @@
--- `geometry::class::classify` meets its contract: the laws of `Classes` by four positions, for an edge. Assumes nothing.
+-- `geometry::class::classify` meets its contract: the laws of `Classes` by four positions, for an edge.
 use mathlib.Core.Path.{sym, _∙_}
 use native.Mathlib.Omega.{arith}
 use Rattle.geometry.specs.Edges.{counts, firstRow, endRow}

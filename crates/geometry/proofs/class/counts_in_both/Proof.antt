@@ -1,4 +1,3 @@
--- `geometry::class::counts_in_both` meets its contract. Assumes nothing.
 use mathlib.Core.Path.{sym, _∙_}
 use borrow.Author.Needs.{needs}
 use Rattle.geometry.proofs.class.counts_in_both.Statement.{statement}

@@ -1,4 +1,3 @@
--- `geometry::class::cut_rows` meets its contract. Assumes nothing.
 use mathlib.Core.Path.{sym}
 use borrow.Author.Tests.{le-leb, lt-leb, eq-eqb, ne-eqb}
 use Rattle.geometry.specs.Classes.{cut, verdict}

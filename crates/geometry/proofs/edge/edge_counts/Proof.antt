@@ -1,4 +1,3 @@
--- `geometry::edge::edge_counts` meets its contract. Assumes nothing.
 use borrow.Author.Needs.{needs}
 use borrow.Author.Tests.{lt-leb, le-leb}
 use Rattle.geometry.specs.Edges.{counts}

@@ -1,4 +1,3 @@
--- `geometry::edge::edge_sign` meets its contract. Assumes nothing.
 use Rattle.laws.proofs.Tests.{tests}
 use Rattle.geometry.specs.Edges.{sign}
 use Rattle.geometry.proofs.edge.edge_sign.Statement.{statement}

@@ -1,4 +1,4 @@
--- `geometry::edge::line_counts` meets its contract: each way out rewrites with the tests that led there. Assumes nothing.
+-- `geometry::edge::line_counts` meets its contract: each way out rewrites with the tests that led there.
 use borrow.Author.Needs.{needs}
 use borrow.Author.Tests.{lt-leb, le-ltb, le-leb, lt-ltb}
 use mathlib.Core.Path.{ap, _∙_}

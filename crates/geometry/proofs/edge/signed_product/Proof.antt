@@ -1,4 +1,4 @@
--- `geometry::edge::signed_product` meets its contract. Each value is carried as a difference of two naturals, which fits. Assumes nothing.
+-- `geometry::edge::signed_product` meets its contract. Each value is carried as a difference of two naturals, which fits.
 use borrow.Author.Needs.{needs}
 use mathlib.Core.Path.{_≡_, sym, ap₂, _∙_}
 use Prim.Native.Nat.{_+_, _*_}

@@ -1,4 +1,3 @@
--- `geometry::morton::key` meets its contract. Assumes nothing.
 use borrow.Author.Needs.{needs}
 use native.Mathlib.Omega.{arith}
 use Rattle.geometry.specs.Keys.{keyOf}

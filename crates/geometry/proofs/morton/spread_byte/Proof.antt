@@ -1,4 +1,4 @@
--- `geometry::morton::spread_byte` meets its contract: the table's rule is a test at each of its 256 entries, which antt computes. Assumes nothing.
+-- `geometry::morton::spread_byte` meets its contract: the table's rule is a test at each of its 256 entries, which antt computes.
 use mathlib.Core.List.{List, [], _∷_}
 use mathlib.Core.Bool.{Bool}
 use Prim.Native.Nat.{ℕ}

@@ -1,4 +1,4 @@
--- `geometry::winding::contour_winding` meets its contract: the running sum and the edges that are left make the whole. Assumes nothing.
+-- `geometry::winding::contour_winding` meets its contract: the running sum and the edges that are left make the whole.
 use borrow.Author.Needs.{needs}
 use Prim.Native.Nat.{_+_, _-_, _≤_}
 use native.Mathlib.Omega.{arith}

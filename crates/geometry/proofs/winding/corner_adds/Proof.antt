@@ -1,4 +1,3 @@
--- `geometry::winding::corner_adds` meets its contract. Assumes nothing.
 use mathlib.Core.Path.{_∙_}
 use native.Mathlib.Omega.{arith}
 use Rattle.laws.proofs.Signed.{read-back}

@@ -1,4 +1,3 @@
--- `geometry::winding::edge_adds` meets its contract. Assumes nothing.
 use mathlib.Core.Path.{sym, _∙_}
 use Rattle.laws.proofs.Signed.{read-back}
 use Rattle.geometry.specs.Windings.{adds}

@@ -1,4 +1,3 @@
--- `geometry::winding::next_corner` meets its contract. Assumes nothing.
 use native.Mathlib.Omega.{arith}
 use Rattle.laws.proofs.Tests.{tests}
 use borrow.Author.Needs.{needs}

@@ -1,4 +1,3 @@
--- `paint::area::material_of` meets its contract. Assumes nothing.
 use mathlib.Core.Path.{ap, _∙_}
 use native.Mathlib.Omega.{arith}
 use Rattle.paint.proofs.Sets.{lowest-has, material-some, material-none}

@@ -1,4 +1,3 @@
--- `paint::colour::add_area` meets its contract. Assumes nothing.
 use Rattle.paint.proofs.Colours.{add-in}
 use borrow.Author.Needs.{needs}
 use Rattle.paint.proofs.colour.add_area.Statement.{statement}

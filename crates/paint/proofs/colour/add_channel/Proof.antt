@@ -1,4 +1,3 @@
--- `paint::colour::add_channel` meets its contract. Assumes nothing.
 use native.Mathlib.Omega.{arith}
 use Rattle.paint.proofs.Colours.{bytes-product}
 use borrow.Author.Needs.{needs}

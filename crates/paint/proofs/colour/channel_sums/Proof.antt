@@ -1,4 +1,4 @@
--- `paint::colour::channel_sums` meets its contract: areas are taken from the lowest up, and those that are left make the whole. Assumes nothing.
+-- `paint::colour::channel_sums` meets its contract: areas are taken from the lowest up, and those that are left make the whole.
 use borrow.Author.Needs.{needs}
 use mathlib.Core.Path.{ap, _∙_}
 use native.Mathlib.Omega.{arith}

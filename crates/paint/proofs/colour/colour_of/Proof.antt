@@ -1,4 +1,3 @@
--- `paint::colour::colour_of` meets its contract. Assumes nothing.
 use mathlib.Core.Path.{ap, _∙_}
 use Rattle.paint.specs.Colours.{rounded}
 use borrow.Author.Needs.{needs}

@@ -1,4 +1,4 @@
--- `paint::pixel::row_offset` meets its contract: each offset is below 16, by one test over the table. Assumes nothing.
+-- `paint::pixel::row_offset` meets its contract: each offset is below 16, by one test over the table.
 use mathlib.Core.Path.{refl}
 use native.Mathlib.Omega.{arith}
 use lib.Dec.{ltb, ltb→lt}

@@ -1,4 +1,3 @@
--- `paint::set::with_area` meets its contract. Assumes nothing.
 use mathlib.Core.Path.{ap, _∙_}
 use native.Mathlib.Omega.{arith}
 use lib.Bits.{bitOr}

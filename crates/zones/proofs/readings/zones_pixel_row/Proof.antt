@@ -1,4 +1,3 @@
--- `zones::readings::zones_pixel_row` meets its contract. Assumes nothing.
 use mathlib.Core.Path.{ap, _∙_}
 use denote.Ref.{now}
 use Rattle.split.specs.Tables.{tree}

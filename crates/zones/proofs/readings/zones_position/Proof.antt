@@ -1,4 +1,3 @@
--- `zones::readings::zones_position` meets its contract. Assumes nothing.
 use borrow.Author.Needs.{needs}
 use Rattle.zones.proofs.readings.zones_position.Statement.{statement}
 use Rattle.zones.proofs.readings.zones_position.Tie as tie

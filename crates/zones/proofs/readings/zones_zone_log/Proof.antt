@@ -1,4 +1,3 @@
--- `zones::readings::zones_zone_log` meets its contract. Assumes nothing.
 use mathlib.Core.Path.{ap, _∙_}
 use Rattle.answers.specs.Readings.{logNumber}
 use borrow.Author.Needs.{needs}

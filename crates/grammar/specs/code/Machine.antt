@@ -1,0 +1,108 @@
+-- The grammar over the state that the code holds. `Rattle.grammar.proofs.Meaning` says that it is the same.
+use Prim.Native.Nat.{ℕ, _+_}
+use mathlib.Core.Bool.{Bool, true, false, cond}
+use mathlib.Core.List.{List, [], _∷_}
+use lib.Dec.{eqb, ltb}
+use Rattle.groups.specs.code.Stack.{paintN, leftN, rightN, roomN, openN, barN, closeN}
+use Rattle.refusals.specs.declared.Refusal.the-variants.{Unfit, Short, Limit}
+use Rattle.records.specs.declared.Record.{Record}
+use Rattle.records.specs.declared.Record.the-variants.{Area, First, Next, Open, Bar, Close}
+use Rattle.records.specs.declared.Decoded.{Decoded}
+use Rattle.records.specs.declared.Decoded.the-variants.{Good, Bad}
+use Rattle.grammar.specs.declared.State.{State}
+use Rattle.grammar.specs.declared.Step.{Step}
+use Rattle.grammar.specs.declared.Step.the-variants.{On, Off}
+use Rattle.grammar.specs.declared.Scan.{Scan}
+use Rattle.grammar.specs.declared.Scan.the-variants.{At, Stopped}
+use Rattle.grammar.specs.declared.Verdict.{Verdict}
+use Rattle.grammar.specs.declared.Verdict.the-variants.{Accepted, Refused}
+use Rattle.grammar.specs.Grammar.{isShort, oneMore, counts}
+
+abbrev pub mk : ℕ → Bool → ℕ → ℕ → ℕ → State
+mk n h r a c = record { stack = n; held = h; run = r; areas = a; corners = c }
+
+abbrev pub roleN : ℕ → ℕ
+roleN stack = cond (paintN stack) 0 1
+
+abbrev pub fitsN : State → Record → Bool
+fitsN s (Area f) = eqb (f .role) (roleN (s .stack))
+fitsN s (First x y) = s .held
+fitsN s (Next x y) = ltb 0 (s .run)
+fitsN s Open = true
+fitsN s Bar = leftN (s .stack)
+fitsN s Close = rightN (s .stack)
+
+abbrev pub endsN : State → Record → Bool
+endsN s (Area f) = isShort (s .run)
+endsN s (First x y) = isShort (s .run)
+endsN s (Next x y) = false
+endsN s Open = isShort (s .run)
+endsN s Bar = isShort (s .run)
+endsN s Close = isShort (s .run)
+
+abbrev pub limitN : State → Record → Bool
+limitN s (Area f) = ltb (s .areas) 64
+limitN s (First x y) = ltb (s .corners) 2048
+limitN s (Next x y) = ltb (s .corners) 2048
+limitN s Open = roomN (s .stack)
+limitN s Bar = true
+limitN s Close = true
+
+abbrev pub areaN : State → State
+areaN s = mk (s .stack) true 0 (s .areas + 1) (s .corners)
+
+abbrev pub firstN : State → State
+firstN s = mk (s .stack) true 1 (s .areas) (s .corners + 1)
+
+abbrev pub nextN : State → State
+nextN s = mk (s .stack) true (oneMore (s .run)) (s .areas) (s .corners + 1)
+
+abbrev pub afterOpenN : State → State
+afterOpenN s = mk (openN (s .stack)) false 0 (s .areas) (s .corners)
+
+abbrev pub afterBarN : State → State
+afterBarN s = mk (barN (s .stack)) false 0 (s .areas) (s .corners)
+
+abbrev pub afterCloseN : State → State
+afterCloseN s = mk (closeN (s .stack)) false 0 (s .areas) (s .corners)
+
+abbrev pub afterN : State → Record → State
+afterN s (Area f) = areaN s
+afterN s (First x y) = firstN s
+afterN s (Next x y) = nextN s
+afterN s Open = afterOpenN s
+afterN s Bar = afterBarN s
+afterN s Close = afterCloseN s
+
+abbrev pub stepN : State → Record → Step
+stepN s r = cond (fitsN s r) (cond (endsN s r) (Off Short) (cond (limitN s r) (On (afterN s r)) (Off Limit))) (Off Unfit)
+
+abbrev pub settledN : Step → ℕ → Scan
+settledN (On s) i = At s
+settledN (Off r) i = Stopped r i
+
+abbrev pub advanceAtN : State → Decoded → ℕ → Scan
+advanceAtN s (Good r) i = settledN (stepN s r) i
+advanceAtN s (Bad x) i = Stopped x i
+
+abbrev pub advanceN : Scan → Decoded → ℕ → Scan
+advanceN (At s) d i = advanceAtN s d i
+advanceN (Stopped r p) d i = Stopped r p
+
+abbrev pub startN : Scan
+startN = At (mk 1 false 0 0 0)
+
+abbrev pub endStateN : State → ℕ → Verdict
+endStateN s n = cond (eqb (s .stack) 1) (cond (isShort (s .run)) (Refused Short n) (Accepted (counts n (s .areas) (s .corners)))) (Refused Unfit n)
+
+abbrev pub endedN : Scan → ℕ → Verdict
+endedN (At s) n = endStateN s n
+endedN (Stopped r p) n = Refused r p
+
+unfoldable pub scanN : Scan → ℕ → List Decoded → Scan
+scanN c i [] = c
+scanN c i (d ∷ ds) = scanN (advanceN c d i) (i + 1) ds
+
+abbrev pub isStopped : Scan → Bool
+isStopped (At s) = false
+isStopped (Stopped r p) = true

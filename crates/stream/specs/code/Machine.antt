@@ -1,0 +1,96 @@
+-- The grammar of streams over the state that the code holds. `Rattle.stream.proofs.Meaning` says that it is the same.
+use Prim.Native.Nat.{ℕ, suc, _+_, _-_, _≤_, _<_}
+use mathlib.Core.Path.{_≡_}
+use mathlib.Core.Bool.{Bool, true, false, cond, _&&_, _||_}
+use mathlib.Core.List.{List, [], _∷_}
+use lib.Dec.{eqb, ltb}
+use Rattle.groups.specs.code.Stack.{paintN, leftN, rightN, roomN, openN, barN, closeN}
+use Rattle.drawing.specs.Tables.{areaRow}
+use Rattle.stream.specs.declared.Words.{Words}
+use Rattle.stream.specs.declared.Bounds.{Bounds}
+use Rattle.stream.specs.declared.Scan.{Scan}
+use Rattle.stream.specs.declared.Scanned.{Scanned}
+use Rattle.stream.specs.Table.{wordsFrom}
+use Rattle.stream.specs.Entry.{startRange}
+use Rattle.stream.specs.Grammar.{Env, lineRange, shortcutRange, roleFits}
+
+abbrev pub mk : ℕ → Bool → ℕ → ℕ → Scan
+mk n h a l = record { stack = n; held = h; areas = a; lines = l }
+
+-- a stack of 0 says that the stream is out of range or out of the grammar
+abbrev pub offN : Scan
+offN = mk 0 false 0 0
+
+abbrev pub startN : Scan
+startN = mk 1 false 0 0
+
+-- only the open groups are other
+abbrev pub inGroups : Scan → ℕ → Scan
+inGroups s n = mk n false (s .areas) (s .lines)
+
+abbrev pub afterOpenN : Scan → Scan
+afterOpenN s = cond (roomN (s .stack)) (inGroups s (openN (s .stack))) offN
+
+abbrev pub afterBarN : Scan → Scan
+afterBarN s = cond (leftN (s .stack)) (inGroups s (barN (s .stack))) offN
+
+abbrev pub afterCloseN : Scan → Scan
+afterCloseN s = cond (rightN (s .stack)) (inGroups s (closeN (s .stack))) offN
+
+abbrev pub afterPassesN : Scan → Scan
+afterPassesN s = cond (paintN (s .stack)) offN (inGroups s (s .stack))
+
+-- an area whose numbers are in range and whose role fits
+abbrev pub withAreaN : Scan → Bool → Scan
+withAreaN s ok = cond ok (cond (ltb (s .areas) 64) (mk (s .stack) true (s .areas + 1) (s .lines)) offN) offN
+
+abbrev pub areaFitsN : List ℕ → ℕ → ℕ → Words → Bool
+areaFitsN areas used stack w = roleFits (areaRow areas used (w .p)) (paintN stack) && startRange (w .q)
+
+-- a line or a shortcut whose numbers are in range
+abbrev pub withLineN : Scan → Bool → Scan
+withLineN s ok = cond ok (cond (s .held) (cond (ltb (s .lines) 2048) (mk (s .stack) true (s .areas) (s .lines + 1)) offN) offN) offN
+
+abbrev pub stepN : Env → Scan → Words → Scan
+stepN v s w =
+    cond (eqb (s .stack) 0) s
+    (cond (eqb (w .kind) 1) (afterOpenN s)
+    (cond (eqb (w .kind) 2) (afterBarN s)
+    (cond (eqb (w .kind) 3) (afterCloseN s)
+    (cond (eqb (w .kind) 4) (withAreaN s (areaFitsN (v .areas) (v .used .areas) (s .stack) w))
+    (cond (eqb (w .kind) 5) (withLineN s (lineRange (v .xs) (v .ys) (v .used .corners) (w .p) (w .q)))
+    (cond (eqb (w .kind) 6) (withLineN s (shortcutRange (v .used .low) (v .used .side) (w .p) (w .q) (w .r)))
+    (cond (eqb (w .kind) 7) (afterPassesN s) offN)))))))
+
+unfoldable pub scanN : Env → Scan → List Words → Scan
+scanN v s [] = s
+scanN v s (w ∷ ws) = scanN v (stepN v s w) ws
+
+-- ---- lines and shortcuts in a row
+
+-- the kind of a line or of a shortcut
+abbrev pub isSegment : (kind : ℕ) → Bool
+isSegment k = eqb k 5 || eqb k 6
+
+-- its numbers are in range
+abbrev pub segmentFits : (xs ys : List ℕ) → Bounds → Words → Bool
+segmentFits xs ys b w = cond (eqb (w .kind) 5) (lineRange xs ys (b .corners) (w .p) (w .q)) (shortcutRange (b .low) (b .side) (w .p) (w .q) (w .r))
+
+-- how many stand in front
+unfoldable pub segmentsIn : List Words → ℕ
+segmentsIn [] = 0
+segmentsIn (w ∷ ws) = cond (isSegment (w .kind)) (suc (segmentsIn ws)) 0
+
+-- they are in range, and at most 2,048 with those before
+unfoldable pub runFits : (xs ys : List ℕ) → Bounds → (lines : ℕ) → List Words → Bool
+runFits xs ys b l [] = true
+runFits xs ys b l (w ∷ ws) = cond (isSegment (w .kind)) ((segmentFits xs ys b w && ltb l 2048) && runFits xs ys b (l + 1) ws) true
+
+abbrev pub afterRunN : Scan → Bool → ℕ → Scan
+afterRunN s fits lines = cond fits (mk (s .stack) true (s .areas) lines) offN
+
+-- from entry i the scan s has come to another entry: what is left gives the same
+pub record Onward (v : Env) (t : List ℕ) (i end : ℕ) (s : Scan) (r : Scanned) : Type 0 where
+  pub later : i < r .next
+  pub inside : r .next ≤ end
+  pub same : scanN v (r .scan) (wordsFrom t (r .next) (end - r .next)) ≡ scanN v s (wordsFrom t i (end - i))
