@@ -3,12 +3,12 @@
 // Each answer is one number: the number of the refusal times 2^32, and its place. Where nothing is refused the high half is 0 and the low
 // half is the result.
 use drawing::Written;
-use grammar::Verdict;
 use find_leaf::FoundLeaf;
-use zone_log::LogAnswer;
+use grammar::Verdict;
 use pixel_row::RowAnswer;
 use position::Spot;
 use refusals::Refusal;
+use zone_log::LogAnswer;
 ghost use mathlib.Core.Path.{_≡_};
 ghost use Prim.Native.Nat.{_≤_};
 ghost use lib.ListN.{length};
