@@ -108,13 +108,42 @@ pub fn reached(top: &Path, roots: &[(&str, &str, &str)]) -> Vec<Reached> {
     order.into_iter().filter_map(told).collect()
 }
 
-/// As rows of a table.
-pub fn rows(reached: &[Reached]) -> String {
-    let row = |r: &Reached| {
-        let names: Vec<String> = r.names.iter().map(|n| format!("`{n}`")).collect();
-        format!("| `{}` | {} | {} |\n", r.path, r.lines, names.join(", "))
-    };
-    reached.iter().map(row).collect()
+/// The page of promises with this reading list: its table, and how many files and lines it has.
+pub fn page(promises: &str, reached: &[Reached]) -> String {
+    let files = reached.len();
+    let lines: usize = reached.iter().map(|r| r.lines).sum();
+    let mut rest = promises.split('\n').peekable();
+    let mut page = Vec::new();
+    while let Some(line) = rest.next() {
+        match line.split_once("; ") {
+            Some((before, sum)) if sum.contains(" files, ") && sum.contains(" lines, ") => {
+                let behind = sum.split_once(" lines, ").expect("a sum of lines").1;
+                page.push(format!("{before}; {files} files, {lines} lines, {behind}"));
+            }
+            _ => page.push(line.to_string()),
+        }
+        if line == HEAD {
+            page.extend(rest.next().map(String::from));
+            while rest.peek().is_some_and(|row| row.starts_with('|')) {
+                rest.next();
+            }
+            page.extend(reached.iter().map(row));
+        }
+    }
+    page.join("\n")
+}
+
+/// The first line of the table.
+const HEAD: &str = "| file | lines | definitions reached |";
+
+fn row(file: &Reached) -> String {
+    let names: Vec<String> = file.names.iter().map(|n| format!("`{n}`")).collect();
+    format!(
+        "| `{}` | {} | {} |",
+        file.path,
+        file.lines,
+        names.join(", ")
+    )
 }
 
 /// The crates, each after those that it depends on, else in the order of the file.
