@@ -5,6 +5,8 @@ use mathlib.Core.List.{List, [], _∷_}
 use lib.ListN.{length, getD}
 use lib.Seq.{sets}
 use lib.Dec.{eqb, ltb, leb}
+use denote.Triple.Both.{Both}
+use denote.Ref.{RefT, now}
 use Rattle.records.specs.declared.Fields.{Fields}
 use Rattle.refusals.specs.declared.Refusal.the-variants.{Kind, Field, Argument, Room, Broken}
 use Rattle.records.specs.declared.Record.{Record}
@@ -20,6 +22,7 @@ use Rattle.grammar.specs.Lists.{goods, areaOne, cornerOne}
 use Rattle.drawing.specs.declared.Cursor.{Cursor}
 use Rattle.drawing.specs.declared.Written.{Written}
 use Rattle.drawing.specs.declared.Written.the-variants.{Bytes, Not}
+use Rattle.read.specs.Words.{fileOf}
 use Rattle.read.specs.Reading.{holds}
 
 pub record Tables : Type 0 where
@@ -30,6 +33,11 @@ pub record Tables : Type 0 where
 
 abbrev pub tables : List ℕ → List ℕ → List ℕ → List ℕ → Tables
 tables p a x y = record { plan = p; areas = a; xs = x; ys = y }
+
+-- the four tables as they are lent to a call: in an `ensures` the name of a slice stands for the slice at the call's entry and at its exit, and
+-- this takes what each holds at entry
+abbrev pub drawingLent : (plan areas xs ys : Both (RefT (List ℕ)) (RefT (List ℕ))) → Tables
+drawingLent p a x y = tables (now (p .entry)) (now (a .entry)) (now (x .entry)) (now (y .entry))
 
 -- the tables have the words that these counts speak of
 pub record Ready (p a x y : List ℕ) (u : Counts) : Type 0 where
@@ -115,3 +123,7 @@ writeAnswer t out = writtenOf (drawingOf t) (length out)
 abbrev pub outAfter : Written → List ℕ → List ℕ → List ℕ
 outAfter (Bytes n) out bs = sets out 0 bs
 outAfter (Not r) out bs = out
+
+-- the output after the call: the file of the drawing in the tables
+abbrev pub outWritten : Tables → List ℕ → List ℕ
+outWritten t out = outAfter (writeAnswer t out) out (fileOf (drawnIn t))

@@ -15,7 +15,7 @@ ghost use Rattle.grammar.specs.code.Machine.{scanN, startN};
 ghost use Rattle.grammar.specs.Lists.{goods, areaOne, cornerOne};
 ghost use Rattle.records.specs.Bytes.{bytesOf};
 ghost use Rattle.read.specs.Words.{fileOf, onGood};
-ghost use Rattle.drawing.specs.Tables.{tables, Ready, cursor, fieldsAt, areaRow, cornerRow, kindRow, rowOf, pastRecord, pastOf, rebuilt, drawnIn, agreed, countsJudged, drawingOf, writtenOf, writeAnswer, outAfter};
+ghost use Rattle.drawing.specs.Tables.{tables, drawingLent, Ready, cursor, fieldsAt, areaRow, cornerRow, kindRow, rowOf, pastRecord, pastOf, rebuilt, drawnIn, agreed, countsJudged, drawingOf, writtenOf, writeAnswer, outAfter};
 
 // The areas and the corners before a record.
 pub struct Cursor {
@@ -97,7 +97,7 @@ fn row(
 ) -> Decoded
     requires { ⌜ Ready (now plan) (now areas) (now xs) (now ys) used ⌝ }
     requires { ⌜ i < used .records ⌝ }
-    ensures { λ d. ⌜ d ≡ rowOf (tables (now (plan .entry)) (now (areas .entry)) (now (xs .entry)) (now (ys .entry))) used i c ⌝ }
+    ensures { λ d. ⌜ d ≡ rowOf (drawingLent plan areas xs ys) used i c ⌝ }
 {
     let k = plan[i + 3];
     if 1 <= k {
@@ -161,7 +161,7 @@ fn past(c: Cursor, d: Decoded) -> Cursor
 
 fn scan_tables(plan: &[u32], areas: &[u32], xs: &[u32], ys: &[u32], used: Counts) -> Scan
     requires { ⌜ Ready (now plan) (now areas) (now xs) (now ys) used ⌝ }
-    ensures { λ s. ⌜ s ≡ scanN startN 0 (rebuilt (tables (now (plan .entry)) (now (areas .entry)) (now (xs .entry)) (now (ys .entry))) used 0 (cursor 0 0) (used .records)) ⌝ }
+    ensures { λ s. ⌜ s ≡ scanN startN 0 (rebuilt (drawingLent plan areas xs ys) used 0 (cursor 0 0) (used .records)) ⌝ }
 {
     let n = used.records;
     let mut s = grammar::start();
@@ -198,7 +198,7 @@ fn agreed_with(v: Verdict, used: Counts) -> Verdict
 
 fn check_counts(plan: &[u32], areas: &[u32], xs: &[u32], ys: &[u32], used: Counts) -> Verdict
     requires { ⌜ length (now xs) ≡ length (now ys) ⌝ }
-    ensures { λ v. ⌜ v ≡ countsJudged (tables (now (plan .entry)) (now (areas .entry)) (now (xs .entry)) (now (ys .entry))) used ⌝ }
+    ensures { λ v. ⌜ v ≡ countsJudged (drawingLent plan areas xs ys) used ⌝ }
 {
     if used.records <= 4096 {
         let h = read::tables_hold(plan.len(), areas.len(), xs.len(), used);
@@ -214,7 +214,7 @@ fn check_counts(plan: &[u32], areas: &[u32], xs: &[u32], ys: &[u32], used: Count
 
 // Whether lent tables hold a drawing: 7, then 12.
 pub fn check_drawing(plan: &[u32], areas: &[u32], xs: &[u32], ys: &[u32]) -> Verdict
-    ensures { λ v. ⌜ v ≡ drawingOf (tables (now (plan .entry)) (now (areas .entry)) (now (xs .entry)) (now (ys .entry))) ⌝ }
+    ensures answer { λ v. ⌜ v ≡ drawingOf (drawingLent plan areas xs ys) ⌝ }
 {
     if xs.len() == ys.len() {
         if 3 <= plan.len() {
@@ -257,7 +257,8 @@ fn put_bytes(out: &mut [u8], at: usize, d: Decoded) -> usize
 fn write_all(plan: &[u32], areas: &[u32], xs: &[u32], ys: &[u32], used: Counts, out: &mut [u8])
     requires { ⌜ Ready (now plan) (now areas) (now xs) (now ys) used ⌝ }
     requires { ⌜ used .records * 16 ≤ length (now out) ⌝ }
-    ensures { λ _. ⌜ now (out .exit) ≡ sets (now (out .entry)) 0 (fileOf (goods (rebuilt (tables (now (plan .entry)) (now (areas .entry)) (now (xs .entry)) (now (ys .entry))) used 0 (cursor 0 0) (used .records)))) ⌝ }
+    ensures { λ _. ⌜ now (out .exit) ≡
+        sets (now (out .entry)) 0 (fileOf (goods (rebuilt (drawingLent plan areas xs ys) used 0 (cursor 0 0) (used .records)))) ⌝ }
 {
     let n = used.records;
     let mut c = Cursor { area: 0, corner: 0 };
@@ -281,7 +282,7 @@ fn write_if_room(
 ) -> Written
     requires { ⌜ drawingOf (tables (now plan) (now areas) (now xs) (now ys)) ≡ Accepted k ⌝ }
     ensures { λ w. ⌜ w ≡ writtenOf (Accepted k) (length (now (out .entry))) ⌝ }
-    ensures { λ w. ⌜ now (out .exit) ≡ outAfter w (now (out .entry)) (fileOf (drawnIn (tables (now (plan .entry)) (now (areas .entry)) (now (xs .entry)) (now (ys .entry))))) ⌝ }
+    ensures { λ w. ⌜ now (out .exit) ≡ outAfter w (now (out .entry)) (fileOf (drawnIn (drawingLent plan areas xs ys))) ⌝ }
 {
     if k.records <= out.len() / 16 {
         write_all(plan, areas, xs, ys, k, out);
@@ -292,8 +293,8 @@ fn write_if_room(
 
 // Writes a drawing out as a file. Any tables may be handed in.
 pub fn write(plan: &[u32], areas: &[u32], xs: &[u32], ys: &[u32], out: &mut [u8]) -> Written
-    ensures { λ w. ⌜ w ≡ writeAnswer (tables (now (plan .entry)) (now (areas .entry)) (now (xs .entry)) (now (ys .entry))) (now (out .entry)) ⌝ }
-    ensures { λ w. ⌜ now (out .exit) ≡ outAfter w (now (out .entry)) (fileOf (drawnIn (tables (now (plan .entry)) (now (areas .entry)) (now (xs .entry)) (now (ys .entry))))) ⌝ }
+    ensures answer { λ w. ⌜ w ≡ writeAnswer (drawingLent plan areas xs ys) (now (out .entry)) ⌝ }
+    ensures out { λ w. ⌜ now (out .exit) ≡ outAfter w (now (out .entry)) (fileOf (drawnIn (drawingLent plan areas xs ys))) ⌝ }
 {
     let v = check_drawing(plan, areas, xs, ys);
     match v {

@@ -6,6 +6,8 @@ use mathlib.Core.List.{List, [], _∷_}
 use lib.ListN.{length}
 use lib.Seq.{sets}
 use lib.Dec.{eqb, leb}
+use denote.Triple.Both.{Both}
+use denote.Ref.{RefT, now}
 use Rattle.refusals.specs.declared.Refusal.the-variants.{Length, Argument, Room}
 use Rattle.records.specs.declared.Record.{Record}
 use Rattle.records.specs.declared.Decoded.{Decoded}
@@ -44,6 +46,14 @@ ifRoom (Refused r i) p a c = Refused r i
 -- 7, "a lent pair of x and y tables of unequal length (tried before all other checks, 1 included)"
 unfoldable pub readAnswer : List ℕ → List ℕ → List ℕ → List ℕ → List ℕ → Verdict
 readAnswer b plan areas xs ys = cond (eqb (length xs) (length ys)) (ifRoom (verdictOf b) (length plan) (length areas) (length xs)) (Refused Argument 0)
+
+-- that answer for the file and the four tables as they are lent to a call, and the file's drawing: in an `ensures` the name of a slice stands for
+-- the slice at the call's entry and at its exit, and these take what each holds at entry
+abbrev pub recordsLent : Both (RefT (List ℕ)) (RefT (List ℕ)) → List Record
+recordsLent b = recordsIn (now (b .entry))
+
+abbrev pub readLent : (records plan areas xs ys : Both (RefT (List ℕ)) (RefT (List ℕ))) → Verdict
+readLent b p a x y = readAnswer (now (b .entry)) (now (p .entry)) (now (a .entry)) (now (x .entry)) (now (y .entry))
 
 -- a table after the call: the words in use from its beginning; "An accepted call leaves the rest of a longer output untouched."
 -- On a refusal: "Nothing lent changes."

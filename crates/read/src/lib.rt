@@ -16,7 +16,7 @@ ghost use Rattle.grammar.specs.Lists.{goods};
 ghost use Rattle.records.specs.Record.{kindOf};
 ghost use Rattle.records.specs.Bytes.{rawAt, decodedRaw};
 ghost use Rattle.read.specs.Words.{kindW, areaW, xW, yW, wordsOf, spread, planWords, areaWords, xWords, yWords, onGood};
-ghost use Rattle.read.specs.Reading.{decodedFrom, recordsIn, verdictOf, holds, ifRoom, readAnswer, leftBy, Filed};
+ghost use Rattle.read.specs.Reading.{decodedFrom, recordsLent, verdictOf, holds, ifRoom, readLent, leftBy, Filed};
 
 // ---- the file
 fn read_record(records: &[u8], i: usize) -> Decoded
@@ -46,7 +46,7 @@ fn scan_records(records: &[u8], n: usize) -> Scan
 
 // The first refusal of a file and its place, or what it holds.
 pub fn check_records(records: &[u8]) -> Verdict
-    ensures { λ v. ⌜ v ≡ verdictOf (now (records .entry)) ⌝ }
+    ensures answer { λ v. ⌜ v ≡ verdictOf (now (records .entry)) ⌝ }
 {
     if records.len() % 16 == 0 {
         let n = records.len() / 16;
@@ -94,7 +94,9 @@ fn put_kind(table: &mut [u32], at: usize, r: Record) -> usize
 fn put_row(table: &mut [u32], at: usize, f: Fields) -> usize
     requires { ⌜ at + 8 ≤ length (now table) ⌝ }
     ensures { λ n. ⌜ n ≡ at + 8 ⌝ }
-    ensures { λ n. ⌜ now (table .exit) ≡ set (set (set (set (set (set (set (set (now (table .entry)) at (f .role)) (at + 1) (f .rule)) (at + 2) (f .alpha)) (at + 3) (f .red)) (at + 4) (f .green)) (at + 5) (f .blue)) (at + 6) (f .material)) (at + 7) 0 ⌝ }
+    ensures { λ n. ⌜ now (table .exit) ≡
+        set (set (set (set (set (set (set (set (now (table .entry)) at (f .role)) (at + 1) (f .rule)) (at + 2) (f .alpha)) (at + 3) (f .red))
+        (at + 4) (f .green)) (at + 5) (f .blue)) (at + 6) (f .material)) (at + 7) 0 ⌝ }
 {
     table[at] = f.role;
     table[at + 1] = f.rule;
@@ -243,11 +245,12 @@ fn fill_all(
     k: Counts,
 )
     requires { ⌜ Filed (now records) k ⌝ }
-    requires { ⌜ (k .records + 3 ≤ length (now plan)) × (k .areas * 8 ≤ length (now areas)) × (k .corners ≤ length (now xs)) × (k .corners ≤ length (now ys)) ⌝ }
-    ensures { λ _. ⌜ now (plan .exit) ≡ sets (now (plan .entry)) 0 (planWords (recordsIn (now (records .entry)))) ⌝ }
-    ensures { λ _. ⌜ now (areas .exit) ≡ sets (now (areas .entry)) 0 (areaWords (recordsIn (now (records .entry)))) ⌝ }
-    ensures { λ _. ⌜ now (xs .exit) ≡ sets (now (xs .entry)) 0 (xWords (recordsIn (now (records .entry)))) ⌝ }
-    ensures { λ _. ⌜ now (ys .exit) ≡ sets (now (ys .entry)) 0 (yWords (recordsIn (now (records .entry)))) ⌝ }
+    requires { ⌜ (k .records + 3 ≤ length (now plan)) × (k .areas * 8 ≤ length (now areas))
+        × (k .corners ≤ length (now xs)) × (k .corners ≤ length (now ys)) ⌝ }
+    ensures { λ _. ⌜ now (plan .exit) ≡ sets (now (plan .entry)) 0 (planWords (recordsLent records)) ⌝ }
+    ensures { λ _. ⌜ now (areas .exit) ≡ sets (now (areas .entry)) 0 (areaWords (recordsLent records)) ⌝ }
+    ensures { λ _. ⌜ now (xs .exit) ≡ sets (now (xs .entry)) 0 (xWords (recordsLent records)) ⌝ }
+    ensures { λ _. ⌜ now (ys .exit) ≡ sets (now (ys .entry)) 0 (yWords (recordsLent records)) ⌝ }
 {
     let n = k.records;
     put_header(plan, k);
@@ -265,10 +268,10 @@ fn fill_if_room(
     requires { ⌜ Filed (now records) k ⌝ }
     requires { ⌜ length (now xs) ≡ length (now ys) ⌝ }
     ensures { λ v. ⌜ v ≡ ifRoom (Accepted k) (length (now (plan .entry))) (length (now (areas .entry))) (length (now (xs .entry))) ⌝ }
-    ensures { λ v. ⌜ now (plan .exit) ≡ leftBy v (now (plan .entry)) (planWords (recordsIn (now (records .entry)))) ⌝ }
-    ensures { λ v. ⌜ now (areas .exit) ≡ leftBy v (now (areas .entry)) (areaWords (recordsIn (now (records .entry)))) ⌝ }
-    ensures { λ v. ⌜ now (xs .exit) ≡ leftBy v (now (xs .entry)) (xWords (recordsIn (now (records .entry)))) ⌝ }
-    ensures { λ v. ⌜ now (ys .exit) ≡ leftBy v (now (ys .entry)) (yWords (recordsIn (now (records .entry)))) ⌝ }
+    ensures { λ v. ⌜ now (plan .exit) ≡ leftBy v (now (plan .entry)) (planWords (recordsLent records)) ⌝ }
+    ensures { λ v. ⌜ now (areas .exit) ≡ leftBy v (now (areas .entry)) (areaWords (recordsLent records)) ⌝ }
+    ensures { λ v. ⌜ now (xs .exit) ≡ leftBy v (now (xs .entry)) (xWords (recordsLent records)) ⌝ }
+    ensures { λ v. ⌜ now (ys .exit) ≡ leftBy v (now (ys .entry)) (yWords (recordsLent records)) ⌝ }
 {
     let h = tables_hold(plan.len(), areas.len(), xs.len(), k);
     if h {
@@ -289,10 +292,10 @@ fn read_checked(
     requires { ⌜ v ≡ verdictOf (now records) ⌝ }
     requires { ⌜ length (now xs) ≡ length (now ys) ⌝ }
     ensures { λ r. ⌜ r ≡ ifRoom v (length (now (plan .entry))) (length (now (areas .entry))) (length (now (xs .entry))) ⌝ }
-    ensures { λ r. ⌜ now (plan .exit) ≡ leftBy r (now (plan .entry)) (planWords (recordsIn (now (records .entry)))) ⌝ }
-    ensures { λ r. ⌜ now (areas .exit) ≡ leftBy r (now (areas .entry)) (areaWords (recordsIn (now (records .entry)))) ⌝ }
-    ensures { λ r. ⌜ now (xs .exit) ≡ leftBy r (now (xs .entry)) (xWords (recordsIn (now (records .entry)))) ⌝ }
-    ensures { λ r. ⌜ now (ys .exit) ≡ leftBy r (now (ys .entry)) (yWords (recordsIn (now (records .entry)))) ⌝ }
+    ensures { λ r. ⌜ now (plan .exit) ≡ leftBy r (now (plan .entry)) (planWords (recordsLent records)) ⌝ }
+    ensures { λ r. ⌜ now (areas .exit) ≡ leftBy r (now (areas .entry)) (areaWords (recordsLent records)) ⌝ }
+    ensures { λ r. ⌜ now (xs .exit) ≡ leftBy r (now (xs .entry)) (xWords (recordsLent records)) ⌝ }
+    ensures { λ r. ⌜ now (ys .exit) ≡ leftBy r (now (ys .entry)) (yWords (recordsLent records)) ⌝ }
 {
     match v {
         Verdict::Accepted(k) => fill_if_room(records, plan, areas, xs, ys, k),
@@ -308,11 +311,11 @@ pub fn read(
     xs: &mut [u32],
     ys: &mut [u32],
 ) -> Verdict
-    ensures { λ r. ⌜ r ≡ readAnswer (now (records .entry)) (now (plan .entry)) (now (areas .entry)) (now (xs .entry)) (now (ys .entry)) ⌝ }
-    ensures { λ r. ⌜ now (plan .exit) ≡ leftBy r (now (plan .entry)) (planWords (recordsIn (now (records .entry)))) ⌝ }
-    ensures { λ r. ⌜ now (areas .exit) ≡ leftBy r (now (areas .entry)) (areaWords (recordsIn (now (records .entry)))) ⌝ }
-    ensures { λ r. ⌜ now (xs .exit) ≡ leftBy r (now (xs .entry)) (xWords (recordsIn (now (records .entry)))) ⌝ }
-    ensures { λ r. ⌜ now (ys .exit) ≡ leftBy r (now (ys .entry)) (yWords (recordsIn (now (records .entry)))) ⌝ }
+    ensures answer { λ r. ⌜ r ≡ readLent records plan areas xs ys ⌝ }
+    ensures plan { λ r. ⌜ now (plan .exit) ≡ leftBy r (now (plan .entry)) (planWords (recordsLent records)) ⌝ }
+    ensures areas { λ r. ⌜ now (areas .exit) ≡ leftBy r (now (areas .entry)) (areaWords (recordsLent records)) ⌝ }
+    ensures xs { λ r. ⌜ now (xs .exit) ≡ leftBy r (now (xs .entry)) (xWords (recordsLent records)) ⌝ }
+    ensures ys { λ r. ⌜ now (ys .exit) ≡ leftBy r (now (ys .entry)) (yWords (recordsLent records)) ⌝ }
 {
     if xs.len() == ys.len() {
         let v = check_records(records);
