@@ -77,8 +77,10 @@ pub fn count_child(
     requires { ⌜ Passed (now entries) first count (env (now areas) (now xs) (now ys) b) ⌝ }
     requires { ⌜ SquareIn s ⌝ }
     requires { ⌜ squareOf (cellIn s) ≡ s ⌝ }
-    ensures { λ r. ⌜ r .weight ≡ total rowSize (rowsMade (lent (now (areas .entry)) (now (xs .entry)) (now (ys .entry)) b) (cellIn s) (wordsFrom (now (entries .entry)) first count)) ⌝ }
-    ensures { λ r. ⌜ r .starts ≡ startsIn (rowsMade (lent (now (areas .entry)) (now (xs .entry)) (now (ys .entry)) b) (cellIn s) (wordsFrom (now (entries .entry)) first count)) ⌝ }
+    ensures { λ r. ⌜ r .weight ≡ total rowSize (rowsMade
+        (lent (now (areas .entry)) (now (xs .entry)) (now (ys .entry)) b) (cellIn s) (wordsFrom (now (entries .entry)) first count)) ⌝ }
+    ensures { λ r. ⌜ r .starts ≡ startsIn (rowsMade
+        (lent (now (areas .entry)) (now (xs .entry)) (now (ys .entry)) b) (cellIn s) (wordsFrom (now (entries .entry)) first count)) ⌝ }
 {
     let end = first + count;
     let mut p = pruner::begun();
@@ -131,7 +133,8 @@ pub fn write_child(
     requires { ⌜ first + count ≤ free ⌝ }
     requires { ⌜ (free + made) * 4 ≤ length (now entries) ⌝ }
     requires { ⌜ made ≡ length (rowsMade (lent (now areas) (now xs) (now ys) b) (cellIn s) (wordsFrom (now entries) first count)) ⌝ }
-    ensures { λ _. ⌜ now (entries .exit) ≡ written (now (entries .entry)) free (wordsMade (lent (now (areas .entry)) (now (xs .entry)) (now (ys .entry)) b) (cellIn s) (wordsFrom (now (entries .entry)) first count)) ⌝ }
+    ensures { λ _. ⌜ now (entries .exit) ≡ written (now (entries .entry)) free (wordsMade
+        (lent (now (areas .entry)) (now (xs .entry)) (now (ys .entry)) b) (cellIn s) (wordsFrom (now (entries .entry)) first count)) ⌝ }
 {
     let end = first + count;
     let base = free * 4;

@@ -66,7 +66,9 @@ pub fn area_passes(areas: &[u32], n: usize, sum: i64) -> bool
 fn after_area(areas: &[u32], m: Machine, n: u32, sum: i64) -> Machine
     requires { ⌜ n < 64 ⌝ }
     requires { ⌜ n * 8 + 8 ≤ length (now areas) ⌝ }
-    ensures { λ r. ⌜ (meant r ≡ onItem (roleAt (now (areas .entry)) n) (passAt (now (areas .entry)) n sum) (opaqueAt (now (areas .entry)) n) (λ s. withArea s n) (meant m)) × (r .depth ≡ m .depth) ⌝ }
+    ensures { λ r. ⌜ (meant r ≡
+        onItem (roleAt (now (areas .entry)) n) (passAt (now (areas .entry)) n sum) (opaqueAt (now (areas .entry)) n) (λ s. withArea s n) (meant m))
+        × (r .depth ≡ m .depth) ⌝ }
 {
     let at = (n as usize) * 8;
     let passes = area_passes(areas, n as usize, sum);

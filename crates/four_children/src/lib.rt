@@ -52,7 +52,8 @@ fn count_one(
     requires { ⌜ Passed (now entries) first count (env (now areas) (now xs) (now ys) b) ⌝ }
     requires { ⌜ squareRange w ≡ true ⌝ }
     requires { ⌜ 1 < w .side ⌝ }
-    ensures { λ r. ⌜ r ≡ tally (rowsOfChild (lent (now (areas .entry)) (now (xs .entry)) (now (ys .entry)) b) (cellOf w) (wordsFrom (now (entries .entry)) first count) q) ⌝ }
+    ensures { λ r. ⌜ r ≡ tally (rowsOfChild
+        (lent (now (areas .entry)) (now (xs .entry)) (now (ys .entry)) b) (cellOf w) (wordsFrom (now (entries .entry)) first count) q) ⌝ }
 {
     let s = celltable::quarter_of(w, q);
     let n = child_stream::count_child(entries, first, count, areas, xs, ys, b, s);
@@ -73,7 +74,8 @@ pub fn count_four(
     requires { ⌜ Passed (now entries) first count (env (now areas) (now xs) (now ys) b) ⌝ }
     requires { ⌜ squareRange w ≡ true ⌝ }
     requires { ⌜ 1 < w .side ⌝ }
-    ensures { λ r. ⌜ r ≡ fourTallies (lent (now (areas .entry)) (now (xs .entry)) (now (ys .entry)) b) (cellOf w) (wordsFrom (now (entries .entry)) first count) ⌝ }
+    ensures { λ r. ⌜ r ≡
+        fourTallies (lent (now (areas .entry)) (now (xs .entry)) (now (ys .entry)) b) (cellOf w) (wordsFrom (now (entries .entry)) first count) ⌝ }
 {
     let t0 = count_one(entries, first, count, areas, xs, ys, b, w, 0);
     let t1 = count_one(entries, first, count, areas, xs, ys, b, w, 1);
@@ -102,7 +104,8 @@ fn write_child(
     requires { ⌜ first + count ≤ free ⌝ }
     requires { ⌜ (free + made) * 4 ≤ length (now entries) ⌝ }
     requires { ⌜ made ≡ entriesOfChild (lent (now areas) (now xs) (now ys) b) (cellOf w) (wordsFrom (now entries) first count) q ⌝ }
-    ensures { λ _. ⌜ now (entries .exit) ≡ written (now (entries .entry)) free (wordsOfChild (lent (now (areas .entry)) (now (xs .entry)) (now (ys .entry)) b) (cellOf w) (wordsFrom (now (entries .entry)) first count) q) ⌝ }
+    ensures { λ _. ⌜ now (entries .exit) ≡ written (now (entries .entry)) free (wordsOfChild
+        (lent (now (areas .entry)) (now (xs .entry)) (now (ys .entry)) b) (cellOf w) (wordsFrom (now (entries .entry)) first count) q) ⌝ }
 {
     let s = celltable::quarter_of(w, q);
     child_stream::write_child(entries, first, count, free, made, areas, xs, ys, b, s);
@@ -126,8 +129,10 @@ pub fn write_four(
     requires { ⌜ 1 < w .side ⌝ }
     requires { ⌜ first + count ≤ free ⌝ }
     requires { ⌜ ts ≡ fourTallies (lent (now areas) (now xs) (now ys) b) (cellOf w) (wordsFrom (now entries) first count) ⌝ }
-    requires { ⌜ (free + length (streamsTo (lent (now areas) (now xs) (now ys) b) (cellOf w) (wordsFrom (now entries) first count) 4)) * 4 ≤ length (now entries) ⌝ }
-    ensures { λ _. ⌜ now (entries .exit) ≡ written (now (entries .entry)) free (streamsTo (lent (now (areas .entry)) (now (xs .entry)) (now (ys .entry)) b) (cellOf w) (wordsFrom (now (entries .entry)) first count) 4) ⌝ }
+    requires { ⌜ (free + length (streamsTo (lent (now areas) (now xs) (now ys) b) (cellOf w) (wordsFrom (now entries) first count) 4)) * 4
+        ≤ length (now entries) ⌝ }
+    ensures { λ _. ⌜ now (entries .exit) ≡ written (now (entries .entry)) free (streamsTo
+        (lent (now (areas .entry)) (now (xs .entry)) (now (ys .entry)) b) (cellOf w) (wordsFrom (now (entries .entry)) first count) 4) ⌝ }
 {
     let mut at = free;
     let mut q: u32 = 0;

@@ -32,7 +32,8 @@ fn line_left(xs: &[u32], ys: &[u32], s: Square, w: Words) -> Left
     requires { ⌜ (w .p < length (now xs)) × (w .p < length (now ys)) × (w .q < length (now xs)) × (w .q < length (now ys)) ⌝ }
     requires { ⌜ EndsIn (getD (now xs) (w .p) 0) (getD (now ys) (w .p) 0) (getD (now xs) (w .q) 0) (getD (now ys) (w .q) 0) ⌝ }
     requires { ⌜ SquareIn s ⌝ }
-    ensures { λ r. ⌜ (r .sign ≡ sign (edgeBetween (now (xs .entry)) (now (ys .entry)) (w .p) (w .q))) × (r .class ≡ edgeClass (edgeBetween (now (xs .entry)) (now (ys .entry)) (w .p) (w .q)) s) ⌝ }
+    ensures { λ r. ⌜ (r .sign ≡ sign (edgeBetween (now (xs .entry)) (now (ys .entry)) (w .p) (w .q)))
+        × (r .class ≡ edgeClass (edgeBetween (now (xs .entry)) (now (ys .entry)) (w .p) (w .q)) s) ⌝ }
 {
     let e = winding::edge_between(xs, ys, w.p as usize, w.q as usize);
     let z = edge::edge_sign(e);

@@ -26,7 +26,9 @@ pub extern "C" fn probe_check(
     low: u32,
     side: u32,
 ) -> u32
-    ensures { λ r. ⌜ r ≡ cond (checkStream (now (entries .entry)) first count used (env (now (areas .entry)) (now (xs .entry)) (now (ys .entry)) (bounds «areas_used» «corners_used» low side))) 1 0 ⌝ }
+    ensures { λ r. ⌜ r ≡
+        cond (checkStream (now (entries .entry)) first count used
+        (env (now (areas .entry)) (now (xs .entry)) (now (ys .entry)) (bounds «areas_used» «corners_used» low side))) 1 0 ⌝ }
 {
     let b = Bounds {
         areas: areas_used,
@@ -58,7 +60,9 @@ pub extern "C" fn probe_read(
     x: u32,
     y: u32,
 ) -> u64
-    ensures { λ r. ⌜ r ≡ readAnswer (now (entries .entry)) first count used (env (now (areas .entry)) (now (xs .entry)) (now (ys .entry)) (bounds «areas_used» «corners_used» low side)) x y ⌝ }
+    ensures { λ r. ⌜ r ≡
+        readAnswer (now (entries .entry)) first count used
+        (env (now (areas .entry)) (now (xs .entry)) (now (ys .entry)) (bounds «areas_used» «corners_used» low side)) x y ⌝ }
 {
     let b = Bounds {
         areas: areas_used,
@@ -127,8 +131,12 @@ fn write_if_room(
 ) -> u64
     requires { ⌜ checkStream (now entries) first count used (env (now areas) (now xs) (now ys) b) ≡ true ⌝ }
     requires { ⌜ squareFits s ≡ true ⌝ }
-    ensures { λ r. ⌜ r ≡ answerBy (childRoom (now (entries .entry)) first count used (env (now (areas .entry)) (now (xs .entry)) (now (ys .entry)) b) s) (now (entries .entry)) first count (env (now (areas .entry)) (now (xs .entry)) (now (ys .entry)) b) s ⌝ }
-    ensures { λ r. ⌜ now (entries .exit) ≡ tableBy (childRoom (now (entries .entry)) first count used (env (now (areas .entry)) (now (xs .entry)) (now (ys .entry)) b) s) (now (entries .entry)) first count used (env (now (areas .entry)) (now (xs .entry)) (now (ys .entry)) b) s ⌝ }
+    ensures { λ r. ⌜ r ≡
+        answerBy (childRoom (now (entries .entry)) first count used (env (now (areas .entry)) (now (xs .entry)) (now (ys .entry)) b) s)
+        (now (entries .entry)) first count (env (now (areas .entry)) (now (xs .entry)) (now (ys .entry)) b) s ⌝ }
+    ensures { λ r. ⌜ now (entries .exit) ≡
+        tableBy (childRoom (now (entries .entry)) first count used (env (now (areas .entry)) (now (xs .entry)) (now (ys .entry)) b) s)
+        (now (entries .entry)) first count used (env (now (areas .entry)) (now (xs .entry)) (now (ys .entry)) b) s ⌝ }
 {
     let n = entries_made(entries, first, count, areas, xs, ys, b, s);
     if used + n <= entries.len() / 4 {
@@ -157,8 +165,16 @@ pub extern "C" fn probe_child(
     y: u32,
     half: u32,
 ) -> u64
-    ensures { λ r. ⌜ r ≡ answerBy (childFits (now (entries .entry)) first count used (env (now (areas .entry)) (now (xs .entry)) (now (ys .entry)) (bounds «areas_used» «corners_used» low side)) (square x y half)) (now (entries .entry)) first count (env (now (areas .entry)) (now (xs .entry)) (now (ys .entry)) (bounds «areas_used» «corners_used» low side)) (square x y half) ⌝ }
-    ensures { λ r. ⌜ now (entries .exit) ≡ tableBy (childFits (now (entries .entry)) first count used (env (now (areas .entry)) (now (xs .entry)) (now (ys .entry)) (bounds «areas_used» «corners_used» low side)) (square x y half)) (now (entries .entry)) first count used (env (now (areas .entry)) (now (xs .entry)) (now (ys .entry)) (bounds «areas_used» «corners_used» low side)) (square x y half) ⌝ }
+    ensures { λ r. ⌜ r ≡
+        answerBy (childFits (now (entries .entry)) first count used
+        (env (now (areas .entry)) (now (xs .entry)) (now (ys .entry)) (bounds «areas_used» «corners_used» low side)) (square x y half))
+        (now (entries .entry)) first count (env (now (areas .entry)) (now (xs .entry)) (now (ys .entry))
+        (bounds «areas_used» «corners_used» low side)) (square x y half) ⌝ }
+    ensures { λ r. ⌜ now (entries .exit) ≡
+        tableBy (childFits (now (entries .entry)) first count used
+        (env (now (areas .entry)) (now (xs .entry)) (now (ys .entry)) (bounds «areas_used» «corners_used» low side)) (square x y half))
+        (now (entries .entry)) first count used (env (now (areas .entry)) (now (xs .entry)) (now (ys .entry))
+        (bounds «areas_used» «corners_used» low side)) (square x y half) ⌝ }
 {
     let b = Bounds {
         areas: areas_used,

@@ -9,7 +9,7 @@ ghost use lib.ListN.{length};
 ghost use Rattle.cells.specs.Cells.{squareOf, root};
 ghost use Rattle.cells.specs.code.Making.{rowSize};
 ghost use Rattle.pruning.specs.code.Weights.{total};
-ghost use Rattle.drawing.specs.Tables.{tables};
+ghost use Rattle.drawing.specs.Tables.{tables, drawingLent};
 ghost use Rattle.stream.specs.Table.{written};
 ghost use Rattle.evaluate.specs.Words.{words};
 ghost use Rattle.root_stream.specs.code.Numbers.{sourceAt, endN, edgeN, markN, entryN, afterN, Opened};
@@ -156,7 +156,7 @@ pub fn count_open(
     b: Bounds,
 ) -> u64
     requires { ⌜ Opened (tables (now plan) (now areas) (now xs) (now ys)) records b ⌝ }
-    ensures { λ r. ⌜ r ≡ total rowSize (rowsOpened (tables (now (plan .entry)) (now (areas .entry)) (now (xs .entry)) (now (ys .entry)))) ⌝ }
+    ensures { λ r. ⌜ r ≡ total rowSize (rowsOpened (drawingLent plan areas xs ys)) ⌝ }
 {
     let s = root_square();
     let mut p = pruner::begun();
@@ -198,7 +198,7 @@ pub fn write_open(
     requires { ⌜ Opened (tables (now plan) (now areas) (now xs) (now ys)) records b ⌝ }
     requires { ⌜ made ≡ length (rowsOpened (tables (now plan) (now areas) (now xs) (now ys))) ⌝ }
     requires { ⌜ made * 4 ≤ length (now entries) ⌝ }
-    ensures { λ _. ⌜ now (entries .exit) ≡ written (now (entries .entry)) 0 (wordsOpened (tables (now (plan .entry)) (now (areas .entry)) (now (xs .entry)) (now (ys .entry)))) ⌝ }
+    ensures { λ _. ⌜ now (entries .exit) ≡ written (now (entries .entry)) 0 (wordsOpened (drawingLent plan areas xs ys)) ⌝ }
 {
     let s = root_square();
     let mut p = pruner::begun();

@@ -211,7 +211,9 @@ fn put_other(out: &mut [u32], limit: usize, areas: &[u32], m: Maker, weight: u64
     requires { ⌜ limit * 4 ≤ length (now out) ⌝ }
     requires { ⌜ Inside (length (now areas)) (m .waiting) ⌝ }
     requires { ⌜ (m .pruner .weight + m .waiting .weight < 2 ^ 60) × (m .pruner .base < 2 ^ 60) ⌝ }
-    ensures { λ _. ⌜ now (out .exit) ≡ markOn limit (settledPut limit (now (areas .entry)) (now (out .entry)) m) (settledN (now (areas .entry)) (counted (m .pruner)) (m .waiting)) weight kind ⌝ }
+    ensures { λ _. ⌜ now (out .exit) ≡
+        markOn limit (settledPut limit (now (areas .entry)) (now (out .entry)) m) (settledN (now (areas .entry)) (counted (m .pruner)) (m .waiting))
+        weight kind ⌝ }
 {
     let p = m.pruner;
     let a = m.waiting;
@@ -233,7 +235,9 @@ pub fn write_other(
     requires { ⌜ Inside (length (now areas)) a ⌝ }
     requires { ⌜ Room p a kind ⌝ }
     ensures { λ r. ⌜ counted r ≡ prunedN (now (areas .entry)) (counted p) a kind ⌝ }
-    ensures { λ r. ⌜ now (out .exit) ≡ markOn limit (settledPut limit (now (areas .entry)) (now (out .entry)) (maker p a)) (settledN (now (areas .entry)) (counted p) a) (r .weight) kind ⌝ }
+    ensures { λ r. ⌜ now (out .exit) ≡
+        markOn limit (settledPut limit (now (areas .entry)) (now (out .entry)) (maker p a)) (settledN (now (areas .entry)) (counted p) a) (r .weight)
+        kind ⌝ }
 {
     let q = making::pruner_after(areas, p, a, kind);
     put_other(
