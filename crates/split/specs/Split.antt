@@ -4,6 +4,8 @@ use mathlib.Core.List.{List}
 use Prim.Native.Nat.{ℕ, _+_}
 use lib.Dec.{eqb, ltb, leb}
 use lib.ListN.{length, set}
+use denote.Triple.Both.{Both}
+use denote.Ref.{RefT, now}
 use Rattle.refusals.specs.declared.Refusal.the-variants.{Argument, NoCell, AlreadySplit, Smallest, Room, Broken}
 use Rattle.stream.specs.declared.Bounds.{Bounds}
 use Rattle.stream.specs.declared.Words.{Words}
@@ -15,13 +17,17 @@ use Rattle.celltable.specs.Ranges.{cellRange, headRange, cellsHeld, entriesHeld
 use Rattle.cells.specs.Drawings.{Drawing}
 use Rattle.ranges.specs.Held.{lent}
 use Rattle.four_children.specs.Children.{streamsTo, cellsTo}
-use Rattle.split.specs.Tables.{Tree, cellsUsed, entriesUsed, boundsOf}
+use Rattle.split.specs.Tables.{Tree, tree, cellsUsed, entriesUsed, boundsOf}
 use Rattle.split.specs.declared.Answer.{Answer}
 use Rattle.split.specs.declared.Answer.the-variants.{Split, Not}
 
 -- the four streams, child by child
 abbrev pub madeBy : (areas xs ys : List ℕ) → Bounds → CellWords → (entries : List ℕ) → List Words
 madeBy areas xs ys b w entries = streamsTo (lent areas xs ys b) (cellOf w) (wordsFrom entries (w .first) (w .count)) 4
+
+-- those of the tables that are lent to a call, at its entry
+abbrev pub madeLent : (areas xs ys : Both (RefT (List ℕ)) (RefT (List ℕ))) → Bounds → CellWords → Both (RefT (List ℕ)) (RefT (List ℕ)) → List Words
+madeLent areas xs ys b w entries = madeBy (now (areas .entry)) (now (xs .entry)) (now (ys .entry)) b w (now (entries .entry))
 
 -- 11: "cells, entries or another output table too short for the whole result"; the lengths of the tables of cells and of entries, and how many of each are in use
 abbrev pub roomAnswer : (cells entries used free : ℕ) → List Words → Answer
@@ -94,3 +100,7 @@ module _ (t : Tree) where
 
     abbrev pub entriesAfter : Answer → List ℕ
     entriesAfter r = entriesBy r (t .entries) (entriesUsed (t .head)) made
+
+    -- the seven tables after the call; those before where it is refused
+    abbrev pub splitTables : Tree
+    splitTables = tree (t .plan) (t .areas) (t .xs) (t .ys) (headAfter splitAnswer) (cellsAfter splitAnswer) (entriesAfter splitAnswer)

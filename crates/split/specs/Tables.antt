@@ -4,6 +4,8 @@ use mathlib.Core.List.{List}
 use Prim.Native.Nat.{ℕ}
 use lib.Dec.{leb}
 use lib.ListN.{length, getD}
+use denote.Triple.Both.{Both}
+use denote.Ref.{RefT, now}
 use Rattle.stream.specs.declared.Bounds.{Bounds}
 use Rattle.stream.specs.Grammar.{bounds, usedRange}
 use Rattle.celltable.specs.declared.CellWords.{CellWords}
@@ -21,6 +23,12 @@ pub record Tree : Type 0 where
 
 abbrev pub tree : (plan areas xs ys head cells entries : List ℕ) → Tree
 tree p a x y h c e = record { plan = p; areas = a; xs = x; ys = y; head = h; cells = c; entries = e }
+
+-- the seven tables as they are lent to a call, which is what a contract compares with: in an `ensures` the name of a slice stands for the slice
+-- at the call's entry and at its exit, and this takes what each holds at entry
+abbrev pub treeLent : (plan areas xs ys head cells entries : Both (RefT (List ℕ)) (RefT (List ℕ))) → Tree
+treeLent p a x y h c e =
+    tree (now (p .entry)) (now (a .entry)) (now (x .entry)) (now (y .entry)) (now (h .entry)) (now (c .entry)) (now (e .entry))
 
 -- "cells in use": a head too short for its two words has none
 abbrev pub cellsUsed : List ℕ → ℕ

@@ -14,8 +14,8 @@ ghost use Rattle.celltable.specs.Ranges.{squareRange, cellOf, cellsHeld, entrie
 ghost use Rattle.ranges.specs.Held.{lent};
 ghost use Rattle.four_children.specs.Children.{streamsTo};
 ghost use Rattle.four_children.specs.code.Numbers.{noTally, fourTallies, cellsBy, FewEach};
-ghost use Rattle.split.specs.Tables.{tree, cellsUsed, entriesUsed};
-ghost use Rattle.split.specs.Split.{roomAnswer, leafAnswer, cellAnswer, madeBy, headBy, cellsOf, entriesBy, drawingSplit, countsSplit, splitAnswer, headAfter, cellsAfter, entriesAfter};
+ghost use Rattle.split.specs.Tables.{treeLent, cellsUsed, entriesUsed};
+ghost use Rattle.split.specs.Split.{roomAnswer, leafAnswer, cellAnswer, madeLent, headBy, cellsOf, entriesBy, drawingSplit, countsSplit, splitAnswer, headAfter, cellsAfter, entriesAfter};
 
 // A split's answer: the number of the first child, or why it was refused.
 pub enum Answer {
@@ -100,14 +100,16 @@ fn put_split(
     requires { ⌜ 1 < w .side ⌝ }
     requires { ⌜ w .first + w .count ≤ free ⌝ }
     requires { ⌜ ts ≡ fourTallies (lent (now areas) (now xs) (now ys) b) (cellOf w) (wordsFrom (now entries) (w .first) (w .count)) ⌝ }
-    requires { ⌜ (free + length (streamsTo (lent (now areas) (now xs) (now ys) b) (cellOf w) (wordsFrom (now entries) (w .first) (w .count)) 4)) * 4 ≤ length (now entries) ⌝ }
+    requires { ⌜ (free + length (streamsTo (lent (now areas) (now xs) (now ys) b) (cellOf w) (wordsFrom (now entries) (w .first) (w .count)) 4)) * 4
+        ≤ length (now entries) ⌝ }
     requires { ⌜ FewEach ts ⌝ }
     requires { ⌜ (used + 4) * 8 ≤ length (now cells) ⌝ }
     requires { ⌜ (used ≤ 4096) × (free ≤ 65536) × (n ≤ 65536) ⌝ }
     requires { ⌜ (i * 8 + 8 ≤ length (now cells)) × (2 ≤ length (now head)) ⌝ }
     ensures { λ _. ⌜ now (head .exit) ≡ set (set (now (head .entry)) 0 (used + 4)) 1 (free + n) ⌝ }
     ensures { λ _. ⌜ now (cells .exit) ≡ putChildAt (cellsBy (cellOf w) ts (now (cells .entry)) used free 4) i used ⌝ }
-    ensures { λ _. ⌜ now (entries .exit) ≡ written (now (entries .entry)) free (streamsTo (lent (now (areas .entry)) (now (xs .entry)) (now (ys .entry)) b) (cellOf w) (wordsFrom (now (entries .entry)) (w .first) (w .count)) 4) ⌝ }
+    ensures { λ _. ⌜ now (entries .exit) ≡ written (now (entries .entry)) free (streamsTo
+        (lent (now (areas .entry)) (now (xs .entry)) (now (ys .entry)) b) (cellOf w) (wordsFrom (now (entries .entry)) (w .first) (w .count)) 4) ⌝ }
 {
     let first = w.first as usize;
     let count = w.count as usize;
@@ -147,10 +149,12 @@ pub fn split_in_room(
     requires { ⌜ w .first + w .count ≤ free ⌝ }
     requires { ⌜ (used ≤ 4096) × (free ≤ 65536) ⌝ }
     requires { ⌜ (i < used) × (2 ≤ length (now head)) ⌝ }
-    ensures { λ r. ⌜ r ≡ roomAnswer (length (now (cells .entry))) (length (now (entries .entry))) used free (madeBy (now (areas .entry)) (now (xs .entry)) (now (ys .entry)) b w (now (entries .entry))) ⌝ }
-    ensures { λ r. ⌜ now (head .exit) ≡ headBy r (now (head .entry)) used free (madeBy (now (areas .entry)) (now (xs .entry)) (now (ys .entry)) b w (now (entries .entry))) ⌝ }
-    ensures { λ r. ⌜ now (cells .exit) ≡ cellsOf r (lent (now (areas .entry)) (now (xs .entry)) (now (ys .entry)) b) w (wordsFrom (now (entries .entry)) (w .first) (w .count)) (now (cells .entry)) i used free ⌝ }
-    ensures { λ r. ⌜ now (entries .exit) ≡ entriesBy r (now (entries .entry)) free (madeBy (now (areas .entry)) (now (xs .entry)) (now (ys .entry)) b w (now (entries .entry))) ⌝ }
+    ensures { λ r. ⌜ r ≡ roomAnswer (length (now (cells .entry))) (length (now (entries .entry))) used free (madeLent areas xs ys b w entries) ⌝ }
+    ensures { λ r. ⌜ now (head .exit) ≡ headBy r (now (head .entry)) used free (madeLent areas xs ys b w entries) ⌝ }
+    ensures { λ r. ⌜ now (cells .exit) ≡
+        cellsOf r (lent (now (areas .entry)) (now (xs .entry)) (now (ys .entry)) b) w (wordsFrom (now (entries .entry)) (w .first) (w .count))
+        (now (cells .entry)) i used free ⌝ }
+    ensures { λ r. ⌜ now (entries .exit) ≡ entriesBy r (now (entries .entry)) free (madeLent areas xs ys b w entries) ⌝ }
 {
     let first = w.first as usize;
     let count = w.count as usize;
@@ -199,10 +203,13 @@ fn split_leaf(
     requires { ⌜ w .first + w .count ≤ free ⌝ }
     requires { ⌜ (used ≤ 4096) × (free ≤ 65536) ⌝ }
     requires { ⌜ (i < used) × (2 ≤ length (now head)) ⌝ }
-    ensures { λ r. ⌜ r ≡ leafAnswer (now (areas .entry)) (now (xs .entry)) (now (ys .entry)) b w (now (entries .entry)) (length (now (cells .entry))) used free ⌝ }
-    ensures { λ r. ⌜ now (head .exit) ≡ headBy r (now (head .entry)) used free (madeBy (now (areas .entry)) (now (xs .entry)) (now (ys .entry)) b w (now (entries .entry))) ⌝ }
-    ensures { λ r. ⌜ now (cells .exit) ≡ cellsOf r (lent (now (areas .entry)) (now (xs .entry)) (now (ys .entry)) b) w (wordsFrom (now (entries .entry)) (w .first) (w .count)) (now (cells .entry)) i used free ⌝ }
-    ensures { λ r. ⌜ now (entries .exit) ≡ entriesBy r (now (entries .entry)) free (madeBy (now (areas .entry)) (now (xs .entry)) (now (ys .entry)) b w (now (entries .entry))) ⌝ }
+    ensures { λ r. ⌜ r ≡
+        leafAnswer (now (areas .entry)) (now (xs .entry)) (now (ys .entry)) b w (now (entries .entry)) (length (now (cells .entry))) used free ⌝ }
+    ensures { λ r. ⌜ now (head .exit) ≡ headBy r (now (head .entry)) used free (madeLent areas xs ys b w entries) ⌝ }
+    ensures { λ r. ⌜ now (cells .exit) ≡
+        cellsOf r (lent (now (areas .entry)) (now (xs .entry)) (now (ys .entry)) b) w (wordsFrom (now (entries .entry)) (w .first) (w .count))
+        (now (cells .entry)) i used free ⌝ }
+    ensures { λ r. ⌜ now (entries .exit) ≡ entriesBy r (now (entries .entry)) free (madeLent areas xs ys b w entries) ⌝ }
 {
     let first = w.first as usize;
     let count = w.count as usize;
@@ -231,10 +238,13 @@ fn split_cell(
 ) -> Answer
     requires { ⌜ (used ≤ 4096) × (free ≤ 65536) ⌝ }
     requires { ⌜ (i < used) × (2 ≤ length (now head)) ⌝ }
-    ensures { λ r. ⌜ r ≡ cellAnswer (now (areas .entry)) (now (xs .entry)) (now (ys .entry)) b w (now (entries .entry)) (length (now (cells .entry))) i used free ⌝ }
-    ensures { λ r. ⌜ now (head .exit) ≡ headBy r (now (head .entry)) used free (madeBy (now (areas .entry)) (now (xs .entry)) (now (ys .entry)) b w (now (entries .entry))) ⌝ }
-    ensures { λ r. ⌜ now (cells .exit) ≡ cellsOf r (lent (now (areas .entry)) (now (xs .entry)) (now (ys .entry)) b) w (wordsFrom (now (entries .entry)) (w .first) (w .count)) (now (cells .entry)) i used free ⌝ }
-    ensures { λ r. ⌜ now (entries .exit) ≡ entriesBy r (now (entries .entry)) free (madeBy (now (areas .entry)) (now (xs .entry)) (now (ys .entry)) b w (now (entries .entry))) ⌝ }
+    ensures { λ r. ⌜ r ≡
+        cellAnswer (now (areas .entry)) (now (xs .entry)) (now (ys .entry)) b w (now (entries .entry)) (length (now (cells .entry))) i used free ⌝ }
+    ensures { λ r. ⌜ now (head .exit) ≡ headBy r (now (head .entry)) used free (madeLent areas xs ys b w entries) ⌝ }
+    ensures { λ r. ⌜ now (cells .exit) ≡
+        cellsOf r (lent (now (areas .entry)) (now (xs .entry)) (now (ys .entry)) b) w (wordsFrom (now (entries .entry)) (w .first) (w .count))
+        (now (cells .entry)) i used free ⌝ }
+    ensures { λ r. ⌜ now (entries .exit) ≡ entriesBy r (now (entries .entry)) free (madeLent areas xs ys b w entries) ⌝ }
 {
     if celltable::cell_fits(w, i, used as usize, free as usize) {
         if w.child == 0 {
@@ -275,10 +285,10 @@ fn split_counted(
     requires { ⌜ (i < used) × (2 ≤ length (now head)) ⌝ }
     requires { ⌜ 3 ≤ length (now plan) ⌝ }
     requires { ⌜ (used ≡ cellsUsed (now head)) × (free ≡ entriesUsed (now head)) ⌝ }
-    ensures { λ r. ⌜ r ≡ drawingSplit (tree (now (plan .entry)) (now (areas .entry)) (now (xs .entry)) (now (ys .entry)) (now (head .entry)) (now (cells .entry)) (now (entries .entry))) i ⌝ }
-    ensures { λ r. ⌜ now (head .exit) ≡ headAfter (tree (now (plan .entry)) (now (areas .entry)) (now (xs .entry)) (now (ys .entry)) (now (head .entry)) (now (cells .entry)) (now (entries .entry))) i r ⌝ }
-    ensures { λ r. ⌜ now (cells .exit) ≡ cellsAfter (tree (now (plan .entry)) (now (areas .entry)) (now (xs .entry)) (now (ys .entry)) (now (head .entry)) (now (cells .entry)) (now (entries .entry))) i r ⌝ }
-    ensures { λ r. ⌜ now (entries .exit) ≡ entriesAfter (tree (now (plan .entry)) (now (areas .entry)) (now (xs .entry)) (now (ys .entry)) (now (head .entry)) (now (cells .entry)) (now (entries .entry))) i r ⌝ }
+    ensures { λ r. ⌜ r ≡ drawingSplit (treeLent plan areas xs ys head cells entries) i ⌝ }
+    ensures { λ r. ⌜ now (head .exit) ≡ headAfter (treeLent plan areas xs ys head cells entries) i r ⌝ }
+    ensures { λ r. ⌜ now (cells .exit) ≡ cellsAfter (treeLent plan areas xs ys head cells entries) i r ⌝ }
+    ensures { λ r. ⌜ now (entries .exit) ≡ entriesAfter (treeLent plan areas xs ys head cells entries) i r ⌝ }
 {
     let w = celltable::read_cell(cells, i);
     let b = bounds_in(plan, w.y, w.side);
@@ -303,10 +313,10 @@ fn split_headed(
 ) -> Answer
     requires { ⌜ i < used ⌝ }
     requires { ⌜ used ≡ cellsUsed (now head) ⌝ }
-    ensures { λ r. ⌜ r ≡ countsSplit (tree (now (plan .entry)) (now (areas .entry)) (now (xs .entry)) (now (ys .entry)) (now (head .entry)) (now (cells .entry)) (now (entries .entry))) i ⌝ }
-    ensures { λ r. ⌜ now (head .exit) ≡ headAfter (tree (now (plan .entry)) (now (areas .entry)) (now (xs .entry)) (now (ys .entry)) (now (head .entry)) (now (cells .entry)) (now (entries .entry))) i r ⌝ }
-    ensures { λ r. ⌜ now (cells .exit) ≡ cellsAfter (tree (now (plan .entry)) (now (areas .entry)) (now (xs .entry)) (now (ys .entry)) (now (head .entry)) (now (cells .entry)) (now (entries .entry))) i r ⌝ }
-    ensures { λ r. ⌜ now (entries .exit) ≡ entriesAfter (tree (now (plan .entry)) (now (areas .entry)) (now (xs .entry)) (now (ys .entry)) (now (head .entry)) (now (cells .entry)) (now (entries .entry))) i r ⌝ }
+    ensures { λ r. ⌜ r ≡ countsSplit (treeLent plan areas xs ys head cells entries) i ⌝ }
+    ensures { λ r. ⌜ now (head .exit) ≡ headAfter (treeLent plan areas xs ys head cells entries) i r ⌝ }
+    ensures { λ r. ⌜ now (cells .exit) ≡ cellsAfter (treeLent plan areas xs ys head cells entries) i r ⌝ }
+    ensures { λ r. ⌜ now (entries .exit) ≡ entriesAfter (treeLent plan areas xs ys head cells entries) i r ⌝ }
 {
     let n = cells.len();
     let k = entries.len();
@@ -332,10 +342,10 @@ pub fn split(
     entries: &mut [u32],
     i: u32,
 ) -> Answer
-    ensures { λ r. ⌜ r ≡ splitAnswer (tree (now (plan .entry)) (now (areas .entry)) (now (xs .entry)) (now (ys .entry)) (now (head .entry)) (now (cells .entry)) (now (entries .entry))) i ⌝ }
-    ensures { λ r. ⌜ now (head .exit) ≡ headAfter (tree (now (plan .entry)) (now (areas .entry)) (now (xs .entry)) (now (ys .entry)) (now (head .entry)) (now (cells .entry)) (now (entries .entry))) i r ⌝ }
-    ensures { λ r. ⌜ now (cells .exit) ≡ cellsAfter (tree (now (plan .entry)) (now (areas .entry)) (now (xs .entry)) (now (ys .entry)) (now (head .entry)) (now (cells .entry)) (now (entries .entry))) i r ⌝ }
-    ensures { λ r. ⌜ now (entries .exit) ≡ entriesAfter (tree (now (plan .entry)) (now (areas .entry)) (now (xs .entry)) (now (ys .entry)) (now (head .entry)) (now (cells .entry)) (now (entries .entry))) i r ⌝ }
+    ensures answer { λ r. ⌜ r ≡ splitAnswer (treeLent plan areas xs ys head cells entries) i ⌝ }
+    ensures head { λ r. ⌜ now (head .exit) ≡ headAfter (treeLent plan areas xs ys head cells entries) i r ⌝ }
+    ensures cells { λ r. ⌜ now (cells .exit) ≡ cellsAfter (treeLent plan areas xs ys head cells entries) i r ⌝ }
+    ensures entries { λ r. ⌜ now (entries .exit) ≡ entriesAfter (treeLent plan areas xs ys head cells entries) i r ⌝ }
 {
     if xs.len() == ys.len() {
         let used = cells_used(head);
