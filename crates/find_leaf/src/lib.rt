@@ -9,7 +9,7 @@ ghost use lib.Dec.{eqb};
 ghost use lib.ListN.{length, getD};
 ghost use Rattle.stream.specs.Table.{wordsFrom};
 ghost use Rattle.stream.specs.Grammar.{env, bounds, checkStream};
-ghost use Rattle.split.specs.Tables.{tree, countsIn};
+ghost use Rattle.split.specs.Tables.{treeLent, countsIn};
 ghost use Rattle.find_leaf.specs.Leaf.{linesIn, leafIn, reportOf, foundBy, findAnswer};
 
 // A leaf as it is reported: its number, low corner, side, depth, and how many entries and lines it has.
@@ -39,7 +39,7 @@ pub fn counts_fit(
     cells: &[u32],
     entries: &[u32],
 ) -> bool
-    ensures { λ r. ⌜ r ≡ countsIn (tree (now (plan .entry)) (now (areas .entry)) (now (xs .entry)) (now (ys .entry)) (now (head .entry)) (now (cells .entry)) (now (entries .entry))) ⌝ }
+    ensures answer { λ r. ⌜ r ≡ countsIn (treeLent plan areas xs ys head cells entries) ⌝ }
 {
     let n = entries.len();
     if celltable::head_fits(head, cells.len(), n) {
@@ -93,7 +93,10 @@ fn leaf_passes(
     l: Leaf,
 ) -> bool
     requires { ⌜ 3 ≤ length (now plan) ⌝ }
-    ensures { λ r. ⌜ r ≡ checkStream (now (entries .entry)) (l .first) (l .count) free (env (now (areas .entry)) (now (xs .entry)) (now (ys .entry)) (bounds (getD (now (plan .entry)) 1 0) (getD (now (plan .entry)) 2 0) (l .y) (l .side))) ⌝ }
+    ensures { λ r. ⌜ r ≡
+        checkStream (now (entries .entry)) (l .first) (l .count) free
+        (env (now (areas .entry)) (now (xs .entry)) (now (ys .entry))
+        (bounds (getD (now (plan .entry)) 1 0) (getD (now (plan .entry)) 2 0) (l .y) (l .side))) ⌝ }
 {
     let first = l.first as usize;
     let count = l.count as usize;
@@ -113,7 +116,7 @@ pub fn leaf_at(
     x: u32,
     y: u32,
 ) -> Found
-    ensures { λ r. ⌜ r ≡ leafIn (tree (now (plan .entry)) (now (areas .entry)) (now (xs .entry)) (now (ys .entry)) (now (head .entry)) (now (cells .entry)) (now (entries .entry))) x y ⌝ }
+    ensures answer { λ r. ⌜ r ≡ leafIn (treeLent plan areas xs ys head cells entries) x y ⌝ }
 {
     if counts_fit(plan, areas, xs, ys, head, cells, entries) {
         let used = laws::wide(head[0]);
@@ -166,7 +169,7 @@ fn find_within(
     x: u32,
     y: u32,
 ) -> Answer
-    ensures { λ r. ⌜ r ≡ foundBy (tree (now (plan .entry)) (now (areas .entry)) (now (xs .entry)) (now (ys .entry)) (now (head .entry)) (now (cells .entry)) (now (entries .entry))) (leafIn (tree (now (plan .entry)) (now (areas .entry)) (now (xs .entry)) (now (ys .entry)) (now (head .entry)) (now (cells .entry)) (now (entries .entry))) x y) ⌝ }
+    ensures { λ r. ⌜ r ≡ foundBy (treeLent plan areas xs ys head cells entries) (leafIn (treeLent plan areas xs ys head cells entries) x y) ⌝ }
 {
     let f = leaf_at(plan, areas, xs, ys, head, cells, entries, x, y);
     match f {
@@ -192,7 +195,7 @@ pub fn find_leaf(
     x: u32,
     y: u32,
 ) -> Answer
-    ensures { λ r. ⌜ r ≡ findAnswer (tree (now (plan .entry)) (now (areas .entry)) (now (xs .entry)) (now (ys .entry)) (now (head .entry)) (now (cells .entry)) (now (entries .entry))) x y ⌝ }
+    ensures answer { λ r. ⌜ r ≡ findAnswer (treeLent plan areas xs ys head cells entries) x y ⌝ }
 {
     if xs.len() == ys.len() {
         if (x < 65536) & (y < 65536) {

@@ -10,8 +10,8 @@ ghost use Rattle.stream.specs.Table.{wordsFrom};
 ghost use Rattle.stream.specs.Grammar.{env, Passed};
 ghost use Rattle.celltable.specs.Ranges.{sideRange, squareRange};
 ghost use Rattle.ranges.specs.Held.{lent};
-ghost use Rattle.split.specs.Tables.{tree, cellsUsed, entriesUsed, countsIn};
-ghost use Rattle.split.specs.Split.{roomAnswer, madeBy, headBy, cellsOf, entriesBy};
+ghost use Rattle.split.specs.Tables.{tree, treeLent, cellsUsed, entriesUsed, countsIn};
+ghost use Rattle.split.specs.Split.{roomAnswer, madeLent, headBy, cellsOf, entriesBy};
 ghost use Rattle.grow.specs.Grow.{depthAt, isWanted, triedLeaf, triedCell, tried, grown, answerOf, growAnswer, growTree};
 ghost use Rattle.grow.specs.code.Numbers.{pastN, splitN, byRoom, turnBy, treeBy};
 
@@ -111,7 +111,9 @@ fn try_cell(
     threshold: u32,
     limit: u32,
 ) -> Tried
-    ensures { λ r. ⌜ r ≡ triedCell threshold limit (now (entries .entry)) (s .cell) (s .used) (s .free) (env (now (areas .entry)) (now (xs .entry)) (now (ys .entry)) b) w ⌝ }
+    ensures { λ r. ⌜ r ≡
+        triedCell threshold limit (now (entries .entry)) (s .cell) (s .used) (s .free)
+        (env (now (areas .entry)) (now (xs .entry)) (now (ys .entry)) b) w ⌝ }
 {
     if celltable::cell_fits(w, s.cell as usize, s.used as usize, s.free as usize) {
         if w.child == 0 {
@@ -170,10 +172,19 @@ fn split_wanted(
     requires { ⌜ (s .used ≤ 4096) × (s .free ≤ 65536) ⌝ }
     requires { ⌜ (s .cell < s .used) × (2 ≤ length (now head)) ⌝ }
     requires { ⌜ s .splits ≤ s .cell ⌝ }
-    ensures { λ r. ⌜ r ≡ byRoom (roomAnswer (length (now (cells .entry))) (length (now (entries .entry))) (s .used) (s .free) (madeBy (now (areas .entry)) (now (xs .entry)) (now (ys .entry)) b w (now (entries .entry)))) s (now (head .exit)) ⌝ }
-    ensures { λ _. ⌜ now (head .exit) ≡ headBy (roomAnswer (length (now (cells .entry))) (length (now (entries .entry))) (s .used) (s .free) (madeBy (now (areas .entry)) (now (xs .entry)) (now (ys .entry)) b w (now (entries .entry)))) (now (head .entry)) (s .used) (s .free) (madeBy (now (areas .entry)) (now (xs .entry)) (now (ys .entry)) b w (now (entries .entry))) ⌝ }
-    ensures { λ _. ⌜ now (cells .exit) ≡ cellsOf (roomAnswer (length (now (cells .entry))) (length (now (entries .entry))) (s .used) (s .free) (madeBy (now (areas .entry)) (now (xs .entry)) (now (ys .entry)) b w (now (entries .entry)))) (lent (now (areas .entry)) (now (xs .entry)) (now (ys .entry)) b) w (wordsFrom (now (entries .entry)) (w .first) (w .count)) (now (cells .entry)) (s .cell) (s .used) (s .free) ⌝ }
-    ensures { λ _. ⌜ now (entries .exit) ≡ entriesBy (roomAnswer (length (now (cells .entry))) (length (now (entries .entry))) (s .used) (s .free) (madeBy (now (areas .entry)) (now (xs .entry)) (now (ys .entry)) b w (now (entries .entry)))) (now (entries .entry)) (s .free) (madeBy (now (areas .entry)) (now (xs .entry)) (now (ys .entry)) b w (now (entries .entry))) ⌝ }
+    ensures { λ r. ⌜ r ≡
+        byRoom (roomAnswer (length (now (cells .entry))) (length (now (entries .entry))) (s .used) (s .free) (madeLent areas xs ys b w entries)) s
+        (now (head .exit)) ⌝ }
+    ensures { λ _. ⌜ now (head .exit) ≡
+        headBy (roomAnswer (length (now (cells .entry))) (length (now (entries .entry))) (s .used) (s .free) (madeLent areas xs ys b w entries))
+        (now (head .entry)) (s .used) (s .free) (madeLent areas xs ys b w entries) ⌝ }
+    ensures { λ _. ⌜ now (cells .exit) ≡
+        cellsOf (roomAnswer (length (now (cells .entry))) (length (now (entries .entry))) (s .used) (s .free) (madeLent areas xs ys b w entries))
+        (lent (now (areas .entry)) (now (xs .entry)) (now (ys .entry)) b) w (wordsFrom (now (entries .entry)) (w .first) (w .count))
+        (now (cells .entry)) (s .cell) (s .used) (s .free) ⌝ }
+    ensures { λ _. ⌜ now (entries .exit) ≡
+        entriesBy (roomAnswer (length (now (cells .entry))) (length (now (entries .entry))) (s .used) (s .free) (madeLent areas xs ys b w entries))
+        (now (entries .entry)) (s .free) (madeLent areas xs ys b w entries) ⌝ }
 {
     let i = s.cell as usize;
     let a = split::split_in_room(head, cells, entries, areas, xs, ys, b, i, s.used, s.free, w);
@@ -206,10 +217,14 @@ fn take_turn(
     requires { ⌜ (s .used ≡ cellsUsed (now head)) × (s .free ≡ entriesUsed (now head)) ⌝ }
     requires { ⌜ (s .cell < s .used) × (s .splits ≤ s .cell) ⌝ }
     requires { ⌜ limit ≤ 16 ⌝ }
-    ensures { λ r. ⌜ r ≡ turnBy (tried (tree (now (plan .entry)) (now (areas .entry)) (now (xs .entry)) (now (ys .entry)) (now (head .entry)) (now (cells .entry)) (now (entries .entry))) threshold limit (s .cell)) (tree (now (plan .entry)) (now (areas .entry)) (now (xs .entry)) (now (ys .entry)) (now (head .entry)) (now (cells .entry)) (now (entries .entry))) s ⌝ }
-    ensures { λ _. ⌜ now (head .exit) ≡ treeBy (tried (tree (now (plan .entry)) (now (areas .entry)) (now (xs .entry)) (now (ys .entry)) (now (head .entry)) (now (cells .entry)) (now (entries .entry))) threshold limit (s .cell)) (tree (now (plan .entry)) (now (areas .entry)) (now (xs .entry)) (now (ys .entry)) (now (head .entry)) (now (cells .entry)) (now (entries .entry))) (s .cell) .head ⌝ }
-    ensures { λ _. ⌜ now (cells .exit) ≡ treeBy (tried (tree (now (plan .entry)) (now (areas .entry)) (now (xs .entry)) (now (ys .entry)) (now (head .entry)) (now (cells .entry)) (now (entries .entry))) threshold limit (s .cell)) (tree (now (plan .entry)) (now (areas .entry)) (now (xs .entry)) (now (ys .entry)) (now (head .entry)) (now (cells .entry)) (now (entries .entry))) (s .cell) .cells ⌝ }
-    ensures { λ _. ⌜ now (entries .exit) ≡ treeBy (tried (tree (now (plan .entry)) (now (areas .entry)) (now (xs .entry)) (now (ys .entry)) (now (head .entry)) (now (cells .entry)) (now (entries .entry))) threshold limit (s .cell)) (tree (now (plan .entry)) (now (areas .entry)) (now (xs .entry)) (now (ys .entry)) (now (head .entry)) (now (cells .entry)) (now (entries .entry))) (s .cell) .entries ⌝ }
+    ensures { λ r. ⌜ r ≡ turnBy (tried (treeLent plan areas xs ys head cells entries) threshold limit (s .cell))
+        (treeLent plan areas xs ys head cells entries) s ⌝ }
+    ensures { λ _. ⌜ now (head .exit) ≡ treeBy (tried (treeLent plan areas xs ys head cells entries) threshold limit (s .cell))
+        (treeLent plan areas xs ys head cells entries) (s .cell) .head ⌝ }
+    ensures { λ _. ⌜ now (cells .exit) ≡ treeBy (tried (treeLent plan areas xs ys head cells entries) threshold limit (s .cell))
+        (treeLent plan areas xs ys head cells entries) (s .cell) .cells ⌝ }
+    ensures { λ _. ⌜ now (entries .exit) ≡ treeBy (tried (treeLent plan areas xs ys head cells entries) threshold limit (s .cell))
+        (treeLent plan areas xs ys head cells entries) (s .cell) .entries ⌝ }
 {
     let i = s.cell as usize;
     let w = celltable::read_cell(cells, i);
@@ -245,10 +260,10 @@ fn sweep_up(
     requires { ⌜ countsIn (tree (now plan) (now areas) (now xs) (now ys) (now head) (now cells) (now entries)) ≡ true ⌝ }
     requires { ⌜ length (now xs) ≡ length (now ys) ⌝ }
     requires { ⌜ limit ≤ 16 ⌝ }
-    ensures { λ r. ⌜ r ≡ answerOf (grown threshold limit (tree (now (plan .entry)) (now (areas .entry)) (now (xs .entry)) (now (ys .entry)) (now (head .entry)) (now (cells .entry)) (now (entries .entry)))) ⌝ }
-    ensures { λ _. ⌜ now (head .exit) ≡ grown threshold limit (tree (now (plan .entry)) (now (areas .entry)) (now (xs .entry)) (now (ys .entry)) (now (head .entry)) (now (cells .entry)) (now (entries .entry))) .after .head ⌝ }
-    ensures { λ _. ⌜ now (cells .exit) ≡ grown threshold limit (tree (now (plan .entry)) (now (areas .entry)) (now (xs .entry)) (now (ys .entry)) (now (head .entry)) (now (cells .entry)) (now (entries .entry))) .after .cells ⌝ }
-    ensures { λ _. ⌜ now (entries .exit) ≡ grown threshold limit (tree (now (plan .entry)) (now (areas .entry)) (now (xs .entry)) (now (ys .entry)) (now (head .entry)) (now (cells .entry)) (now (entries .entry))) .after .entries ⌝ }
+    ensures { λ r. ⌜ r ≡ answerOf (grown threshold limit (treeLent plan areas xs ys head cells entries)) ⌝ }
+    ensures { λ _. ⌜ now (head .exit) ≡ grown threshold limit (treeLent plan areas xs ys head cells entries) .after .head ⌝ }
+    ensures { λ _. ⌜ now (cells .exit) ≡ grown threshold limit (treeLent plan areas xs ys head cells entries) .after .cells ⌝ }
+    ensures { λ _. ⌜ now (entries .exit) ≡ grown threshold limit (treeLent plan areas xs ys head cells entries) .after .entries ⌝ }
 {
     let used = head[0];
     let free = head[1];
@@ -300,10 +315,10 @@ pub fn grow(
     threshold: u32,
     limit: u32,
 ) -> Answer
-    ensures { λ r. ⌜ r ≡ growAnswer (tree (now (plan .entry)) (now (areas .entry)) (now (xs .entry)) (now (ys .entry)) (now (head .entry)) (now (cells .entry)) (now (entries .entry))) threshold limit ⌝ }
-    ensures { λ _. ⌜ now (head .exit) ≡ growTree (tree (now (plan .entry)) (now (areas .entry)) (now (xs .entry)) (now (ys .entry)) (now (head .entry)) (now (cells .entry)) (now (entries .entry))) threshold limit .head ⌝ }
-    ensures { λ _. ⌜ now (cells .exit) ≡ growTree (tree (now (plan .entry)) (now (areas .entry)) (now (xs .entry)) (now (ys .entry)) (now (head .entry)) (now (cells .entry)) (now (entries .entry))) threshold limit .cells ⌝ }
-    ensures { λ _. ⌜ now (entries .exit) ≡ growTree (tree (now (plan .entry)) (now (areas .entry)) (now (xs .entry)) (now (ys .entry)) (now (head .entry)) (now (cells .entry)) (now (entries .entry))) threshold limit .entries ⌝ }
+    ensures answer { λ r. ⌜ r ≡ growAnswer (treeLent plan areas xs ys head cells entries) threshold limit ⌝ }
+    ensures head { λ _. ⌜ now (head .exit) ≡ growTree (treeLent plan areas xs ys head cells entries) threshold limit .head ⌝ }
+    ensures cells { λ _. ⌜ now (cells .exit) ≡ growTree (treeLent plan areas xs ys head cells entries) threshold limit .cells ⌝ }
+    ensures entries { λ _. ⌜ now (entries .exit) ≡ growTree (treeLent plan areas xs ys head cells entries) threshold limit .entries ⌝ }
 {
     if xs.len() == ys.len() {
         if limit <= 16 {

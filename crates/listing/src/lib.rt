@@ -5,7 +5,7 @@ ghost use mathlib.Core.Path.{_≡_};
 ghost use mathlib.Core.List.{[]};
 ghost use Prim.Native.Nat.{_+_, _*_, _≤_, _<_};
 ghost use lib.ListN.{length};
-ghost use Rattle.split.specs.Tables.{tree};
+ghost use Rattle.split.specs.Tables.{treeLent};
 ghost use Rattle.listing.specs.Listed.{everyOther, cornerX, cornerY, ifLow, ofAnswer, cornerAt, withCorner, listed};
 ghost use Rattle.listing.specs.Numbers.{putAt, written, lineAt};
 
@@ -88,7 +88,7 @@ fn corner_at(
     k: u32,
 ) -> Corner
     requires { ⌜ k < 256 ⌝ }
-    ensures { λ r. ⌜ r ≡ cornerAt (tree (now (plan .entry)) (now (areas .entry)) (now (xs .entry)) (now (ys .entry)) (now (head .entry)) (now (cells .entry)) (now (entries .entry))) k ⌝ }
+    ensures { λ r. ⌜ r ≡ cornerAt (treeLent plan areas xs ys head cells entries) k ⌝ }
 {
     let x = corner_x(k);
     let y = corner_y(k);
@@ -135,8 +135,8 @@ pub fn list_leaves(
     rows: &mut [u32],
 ) -> usize
     requires { ⌜ 1280 ≤ length (now rows) ⌝ }
-    ensures { λ n. ⌜ n ≡ length (listed (tree (now (plan .entry)) (now (areas .entry)) (now (xs .entry)) (now (ys .entry)) (now (head .entry)) (now (cells .entry)) (now (entries .entry)))) ⌝ }
-    ensures { λ n. ⌜ now (rows .exit) ≡ written (now (rows .entry)) 0 (listed (tree (now (plan .entry)) (now (areas .entry)) (now (xs .entry)) (now (ys .entry)) (now (head .entry)) (now (cells .entry)) (now (entries .entry)))) ⌝ }
+    ensures answer { λ n. ⌜ n ≡ length (listed (treeLent plan areas xs ys head cells entries)) ⌝ }
+    ensures rows { λ n. ⌜ now (rows .exit) ≡ written (now (rows .entry)) 0 (listed (treeLent plan areas xs ys head cells entries)) ⌝ }
     ensures { λ n. ⌜ n ≤ 256 ⌝ }
 {
     let mut n = 0;

@@ -14,7 +14,7 @@ use Rattle.celltable.specs.declared.CellWords.{CellWords}
 use Rattle.celltable.specs.Table.{putCellAt}
 use Rattle.celltable.specs.Ranges.{cellsHeld, entriesHeld}
 use Rattle.root_stream.specs.Opened.{wordsOpened}
-use Rattle.split.specs.Tables.{Tree}
+use Rattle.split.specs.Tables.{Tree, tree}
 use Rattle.open.specs.declared.Answer.{Answer}
 use Rattle.open.specs.declared.Answer.the-variants.{Opened, Not}
 
@@ -62,3 +62,7 @@ module _ (t : Tree) where
   abbrev pub entriesOpened : Answer → List ℕ
   entriesOpened (Opened n) = written (t .entries) 0 streamOpened
   entriesOpened (Not r) = t .entries
+
+  -- the seven tables after the call
+  abbrev pub openTree : Tree
+  openTree = tree (t .plan) (t .areas) (t .xs) (t .ys) (headOpened openAnswer) (cellsOpened openAnswer) (entriesOpened openAnswer)

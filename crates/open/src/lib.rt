@@ -8,12 +8,12 @@ ghost use mathlib.Core.Path.{_≡_};
 ghost use Prim.Native.Nat.{_*_, _%_, _≤_};
 ghost use lib.ListN.{length, set};
 ghost use Rattle.grammar.specs.declared.Verdict.the-variants.{Accepted};
-ghost use Rattle.drawing.specs.Tables.{tables, drawingOf};
+ghost use Rattle.drawing.specs.Tables.{tables, drawingLent, drawingOf};
 ghost use Rattle.stream.specs.Table.{written};
 ghost use Rattle.celltable.specs.Table.{putCellAt};
 ghost use Rattle.root_stream.specs.code.Numbers.{Opened};
 ghost use Rattle.root_stream.specs.Opened.{rowsOpened, wordsOpened};
-ghost use Rattle.split.specs.Tables.{tree};
+ghost use Rattle.split.specs.Tables.{treeLent};
 ghost use Rattle.open.specs.Open.{rootWords, roomFor, roomAnswer, openAnswer, headOpened, cellsOpened, entriesOpened};
 
 // An opening's answer: the entries of cell 0's stream, or why it was refused.
@@ -74,7 +74,7 @@ fn put_opened(
     requires { ⌜ (2 ≤ length (now head)) × (8 ≤ length (now cells)) ⌝ }
     ensures { λ _. ⌜ now (head .exit) ≡ set (set (now (head .entry)) 0 1) 1 n ⌝ }
     ensures { λ _. ⌜ now (cells .exit) ≡ putCellAt (now (cells .entry)) 0 (rootWords n) ⌝ }
-    ensures { λ _. ⌜ now (entries .exit) ≡ written (now (entries .entry)) 0 (wordsOpened (tables (now (plan .entry)) (now (areas .entry)) (now (xs .entry)) (now (ys .entry)))) ⌝ }
+    ensures { λ _. ⌜ now (entries .exit) ≡ written (now (entries .entry)) 0 (wordsOpened (drawingLent plan areas xs ys)) ⌝ }
 {
     root_stream::write_open(entries, n as usize, plan, areas, xs, ys, records, b);
     put_root(cells, n);
@@ -93,10 +93,10 @@ fn open_accepted(
     k: Counts,
 ) -> Answer
     requires { ⌜ drawingOf (tables (now plan) (now areas) (now xs) (now ys)) ≡ Accepted k ⌝ }
-    ensures { λ r. ⌜ r ≡ roomAnswer (tree (now (plan .entry)) (now (areas .entry)) (now (xs .entry)) (now (ys .entry)) (now (head .entry)) (now (cells .entry)) (now (entries .entry))) ⌝ }
-    ensures { λ r. ⌜ now (head .exit) ≡ headOpened (tree (now (plan .entry)) (now (areas .entry)) (now (xs .entry)) (now (ys .entry)) (now (head .entry)) (now (cells .entry)) (now (entries .entry))) r ⌝ }
-    ensures { λ r. ⌜ now (cells .exit) ≡ cellsOpened (tree (now (plan .entry)) (now (areas .entry)) (now (xs .entry)) (now (ys .entry)) (now (head .entry)) (now (cells .entry)) (now (entries .entry))) r ⌝ }
-    ensures { λ r. ⌜ now (entries .exit) ≡ entriesOpened (tree (now (plan .entry)) (now (areas .entry)) (now (xs .entry)) (now (ys .entry)) (now (head .entry)) (now (cells .entry)) (now (entries .entry))) r ⌝ }
+    ensures { λ r. ⌜ r ≡ roomAnswer (treeLent plan areas xs ys head cells entries) ⌝ }
+    ensures { λ r. ⌜ now (head .exit) ≡ headOpened (treeLent plan areas xs ys head cells entries) r ⌝ }
+    ensures { λ r. ⌜ now (cells .exit) ≡ cellsOpened (treeLent plan areas xs ys head cells entries) r ⌝ }
+    ensures { λ r. ⌜ now (entries .exit) ≡ entriesOpened (treeLent plan areas xs ys head cells entries) r ⌝ }
 {
     let b = Bounds {
         areas: k.areas,
@@ -125,10 +125,10 @@ pub fn open(
     cells: &mut [u32],
     entries: &mut [u32],
 ) -> Answer
-    ensures { λ r. ⌜ r ≡ openAnswer (tree (now (plan .entry)) (now (areas .entry)) (now (xs .entry)) (now (ys .entry)) (now (head .entry)) (now (cells .entry)) (now (entries .entry))) ⌝ }
-    ensures { λ r. ⌜ now (head .exit) ≡ headOpened (tree (now (plan .entry)) (now (areas .entry)) (now (xs .entry)) (now (ys .entry)) (now (head .entry)) (now (cells .entry)) (now (entries .entry))) r ⌝ }
-    ensures { λ r. ⌜ now (cells .exit) ≡ cellsOpened (tree (now (plan .entry)) (now (areas .entry)) (now (xs .entry)) (now (ys .entry)) (now (head .entry)) (now (cells .entry)) (now (entries .entry))) r ⌝ }
-    ensures { λ r. ⌜ now (entries .exit) ≡ entriesOpened (tree (now (plan .entry)) (now (areas .entry)) (now (xs .entry)) (now (ys .entry)) (now (head .entry)) (now (cells .entry)) (now (entries .entry))) r ⌝ }
+    ensures answer { λ r. ⌜ r ≡ openAnswer (treeLent plan areas xs ys head cells entries) ⌝ }
+    ensures head { λ r. ⌜ now (head .exit) ≡ headOpened (treeLent plan areas xs ys head cells entries) r ⌝ }
+    ensures cells { λ r. ⌜ now (cells .exit) ≡ cellsOpened (treeLent plan areas xs ys head cells entries) r ⌝ }
+    ensures entries { λ r. ⌜ now (entries .exit) ≡ entriesOpened (treeLent plan areas xs ys head cells entries) r ⌝ }
 {
     if xs.len() == ys.len() {
         let v = drawing::check_drawing(plan, areas, xs, ys);
