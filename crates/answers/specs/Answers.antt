@@ -3,7 +3,7 @@ use mathlib.Core.Bool.{cond}
 use mathlib.Core.List.{List}
 use Prim.Native.Nat.{ℕ, _+_, _*_}
 use lib.Dec.{leb}
-use lib.ListN.{set}
+use lib.ListN.{length, set}
 use Rattle.refusals.specs.declared.Refusal.the-variants.{Room}
 use Rattle.refusals.specs.Refusals.{numberOf}
 use Rattle.grammar.specs.declared.Verdict.{Verdict}
@@ -67,6 +67,10 @@ leafPut l out = set (set (set (set (set (set (set out 0 (l .cell)) 1 (l .x)) 2 (
 abbrev pub outFound : leaf-answer.Answer → List ℕ → List ℕ
 outFound (leaf.Found l) out = leafPut l out
 outFound (leaf.Not r) out = out
+
+-- the output table after the call
+abbrev pub leafWritten : leaf-answer.Answer → (out : List ℕ) → List ℕ
+leafWritten a out = outFound (findRoom a (length out)) out
 
 -- the low halves
 abbrev pub readLow : Verdict → ℕ

@@ -3,7 +3,7 @@ use mathlib.Core.Bool.{cond}
 use mathlib.Core.List.{List}
 use Prim.Native.Nat.{ℕ, _/_, _%_}
 use lib.Dec.{leb}
-use lib.ListN.{set}
+use lib.ListN.{length, set}
 use Rattle.refusals.specs.declared.Refusal.the-variants.{Room}
 use Rattle.refusals.specs.Refusals.{numberOf}
 use Rattle.zone_log.specs.declared.LogAnswer.{LogAnswer}
@@ -33,6 +33,10 @@ spotPut s out = set (set (set (set (set (set out 0 (s .set % 4294967296)) 1 (s .
 abbrev pub outSpot : query-answer.Answer → List ℕ → List ℕ
 outSpot (query.At s) out = spotPut s out
 outSpot (query.Not r) out = out
+
+-- the output table after the call
+abbrev pub spotWritten : query-answer.Answer → (out : List ℕ) → List ℕ
+spotWritten a out = outSpot (spotRoom a (length out)) out
 
 -- a place or a result over 4,294,967,295 is packed as 4,294,967,295
 abbrev pub lowHalf : ℕ → ℕ

@@ -13,8 +13,8 @@ ghost use mathlib.Core.Path.{_≡_};
 ghost use Prim.Native.Nat.{_≤_};
 ghost use lib.ListN.{length};
 ghost use Rattle.refusals.specs.Refusals.{numberOf};
-ghost use Rattle.answers.specs.Answers.{packed, readNumber, writeNumber, readLow, writeLow, openNumber, splitNumber, growSplits, growNumber, leafPut, findRoom, findNumber, outFound};
-ghost use Rattle.answers.specs.Readings.{spotPut, spotRoom, spotNumber, outSpot, lowHalf, logNumber, rowPlace, rowNumber};
+ghost use Rattle.answers.specs.Answers.{packed, readNumber, writeNumber, readLow, writeLow, openNumber, splitNumber, growSplits, growNumber, leafPut, findRoom, findNumber, leafWritten};
+ghost use Rattle.answers.specs.Readings.{spotPut, spotRoom, spotNumber, spotWritten, lowHalf, logNumber, rowPlace, rowNumber};
 
 // The refusal's number, or 0, and what goes with it.
 fn pack(number: u32, low: usize) -> u64
@@ -101,8 +101,8 @@ fn put_leaf(out: &mut [u32], l: FoundLeaf)
 
 // A leaf that was found, or 11.
 pub fn put_found(out: &mut [u32], a: find_leaf::Answer) -> u64
-    ensures { λ r. ⌜ r ≡ findNumber (findRoom a (length (now (out .entry)))) ⌝ }
-    ensures { λ r. ⌜ now (out .exit) ≡ outFound (findRoom a (length (now (out .entry)))) (now (out .entry)) ⌝ }
+    ensures answer { λ r. ⌜ r ≡ findNumber (findRoom a (length (now (out .entry)))) ⌝ }
+    ensures out { λ r. ⌜ now (out .exit) ≡ leafWritten a (now (out .entry)) ⌝ }
 {
     match a {
         find_leaf::Answer::Found(l) => {
@@ -134,8 +134,8 @@ fn put_spot(out: &mut [u32], s: Spot)
 
 // What shows, or 11.
 pub fn put_shown(out: &mut [u32], a: position::Answer) -> u64
-    ensures { λ r. ⌜ r ≡ spotNumber (spotRoom a (length (now (out .entry)))) ⌝ }
-    ensures { λ r. ⌜ now (out .exit) ≡ outSpot (spotRoom a (length (now (out .entry)))) (now (out .entry)) ⌝ }
+    ensures answer { λ r. ⌜ r ≡ spotNumber (spotRoom a (length (now (out .entry)))) ⌝ }
+    ensures out { λ r. ⌜ now (out .exit) ≡ spotWritten a (now (out .entry)) ⌝ }
 {
     match a {
         position::Answer::At(s) => {

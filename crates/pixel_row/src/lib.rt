@@ -10,7 +10,7 @@ ghost use mathlib.Core.Path.{_≡_};
 ghost use Prim.Native.Nat.{_+_, _*_, _/_, _≤_};
 ghost use lib.ListN.{length};
 ghost use Rattle.paint.specs.Colours.{ColourIn};
-ghost use Rattle.split.specs.Tables.{tree};
+ghost use Rattle.split.specs.Tables.{tree, treeLent};
 ghost use Rattle.position.specs.code.Numbers.{LastIn};
 ghost use Rattle.pixel_row.specs.Rows.{putPixel, fillFrom, rowSpan, rowFilled};
 ghost use Rattle.pixel_row.specs.code.Numbers.{pixelTold, PixelBytes};
@@ -43,7 +43,7 @@ fn pixel_at(
 ) -> Pixel
     requires { ⌜ LastIn (tree (now plan) (now areas) (now xs) (now ys) (now head) (now cells) (now entries)) before ⌝ }
     requires { ⌜ (row ≤ 4095) × (column ≤ 4095) ⌝ }
-    ensures { λ r. ⌜ r ≡ pixelTold (tree (now (plan .entry)) (now (areas .entry)) (now (xs .entry)) (now (ys .entry)) (now (head .entry)) (now (cells .entry)) (now (entries .entry))) row column ⌝ }
+    ensures { λ r. ⌜ r ≡ pixelTold (treeLent plan areas xs ys head cells entries) row column ⌝ }
     ensures { λ r. ⌜ PixelBytes r ⌝ }
 {
     let mut last = before;
@@ -99,8 +99,9 @@ fn fill_row(
     out: &mut [u8],
 ) -> RowAnswer
     requires { ⌜ (row ≤ 4095) × (first + length (now out) / 3 ≤ 4096) ⌝ }
-    ensures { λ r. ⌜ r ≡ fillFrom (tree (now (plan .entry)) (now (areas .entry)) (now (xs .entry)) (now (ys .entry)) (now (head .entry)) (now (cells .entry)) (now (entries .entry))) row first 0 (length (now (out .entry)) / 3) (now (out .entry)) .answer ⌝ }
-    ensures { λ _. ⌜ now (out .exit) ≡ fillFrom (tree (now (plan .entry)) (now (areas .entry)) (now (xs .entry)) (now (ys .entry)) (now (head .entry)) (now (cells .entry)) (now (entries .entry))) row first 0 (length (now (out .entry)) / 3) (now (out .entry)) .bytes ⌝ }
+    ensures { λ r. ⌜ r ≡ fillFrom (treeLent plan areas xs ys head cells entries) row first 0 (length (now (out .entry)) / 3) (now (out .entry)) .answer ⌝ }
+    ensures { λ _. ⌜ now (out .exit) ≡
+        fillFrom (treeLent plan areas xs ys head cells entries) row first 0 (length (now (out .entry)) / 3) (now (out .entry)) .bytes ⌝ }
 {
     let n = out.len() / 3;
     let mut last = Found::Broken;
@@ -136,8 +137,8 @@ fn row_spanned(
     out: &mut [u8],
 ) -> RowAnswer
     requires { ⌜ row ≤ 4095 ⌝ }
-    ensures { λ r. ⌜ r ≡ rowSpan (tree (now (plan .entry)) (now (areas .entry)) (now (xs .entry)) (now (ys .entry)) (now (head .entry)) (now (cells .entry)) (now (entries .entry))) row first (now (out .entry)) .answer ⌝ }
-    ensures { λ _. ⌜ now (out .exit) ≡ rowSpan (tree (now (plan .entry)) (now (areas .entry)) (now (xs .entry)) (now (ys .entry)) (now (head .entry)) (now (cells .entry)) (now (entries .entry))) row first (now (out .entry)) .bytes ⌝ }
+    ensures { λ r. ⌜ r ≡ rowSpan (treeLent plan areas xs ys head cells entries) row first (now (out .entry)) .answer ⌝ }
+    ensures { λ _. ⌜ now (out .exit) ≡ rowSpan (treeLent plan areas xs ys head cells entries) row first (now (out .entry)) .bytes ⌝ }
 {
     if (first as usize) + out.len() / 3 <= 4096 {
         return fill_row(plan, areas, xs, ys, head, cells, entries, row, first, out);
@@ -159,8 +160,8 @@ pub fn pixel_row(
     first: u32,
     out: &mut [u8],
 ) -> RowAnswer
-    ensures { λ r. ⌜ r ≡ rowFilled (tree (now (plan .entry)) (now (areas .entry)) (now (xs .entry)) (now (ys .entry)) (now (head .entry)) (now (cells .entry)) (now (entries .entry))) row first (now (out .entry)) .answer ⌝ }
-    ensures { λ _. ⌜ now (out .exit) ≡ rowFilled (tree (now (plan .entry)) (now (areas .entry)) (now (xs .entry)) (now (ys .entry)) (now (head .entry)) (now (cells .entry)) (now (entries .entry))) row first (now (out .entry)) .bytes ⌝ }
+    ensures answer { λ r. ⌜ r ≡ rowFilled (treeLent plan areas xs ys head cells entries) row first (now (out .entry)) .answer ⌝ }
+    ensures out { λ _. ⌜ now (out .exit) ≡ rowFilled (treeLent plan areas xs ys head cells entries) row first (now (out .entry)) .bytes ⌝ }
 {
     if xs.len() == ys.len() {
         if row <= 4095 {

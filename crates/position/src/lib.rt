@@ -11,7 +11,7 @@ ghost use Rattle.paint.specs.Areas.{Painted};
 ghost use Rattle.stream.specs.Table.{wordsFrom};
 ghost use Rattle.stream.specs.Grammar.{env, bounds, Passed};
 ghost use Rattle.evaluate.specs.Reading.{setAt};
-ghost use Rattle.split.specs.Tables.{tree};
+ghost use Rattle.split.specs.Tables.{tree, treeLent};
 ghost use Rattle.find_leaf.specs.Leaf.{leafIn};
 ghost use Rattle.position.specs.Spots.{spotOf, spotIn, positionAnswer};
 ghost use Rattle.position.specs.code.Numbers.{between, inSquare, LastIn, shownIn};
@@ -50,7 +50,8 @@ pub fn set_in(
     y: u32,
 ) -> u64
     requires { ⌜ 3 ≤ length (now plan) ⌝ }
-    requires { ⌜ Passed (now entries) (l .first) (l .count) (env (now areas) (now xs) (now ys) (bounds (getD (now plan) 1 0) (getD (now plan) 2 0) (l .y) (l .side))) ⌝ }
+    requires { ⌜ Passed (now entries) (l .first) (l .count)
+        (env (now areas) (now xs) (now ys) (bounds (getD (now plan) 1 0) (getD (now plan) 2 0) (l .y) (l .side))) ⌝ }
     requires { ⌜ (x < 65536) × (y < 65536) ⌝ }
     ensures { λ r. ⌜ r ≡ setAt (now (areas .entry)) (now (xs .entry)) (now (ys .entry)) x y (wordsFrom (now (entries .entry)) (l .first) (l .count)) ⌝ }
     ensures { λ r. ⌜ Painted (now (areas .entry)) r ⌝ }
@@ -111,7 +112,7 @@ pub fn leaf_for(
     y: u32,
 ) -> Found
     requires { ⌜ LastIn (tree (now plan) (now areas) (now xs) (now ys) (now head) (now cells) (now entries)) last ⌝ }
-    ensures { λ r. ⌜ r ≡ leafIn (tree (now (plan .entry)) (now (areas .entry)) (now (xs .entry)) (now (ys .entry)) (now (head .entry)) (now (cells .entry)) (now (entries .entry))) x y ⌝ }
+    ensures { λ r. ⌜ r ≡ leafIn (treeLent plan areas xs ys head cells entries) x y ⌝ }
 {
     match last {
         Found::At(l) => {
@@ -139,7 +140,7 @@ pub fn shown_at(
 ) -> Shown
     requires { ⌜ LastIn (tree (now plan) (now areas) (now xs) (now ys) (now head) (now cells) (now entries)) last ⌝ }
     requires { ⌜ (x < 65536) × (y < 65536) ⌝ }
-    ensures { λ r. ⌜ r ≡ shownIn (tree (now (plan .entry)) (now (areas .entry)) (now (xs .entry)) (now (ys .entry)) (now (head .entry)) (now (cells .entry)) (now (entries .entry))) x y ⌝ }
+    ensures { λ r. ⌜ r ≡ shownIn (treeLent plan areas xs ys head cells entries) x y ⌝ }
 {
     let f = leaf_for(plan, areas, xs, ys, head, cells, entries, last, x, y);
     match f {
@@ -165,7 +166,7 @@ fn spot_at(
     y: u32,
 ) -> Answer
     requires { ⌜ (x < 65536) × (y < 65536) ⌝ }
-    ensures { λ r. ⌜ r ≡ spotIn (tree (now (plan .entry)) (now (areas .entry)) (now (xs .entry)) (now (ys .entry)) (now (head .entry)) (now (cells .entry)) (now (entries .entry))) x y ⌝ }
+    ensures { λ r. ⌜ r ≡ spotIn (treeLent plan areas xs ys head cells entries) x y ⌝ }
 {
     let f = find_leaf::leaf_at(plan, areas, xs, ys, head, cells, entries, x, y);
     match f {
@@ -191,7 +192,7 @@ pub fn position(
     x: u32,
     y: u32,
 ) -> Answer
-    ensures { λ r. ⌜ r ≡ positionAnswer (tree (now (plan .entry)) (now (areas .entry)) (now (xs .entry)) (now (ys .entry)) (now (head .entry)) (now (cells .entry)) (now (entries .entry))) x y ⌝ }
+    ensures answer { λ r. ⌜ r ≡ positionAnswer (treeLent plan areas xs ys head cells entries) x y ⌝ }
 {
     if xs.len() == ys.len() {
         if (x < 65536) & (y < 65536) {

@@ -64,3 +64,7 @@ module _ (t : Tree) (px py : List ℕ) where
   abbrev pub outAfter : LogAnswer → List ℕ → List ℕ
   outAfter (Indices n) out = sets out 0 zoneLog
   outAfter (Not r place) out = out
+
+  -- the output table after the call
+  abbrev pub outLogged : List ℕ → List ℕ
+  outLogged out = outAfter (logAnswer (length out)) out

@@ -8,7 +8,7 @@ ghost use mathlib.Core.Bool.{true, cond};
 ghost use Prim.Native.Nat.{_+_, _≤_, _<_};
 ghost use lib.ListN.{length, set};
 ghost use lib.Seq.{sets};
-ghost use Rattle.split.specs.Tables.{tree};
+ghost use Rattle.split.specs.Tables.{tree, treeLent};
 ghost use Rattle.find_leaf.specs.Leaf.{positionRange};
 ghost use Rattle.zone_log.specs.Logs.{outsideFrom, eachWord, knownFrom, zoneLog, logKnown, logRange, logAnswer, outAfter};
 ghost use Rattle.zone_log.specs.code.Numbers.{RunIn, loggedN, talliedN, countIn};
@@ -102,7 +102,7 @@ fn count_log(
     py: &[u32],
 ) -> Count
     requires { ⌜ RunIn (now px) (now py) ⌝ }
-    ensures { λ r. ⌜ r ≡ countIn (tree (now (plan .entry)) (now (areas .entry)) (now (xs .entry)) (now (ys .entry)) (now (head .entry)) (now (cells .entry)) (now (entries .entry))) (now (px .entry)) (now (py .entry)) ⌝ }
+    ensures { λ r. ⌜ r ≡ countIn (treeLent plan areas xs ys head cells entries) (now (px .entry)) (now (py .entry)) ⌝ }
 {
     let n = px.len();
     let mut last = Found::Broken;
@@ -159,7 +159,8 @@ fn write_log(
     requires { ⌜ knownFrom (tree (now plan) (now areas) (now xs) (now ys) (now head) (now cells) (now entries)) (now px) (now py) 0 (length (now px)) ≡ true ⌝ }
     requires { ⌜ length (zoneLog (tree (now plan) (now areas) (now xs) (now ys) (now head) (now cells) (now entries)) (now px) (now py)) ≤ length (now out) ⌝ }
     requires { ⌜ eachWord (zoneLog (tree (now plan) (now areas) (now xs) (now ys) (now head) (now cells) (now entries)) (now px) (now py)) ≡ true ⌝ }
-    ensures { λ _. ⌜ now (out .exit) ≡ sets (now (out .entry)) 0 (zoneLog (tree (now (plan .entry)) (now (areas .entry)) (now (xs .entry)) (now (ys .entry)) (now (head .entry)) (now (cells .entry)) (now (entries .entry))) (now (px .entry)) (now (py .entry))) ⌝ }
+    ensures { λ _. ⌜ now (out .exit) ≡
+        sets (now (out .entry)) 0 (zoneLog (treeLent plan areas xs ys head cells entries) (now (px .entry)) (now (py .entry))) ⌝ }
 {
     let n = px.len();
     let mut last = Found::Broken;
@@ -210,8 +211,8 @@ fn log_known(
     out: &mut [u32],
 ) -> LogAnswer
     requires { ⌜ RunIn (now px) (now py) ⌝ }
-    ensures { λ r. ⌜ r ≡ logKnown (tree (now (plan .entry)) (now (areas .entry)) (now (xs .entry)) (now (ys .entry)) (now (head .entry)) (now (cells .entry)) (now (entries .entry))) (now (px .entry)) (now (py .entry)) (length (now (out .entry))) ⌝ }
-    ensures { λ r. ⌜ now (out .exit) ≡ outAfter (tree (now (plan .entry)) (now (areas .entry)) (now (xs .entry)) (now (ys .entry)) (now (head .entry)) (now (cells .entry)) (now (entries .entry))) (now (px .entry)) (now (py .entry)) r (now (out .entry)) ⌝ }
+    ensures { λ r. ⌜ r ≡ logKnown (treeLent plan areas xs ys head cells entries) (now (px .entry)) (now (py .entry)) (length (now (out .entry))) ⌝ }
+    ensures { λ r. ⌜ now (out .exit) ≡ outAfter (treeLent plan areas xs ys head cells entries) (now (px .entry)) (now (py .entry)) r (now (out .entry)) ⌝ }
 {
     let c = count_log(plan, areas, xs, ys, head, cells, entries, px, py);
     match c {
@@ -240,8 +241,8 @@ fn log_ranged(
     out: &mut [u32],
 ) -> LogAnswer
     requires { ⌜ length (now px) ≡ length (now py) ⌝ }
-    ensures { λ r. ⌜ r ≡ logRange (tree (now (plan .entry)) (now (areas .entry)) (now (xs .entry)) (now (ys .entry)) (now (head .entry)) (now (cells .entry)) (now (entries .entry))) (now (px .entry)) (now (py .entry)) (length (now (out .entry))) ⌝ }
-    ensures { λ r. ⌜ now (out .exit) ≡ outAfter (tree (now (plan .entry)) (now (areas .entry)) (now (xs .entry)) (now (ys .entry)) (now (head .entry)) (now (cells .entry)) (now (entries .entry))) (now (px .entry)) (now (py .entry)) r (now (out .entry)) ⌝ }
+    ensures { λ r. ⌜ r ≡ logRange (treeLent plan areas xs ys head cells entries) (now (px .entry)) (now (py .entry)) (length (now (out .entry))) ⌝ }
+    ensures { λ r. ⌜ now (out .exit) ≡ outAfter (treeLent plan areas xs ys head cells entries) (now (px .entry)) (now (py .entry)) r (now (out .entry)) ⌝ }
 {
     let place = first_outside(px, py);
     if place < px.len() {
@@ -264,8 +265,8 @@ pub fn zone_log(
     py: &[u32],
     out: &mut [u32],
 ) -> LogAnswer
-    ensures { λ r. ⌜ r ≡ logAnswer (tree (now (plan .entry)) (now (areas .entry)) (now (xs .entry)) (now (ys .entry)) (now (head .entry)) (now (cells .entry)) (now (entries .entry))) (now (px .entry)) (now (py .entry)) (length (now (out .entry))) ⌝ }
-    ensures { λ r. ⌜ now (out .exit) ≡ outAfter (tree (now (plan .entry)) (now (areas .entry)) (now (xs .entry)) (now (ys .entry)) (now (head .entry)) (now (cells .entry)) (now (entries .entry))) (now (px .entry)) (now (py .entry)) r (now (out .entry)) ⌝ }
+    ensures answer { λ r. ⌜ r ≡ logAnswer (treeLent plan areas xs ys head cells entries) (now (px .entry)) (now (py .entry)) (length (now (out .entry))) ⌝ }
+    ensures out { λ r. ⌜ now (out .exit) ≡ outAfter (treeLent plan areas xs ys head cells entries) (now (px .entry)) (now (py .entry)) r (now (out .entry)) ⌝ }
 {
     if xs.len() == ys.len() {
         if px.len() == py.len() {
