@@ -1,11 +1,9 @@
 -- Document 01, "Cells": the seven tables after an opening.
 use Rattle.split.specs.Tables.{Tree, tree}
 use Rattle.open.specs.declared.Answer.{Answer}
-use Rattle.open.specs.Open.{openAnswer, headOpened, cellsOpened, entriesOpened}
+use Rattle.open.specs.Open.{headOpened, cellsOpened, entriesOpened}
+pub use Rattle.open.specs.Open.{openTree}
 
--- those before where the opening is refused
+-- by the answer; those before where the opening is refused
 abbrev pub openedBy : Tree → Answer → Tree
 openedBy t r = tree (t .plan) (t .areas) (t .xs) (t .ys) (headOpened t r) (cellsOpened t r) (entriesOpened t r)
-
-abbrev pub openTree : Tree → Tree
-openTree t = openedBy t (openAnswer t)

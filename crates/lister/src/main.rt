@@ -5,7 +5,7 @@ use refusals::Refusal;
 ghost use mathlib.Core.Path.{_≡_};
 ghost use Prim.Native.Nat.{_*_, _≤_};
 ghost use lib.ListN.{length};
-ghost use Rattle.split.specs.Tables.{tree};
+ghost use Rattle.split.specs.Tables.{treeLent};
 ghost use Rattle.lister.specs.Printed.{linesOf, outcomeOf, outcomeGrown, rowsGrown, outcome, rowsAfter};
 
 fn print_number(n: u32) {
@@ -78,11 +78,8 @@ fn list_grown(
     rows: &mut [u32],
 ) -> Outcome
     requires { ⌜ 1280 ≤ length (now rows) ⌝ }
-    ensures { λ r. ⌜ r ≡ outcomeGrown
-        (tree (now (plan .entry)) (now (areas .entry)) (now (xs .entry)) (now (ys .entry)) (now (head .entry)) (now (cells .entry)) (now (entries .entry))) ⌝ }
-    ensures { λ r. ⌜ now (rows .exit) ≡ rowsGrown
-        (tree (now (plan .entry)) (now (areas .entry)) (now (xs .entry)) (now (ys .entry)) (now (head .entry)) (now (cells .entry)) (now (entries .entry)))
-        (now (rows .entry)) ⌝ }
+    ensures { λ r. ⌜ r ≡ outcomeGrown (treeLent plan areas xs ys head cells entries) ⌝ }
+    ensures { λ r. ⌜ now (rows .exit) ≡ rowsGrown (treeLent plan areas xs ys head cells entries) (now (rows .entry)) ⌝ }
     ensures { λ r. ⌜ linesOf r ≤ 256 ⌝ }
 {
     let a = grow::grow(plan, areas, xs, ys, head, cells, entries, 0, 4);
@@ -102,11 +99,8 @@ fn list_drawing(
     rows: &mut [u32],
 ) -> Outcome
     requires { ⌜ 1280 ≤ length (now rows) ⌝ }
-    ensures { λ r. ⌜ r ≡ outcome
-        (tree (now (plan .entry)) (now (areas .entry)) (now (xs .entry)) (now (ys .entry)) (now (head .entry)) (now (cells .entry)) (now (entries .entry))) ⌝ }
-    ensures { λ r. ⌜ now (rows .exit) ≡ rowsAfter
-        (tree (now (plan .entry)) (now (areas .entry)) (now (xs .entry)) (now (ys .entry)) (now (head .entry)) (now (cells .entry)) (now (entries .entry)))
-        (now (rows .entry)) ⌝ }
+    ensures { λ r. ⌜ r ≡ outcome (treeLent plan areas xs ys head cells entries) ⌝ }
+    ensures { λ r. ⌜ now (rows .exit) ≡ rowsAfter (treeLent plan areas xs ys head cells entries) (now (rows .entry)) ⌝ }
     ensures { λ r. ⌜ linesOf r ≤ 256 ⌝ }
 {
     let a = open::open(plan, areas, xs, ys, head, cells, entries);

@@ -2,19 +2,23 @@
 //
 // Each answer is one number: the number of the refusal times 2^32, and its place. Where nothing is refused the high half is 0 and the low
 // half is the result.
+//
+// How to read a contract: `answer` says what is returned, and each further clause, named after a table, what that table holds afterwards.
+// `now (head .entry)` is what the table `head` holds when the call begins, `now (head .exit)` when it returns; `treeLent plan ... entries` is all
+// seven tables when the call begins, `drawingLent plan areas xs ys` the drawing's four. A table with no clause is lent by `&`: read only.
 pub mod readings;
 
 ghost use mathlib.Core.Path.{_≡_};
 ghost use lib.ListN.{length};
-ghost use Rattle.read.specs.Words.{planWords, areaWords, xWords, yWords, fileOf};
-ghost use Rattle.read.specs.Reading.{recordsIn, readAnswer, leftBy};
-ghost use Rattle.drawing.specs.Tables.{tables, drawnIn, writeAnswer, outAfter};
-ghost use Rattle.split.specs.Tables.{tree};
-ghost use Rattle.split.specs.Split.{splitAnswer, headAfter, cellsAfter, entriesAfter};
-ghost use Rattle.open.specs.Open.{openAnswer, headOpened, cellsOpened, entriesOpened};
+ghost use Rattle.read.specs.Words.{planWords, areaWords, xWords, yWords};
+ghost use Rattle.read.specs.Reading.{recordsLent, readLent, leftBy};
+ghost use Rattle.drawing.specs.Tables.{drawingLent, writeAnswer, outWritten};
+ghost use Rattle.split.specs.Tables.{treeLent};
+ghost use Rattle.split.specs.Split.{splitAnswer, splitTables};
+ghost use Rattle.open.specs.Open.{openAnswer, openTree};
 ghost use Rattle.find_leaf.specs.Leaf.{findAnswer};
 ghost use Rattle.grow.specs.Grow.{growAnswer, growTree};
-ghost use Rattle.answers.specs.Answers.{readNumber, writeNumber, openNumber, splitNumber, growNumber, findRoom, findNumber, outFound};
+ghost use Rattle.answers.specs.Answers.{readNumber, writeNumber, openNumber, splitNumber, growNumber, findRoom, findNumber, leafWritten};
 
 // Reads a file of records into the four tables of a drawing. The result is the number of records.
 // Refusals, in this order: 7 (tables of x and y of unequal length), 1, each record by 2 to 6, the end by 4 and 5, 11.
@@ -26,11 +30,11 @@ pub extern "C" fn zones_read(
     xs: &mut [u32],
     ys: &mut [u32],
 ) -> u64
-    ensures { λ r. ⌜ r ≡ readNumber (readAnswer (now (records .entry)) (now (plan .entry)) (now (areas .entry)) (now (xs .entry)) (now (ys .entry))) ⌝ }
-    ensures { λ r. ⌜ now (plan .exit) ≡ leftBy (readAnswer (now (records .entry)) (now (plan .entry)) (now (areas .entry)) (now (xs .entry)) (now (ys .entry))) (now (plan .entry)) (planWords (recordsIn (now (records .entry)))) ⌝ }
-    ensures { λ r. ⌜ now (areas .exit) ≡ leftBy (readAnswer (now (records .entry)) (now (plan .entry)) (now (areas .entry)) (now (xs .entry)) (now (ys .entry))) (now (areas .entry)) (areaWords (recordsIn (now (records .entry)))) ⌝ }
-    ensures { λ r. ⌜ now (xs .exit) ≡ leftBy (readAnswer (now (records .entry)) (now (plan .entry)) (now (areas .entry)) (now (xs .entry)) (now (ys .entry))) (now (xs .entry)) (xWords (recordsIn (now (records .entry)))) ⌝ }
-    ensures { λ r. ⌜ now (ys .exit) ≡ leftBy (readAnswer (now (records .entry)) (now (plan .entry)) (now (areas .entry)) (now (xs .entry)) (now (ys .entry))) (now (ys .entry)) (yWords (recordsIn (now (records .entry)))) ⌝ }
+    ensures answer { λ r. ⌜ r ≡ readNumber (readLent records plan areas xs ys) ⌝ }
+    ensures plan { λ r. ⌜ now (plan .exit) ≡ leftBy (readLent records plan areas xs ys) (now (plan .entry)) (planWords (recordsLent records)) ⌝ }
+    ensures areas { λ r. ⌜ now (areas .exit) ≡ leftBy (readLent records plan areas xs ys) (now (areas .entry)) (areaWords (recordsLent records)) ⌝ }
+    ensures xs { λ r. ⌜ now (xs .exit) ≡ leftBy (readLent records plan areas xs ys) (now (xs .entry)) (xWords (recordsLent records)) ⌝ }
+    ensures ys { λ r. ⌜ now (ys .exit) ≡ leftBy (readLent records plan areas xs ys) (now (ys .entry)) (yWords (recordsLent records)) ⌝ }
 {
     let v = read::read(records, plan, areas, xs, ys);
     answers::pack_read(v)
@@ -46,8 +50,8 @@ pub extern "C" fn zones_write(
     ys: &[u32],
     out: &mut [u8],
 ) -> u64
-    ensures { λ r. ⌜ r ≡ writeNumber (writeAnswer (tables (now (plan .entry)) (now (areas .entry)) (now (xs .entry)) (now (ys .entry))) (now (out .entry))) ⌝ }
-    ensures { λ r. ⌜ now (out .exit) ≡ outAfter (writeAnswer (tables (now (plan .entry)) (now (areas .entry)) (now (xs .entry)) (now (ys .entry))) (now (out .entry))) (now (out .entry)) (fileOf (drawnIn (tables (now (plan .entry)) (now (areas .entry)) (now (xs .entry)) (now (ys .entry))))) ⌝ }
+    ensures answer { λ r. ⌜ r ≡ writeNumber (writeAnswer (drawingLent plan areas xs ys) (now (out .entry))) ⌝ }
+    ensures out { λ r. ⌜ now (out .exit) ≡ outWritten (drawingLent plan areas xs ys) (now (out .entry)) ⌝ }
 {
     let w = drawing::write(plan, areas, xs, ys, out);
     answers::pack_written(w)
@@ -65,10 +69,10 @@ pub extern "C" fn zones_open(
     cells: &mut [u32],
     entries: &mut [u32],
 ) -> u64
-    ensures { λ r. ⌜ r ≡ openNumber (openAnswer (tree (now (plan .entry)) (now (areas .entry)) (now (xs .entry)) (now (ys .entry)) (now (head .entry)) (now (cells .entry)) (now (entries .entry)))) ⌝ }
-    ensures { λ r. ⌜ now (head .exit) ≡ headOpened (tree (now (plan .entry)) (now (areas .entry)) (now (xs .entry)) (now (ys .entry)) (now (head .entry)) (now (cells .entry)) (now (entries .entry))) (openAnswer (tree (now (plan .entry)) (now (areas .entry)) (now (xs .entry)) (now (ys .entry)) (now (head .entry)) (now (cells .entry)) (now (entries .entry)))) ⌝ }
-    ensures { λ r. ⌜ now (cells .exit) ≡ cellsOpened (tree (now (plan .entry)) (now (areas .entry)) (now (xs .entry)) (now (ys .entry)) (now (head .entry)) (now (cells .entry)) (now (entries .entry))) (openAnswer (tree (now (plan .entry)) (now (areas .entry)) (now (xs .entry)) (now (ys .entry)) (now (head .entry)) (now (cells .entry)) (now (entries .entry)))) ⌝ }
-    ensures { λ r. ⌜ now (entries .exit) ≡ entriesOpened (tree (now (plan .entry)) (now (areas .entry)) (now (xs .entry)) (now (ys .entry)) (now (head .entry)) (now (cells .entry)) (now (entries .entry))) (openAnswer (tree (now (plan .entry)) (now (areas .entry)) (now (xs .entry)) (now (ys .entry)) (now (head .entry)) (now (cells .entry)) (now (entries .entry)))) ⌝ }
+    ensures answer { λ r. ⌜ r ≡ openNumber (openAnswer (treeLent plan areas xs ys head cells entries)) ⌝ }
+    ensures head { λ r. ⌜ now (head .exit) ≡ openTree (treeLent plan areas xs ys head cells entries) .head ⌝ }
+    ensures cells { λ r. ⌜ now (cells .exit) ≡ openTree (treeLent plan areas xs ys head cells entries) .cells ⌝ }
+    ensures entries { λ r. ⌜ now (entries .exit) ≡ openTree (treeLent plan areas xs ys head cells entries) .entries ⌝ }
 {
     let a = open::open(plan, areas, xs, ys, head, cells, entries);
     answers::pack_open(a)
@@ -87,10 +91,10 @@ pub extern "C" fn zones_split(
     entries: &mut [u32],
     cell: u32,
 ) -> u64
-    ensures { λ r. ⌜ r ≡ splitNumber (splitAnswer (tree (now (plan .entry)) (now (areas .entry)) (now (xs .entry)) (now (ys .entry)) (now (head .entry)) (now (cells .entry)) (now (entries .entry))) cell) ⌝ }
-    ensures { λ r. ⌜ now (head .exit) ≡ headAfter (tree (now (plan .entry)) (now (areas .entry)) (now (xs .entry)) (now (ys .entry)) (now (head .entry)) (now (cells .entry)) (now (entries .entry))) cell (splitAnswer (tree (now (plan .entry)) (now (areas .entry)) (now (xs .entry)) (now (ys .entry)) (now (head .entry)) (now (cells .entry)) (now (entries .entry))) cell) ⌝ }
-    ensures { λ r. ⌜ now (cells .exit) ≡ cellsAfter (tree (now (plan .entry)) (now (areas .entry)) (now (xs .entry)) (now (ys .entry)) (now (head .entry)) (now (cells .entry)) (now (entries .entry))) cell (splitAnswer (tree (now (plan .entry)) (now (areas .entry)) (now (xs .entry)) (now (ys .entry)) (now (head .entry)) (now (cells .entry)) (now (entries .entry))) cell) ⌝ }
-    ensures { λ r. ⌜ now (entries .exit) ≡ entriesAfter (tree (now (plan .entry)) (now (areas .entry)) (now (xs .entry)) (now (ys .entry)) (now (head .entry)) (now (cells .entry)) (now (entries .entry))) cell (splitAnswer (tree (now (plan .entry)) (now (areas .entry)) (now (xs .entry)) (now (ys .entry)) (now (head .entry)) (now (cells .entry)) (now (entries .entry))) cell) ⌝ }
+    ensures answer { λ r. ⌜ r ≡ splitNumber (splitAnswer (treeLent plan areas xs ys head cells entries) cell) ⌝ }
+    ensures head { λ r. ⌜ now (head .exit) ≡ splitTables (treeLent plan areas xs ys head cells entries) cell .head ⌝ }
+    ensures cells { λ r. ⌜ now (cells .exit) ≡ splitTables (treeLent plan areas xs ys head cells entries) cell .cells ⌝ }
+    ensures entries { λ r. ⌜ now (entries .exit) ≡ splitTables (treeLent plan areas xs ys head cells entries) cell .entries ⌝ }
 {
     let a = split::split(plan, areas, xs, ys, head, cells, entries, cell);
     answers::pack_split(a)
@@ -111,10 +115,10 @@ pub extern "C" fn zones_grow(
     threshold: u32,
     limit: u32,
 ) -> u64
-    ensures { λ r. ⌜ r ≡ growNumber (growAnswer (tree (now (plan .entry)) (now (areas .entry)) (now (xs .entry)) (now (ys .entry)) (now (head .entry)) (now (cells .entry)) (now (entries .entry))) threshold limit) ⌝ }
-    ensures { λ r. ⌜ now (head .exit) ≡ growTree (tree (now (plan .entry)) (now (areas .entry)) (now (xs .entry)) (now (ys .entry)) (now (head .entry)) (now (cells .entry)) (now (entries .entry))) threshold limit .head ⌝ }
-    ensures { λ r. ⌜ now (cells .exit) ≡ growTree (tree (now (plan .entry)) (now (areas .entry)) (now (xs .entry)) (now (ys .entry)) (now (head .entry)) (now (cells .entry)) (now (entries .entry))) threshold limit .cells ⌝ }
-    ensures { λ r. ⌜ now (entries .exit) ≡ growTree (tree (now (plan .entry)) (now (areas .entry)) (now (xs .entry)) (now (ys .entry)) (now (head .entry)) (now (cells .entry)) (now (entries .entry))) threshold limit .entries ⌝ }
+    ensures answer { λ r. ⌜ r ≡ growNumber (growAnswer (treeLent plan areas xs ys head cells entries) threshold limit) ⌝ }
+    ensures head { λ r. ⌜ now (head .exit) ≡ growTree (treeLent plan areas xs ys head cells entries) threshold limit .head ⌝ }
+    ensures cells { λ r. ⌜ now (cells .exit) ≡ growTree (treeLent plan areas xs ys head cells entries) threshold limit .cells ⌝ }
+    ensures entries { λ r. ⌜ now (entries .exit) ≡ growTree (treeLent plan areas xs ys head cells entries) threshold limit .entries ⌝ }
 {
     let a = grow::grow(plan, areas, xs, ys, head, cells, entries, threshold, limit);
     answers::pack_grow(a)
@@ -135,8 +139,8 @@ pub extern "C" fn zones_find_leaf(
     y: u32,
     out: &mut [u32],
 ) -> u64
-    ensures { λ r. ⌜ r ≡ findNumber (findRoom (findAnswer (tree (now (plan .entry)) (now (areas .entry)) (now (xs .entry)) (now (ys .entry)) (now (head .entry)) (now (cells .entry)) (now (entries .entry))) x y) (length (now (out .entry)))) ⌝ }
-    ensures { λ r. ⌜ now (out .exit) ≡ outFound (findRoom (findAnswer (tree (now (plan .entry)) (now (areas .entry)) (now (xs .entry)) (now (ys .entry)) (now (head .entry)) (now (cells .entry)) (now (entries .entry))) x y) (length (now (out .entry)))) (now (out .entry)) ⌝ }
+    ensures answer { λ r. ⌜ r ≡ findNumber (findRoom (findAnswer (treeLent plan areas xs ys head cells entries) x y) (length (now (out .entry)))) ⌝ }
+    ensures out { λ r. ⌜ now (out .exit) ≡ leafWritten (findAnswer (treeLent plan areas xs ys head cells entries) x y) (now (out .entry)) ⌝ }
 {
     let a = find_leaf::find_leaf(plan, areas, xs, ys, head, cells, entries, x, y);
     answers::put_found(out, a)

@@ -1,11 +1,11 @@
 // The calls that answer from a tree, exported for C.
 ghost use mathlib.Core.Path.{_≡_};
 ghost use lib.ListN.{length};
-ghost use Rattle.split.specs.Tables.{tree};
+ghost use Rattle.split.specs.Tables.{treeLent};
 ghost use Rattle.position.specs.Spots.{positionAnswer};
-ghost use Rattle.zone_log.specs.Logs.{logAnswer, outAfter};
+ghost use Rattle.zone_log.specs.Logs.{logAnswer, outLogged};
 ghost use Rattle.pixel_row.specs.Rows.{rowFilled};
-ghost use Rattle.answers.specs.Readings.{spotRoom, spotNumber, outSpot, logNumber, rowNumber};
+ghost use Rattle.answers.specs.Readings.{spotRoom, spotNumber, spotWritten, logNumber, rowNumber};
 
 // What shows at (x, y), written as six words: the low and the high half of the set, material, red, green, blue. The result is the material.
 // Refusals, in this order: 7 (tables of x and y of unequal length, no position), 12, 11. Nothing is changed on a refusal.
@@ -22,8 +22,8 @@ pub extern "C" fn zones_position(
     y: u32,
     out: &mut [u32],
 ) -> u64
-    ensures { λ r. ⌜ r ≡ spotNumber (spotRoom (positionAnswer (tree (now (plan .entry)) (now (areas .entry)) (now (xs .entry)) (now (ys .entry)) (now (head .entry)) (now (cells .entry)) (now (entries .entry))) x y) (length (now (out .entry)))) ⌝ }
-    ensures { λ r. ⌜ now (out .exit) ≡ outSpot (spotRoom (positionAnswer (tree (now (plan .entry)) (now (areas .entry)) (now (xs .entry)) (now (ys .entry)) (now (head .entry)) (now (cells .entry)) (now (entries .entry))) x y) (length (now (out .entry)))) (now (out .entry)) ⌝ }
+    ensures answer { λ r. ⌜ r ≡ spotNumber (spotRoom (positionAnswer (treeLent plan areas xs ys head cells entries) x y) (length (now (out .entry)))) ⌝ }
+    ensures out { λ r. ⌜ now (out .exit) ≡ spotWritten (positionAnswer (treeLent plan areas xs ys head cells entries) x y) (now (out .entry)) ⌝ }
 {
     let a = position::position(plan, areas, xs, ys, head, cells, entries, x, y);
     answers::put_shown(out, a)
@@ -44,8 +44,9 @@ pub extern "C" fn zones_zone_log(
     py: &[u32],
     out: &mut [u32],
 ) -> u64
-    ensures { λ r. ⌜ r ≡ logNumber (logAnswer (tree (now (plan .entry)) (now (areas .entry)) (now (xs .entry)) (now (ys .entry)) (now (head .entry)) (now (cells .entry)) (now (entries .entry))) (now (px .entry)) (now (py .entry)) (length (now (out .entry)))) ⌝ }
-    ensures { λ r. ⌜ now (out .exit) ≡ outAfter (tree (now (plan .entry)) (now (areas .entry)) (now (xs .entry)) (now (ys .entry)) (now (head .entry)) (now (cells .entry)) (now (entries .entry))) (now (px .entry)) (now (py .entry)) (logAnswer (tree (now (plan .entry)) (now (areas .entry)) (now (xs .entry)) (now (ys .entry)) (now (head .entry)) (now (cells .entry)) (now (entries .entry))) (now (px .entry)) (now (py .entry)) (length (now (out .entry)))) (now (out .entry)) ⌝ }
+    ensures answer { λ r. ⌜ r ≡
+        logNumber (logAnswer (treeLent plan areas xs ys head cells entries) (now (px .entry)) (now (py .entry)) (length (now (out .entry)))) ⌝ }
+    ensures out { λ r. ⌜ now (out .exit) ≡ outLogged (treeLent plan areas xs ys head cells entries) (now (px .entry)) (now (py .entry)) (now (out .entry)) ⌝ }
 {
     let a = zone_log::zone_log(plan, areas, xs, ys, head, cells, entries, px, py, out);
     answers::pack_log(a)
@@ -67,8 +68,8 @@ pub extern "C" fn zones_pixel_row(
     first: u32,
     out: &mut [u8],
 ) -> u64
-    ensures { λ r. ⌜ r ≡ rowNumber (rowFilled (tree (now (plan .entry)) (now (areas .entry)) (now (xs .entry)) (now (ys .entry)) (now (head .entry)) (now (cells .entry)) (now (entries .entry))) row first (now (out .entry)) .answer) ⌝ }
-    ensures { λ r. ⌜ now (out .exit) ≡ rowFilled (tree (now (plan .entry)) (now (areas .entry)) (now (xs .entry)) (now (ys .entry)) (now (head .entry)) (now (cells .entry)) (now (entries .entry))) row first (now (out .entry)) .bytes ⌝ }
+    ensures answer { λ r. ⌜ r ≡ rowNumber (rowFilled (treeLent plan areas xs ys head cells entries) row first (now (out .entry)) .answer) ⌝ }
+    ensures out { λ r. ⌜ now (out .exit) ≡ rowFilled (treeLent plan areas xs ys head cells entries) row first (now (out .entry)) .bytes ⌝ }
 {
     let a = pixel_row::pixel_row(plan, areas, xs, ys, head, cells, entries, row, first, out);
     answers::pack_row(a)
