@@ -38,7 +38,8 @@ pub running-start : (k : ℕ) (whole : ℤ) → Running k 0 whole whole
 running-start k whole = record { small = omega arith; total = +ℤ-idl whole }
 
 -- the next number, v, at most m either way, is what a call gave, r
-module _ {k bits : ℕ} {left whole : ℤ} (s : Running k bits left whole) (v r rest : ℤ) (k′ m : ℕ) (step : left ≡ v +ℤ rest) (e : r ≡ v) (h : natAbs v ≤ m) (fit : k + m ≤ k′) (lim : k′ < 2 ^ 63) where
+module _ {k bits : ℕ} {left whole : ℤ} (s : Running k bits left whole) (v r rest : ℤ) (k′ m : ℕ) (step : left ≡ v +ℤ rest) (e : r ≡ v)
+    (h : natAbs v ≤ m) (fit : k + m ≤ k′) (lim : k′ < 2 ^ 63) where
   added : toZ w64 bits +ℤ toZ w64 (ofZ w64 r) ≡ toZ w64 bits +ℤ v
   added = ap (λ z. toZ w64 bits +ℤ z) (ap (λ z. toZ w64 (ofZ w64 z)) e ∙ read-back v (mag-abs v (omega arith)))
 
@@ -50,7 +51,8 @@ module _ {k bits : ℕ} {left whole : ℤ} (s : Running k bits left whole) (v r 
 
   pub running-more : Running k′ (ofZ w64 (toZ w64 bits +ℤ toZ w64 (ofZ w64 r))) rest whole
   running-more =
-      let back : toZ w64 (ofZ w64 (toZ w64 bits +ℤ toZ w64 (ofZ w64 r))) ≡ toZ w64 bits +ℤ v = reads added (record { sfits = mag-abs (toZ w64 bits +ℤ v) (omega (arith, bound)) }) in
+      let back : toZ w64 (ofZ w64 (toZ w64 bits +ℤ toZ w64 (ofZ w64 r))) ≡ toZ w64 bits +ℤ v =
+      reads added (record { sfits = mag-abs (toZ w64 bits +ℤ v) (omega (arith, bound)) }) in
       record {
         small = rw back bound;
         total = rw back (+ℤ-assoc (toZ w64 bits) v rest ∙ (ap (λ z. toZ w64 bits +ℤ z) (sym step) ∙ s .total));
