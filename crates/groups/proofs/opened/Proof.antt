@@ -5,13 +5,19 @@ use Rattle.groups.proofs.opened.Statement.{statement}
 use Rattle.groups.proofs.opened.Tie as tie
 
 mul-result : tie.Need-mul-result
-mul-result c = omega (arith, ltb-true (c .before .args .stack) 65536 (c .before .pre))
+mul-result c =
+    let at-entry = c .before in
+    omega (arith, ltb-true (at-entry .args .stack) 65536 (at-entry .pre))
 
 mul-result-2 : tie.Need-mul-result-2
-mul-result-2 c = omega (arith, ltb-true (c .before .args .stack) 65536 (c .before .pre))
+mul-result-2 c =
+    let at-entry = c .before in
+    omega (arith, ltb-true (at-entry .args .stack) 65536 (at-entry .pre))
 
 add-result : tie.Need-add-result
-add-result c = omega (arith, ltb-true (c .before .args .stack) 65536 (c .before .pre))
+add-result c =
+    let at-entry = c .before in
+    omega (arith, ltb-true (at-entry .args .stack) 65536 (at-entry .pre))
 
 returns : tie.Need-returns
 returns c = search tests
