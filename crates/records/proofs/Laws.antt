@@ -51,7 +51,12 @@ pub area-facts : (f : Fields) → areaRange f ≡ true → AreaFacts f
 unfolding areaRange
 area-facts f = go (leb (f .rule) 1) (eqb (f .role) 0) (eqb (f .role) 1) refl refl refl
   where
-    go : (a b d : Bool) → leb (f .rule) 1 ≡ a → eqb (f .role) 0 ≡ b → eqb (f .role) 1 ≡ d → cond a (cond b (paintRange f) (cond d (clipRange f) false)) false ≡ true → AreaFacts f
+    go : (a b d : Bool)
+        → leb (f .rule) 1 ≡ a
+        → eqb (f .role) 0 ≡ b
+        → eqb (f .role) 1 ≡ d
+        → cond a (cond b (paintRange f) (cond d (clipRange f) false)) false ≡ true
+        → AreaFacts f
     go false b d p q r h = clash h
     go true false false p q r h = clash h
     go true true d p q r h =
@@ -151,7 +156,12 @@ pub told : (r : Raw) (t : Record) → decodedRaw r ≡ Good t → Told r t
 unfolding decodedRaw
 told r t = go (leb 1 (r .b0)) (leb (r .b0) 6) (unnamed r) refl refl refl
   where
-    go : (a b d : Bool) → leb 1 (r .b0) ≡ a → leb (r .b0) 6 ≡ b → unnamed r ≡ d → cond a (cond b (cond d (ranged (named r)) (Bad Field)) (Bad Kind)) (Bad Kind) ≡ Good t → Told r t
+    go : (a b d : Bool)
+        → leb 1 (r .b0) ≡ a
+        → leb (r .b0) 6 ≡ b
+        → unnamed r ≡ d
+        → cond a (cond b (cond d (ranged (named r)) (Bad Field)) (Bad Kind)) (Bad Kind) ≡ Good t
+        → Told r t
     go false b d p q u e = good-bad Kind t e
     go true false d p q u e = good-bad Kind t e
     go true true false p q u e = good-bad Field t e
@@ -159,7 +169,24 @@ told r t = go (leb 1 (r .b0)) (leb (r .b0) 6) (unnamed r) refl refl refl
 
 abbrev raw : ℕ → ℕ → ℕ → ℕ → ℕ → ℕ → ℕ → ℕ → ℕ → ℕ → ℕ → ℕ → ℕ → ℕ → ℕ → ℕ → Raw
 raw a0 a1 a2 a3 a4 a5 a6 a7 a8 a9 a10 a11 a12 a13 a14 a15 =
-    record { b0 = a0; b1 = a1; b2 = a2; b3 = a3; b4 = a4; b5 = a5; b6 = a6; b7 = a7; b8 = a8; b9 = a9; b10 = a10; b11 = a11; b12 = a12; b13 = a13; b14 = a14; b15 = a15 }
+    record {
+      b0 = a0;
+      b1 = a1;
+      b2 = a2;
+      b3 = a3;
+      b4 = a4;
+      b5 = a5;
+      b6 = a6;
+      b7 = a7;
+      b8 = a8;
+      b9 = a9;
+      b10 = a10;
+      b11 = a11;
+      b12 = a12;
+      b13 = a13;
+      b14 = a14;
+      b15 = a15;
+    }
 
 -- bytes, as a slice of bytes holds them
 pub record Small (r : Raw) : Type 0 where
@@ -226,7 +253,10 @@ module _ (a1 a2 a3 a4 a5 a6 a7 a8 a9 a10 a11 a12 a13 a14 a15 : ℕ) where
       e9 : (a8 + 256 * a9) / 256 % 256 ≡ a9
       e9 = omega arith
 
-  back-corner : (k : ℕ) → Small (here k) → allZero a1 (a2 ∷ a3 ∷ a12 ∷ a13 ∷ a14 ∷ a15 ∷ []) ≡ true → rawCorner k (number4 a4 a5 a6 a7) (number4 a8 a9 a10 a11) ≡ here k
+  back-corner : (k : ℕ)
+      → Small (here k)
+      → allZero a1 (a2 ∷ a3 ∷ a12 ∷ a13 ∷ a14 ∷ a15 ∷ []) ≡ true
+      → rawCorner k (number4 a4 a5 a6 a7) (number4 a8 a9 a10 a11) ≡ here k
   back-corner k s h =
       let z = zeros a1 (a2 ∷ a3 ∷ a12 ∷ a13 ∷ a14 ∷ a15 ∷ []) h in
       λ d. record {
@@ -248,7 +278,13 @@ module _ (a1 a2 a3 a4 a5 a6 a7 a8 a9 a10 a11 a12 a13 a14 a15 : ℕ) where
         b15 = sym (z .1 .1 .1 .1 .1 .1) d;
       }
     where
-      low : (a b e f : ℕ) → a < 256 → b < 256 → e < 256 → f < 256 → (number4 a b e f % 256 ≡ a) × ((number4 a b e f / 256 % 256 ≡ b) × ((number4 a b e f / 65536 % 256 ≡ e) × (number4 a b e f / 16777216 % 256 ≡ f)))
+      low : (a b e f : ℕ)
+          → a < 256
+          → b < 256
+          → e < 256
+          → f < 256
+          → (number4 a b e f % 256 ≡ a)
+          × ((number4 a b e f / 256 % 256 ≡ b) × ((number4 a b e f / 65536 % 256 ≡ e) × (number4 a b e f / 16777216 % 256 ≡ f)))
       low a b e f p q r t = (omega arith, (omega arith, (omega arith, omega arith)))
 
   back-delimiter : (k : ℕ) → allZero a1 (a2 ∷ a3 ∷ a4 ∷ a5 ∷ a6 ∷ a7 ∷ a8 ∷ a9 ∷ a10 ∷ a11 ∷ a12 ∷ a13 ∷ a14 ∷ a15 ∷ []) ≡ true → rawDelimiter k ≡ here k
@@ -287,7 +323,9 @@ module _ (a1 a2 a3 a4 a5 a6 a7 a8 a9 a10 a11 a12 a13 a14 a15 : ℕ) where
 pub raw-back : (r : Raw) (t : Record) → Small r → decodedRaw r ≡ Good t → rawOf t ≡ r
 raw-back r t s e =
     let q = told r t e in
-    ap rawOf (sym (q .is)) ∙ back (r .b1) (r .b2) (r .b3) (r .b4) (r .b5) (r .b6) (r .b7) (r .b8) (r .b9) (r .b10) (r .b11) (r .b12) (r .b13) (r .b14) (r .b15) (r .b0) (q .low) (q .high) s (q .zero)
+    ap rawOf (sym (q .is))
+    ∙ back (r .b1) (r .b2) (r .b3) (r .b4) (r .b5) (r .b6) (r .b7) (r .b8) (r .b9) (r .b10) (r .b11) (r .b12) (r .b13) (r .b14) (r .b15)
+    (r .b0) (q .low) (q .high) s (q .zero)
 
 -- ---- sixteen stores are one write
 pub put-is : (t : List ℕ) (at : ℕ) (r : Raw) → putRaw t at r ≡ sets t at (rawBytes r)

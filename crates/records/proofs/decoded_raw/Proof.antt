@@ -17,7 +17,19 @@ ranged-of-requires c κs = search needs
 
 returns : tie.Need-returns
 unfolding decodedRaw
-returns c = rw (le-leb _ _ (c .before .before .before .before .before .before .if1 .taken), le-leb _ _ (c .before .before .before .before .if2 .taken), sym (c .before .before .before .unnamed-zero .ensures) ∙ c .before .before .if3 .taken, c .ranged-of .ensures, c .before .named-of .ensures)
+returns c =
+    let after-named-of = c .before in
+    let at-if3 = after-named-of .before in
+    let after-unnamed-zero = at-if3 .before in
+    let at-if2 = after-unnamed-zero .before in
+    let at-if1 = at-if2 .before .before in
+    rw (
+      le-leb _ _ (at-if1 .if1 .taken),
+      le-leb _ _ (at-if2 .if2 .taken),
+      sym (after-unnamed-zero .unnamed-zero .ensures) ∙ at-if3 .if3 .taken,
+      c .ranged-of .ensures,
+      after-named-of .named-of .ensures,
+    )
 
 returns-2 : tie.Need-returns-2
 unfolding decodedRaw

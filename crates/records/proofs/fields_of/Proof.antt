@@ -26,7 +26,9 @@ cast-t8 c = search needs
 
 returns : tie.Need-returns
 unfolding fieldsOf
-returns c = rw (c .before .before .before .before .before .before .two-bytes .ensures)
+returns c =
+    let after-two-bytes = c .before .before .before .before .before .before in
+    rw (after-two-bytes .two-bytes .ensures)
 
 pub fields-of-spec : {M : Type 1} → statement M
 fields-of-spec =

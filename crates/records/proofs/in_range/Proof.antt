@@ -31,13 +31,19 @@ enum-told-3 : tie.Need-enum-told-3
 enum-told-3 c = search needs
 
 returns : tie.Need-returns
-returns c = rw (c .before .before .r .given .1) (c .area-range .ensures)
+returns c =
+    let after-r = c .before .before in
+    rw (after-r .r .given .1) (c .area-range .ensures)
 
 returns-2 : tie.Need-returns-2
-returns-2 c = rw (c .before .before .r2 .given .1) (c .corner-range .ensures)
+returns-2 c =
+    let after-r2 = c .before .before in
+    rw (after-r2 .r2 .given .1) (c .corner-range .ensures)
 
 returns-3 : tie.Need-returns-3
-returns-3 c = rw (c .before .before .r3 .given .1) (c .corner-range2 .ensures)
+returns-3 c =
+    let after-r3 = c .before .before in
+    rw (after-r3 .r3 .given .1) (c .corner-range2 .ensures)
 
 returns-4 : tie.Need-returns-4
 returns-4 c = search (tests, c .before .match .keys4)

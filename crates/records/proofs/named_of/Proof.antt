@@ -26,7 +26,20 @@ corner-of-requires c κs = search needs
 
 returns-2 : tie.Need-returns-2
 unfolding named
-returns-2 c = rw (ne-eqb _ _ (c .before .before .before .before .before .before .if1 .left), lt-ltb _ _ (c .before .before .before .before .if2 .taken), c .corner-of .ensures, c .before .wide .ensures, c .before .before .four-bytes2 .ensures, c .before .before .before .four-bytes .ensures)
+returns-2 c =
+    let after-wide = c .before in
+    let after-four-bytes2 = after-wide .before in
+    let after-four-bytes = after-four-bytes2 .before in
+    let at-if2 = after-four-bytes .before in
+    let at-if1 = at-if2 .before .before in
+    rw (
+      ne-eqb _ _ (at-if1 .if1 .left),
+      lt-ltb _ _ (at-if2 .if2 .taken),
+      c .corner-of .ensures,
+      after-wide .wide .ensures,
+      after-four-bytes2 .four-bytes2 .ensures,
+      after-four-bytes .four-bytes .ensures,
+    )
 
 wide-requires-2 : tie.Need-wide-requires-2
 wide-requires-2 c κs = search needs
@@ -36,7 +49,11 @@ delimiter-of-requires c κs = search needs
 
 returns-3 : tie.Need-returns-3
 unfolding named
-returns-3 c = rw (ne-eqb _ _ (c .before .before .before .before .if1 .left), le-ltb _ _ (c .before .before .if2 .left), c .delimiter-of .ensures, c .before .wide2 .ensures)
+returns-3 c =
+    let after-wide2 = c .before in
+    let at-if2 = after-wide2 .before in
+    let at-if1 = at-if2 .before .before in
+    rw (ne-eqb _ _ (at-if1 .if1 .left), le-ltb _ _ (at-if2 .if2 .left), c .delimiter-of .ensures, after-wide2 .wide2 .ensures)
 
 pub named-of-spec : {M : Type 1} → statement M
 named-of-spec =

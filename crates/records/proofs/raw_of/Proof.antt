@@ -39,13 +39,19 @@ raw-delimiter-requires-3 : tie.Need-raw-delimiter-requires-3
 raw-delimiter-requires-3 c κs = search needs
 
 returns : tie.Need-returns
-returns c = rw (c .before .before .r .given .1) (c .raw-area .ensures)
+returns c =
+    let after-r = c .before .before in
+    rw (after-r .r .given .1) (c .raw-area .ensures)
 
 returns-2 : tie.Need-returns-2
-returns-2 c = rw (c .before .before .r2 .given .1) (c .raw-corner .ensures)
+returns-2 c =
+    let after-r2 = c .before .before in
+    rw (after-r2 .r2 .given .1) (c .raw-corner .ensures)
 
 returns-3 : tie.Need-returns-3
-returns-3 c = rw (c .before .before .r3 .given .1) (c .raw-corner2 .ensures)
+returns-3 c =
+    let after-r3 = c .before .before in
+    rw (after-r3 .r3 .given .1) (c .raw-corner2 .ensures)
 
 returns-4 : tie.Need-returns-4
 returns-4 c = rw (c .before .enum-told .given .1) (c .raw-delimiter .ensures)
