@@ -23,7 +23,11 @@ bytes-product a b p q = mul-le-mul p q
 
 -- ---- what holds of the first and is kept by each step holds at the end
 
-pub each-keeps : {A : Type 0} (P : A → Type 0) (step : ℕ → A → A) (set i n : ℕ) → ((k : ℕ) → has set k ≡ true → (a : A) → P a → P (step k a)) → (a : A) → P a → P (eachFrom set i n step a)
+pub each-keeps : {A : Type 0} (P : A → Type 0) (step : ℕ → A → A) (set i n : ℕ)
+    → ((k : ℕ) → has set k ≡ true → (a : A) → P a → P (step k a))
+    → (a : A)
+    → P a
+    → P (eachFrom set i n step a)
 each-keeps P step set i zero f a p = p
 each-keeps P step set i (suc n) f a p = each-keeps P step set (suc i) n f (cond (has set i) (step i a) a) (one (has set i) refl)
   where
@@ -33,7 +37,9 @@ each-keeps P step set i (suc n) f a p = each-keeps P step set (suc i) n f (cond 
 
 -- ---- "the weights and what is left always make 255"
 
-pub shares-make-255 : (paint : ℕ → Paint) (set : ℕ) → ((n : ℕ) → has set n ≡ true → paint n .alpha ≤ 255) → weights (sharesOf paint set) + left (sharesOf paint set) ≡ 255
+pub shares-make-255 : (paint : ℕ → Paint) (set : ℕ)
+    → ((n : ℕ) → has set n ≡ true → paint n .alpha ≤ 255)
+    → weights (sharesOf paint set) + left (sharesOf paint set) ≡ 255
 unfolding sharesOf each
 shares-make-255 paint set h =
     each-keeps (λ s. weights s + left s ≡ 255) (λ n s. share (paint n) s) set 0 64
@@ -51,7 +57,9 @@ mix-left paint set = go 0 64 start (shares 255 0) refl
     both true p m (shares l w) e = ap (λ v. v - weight v (p .alpha)) e
     both false p m s e = e
 
-    go : (i n : ℕ) (m : Mix) (s : Shares) → m .left ≡ left s → eachFrom set i n (λ n m. add (paint n) m) m .left ≡ left (eachFrom set i n (λ n s. share (paint n) s) s)
+    go : (i n : ℕ) (m : Mix) (s : Shares)
+        → m .left ≡ left s
+        → eachFrom set i n (λ n m. add (paint n) m) m .left ≡ left (eachFrom set i n (λ n s. share (paint n) s) s)
     go i zero m s e = e
     go i (suc n) m s e = go (suc i) n (cond (has set i) (add (paint i) m) m) (cond (has set i) (share (paint i) s) s) (both (has set i) (paint i) m s e)
 
@@ -84,9 +92,17 @@ pub record Mixing (paint : ℕ → Paint) (shown left first : ℕ) (m : Mix) : T
 
 pub mix-begin : (paint : ℕ → Paint) (shown : ℕ) → shown < 2 ^ 64 → Mixing paint shown shown 0 start
 unfolding mixOf
-mix-begin paint shown h = record { limit = h; bits = h; same = λ j. ap (has shown) (zero-add j); rest = each-begin (λ n m. add (paint n) m) shown start; range = start-in }
+mix-begin paint shown h =
+    record {
+      limit = h;
+      bits = h;
+      same = λ j. ap (has shown) (zero-add j);
+      rest = each-begin (λ n m. add (paint n) m) shown start;
+      range = start-in;
+    }
 
-module _ {paint : ℕ → Paint} {shown left first : ℕ} {m : Mix} (x : Mixing paint shown left first m) (some : left ≡ 0 → ⊥) (t : ℕ) (lowest : t ≡ trailingZeros 64 left) where
+module _ {paint : ℕ → Paint} {shown left first : ℕ} {m : Mix} (x : Mixing paint shown left first m) (some : left ≡ 0 → ⊥) (t : ℕ)
+    (lowest : t ≡ trailingZeros 64 left) where
   pub mix-bit : t < 64
   mix-bit = omega (arith, lowest-some 64 left (x .bits) some)
 

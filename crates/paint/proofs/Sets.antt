@@ -31,7 +31,9 @@ or-digit zero (suc (suc b)) h g = absurd (omega arith)
 or-digit (suc zero) (suc (suc b)) h g = absurd (omega arith)
 
 has-or : (a b m : ℕ) → has (bitOr a b) m ≡ (has a m || has b m)
-has-or a b zero = let e : bitOr a b % 2 ≡ max (a % 2) (b % 2) = omega (arith, or-step a b) in ap (λ v. eqb v 1) e ∙ or-digit (a % 2) (b % 2) (omega arith) (omega arith)
+has-or a b zero =
+    let e : bitOr a b % 2 ≡ max (a % 2) (b % 2) = omega (arith, or-step a b) in
+    ap (λ v. eqb v 1) e ∙ or-digit (a % 2) (b % 2) (omega arith) (omega arith)
 has-or a b (suc m) = let e : bitOr a b / 2 ≡ bitOr (a / 2) (b / 2) = omega (arith, or-step a b) in ap (λ v. has v m) e ∙ has-or (a / 2) (b / 2) m
 
 pub has-none : (m : ℕ) → has 0 m ≡ false
@@ -95,16 +97,24 @@ unfolding trailingZeros
 lowest-has zero set h = absurd (omega arith)
 lowest-has (suc k) set h = go (set % 2) refl h (lowest-has k (set / 2))
   where
-    go : (d : ℕ) → set % 2 ≡ d → under d (trailingZeros k (set / 2)) < suc k → (trailingZeros k (set / 2) < k → has (set / 2) (trailingZeros k (set / 2)) ≡ true)
+    go : (d : ℕ)
+        → set % 2 ≡ d
+        → under d (trailingZeros k (set / 2)) < suc k
+        → (trailingZeros k (set / 2) < k → has (set / 2) (trailingZeros k (set / 2)) ≡ true)
         → has set (under d (trailingZeros k (set / 2))) ≡ true
     go zero e h r = r (omega arith)
     go (suc d) e h r = eq-eqb (set % 2) 1 (omega arith)
 
 -- the material of the lowest area: its number is the count of trailing zeros, 64 where the set is empty
 module _ (paint : ℕ → Paint) (set : ℕ) where
-  low-by : (i n rest d : ℕ) → rest % 2 ≡ d → d < 2 → has set i ≡ eqb (rest % 2) 1
-      → materialFrom paint set (suc i) n ≡ cond (ltb (trailingZeros n (rest / 2)) n) (paint (suc i + trailingZeros n (rest / 2)) .material) 0
-      → cond (has set i) (paint i .material) (materialFrom paint set (suc i) n) ≡ cond (ltb (under d (trailingZeros n (rest / 2))) (suc n)) (paint (i + under d (trailingZeros n (rest / 2))) .material) 0
+  low-by : (i n rest d : ℕ)
+      → rest % 2 ≡ d
+      → d < 2
+      → has set i ≡ eqb (rest % 2) 1
+      → materialFrom paint set (suc i) n
+      ≡ cond (ltb (trailingZeros n (rest / 2)) n) (paint (suc i + trailingZeros n (rest / 2)) .material) 0
+      → cond (has set i) (paint i .material) (materialFrom paint set (suc i) n)
+      ≡ cond (ltb (under d (trailingZeros n (rest / 2))) (suc n)) (paint (i + under d (trailingZeros n (rest / 2))) .material) 0
   low-by i n rest zero e h g k =
       let t = trailingZeros n (rest / 2) in
       let b : has set i ≡ false = g ∙ ap (λ x. eqb x 1) e in
@@ -114,15 +124,20 @@ module _ (paint : ℕ → Paint) (set : ℕ) where
       rw (b, lt-ltb 0 (suc n) (omega arith)) (ap (λ j. paint j .material) (sym (add-zero i)))
   low-by i n rest (suc (suc d)) e h g k = absurd (omega arith)
 
-  low-from : (i n rest : ℕ) → ((j : ℕ) → has set (i + j) ≡ has rest j) → materialFrom paint set i n ≡ cond (ltb (trailingZeros n rest) n) (paint (i + trailingZeros n rest) .material) 0
+  low-from : (i n rest : ℕ)
+      → ((j : ℕ) → has set (i + j) ≡ has rest j)
+      → materialFrom paint set i n ≡ cond (ltb (trailingZeros n rest) n) (paint (i + trailingZeros n rest) .material) 0
   unfolding trailingZeros
   low-from i zero rest f = refl
   low-from i (suc n) rest f =
-      low-by i n rest (rest % 2) refl (omega arith) (ap (has set) (sym (add-zero i)) ∙ f 0) (low-from (suc i) n (rest / 2) (λ j. ap (has set) (suc-add i j ∙ sym (add-suc i j)) ∙ f (suc j)))
+      low-by i n rest (rest % 2) refl (omega arith) (ap (has set) (sym (add-zero i)) ∙ f 0)
+      (low-from (suc i) n (rest / 2) (λ j. ap (has set) (suc-add i j ∙ sym (add-suc i j)) ∙ f (suc j)))
 
   lowest : materialOf paint set ≡ cond (ltb (trailingZeros 64 set) 64) (paint (trailingZeros 64 set) .material) 0
   unfolding materialOf
-  lowest = low-from 0 64 set (λ j. ap (has set) (zero-add j)) ∙ ap (λ j. cond (ltb (trailingZeros 64 set) 64) (paint j .material) 0) (zero-add (trailingZeros 64 set))
+  lowest =
+      low-from 0 64 set (λ j. ap (has set) (zero-add j))
+      ∙ ap (λ j. cond (ltb (trailingZeros 64 set) 64) (paint j .material) 0) (zero-add (trailingZeros 64 set))
 
   pub material-some : (n : ℕ) → n ≡ trailingZeros 64 set → n < 64 → paint n .material ≡ materialOf paint set
   material-some n e h = sym (lowest ∙ rw (← e, lt-ltb n 64 h))
@@ -154,7 +169,9 @@ module _ {A : Type 0} (step : ℕ → A → A) where
   left-more : (left i n k : ℕ) (a : A) → left < 2 ^ n → eachLeft step left i (n + k) a ≡ eachLeft step left i n a
   unfolding eachLeft
   left-more left i zero k a h = let z : left ≡ 0 = omega arith in ap (λ v. eachLeft step v i (0 + k) a) z ∙ left-none i (0 + k) a
-  left-more left i (suc n) k a h = ap (λ m. eachLeft step left i m a) (suc-add n k) ∙ left-more (left / 2) (suc i) n k (cond (eqb (left % 2) 1) (step i a) a) (omega (arith, pow-suc 2 n))
+  left-more left i (suc n) k a h =
+      ap (λ m. eachLeft step left i m a) (suc-add n k)
+      ∙ left-more (left / 2) (suc i) n k (cond (eqb (left % 2) 1) (step i a) a) (omega (arith, pow-suc 2 n))
 
   -- the lowest area, and those behind it
   left-step : (left i n m : ℕ) (a : A) → n ≡ suc (trailingZeros n left + m) →
@@ -166,9 +183,13 @@ module _ {A : Type 0} (step : ℕ → A → A) where
       low : ℕ
       low = trailingZeros n (left / 2)
 
-      go : (d : ℕ) → left % 2 ≡ d → suc n ≡ suc (under d low + m)
-          → (n ≡ suc (low + m) → eachLeft step (left / 2) (suc i) n a ≡ eachLeft step (left / 2 / 2 ^ low / 2) (suc (suc i + low)) m (step (suc i + low) a))
-          → eachLeft step (left / 2) (suc i) n (cond (eqb (left % 2) 1) (step i a) a) ≡ eachLeft step (left / 2 ^ under d low / 2) (suc (i + under d low)) m (step (i + under d low) a)
+      go : (d : ℕ)
+          → left % 2 ≡ d
+          → suc n ≡ suc (under d low + m)
+          → (n ≡ suc (low + m)
+          → eachLeft step (left / 2) (suc i) n a ≡ eachLeft step (left / 2 / 2 ^ low / 2) (suc (suc i + low)) m (step (suc i + low) a))
+          → eachLeft step (left / 2) (suc i) n (cond (eqb (left % 2) 1) (step i a) a)
+          ≡ eachLeft step (left / 2 ^ under d low / 2) (suc (i + under d low)) m (step (i + under d low) a)
       go zero e h r =
           let p : i + suc low ≡ suc i + low = omega arith in
           rw (ne-eqb (left % 2) 1 (omega arith), p, halved left low) (r (omega arith))
@@ -179,7 +200,12 @@ module _ {A : Type 0} (step : ℕ → A → A) where
           rw (eq-eqb (left % 2) 1 (omega arith), p, q, w)
 
   -- a turn of a loop over a set of w bits
-  pub each-turn : (w left i t : ℕ) (a whole : A) → left < 2 ^ w → t ≡ trailingZeros w left → t < w → eachLeft step left i w a ≡ whole → eachLeft step (left / 2 ^ t / 2) (suc (i + t)) w (step (i + t) a) ≡ whole
+  pub each-turn : (w left i t : ℕ) (a whole : A)
+      → left < 2 ^ w
+      → t ≡ trailingZeros w left
+      → t < w
+      → eachLeft step left i w a ≡ whole
+      → eachLeft step (left / 2 ^ t / 2) (suc (i + t)) w (step (i + t) a) ≡ whole
   each-turn w left i t a whole h e l k = go (w - suc t) (omega arith)
     where
       go : (m : ℕ) → w ≡ m + suc t → eachLeft step (left / 2 ^ t / 2) (suc (i + t)) w (step (i + t) a) ≡ whole

@@ -12,10 +12,17 @@ cast-paint-at : tie.Need-cast-paint-at
 cast-paint-at c = search needs
 
 paint-at-requires : tie.Need-paint-at-requires
-paint-at-requires c κs = let n = c .before .lowest-area in c .before .before .before .pre .row (n .result) (rw (n .ensures) (lowest-has 64 _ (omega arith)))
+paint-at-requires c κs =
+    let after-lowest-area = c .before in
+    let at-entry = after-lowest-area .before .before in
+    let n = after-lowest-area .lowest-area in
+    at-entry .pre .row (n .result) (rw (n .ensures) (lowest-has 64 _ (omega arith)))
 
 returns : tie.Need-returns
-returns c = ap (λ p. p .material) (c .paint-at .ensures) ∙ material-some _ _ _ (c .before .before .lowest-area .ensures) (c .before .if1 .taken)
+returns c =
+    let at-if1 = c .before in
+    let after-lowest-area = at-if1 .before in
+    ap (λ p. p .material) (c .paint-at .ensures) ∙ material-some _ _ _ (after-lowest-area .lowest-area .ensures) (at-if1 .if1 .taken)
 
 returns-2 : tie.Need-returns-2
 returns-2 c = material-none _ _ _ (c .before .lowest-area .ensures) (c .if1 .left)

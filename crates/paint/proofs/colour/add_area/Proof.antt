@@ -20,9 +20,23 @@ add-channel-requires-3 c κs = search needs
 
 returns : tie.Need-returns
 returns c =
-    let s = c .before .before .before .before .before in (
-      rw (c .add-channel3 .ensures, c .before .add-channel2 .ensures, c .before .before .add-channel .ensures, c .before .before .before .before .weight-of .ensures .0),
-      rw (c .add-channel3 .ensures, c .before .add-channel2 .ensures, c .before .before .add-channel .ensures, c .before .before .before .before .weight-of .ensures .0) (add-in (s .args .p) (s .pre .1) (s .args .m) (s .pre .0)),
+    let after-add-channel2 = c .before in
+    let after-add-channel = after-add-channel2 .before in
+    let after-weight-of = after-add-channel .before .before in
+    let at-entry = after-weight-of .before in (
+      rw (
+        c .add-channel3 .ensures,
+        after-add-channel2 .add-channel2 .ensures,
+        after-add-channel .add-channel .ensures,
+        after-weight-of .weight-of .ensures .0,
+      ),
+      rw (
+        c .add-channel3 .ensures,
+        after-add-channel2 .add-channel2 .ensures,
+        after-add-channel .add-channel .ensures,
+        after-weight-of .weight-of .ensures .0,
+      )
+          (add-in (at-entry .args .p) (at-entry .pre .1) (at-entry .args .m) (at-entry .pre .0)),
     )
 
 pub add-area-spec : {M : Type 1} → statement M
