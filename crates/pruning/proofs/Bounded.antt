@@ -97,7 +97,9 @@ module _ (I : Items) (wid : Entry (I .Item) → ℕ) where
   tracks-left n b (frame through s p ∷ fs) o os h = absurd h
   tracks-left n b (frame dead s p ∷ fs) o os h = absurd h
 
-  tracks-left-shut : (n b : ℕ) (fs : List Frame) (o : Kind) (os : List Open) → Aligned fs (inLeft o ∷ os) → Tracks (countLeft I wid n b (shut 0) fs) (inRight o ∷ os)
+  tracks-left-shut : (n b : ℕ) (fs : List Frame) (o : Kind) (os : List Open)
+      → Aligned fs (inLeft o ∷ os)
+      → Tracks (countLeft I wid n b (shut 0) fs) (inRight o ∷ os)
   tracks-left-shut n b [] o os h = absurd h
   tracks-left-shut n b (frame left s p ∷ fs) o os h = h
   tracks-left-shut n b (frame right s p ∷ fs) o os h = absurd h

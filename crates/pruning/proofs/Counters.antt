@@ -10,8 +10,41 @@ use lib.Seq.{length-take-le}
 use Rattle.pruning.specs.Sides.{Kind, paint, clip, Entry, item, push, activate, pop, Side, flat}
 use Rattle.pruning.specs.Items.{Items, Class, fails, passes, other}
 use Rattle.pruning.specs.Normal.{normal}
-use Rattle.pruning.specs.code.Pruner.{left, right, through, dead, Frame, frame, Skip, going, shut, State, st, step, run, addItem, keepLeft, keepRight, endLeft, endRight, rows}
-use Rattle.pruning.specs.code.Counters.{Count, ct, lengthOf, skipped, opened, countItem, countKeepLeft, countLeft, countKeepRight, countRight, countStep, counts}
+use Rattle.pruning.specs.code.Pruner.{
+  left,
+  right,
+  through,
+  dead,
+  Frame,
+  frame,
+  Skip,
+  going,
+  shut,
+  State,
+  st,
+  step,
+  run,
+  addItem,
+  keepLeft,
+  keepRight,
+  endLeft,
+  endRight,
+  rows,
+}
+use Rattle.pruning.specs.code.Counters.{
+  Count,
+  ct,
+  lengthOf,
+  skipped,
+  opened,
+  countItem,
+  countKeepLeft,
+  countLeft,
+  countKeepRight,
+  countRight,
+  countStep,
+  counts,
+}
 use Rattle.pruning.proofs.Pruner.{stream-normal}
 
 -- the frames under a side that begins at b

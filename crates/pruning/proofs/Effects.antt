@@ -9,7 +9,25 @@ use lib.ListN.{length, take, drop, length-append}
 use lib.Seq.{length-take-le, take-length, sets, sets-eq, take-at, take-take}
 use Rattle.pruning.specs.Sides.{Kind, paint, clip, Entry, item, push, activate, pop}
 use Rattle.pruning.specs.Items.{Items, Class, fails, passes, other}
-use Rattle.pruning.specs.code.Pruner.{left, right, through, dead, Frame, frame, Skip, going, shut, State, st, step, addItem, keepLeft, keepRight, endLeft, endRight}
+use Rattle.pruning.specs.code.Pruner.{
+  left,
+  right,
+  through,
+  dead,
+  Frame,
+  frame,
+  Skip,
+  going,
+  shut,
+  State,
+  st,
+  step,
+  addItem,
+  keepLeft,
+  keepRight,
+  endLeft,
+  endRight,
+}
 use Rattle.pruning.specs.code.Effects.{Effect, back, place, new, outOf, itemEffect, leftEffect, rightEffect, effect}
 use Rattle.pruning.proofs.Counters.{Chain, Fit, count}
 
@@ -46,7 +64,10 @@ module _ (I : Items) (Row : Type 0) (enc : Entry (I .Item) → List Row) (enc-so
   keep-right-does true out s o fs h = does-back out s h
   keep-right-does false out s o fs h = does-add out (enc pop)
 
-  left-does : (out : List Row) (b : ℕ) (w : Skip) (fs : List Frame) → b ≤ length out → Chain b fs → Does out (leftEffect I Row enc (length out) b w fs) (outOf (endLeft I Row enc out b w fs))
+  left-does : (out : List Row) (b : ℕ) (w : Skip) (fs : List Frame)
+      → b ≤ length out
+      → Chain b fs
+      → Does out (leftEffect I Row enc (length out) b w fs) (outOf (endLeft I Row enc out b w fs))
   left-does out b w [] h c = does-nothing out
   left-does out b going (frame left s o ∷ fs) h c = keep-left-does (eqb (length out) b) out s o fs (omega arith)
   left-does out b (shut m) (frame left s o ∷ fs) h c = does-back out s (omega arith)
@@ -54,14 +75,19 @@ module _ (I : Items) (Row : Type 0) (enc : Entry (I .Item) → List Row) (enc-so
   left-does out b w (frame through s o ∷ fs) h c = does-nothing out
   left-does out b w (frame dead s o ∷ fs) h c = does-nothing out
 
-  right-does : (out : List Row) (b : ℕ) (w : Skip) (fs : List Frame) → b ≤ length out → Chain b fs → Does out (rightEffect I Row enc (length out) b fs) (outOf (endRight I Row enc out b w fs))
+  right-does : (out : List Row) (b : ℕ) (w : Skip) (fs : List Frame)
+      → b ≤ length out
+      → Chain b fs
+      → Does out (rightEffect I Row enc (length out) b fs) (outOf (endRight I Row enc out b w fs))
   right-does out b w [] h c = does-nothing out
   right-does out b w (frame left s o ∷ fs) h c = does-nothing out
   right-does out b w (frame right s o ∷ fs) h c = keep-right-does (eqb (length out) b) out s o fs (omega arith)
   right-does out b w (frame through s o ∷ fs) h c = does-nothing out
   right-does out b w (frame dead s o ∷ fs) h c = does-nothing out
 
-  pub step-does : (x : State Row) (e : Entry Item) → Fit (count I Row enc enc-some x) → Does (outOf x) (effect I Row enc (count I Row enc enc-some x) e) (outOf (step I Row enc x e))
+  pub step-does : (x : State Row) (e : Entry Item)
+      → Fit (count I Row enc enc-some x)
+      → Does (outOf x) (effect I Row enc (count I Row enc enc-some x) e) (outOf (step I Row enc x e))
   step-does (st out b going fs) (item k a) f = item-does k (class k a) a out b fs (f .0)
   step-does (st out b going fs) push f = does-add out (enc push)
   step-does (st out b going fs) activate f = left-does out b going fs (f .0) (f .1)
@@ -74,7 +100,11 @@ module _ (I : Items) (Row : Type 0) (enc : Entry (I .Item) → List Row) (enc-so
   step-does (st out b (shut (suc m)) fs) pop f = does-nothing out
 
   -- a buffer whose front is the output: rows written at the place
-  pub buffer-does : (buf out out′ : List Row) (n : ℕ) (f : Effect Row) → take n buf ≡ out → n ≤ length buf → Does out f out′ → place f + length (new f) ≤ length buf
+  pub buffer-does : (buf out out′ : List Row) (n : ℕ) (f : Effect Row)
+      → take n buf ≡ out
+      → n ≤ length buf
+      → Does out f out′
+      → place f + length (new f) ≤ length buf
       → take (place f + length (new f)) (sets buf (place f) (new f)) ≡ out′
   buffer-does buf out out′ n (back p w) e h d r =
       let pn : p ≤ n = omega (arith, d .0, ap length e, length-take-le n buf h) in

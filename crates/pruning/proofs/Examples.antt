@@ -52,11 +52,14 @@ left-always-cuts : pruned numbers (group (leaf 1 end) (leaf 6 (leaf 1 end)) (lea
 left-always-cuts = refl
 
 -- (A | passes) is kept on a clip side, and 18 leaves C1 alone on its right: ( ( 5 | 6 1 ) | 7 )
-right-passes : pruned numbers (group (group (leaf 5 end) (leaf 6 (leaf 1 end)) end) (leaf 7 end) end) ≡ group (group (leaf 5 end) (leaf 1 end) end) (leaf 7 end) end
+right-passes : pruned numbers (group (group (leaf 5 end) (leaf 6 (leaf 1 end)) end) (leaf 7 end) end)
+    ≡ group (group (leaf 5 end) (leaf 1 end) end) (leaf 7 end) end
 right-passes = refl
 
 -- 17 inside 18: ( ( 5 | 6 ( 1 | 7 1 ) ) | 8 )
-seventeen-in-eighteen : pruned numbers (group (group (leaf 5 end) (leaf 6 (group (leaf 1 end) (leaf 7 (leaf 1 end)) end)) end) (leaf 8 end) end) ≡ group (group (leaf 5 end) (leaf 1 end) end) (leaf 8 end) end
+seventeen-in-eighteen : pruned numbers
+    (group (group (leaf 5 end) (leaf 6 (group (leaf 1 end) (leaf 7 (leaf 1 end)) end)) end) (leaf 8 end) end)
+    ≡ group (group (leaf 5 end) (leaf 1 end) end) (leaf 8 end) end
 seventeen-in-eighteen = refl
 
 -- nested clip groups that always pass, all the way up: ( ( ( 1 | 1 ) | 1 ) | 8 ) 9
@@ -65,7 +68,9 @@ nested = refl
 
 -- ( 5 ( 6 | 7 1 8 ) 0 | 2 ( 1 | 3 1 4 ) 9 ) 5
 abbrev sample : Side ℕ
-sample = group (leaf 5 (group (leaf 6 end) (leaf 7 (leaf 1 (leaf 8 end))) (leaf 0 end))) (leaf 2 (group (leaf 1 end) (leaf 3 (leaf 1 (leaf 4 end))) (leaf 9 end))) (leaf 5 end)
+sample =
+    group (leaf 5 (group (leaf 6 end) (leaf 7 (leaf 1 (leaf 8 end))) (leaf 0 end)))
+    (leaf 2 (group (leaf 1 end) (leaf 3 (leaf 1 (leaf 4 end))) (leaf 9 end))) (leaf 5 end)
 
 together : pruned numbers sample ≡ group (leaf 5 (group (leaf 6 end) (leaf 1 end) end)) (leaf 2 (leaf 3 (leaf 1 end))) (leaf 5 end)
 together = refl

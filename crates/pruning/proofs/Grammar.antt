@@ -43,10 +43,14 @@ module _ {A : Type 0} where
   comes-item : (j k : Kind) (a : A) (es : List (Entry A)) (os : List Open) → j ≡ k → Comes es k os → Comes (item j a ∷ es) k os
   comes-item j k a es os e c = (leaf a (c .0), c .1, rw e (ap (λ z. item k a ∷ z) (c .2)))
 
-  comes-push : (k : Kind) (es : List (Entry A)) (os : List Open) (l : Side A) (p : Rest A (inLeft k ∷ os)) → es ≡ flatOver clip l (flatRest p) → Comes (push ∷ es) k os
+  comes-push : (k : Kind) (es : List (Entry A)) (os : List Open) (l : Side A) (p : Rest A (inLeft k ∷ os))
+      → es ≡ flatOver clip l (flatRest p)
+      → Comes (push ∷ es) k os
   comes-push k es os l (afterLeft r t p) e = (group l r t, p, ap (λ z. push ∷ z) e)
 
-  comes-activate : (k o : Kind) (es : List (Entry A)) (os : List Open) (r : Side A) (p : Rest A (inRight o ∷ os)) → es ≡ flatOver o r (flatRest p) → Comes (activate ∷ es) k (inLeft o ∷ os)
+  comes-activate : (k o : Kind) (es : List (Entry A)) (os : List Open) (r : Side A) (p : Rest A (inRight o ∷ os))
+      → es ≡ flatOver o r (flatRest p)
+      → Comes (activate ∷ es) k (inLeft o ∷ os)
   comes-activate k o es os r (afterRight t p) e = (end, afterLeft r t p, ap (λ z. activate ∷ z) e)
 
   pub fits-comes : (es : List (Entry A)) (k : Kind) (os : List Open) → fits es k os ≡ true → Comes es k os

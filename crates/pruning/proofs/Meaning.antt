@@ -24,8 +24,11 @@ module _ {A : Type 0} (pass opaque : A → Bool) where
   upTo-leaf true a x y z h = rw h
   upTo-leaf false a x y z h = h
 
-  upTo-group : (b : Bool) (r t : Side A) (y : List A) → ((w : List A) → upTo opaque (shownAll pass r ++ w) ≡ shownOver r (upTo opaque w)) → upTo opaque (shownAll pass t ++ y) ≡ shownOver t (upTo opaque y)
-      → upTo opaque (cond b (shownAll pass r) [] ++ shownAll pass t ++ y) ≡ cond b (shownOver r (shownOver t (upTo opaque y))) (shownOver t (upTo opaque y))
+  upTo-group : (b : Bool) (r t : Side A) (y : List A)
+      → ((w : List A) → upTo opaque (shownAll pass r ++ w) ≡ shownOver r (upTo opaque w))
+      → upTo opaque (shownAll pass t ++ y) ≡ shownOver t (upTo opaque y)
+      → upTo opaque (cond b (shownAll pass r) [] ++ shownAll pass t ++ y)
+      ≡ cond b (shownOver r (shownOver t (upTo opaque y))) (shownOver t (upTo opaque y))
   upTo-group true r t y f h = ap (upTo opaque) (append-assoc (shownAll pass r) (shownAll pass t) y) ∙ (f (shownAll pass t ++ y) ∙ ap (shownOver r) h)
   upTo-group false r t y f h = h
 
@@ -51,7 +54,9 @@ module _ {A B : Type 0} (f : A → B) (pass opaque : B → Bool) where
   all-map : (s : Side A) → shownAll pass (mapSide f s) ≡ map f (shownAll (λ a. pass (f a)) s)
   all-map end = refl
   all-map (leaf a t) = rw (all-map t) (map-cond (pass (f a)) (a ∷ []) (shownAll (λ b. pass (f b)) t))
-  all-map (group l r t) = rw (clip-map l, all-map r, all-map t) (map-cond (clipPasses (λ a. pass (f a)) l) (shownAll (λ a. pass (f a)) r) (shownAll (λ a. pass (f a)) t))
+  all-map (group l r t) =
+      rw (clip-map l, all-map r, all-map t)
+      (map-cond (clipPasses (λ a. pass (f a)) l) (shownAll (λ a. pass (f a)) r) (shownAll (λ a. pass (f a)) t))
 
   map-stop : (b : Bool) (x : List A) (y : List B) → y ≡ map f x → cond b [] y ≡ map f (cond b [] x)
   map-stop true x y e = refl
@@ -89,7 +94,11 @@ module _ (I : Items) (pass opaque : I .Item → Bool)
     join-clip (group l r x) y = rw (join-clip x y) (sym (or-or (cp l && cp r) (cp x) (cp y)))
 
     -- an item that always passes is on it
-    one-passes-leaf : (c : Class) (a : Item) (s : Side Item) → class clip a ≡ c → (hasOne I clip s ≡ true → cp s ≡ true) → (isPasses c || hasOne I clip s) ≡ true → (pass a || cp s) ≡ true
+    one-passes-leaf : (c : Class) (a : Item) (s : Side Item)
+        → class clip a ≡ c
+        → (hasOne I clip s ≡ true → cp s ≡ true)
+        → (isPasses c || hasOne I clip s) ≡ true
+        → (pass a || cp s) ≡ true
     one-passes-leaf fails a s e f h = rw (f h) (or-true (pass a))
     one-passes-leaf passes a s e f h = rw (agree-passes clip a e)
     one-passes-leaf other a s e f h = rw (f h) (or-true (pass a))
@@ -132,10 +141,14 @@ module _ (I : Items) (pass opaque : I .Item → Bool)
     pub normal-clip : (s : Side Item) → cp (normal I clip s) ≡ cp s
     normal-clip end = refl
     normal-clip (leaf a t) = put-clip (oneLeaf I clip (class clip a) a) (normal I clip t) ∙ rw (leaf-clip (class clip a) a refl, normal-clip t)
-    normal-clip (group l r t) = put-clip (groupOf I clip l r) (normal I clip t) ∙ rw (group-clip (normal I clip l) (normal I clip r), normal-clip l, normal-clip r, normal-clip t)
+    normal-clip (group l r t) =
+        put-clip (groupOf I clip l r) (normal I clip t)
+        ∙ rw (group-clip (normal I clip l) (normal I clip r), normal-clip l, normal-clip r, normal-clip t)
 
     -- the shown items
-    cut-paint : (c : Class) (a : Item) (s : Side Item) (z : List Item) → class paint a ≡ c → so (cutLeaf I c a s) z ≡ cond (pass a) (over pass opaque a (so s z)) (so s z)
+    cut-paint : (c : Class) (a : Item) (s : Side Item) (z : List Item)
+        → class paint a ≡ c
+        → so (cutLeaf I c a s) z ≡ cond (pass a) (over pass opaque a (so s z)) (so s z)
     cut-paint fails a s z e = refl
     cut-paint passes a s z e = rw (agree-passes paint a e, agree-opaque a e)
     cut-paint other a s z e = refl
@@ -160,7 +173,9 @@ module _ (I : Items) (pass opaque : I .Item → Bool)
     mixed-paint l (group l₁ r₁ r) z = refl
 
     group-paint : (l r : Side Item) (z : List Item) → so (oneGroup I (status I l) l r) z ≡ cond (cp l) (so r z) z
-    group-paint l r z = status-cases I (λ s. so (oneGroup I s l r) z ≡ cond (cp l) (so r z) z) l (λ e. rw e) (λ e. rw (one-passes l e)) (λ _ _. mixed-paint l r z)
+    group-paint l r z =
+        status-cases I (λ s. so (oneGroup I s l r) z ≡ cond (cp l) (so r z) z) l (λ e. rw e) (λ e. rw (one-passes l e))
+        (λ _ _. mixed-paint l r z)
 
     pub normal-paint : (s : Side Item) (z : List Item) → so (normal I paint s) z ≡ so s z
     normal-paint end z = refl
@@ -169,7 +184,8 @@ module _ (I : Items) (pass opaque : I .Item → Bool)
         ∙ (leaf-paint (class paint a) a (so (normal I paint t) z) refl ∙ rw (normal-paint t z))
     normal-paint (group l r t) z =
         join-paint (groupOf I paint l r) (normal I paint t) z
-        ∙ (group-paint (normal I clip l) (normal I paint r) (so (normal I paint t) z) ∙ rw (normal-clip l, normal-paint r (so (normal I paint t) z), normal-paint t z))
+        ∙ (group-paint (normal I clip l) (normal I paint r) (so (normal I paint t) z)
+        ∙ rw (normal-clip l, normal-paint r (so (normal I paint t) z), normal-paint t z))
 
     pub normal-shown : (s : Side Item) → shown pass opaque (normal I paint s) ≡ shown pass opaque s
     normal-shown s = shown-over pass opaque (normal I paint s) ∙ (normal-paint s [] ∙ sym (shown-over pass opaque s))

@@ -4,7 +4,25 @@ use mathlib.Core.Bool.{Bool, true, false, _||_, cond}
 use Rattle.laws.proofs.Booleans.{or-or}
 use Rattle.pruning.specs.Sides.{isEnd, Kind, paint, clip, Side, end, leaf, group, append}
 use Rattle.pruning.specs.Items.{Items, Class, fails, passes, other, isPasses}
-use Rattle.pruning.specs.Normal.{Status, empty, always, mixed, hasOne, cutLeaf, join, always-side, seal, mark, oneLeaf, statusOf, status, oneGroup, put, normal, groupOf}
+use Rattle.pruning.specs.Normal.{
+  Status,
+  empty,
+  always,
+  mixed,
+  hasOne,
+  cutLeaf,
+  join,
+  always-side,
+  seal,
+  mark,
+  oneLeaf,
+  statusOf,
+  status,
+  oneGroup,
+  put,
+  normal,
+  groupOf,
+}
 
 pub or-true : (a : Bool) → (a || true) ≡ true
 or-true true = refl
@@ -14,10 +32,19 @@ module _ (I : Items) where
   open Items I using (Item, class, bare, bare-passes)
 
   -- the three cases of a left side
-  pub status-cases : (P : Status → Type 0) (l : Side Item) → (l ≡ end → P empty) → (hasOne I clip l ≡ true → P always) → (isEnd l ≡ false → hasOne I clip l ≡ false → P mixed) → P (status I l)
+  pub status-cases : (P : Status → Type 0) (l : Side Item)
+      → (l ≡ end → P empty)
+      → (hasOne I clip l ≡ true → P always)
+      → (isEnd l ≡ false → hasOne I clip l ≡ false → P mixed)
+      → P (status I l)
   status-cases P l f g m = go l (hasOne I clip l) refl f g m
     where
-      go : (x : Side Item) (b : Bool) → hasOne I clip x ≡ b → (x ≡ end → P empty) → (hasOne I clip x ≡ true → P always) → (isEnd x ≡ false → hasOne I clip x ≡ false → P mixed) → P (statusOf I b x)
+      go : (x : Side Item) (b : Bool)
+          → hasOne I clip x ≡ b
+          → (x ≡ end → P empty)
+          → (hasOne I clip x ≡ true → P always)
+          → (isEnd x ≡ false → hasOne I clip x ≡ false → P mixed)
+          → P (statusOf I b x)
       go end b e f g m = f refl
       go (leaf a t) true e f g m = g e
       go (leaf a t) false e f g m = m refl e
@@ -43,7 +70,9 @@ module _ (I : Items) where
 
   pub hasOne-join : (k : Kind) (a b : Side Item) → hasOne I k (join I k a b) ≡ (hasOne I k a || hasOne I k b)
   hasOne-join k end b = refl
-  hasOne-join k (leaf x a) b = rw (hasOne-cut k (class k x) x (join I k a b) refl, hasOne-join k a b) (sym (or-or (isPasses (class k x)) (hasOne I k a) (hasOne I k b)))
+  hasOne-join k (leaf x a) b =
+      rw (hasOne-cut k (class k x) x (join I k a b) refl, hasOne-join k a b)
+      (sym (or-or (isPasses (class k x)) (hasOne I k a) (hasOne I k b)))
   hasOne-join k (group l r a) b = hasOne-join k a b
 
   pub hasOne-always : hasOne I clip (always-side I) ≡ true
@@ -110,12 +139,15 @@ module _ (I : Items) where
 
   pub normal-append : (k : Kind) (a b : Side Item) → normal I k (append a b) ≡ put I k (normal I k a) (normal I k b)
   normal-append k end b = sym (normal-sealed k b)
-  normal-append k (leaf x a) b = ap (put I k (oneLeaf I k (class k x) x)) (normal-append k a b) ∙ put-put k (oneLeaf I k (class k x) x) (normal I k a) (normal I k b)
+  normal-append k (leaf x a) b =
+      ap (put I k (oneLeaf I k (class k x) x)) (normal-append k a b) ∙ put-put k (oneLeaf I k (class k x) x) (normal I k a) (normal I k b)
   normal-append k (group l r a) b = ap (put I k (groupOf I k l r)) (normal-append k a b) ∙ put-put k (groupOf I k l r) (normal I k a) (normal I k b)
 
   -- a clip side with an item that always passes
   pub one-leaf : (c : Item) (b : Side Item) → class clip c ≡ passes → hasOne I clip (normal I clip (leaf c b)) ≡ true
-  one-leaf c b e = hasOne-seal clip (join I clip (oneLeaf I clip (class clip c) c) (normal I clip b)) ∙ one-left (oneLeaf I clip (class clip c) c) (normal I clip b) (rw e hasOne-always)
+  one-leaf c b e =
+      hasOne-seal clip (join I clip (oneLeaf I clip (class clip c) c) (normal I clip b))
+      ∙ one-left (oneLeaf I clip (class clip c) c) (normal I clip b) (rw e hasOne-always)
 
   pub normal-one : (a : Side Item) (c : Item) (b : Side Item) → class clip c ≡ passes → normal I clip (append a (leaf c b)) ≡ (always-side I)
   normal-one a c b e =
@@ -134,7 +166,10 @@ module _ (I : Items) where
   no-right mixed l = refl
 
   -- the same from hasOne I
-  hasOne-leaf : (c : Class) (a : Item) (t : Side Item) → class clip a ≡ c → (hasOne I clip t ≡ true → hasOne I clip (normal I clip t) ≡ true) → (isPasses c || hasOne I clip t) ≡ true
+  hasOne-leaf : (c : Class) (a : Item) (t : Side Item)
+      → class clip a ≡ c
+      → (hasOne I clip t ≡ true → hasOne I clip (normal I clip t) ≡ true)
+      → (isPasses c || hasOne I clip t) ≡ true
       → hasOne I clip (normal I clip (leaf a t)) ≡ true
   hasOne-leaf fails a t e f h = hasOne-put (oneLeaf I clip (class clip a) a) (normal I clip t) (f h)
   hasOne-leaf passes a t e f h = one-leaf a t e

@@ -10,8 +10,47 @@ use Rattle.laws.proofs.Booleans.{and-left, and-right}
 use Rattle.pruning.specs.Sides.{isEnd, Kind, paint, clip, Side, end, leaf, group, append, size}
 use Rattle.pruning.specs.Items.{Items, Class, fails, passes, other, isPasses}
 use Rattle.pruning.specs.Normal.{mixed, normal, put, oneGroup, oneLeaf, status, seal, hasOne}
-use Rattle.pruning.specs.Rules.{rule-12-13, rule-14, rule-15, rule-16, rule-17, rule-18, here, in-leaf, in-left, in-right, in-rest, Step, Top, top-14, below, Steps, Irreducible}
-use Rattle.pruning.specs.Order.{first, within, when, cutLeafAt, cutFirst, rule14, rule15, rule16, rule17, firstOne, rule18, rules, walkLeaf, walk, walkTop, again, steps, markBy, bareSide, pruned}
+use Rattle.pruning.specs.Rules.{
+  rule-12-13,
+  rule-14,
+  rule-15,
+  rule-16,
+  rule-17,
+  rule-18,
+  here,
+  in-leaf,
+  in-left,
+  in-right,
+  in-rest,
+  Step,
+  Top,
+  top-14,
+  below,
+  Steps,
+  Irreducible,
+}
+use Rattle.pruning.specs.Order.{
+  first,
+  within,
+  when,
+  cutLeafAt,
+  cutFirst,
+  rule14,
+  rule15,
+  rule16,
+  rule17,
+  firstOne,
+  rule18,
+  rules,
+  walkLeaf,
+  walk,
+  walkTop,
+  again,
+  steps,
+  markBy,
+  bareSide,
+  pruned,
+}
 use Rattle.pruning.proofs.Normal.{seal-none, normal-one}
 use Rattle.pruning.proofs.Rules.{top-normal, top-size, steps-keep}
 
@@ -48,15 +87,46 @@ module _ (I : Items) where
     pub whole : s ≡ append ahead (leaf one behind)
     pub alone : firstOne I k s ≡ leaf one end
 
-  split-leaf : (k : Kind) (c : Class) (a : Item) (t : Side Item) → class k a ≡ c → (hasOne I k t ≡ true → Split k t) → (isPasses c || hasOne I k t) ≡ true → Split k (leaf a t)
-  split-leaf k fails a t e f h = let q = f h in record { ahead = leaf a (q .ahead); one = q .one; behind = q .behind; is-one = q .is-one; whole = ap (leaf a) (q .whole); alone = rw e (q .alone) }
+  split-leaf : (k : Kind) (c : Class) (a : Item) (t : Side Item)
+      → class k a ≡ c
+      → (hasOne I k t ≡ true → Split k t)
+      → (isPasses c || hasOne I k t) ≡ true
+      → Split k (leaf a t)
+  split-leaf k fails a t e f h =
+      let q = f h in
+      record {
+        ahead = leaf a (q .ahead);
+        one = q .one;
+        behind = q .behind;
+        is-one = q .is-one;
+        whole = ap (leaf a) (q .whole);
+        alone = rw e (q .alone);
+      }
   split-leaf k passes a t e f h = record { ahead = end; one = a; behind = t; is-one = e; whole = refl; alone = rw e }
-  split-leaf k other a t e f h = let q = f h in record { ahead = leaf a (q .ahead); one = q .one; behind = q .behind; is-one = q .is-one; whole = ap (leaf a) (q .whole); alone = rw e (q .alone) }
+  split-leaf k other a t e f h =
+      let q = f h in
+      record {
+        ahead = leaf a (q .ahead);
+        one = q .one;
+        behind = q .behind;
+        is-one = q .is-one;
+        whole = ap (leaf a) (q .whole);
+        alone = rw e (q .alone);
+      }
 
   pub split : (k : Kind) (s : Side Item) → hasOne I k s ≡ true → Split k s
   split k end e = absurd (false≢true e)
   split k (leaf a t) e = split-leaf k (class k a) a t refl (split k t) e
-  split k (group l r t) e = let q = split k t e in record { ahead = group l r (q .ahead); one = q .one; behind = q .behind; is-one = q .is-one; whole = ap (group l r) (q .whole); alone = q .alone }
+  split k (group l r t) e =
+      let q = split k t e in
+      record {
+        ahead = group l r (q .ahead);
+        one = q .one;
+        behind = q .behind;
+        is-one = q .is-one;
+        whole = ap (group l r) (q .whole);
+        alone = q .alone;
+      }
 
   -- s′ is s with what follows an F1 removed
   pub record Cuts (s s′ : Side Item) : Type 0 where
@@ -69,16 +139,37 @@ module _ (I : Items) where
     pub left : s′ ≡ append ahead (leaf one end)
 
   cuts-leaf : (a : Item) {t t′ : Side Item} → Cuts t t′ → Cuts (leaf a t) (leaf a t′)
-  cuts-leaf a q = record { ahead = leaf a (q .ahead); one = q .one; behind = q .behind; is-one = q .is-one; some-behind = q .some-behind; whole = ap (leaf a) (q .whole); left = ap (leaf a) (q .left) }
+  cuts-leaf a q =
+      record {
+        ahead = leaf a (q .ahead);
+        one = q .one;
+        behind = q .behind;
+        is-one = q .is-one;
+        some-behind = q .some-behind;
+        whole = ap (leaf a) (q .whole);
+        left = ap (leaf a) (q .left);
+      }
 
   cuts-group : (l r : Side Item) {t t′ : Side Item} → Cuts t t′ → Cuts (group l r t) (group l r t′)
-  cuts-group l r q = record { ahead = group l r (q .ahead); one = q .one; behind = q .behind; is-one = q .is-one; some-behind = q .some-behind; whole = ap (group l r) (q .whole); left = ap (group l r) (q .left) }
+  cuts-group l r q =
+      record {
+        ahead = group l r (q .ahead);
+        one = q .one;
+        behind = q .behind;
+        is-one = q .is-one;
+        some-behind = q .some-behind;
+        whole = ap (group l r) (q .whole);
+        left = ap (group l r) (q .left);
+      }
 
   cut-here : (a : Item) (t : Side Item) (b : Bool) → ltb 0 (size t) ≡ b → class paint a ≡ passes → All (Cuts (leaf a t)) (when b (leaf a end))
   cut-here a t true h e = record { ahead = end; one = a; behind = t; is-one = e; some-behind = ltb-true 0 (size t) h; whole = refl; left = refl }
   cut-here a t false h e = tt
 
-  cut-leaf-sound : (c : Class) (a : Item) (t : Side Item) → class paint a ≡ c → All (Cuts t) (cutFirst I t) → All (Cuts (leaf a t)) (cutLeafAt I c a t (cutFirst I t))
+  cut-leaf-sound : (c : Class) (a : Item) (t : Side Item)
+      → class paint a ≡ c
+      → All (Cuts t) (cutFirst I t)
+      → All (Cuts (leaf a t)) (cutLeafAt I c a t (cutFirst I t))
   cut-leaf-sound fails a t e h = all-within (Cuts t) (Cuts (leaf a t)) (leaf a) (λ t′ q. cuts-leaf a q) (cutFirst I t) h
   cut-leaf-sound passes a t e h = cut-here a t (ltb 0 (size t)) refl e
   cut-leaf-sound other a t e h = all-within (Cuts t) (Cuts (leaf a t)) (leaf a) (λ t′ q. cuts-leaf a q) (cutFirst I t) h
@@ -93,7 +184,10 @@ module _ (I : Items) where
   all-when P false a f = tt
 
   rule14-sound : (k : Kind) (l r t : Side Item) → All (Step I k (group l r t)) (rule14 I k l r t)
-  rule14-sound paint l r t = all-within (Cuts r) (Step I paint (group l r t)) (λ r′. group l r′ t) (λ r′ q. rw (q .whole, q .left) (here (rule-14 (q .ahead) (q .one) (q .behind) (q .is-one) (q .some-behind)))) (cutFirst I r) (cut-sound r)
+  rule14-sound paint l r t =
+      all-within (Cuts r) (Step I paint (group l r t)) (λ r′. group l r′ t)
+      (λ r′ q. rw (q .whole, q .left) (here (rule-14 (q .ahead) (q .one) (q .behind) (q .is-one) (q .some-behind)))) (cutFirst I r)
+      (cut-sound r)
   rule14-sound clip l r t = tt
 
   rule15-sound : (k : Kind) (l r t : Side Item) → All (Step I k (group l r t)) (rule15 I l r t)
@@ -107,7 +201,9 @@ module _ (I : Items) where
   rule16-sound k l (group l₁ r₁ r) t = tt
 
   rule17-sound : (k : Kind) (l r t : Side Item) → All (Step I k (group l r t)) (rule17 I l r t)
-  rule17-sound k l r t = all-when (Step I k (group l r t)) (hasOne I clip l) (append r t) (λ e. let q = split clip l e in rw (q .whole) (here (rule-17 (q .ahead) (q .one) (q .behind) (q .is-one))))
+  rule17-sound k l r t =
+      all-when (Step I k (group l r t)) (hasOne I clip l) (append r t)
+      (λ e. let q = split clip l e in rw (q .whole) (here (rule-17 (q .ahead) (q .one) (q .behind) (q .is-one))))
 
   step-18 : (l r t : Side Item) → Split clip r → 1 < size r → Step I clip (group l r t) (group l (firstOne I clip r) t)
   step-18 l r t q h = rw (q .alone, q .whole) (here (rule-18 (q .ahead) (q .one) (q .behind) (q .is-one) (rw (q .whole) at h)))
@@ -117,7 +213,10 @@ module _ (I : Items) where
   rule18-sound clip l r t = all-when (Step I clip (group l r t)) (hasOne I clip r && ltb 1 (size r)) (group l (firstOne I clip r) t)
       (λ e. step-18 l r t (split clip r (and-left (hasOne I clip r) (ltb 1 (size r)) e)) (ltb-true 1 (size r) (and-right (hasOne I clip r) (ltb 1 (size r)) e)))
 
-  walk-leaf-sound : (k : Kind) (c : Class) (a : Item) (t : Side Item) → class k a ≡ c → All (Step I k t) (walk I k t) → All (Step I k (leaf a t)) (walkLeaf I c a t (walk I k t))
+  walk-leaf-sound : (k : Kind) (c : Class) (a : Item) (t : Side Item)
+      → class k a ≡ c
+      → All (Step I k t) (walk I k t)
+      → All (Step I k (leaf a t)) (walkLeaf I c a t (walk I k t))
   walk-leaf-sound k fails a t e h = here (rule-12-13 e)
   walk-leaf-sound k passes a t e h = all-within (Step I k t) (Step I k (leaf a t)) (leaf a) (λ t′ q. in-leaf q) (walk I k t) h
   walk-leaf-sound k other a t e h = all-within (Step I k t) (Step I k (leaf a t)) (leaf a) (λ t′ q. in-leaf q) (walk I k t) h
@@ -210,7 +309,11 @@ module _ (I : Items) where
   lone-side (leaf a (group l r t)) h z = absurd (omega arith)
   lone-side (group l r t) h z = absurd (omega arith)
 
-  neat-right : (k : Kind) (l r t : Side Item) → rule14 I k l r t ≡ none → rule18 I k l r t ≡ none → (Neat k r → normal I k r ≡ bareSide I k r) → normal I k r ≡ bareSide I k r
+  neat-right : (k : Kind) (l r t : Side Item)
+      → rule14 I k l r t ≡ none
+      → rule18 I k l r t ≡ none
+      → (Neat k r → normal I k r ≡ bareSide I k r)
+      → normal I k r ≡ bareSide I k r
   neat-right paint l r t e₁₄ e₁₈ ih = ih (within-none (λ r′. group l r′ t) (cutFirst I r) e₁₄)
   neat-right clip l r t e₁₄ e₁₈ ih = go (hasOne I clip r) refl (when-none (hasOne I clip r && ltb 1 (size r)) (group l (firstOne I clip r) t) e₁₈)
     where

@@ -12,9 +12,43 @@ use Rattle.pruning.specs.Sides.{isEnd, Kind, paint, clip, Side, end, lea
 use Rattle.pruning.specs.Items.{Items, Class, fails, passes, other, isPasses}
 use Rattle.pruning.specs.Normal.{normal, put, groupOf, oneGroup, oneLeaf, status, always-side, join, cutLeaf, seal, hasOne, mixed}
 use Rattle.pruning.specs.Order.{pruned}
-use Rattle.pruning.specs.code.Pruner.{Place, left, right, through, dead, Frame, frame, going, shut, State, st, rows, written, addPasses, addItem, endRight, step, run, skipOf}
+use Rattle.pruning.specs.code.Pruner.{
+  Place,
+  left,
+  right,
+  through,
+  dead,
+  Frame,
+  frame,
+  going,
+  shut,
+  State,
+  st,
+  rows,
+  written,
+  addPasses,
+  addItem,
+  endRight,
+  step,
+  run,
+  skipOf,
+}
 use Rattle.pruning.proofs.Sides.{append-end, flatOver, flat-is-over, flat-map}
-use Rattle.pruning.proofs.Normal.{join-join, seal-seal, seal-none, seal-one, hasOne-join, hasOne-seal, status-cases, put-put, normal-sealed, seal-join-right, one-left, one-right, hasOne-always}
+use Rattle.pruning.proofs.Normal.{
+  join-join,
+  seal-seal,
+  seal-none,
+  seal-one,
+  hasOne-join,
+  hasOne-seal,
+  status-cases,
+  put-put,
+  normal-sealed,
+  seal-join-right,
+  one-left,
+  one-right,
+  hasOne-always,
+}
 use Rattle.pruning.proofs.Order.{pruned-normal}
 
 -- a closed side takes nothing more
@@ -65,7 +99,9 @@ module _ (I : Items) where
   pub closed-normal : (k : Kind) (s : Side Item) → Closed k (normal I k s)
   closed-normal k end = closed-end k
   closed-normal k (leaf a t) = closed-put k (oneLeaf I k (class k a) a) (normal I k t) (closed-leaf k (class k a) a refl) (closed-normal k t)
-  closed-normal k (group l r t) = closed-put k (groupOf I k l r) (normal I k t) (closed-group k (normal I clip l) (normal I k r) (closed-normal k r)) (closed-normal k t)
+  closed-normal k (group l r t) =
+      closed-put k (groupOf I k l r) (normal I k t) (closed-group k (normal I clip l) (normal I k r) (closed-normal k r))
+      (closed-normal k t)
 
   -- an open side takes the whole of the next
   open-cut : (k : Kind) (c : Class) (a : Item) (s : Side Item) → isPasses c ≡ false → cutLeaf I c a s ≡ leaf a s
@@ -145,7 +181,9 @@ module _ (I : Items) (Row : Type 0) (enc : Entry (I .Item) → List Row) (enc-so
   main-closed k x z pre y fs g h = rw (put-closed k y (normal I k x) g h, h) (skip k x z (pre ++ rows I Row enc k y) (length pre) 0 fs)
 
   -- an open side
-  at-open : (k : Kind) (pre : List Row) (y : Side Item) (fs : List Frame) → hasOne I k y ≡ false → at k pre y fs ≡ st (pre ++ rows I Row enc k y) (length pre) going fs
+  at-open : (k : Kind) (pre : List Row) (y : Side Item) (fs : List Frame)
+      → hasOne I k y ≡ false
+      → at k pre y fs ≡ st (pre ++ rows I Row enc k y) (length pre) going fs
   at-open k pre y fs h = rw h
 
   put-open : (k : Kind) (y v : Side Item) → hasOne I k y ≡ false → hasOne I k v ≡ false → put I k y v ≡ append y v
@@ -159,7 +197,9 @@ module _ (I : Items) (Row : Type 0) (enc : Entry (I .Item) → List Row) (enc-so
       → at k pre (put I k y v) fs ≡ st (pre ++ rows I Row enc k y ++ rows I Row enc k v) (length pre) going fs
   at-put k pre y v fs h g =
       at-open k pre (put I k y v) fs (one-put-open k y v h g)
-      ∙ ap (λ o. st o (length pre) going fs) (ap (λ x. pre ++ rows I Row enc k x) (put-open k y v h g) ∙ (ap (λ o. pre ++ o) (rows-append k y v) ∙ sym (append-assoc pre (rows I Row enc k y) (rows I Row enc k v))))
+      ∙ ap (λ o. st o (length pre) going fs)
+      (ap (λ x. pre ++ rows I Row enc k x) (put-open k y v h g)
+      ∙ (ap (λ o. pre ++ o) (rows-append k y v) ∙ sym (append-assoc pre (rows I Row enc k y) (rows I Row enc k v))))
 
   -- a side begins
   begin : (k : Kind) (q : List Row) (fs : List Frame) → st q (length q) going fs ≡ at k q end fs
@@ -173,22 +213,43 @@ module _ (I : Items) (Row : Type 0) (enc : Entry (I .Item) → List Row) (enc-so
 
   at-shut : (pre : List Row) (y : Side Item) (a : Item) (fs : List Frame) → class paint a ≡ passes → hasOne I paint y ≡ false
       → at paint pre (join I paint y (leaf a end)) fs ≡ st (pre ++ rows I Row enc paint y ++ enc (item paint a)) (length pre) (shut 0) fs
-  at-shut pre y a fs e h = rw (hasOne-join I paint y (leaf a end), h, e, open-join I paint y (leaf a end) h, rows-append paint y (leaf a end), append-nil (enc (item paint a)), append-assoc pre (rows I Row enc paint y) (enc (item paint a)))
+  at-shut pre y a fs e h =
+      rw (
+        hasOne-join I paint y (leaf a end),
+        h,
+        e,
+        open-join I paint y (leaf a end) h,
+        rows-append paint y (leaf a end),
+        append-nil (enc (item paint a)),
+        append-assoc pre (rows I Row enc paint y) (enc (item paint a)),
+      )
 
   clip-shut : (y n : Side Item) → put I clip y (put I clip (always-side I) n) ≡ always-side I
   clip-shut y n = seal-one I (join I clip y (put I clip (always-side I) n))
       (one-right I y (put I clip (always-side I) n) (hasOne-seal I clip (join I clip (always-side I) n) ∙ one-left I (always-side I) n (hasOne-always I)))
 
-  leaf-passes : (k : Kind) (a : Item) (t : Side Item) (z : List (Entry Item)) (pre : List Row) (y : Side Item) (fs : List Frame) → class k a ≡ passes → hasOne I k y ≡ false
-      → run I Row enc (flatOver k t z) (addPasses I Row enc k a (pre ++ rows I Row enc k y) (length pre) fs) ≡ run I Row enc z (at k pre (put I k y (put I k (oneLeaf I k passes a) (normal I k t))) fs)
-  leaf-passes paint a t z pre y fs e h = skip paint t z (pre ++ rows I Row enc paint y ++ enc (item paint a)) (length pre) 0 fs ∙ ap (run I Row enc z) (rw e (sym (at-shut pre y a fs e h)))
+  leaf-passes : (k : Kind) (a : Item) (t : Side Item) (z : List (Entry Item)) (pre : List Row) (y : Side Item) (fs : List Frame)
+      → class k a ≡ passes
+      → hasOne I k y ≡ false
+      → run I Row enc (flatOver k t z) (addPasses I Row enc k a (pre ++ rows I Row enc k y) (length pre) fs)
+      ≡ run I Row enc z (at k pre (put I k y (put I k (oneLeaf I k passes a) (normal I k t))) fs)
+  leaf-passes paint a t z pre y fs e h =
+      skip paint t z (pre ++ rows I Row enc paint y ++ enc (item paint a)) (length pre) 0 fs
+      ∙ ap (run I Row enc z) (rw e (sym (at-shut pre y a fs e h)))
   leaf-passes clip a t z pre y fs e h =
-      rw (clip-shut y (normal I clip t), take-append-seam pre (rows I Row enc clip y)) (skip clip t z (pre ++ enc (item clip bare)) (length pre) 0 fs ∙ rw (bare-passes, append-nil (enc (item clip bare))))
+      rw (clip-shut y (normal I clip t), take-append-seam pre (rows I Row enc clip y))
+      (skip clip t z (pre ++ enc (item clip bare)) (length pre) 0 fs ∙ rw (bare-passes, append-nil (enc (item clip bare))))
 
-  main-leaf : (k : Kind) (c : Class) (a : Item) (t : Side Item) (z : List (Entry Item)) (pre : List Row) (y : Side Item) (fs : List Frame) → Good k y → class k a ≡ c → hasOne I k y ≡ false → Goes k t z pre fs
-      → run I Row enc (flatOver k t z) (addItem I Row enc k c a (pre ++ rows I Row enc k y) (length pre) fs) ≡ run I Row enc z (at k pre (put I k y (put I k (oneLeaf I k c a) (normal I k t))) fs)
+  main-leaf : (k : Kind) (c : Class) (a : Item) (t : Side Item) (z : List (Entry Item)) (pre : List Row) (y : Side Item) (fs : List Frame)
+      → Good k y
+      → class k a ≡ c
+      → hasOne I k y ≡ false
+      → Goes k t z pre fs
+      → run I Row enc (flatOver k t z) (addItem I Row enc k c a (pre ++ rows I Row enc k y) (length pre) fs)
+      ≡ run I Row enc z (at k pre (put I k y (put I k (oneLeaf I k c a) (normal I k t))) fs)
   main-leaf k fails a t z pre y fs g e h ih =
-      ap (run I Row enc (flatOver k t z)) (sym (at-open k pre y fs h)) ∙ (ih y g ∙ ap (λ w. run I Row enc z (at k pre w fs)) (sym (put-seal k y (normal I k t))))
+      ap (run I Row enc (flatOver k t z)) (sym (at-open k pre y fs h))
+      ∙ (ih y g ∙ ap (λ w. run I Row enc z (at k pre w fs)) (sym (put-seal k y (normal I k t))))
   main-leaf k passes a t z pre y fs g e h ih = leaf-passes k a t z pre y fs e h
   main-leaf k other a t z pre y fs g e h ih =
       ap (run I Row enc (flatOver k t z)) (rw (← append-nil (enc (item k a))) (sym (at-put k pre y (leaf a end) fs h (rw e))))
@@ -203,7 +264,13 @@ module _ (I : Items) (Row : Type 0) (enc : Entry (I .Item) → List Row) (enc-so
       (λ h. omega (arith, length-append p (rows I Row enc k (leaf a t)), length-append (enc (item k a)) (rows I Row enc k t), enc-some (item k a)))
   grown k p (group l r t) e =
       ne-eqb (length (p ++ rows I Row enc k (group l r t))) (length p)
-      (λ h. omega (arith, length-append p (rows I Row enc k (group l r t)), length-append (enc push) (rows I Row enc clip l ++ (enc activate ++ (rows I Row enc k r ++ (enc pop ++ rows I Row enc k t)))), enc-some push))
+      (λ h.
+      omega (
+        arith,
+        length-append p (rows I Row enc k (group l r t)),
+        length-append (enc push) (rows I Row enc clip l ++ (enc activate ++ (rows I Row enc k r ++ (enc pop ++ rows I Row enc k t)))),
+        enc-some push,
+      ))
 
   ungrown : (p : List Row) → eqb (length (p ++ [])) (length p) ≡ true
   ungrown p = eq-eqb (length (p ++ [])) (length p) (ap length (append-nil p))
@@ -219,18 +286,25 @@ module _ (I : Items) (Row : Type 0) (enc : Entry (I .Item) → List Row) (enc-so
       → step I Row enc (at clip (q ++ enc push) end (frame left (length q) b ∷ fs)) activate ≡ st q b (shut 0) (frame dead b b ∷ fs)
   at-bar-empty q b fs = rw (ungrown (q ++ enc push), take-back q [] (enc push))
 
-  at-bar-mixed : (k : Kind) (q : List Row) (x : Side Item) (b : ℕ) (fs : List Frame) → isEnd x ≡ false → hasOne I clip x ≡ false
-      → step I Row enc (at clip (q ++ enc push) x (frame left (length q) b ∷ fs)) activate ≡ at k (q ++ enc push ++ rows I Row enc clip x ++ enc activate) end (frame right (length q) b ∷ fs)
-  at-bar-mixed k q x b fs n h = rw (h, grown clip (q ++ enc push) x n) (begin k (q ++ enc push ++ rows I Row enc clip x ++ enc activate) (frame right (length q) b ∷ fs))
+  at-bar-mixed : (k : Kind) (q : List Row) (x : Side Item) (b : ℕ) (fs : List Frame)
+      → isEnd x ≡ false
+      → hasOne I clip x ≡ false
+      → step I Row enc (at clip (q ++ enc push) x (frame left (length q) b ∷ fs)) activate
+      ≡ at k (q ++ enc push ++ rows I Row enc clip x ++ enc activate) end (frame right (length q) b ∷ fs)
+  at-bar-mixed k q x b fs n h =
+      rw (h, grown clip (q ++ enc push) x n)
+      (begin k (q ++ enc push ++ rows I Row enc clip x ++ enc activate) (frame right (length q) b ∷ fs))
 
-  step-pop : (out : List Row) (base : ℕ) (b : Bool) (fs : List Frame) → step I Row enc (st out base (skipOf I Row enc b) fs) pop ≡ endRight I Row enc out base (skipOf I Row enc b) fs
+  step-pop : (out : List Row) (base : ℕ) (b : Bool) (fs : List Frame)
+      → step I Row enc (st out base (skipOf I Row enc b) fs) pop ≡ endRight I Row enc out base (skipOf I Row enc b) fs
   step-pop out base true fs = refl
   step-pop out base false fs = refl
 
   at-pop-through : (k : Kind) (p : List Row) (w : Side Item) (s b : ℕ) (fs : List Frame) → step I Row enc (at k p w (frame through s b ∷ fs)) pop ≡ at k p w fs
   at-pop-through k p w s b fs = step-pop (p ++ rows I Row enc k w) (length p) (hasOne I k w) (frame through s b ∷ fs)
 
-  at-pop-empty : (k : Kind) (p : List Row) (s b : ℕ) (fs : List Frame) → step I Row enc (at k p end (frame right s b ∷ fs)) pop ≡ st (take s (p ++ [])) b going fs
+  at-pop-empty : (k : Kind) (p : List Row) (s b : ℕ) (fs : List Frame)
+      → step I Row enc (at k p end (frame right s b ∷ fs)) pop ≡ st (take s (p ++ [])) b going fs
   at-pop-empty k p s b fs = rw (ungrown p)
 
   at-pop-kept : (k : Kind) (p : List Row) (x : Side Item) (s b : ℕ) (fs : List Frame) → isEnd x ≡ false
@@ -238,9 +312,17 @@ module _ (I : Items) (Row : Type 0) (enc : Entry (I .Item) → List Row) (enc-so
   at-pop-kept k p x s b fs n = step-pop (p ++ rows I Row enc k x) (length p) (hasOne I k x) (frame right s b ∷ fs) ∙ rw (grown k p x n)
 
   abbrev Runs : Kind → Side Item → Type 0
-  Runs k x = (z : List (Entry Item)) (pre : List Row) (y : Side Item) (fs : List Frame) → Good k y → run I Row enc (flatOver k x z) (at k pre y fs) ≡ run I Row enc z (at k pre (put I k y (normal I k x)) fs)
+  Runs k x =
+      (z : List (Entry Item)) (pre : List Row) (y : Side Item) (fs : List Frame)
+      → Good k y
+      → run I Row enc (flatOver k x z) (at k pre y fs) ≡ run I Row enc z (at k pre (put I k y (normal I k x)) fs)
 
-  leaf-cases : (k : Kind) (a : Item) (t : Side Item) → Runs k t → (z : List (Entry Item)) (pre : List Row) (y : Side Item) (fs : List Frame) → Good k y → (b : Bool) → hasOne I k y ≡ b
+  leaf-cases : (k : Kind) (a : Item) (t : Side Item)
+      → Runs k t
+      → (z : List (Entry Item)) (pre : List Row) (y : Side Item) (fs : List Frame)
+      → Good k y
+      → (b : Bool)
+      → hasOne I k y ≡ b
       → run I Row enc (flatOver k (leaf a t) z) (at k pre y fs) ≡ run I Row enc z (at k pre (put I k y (normal I k (leaf a t))) fs)
   leaf-cases k a t ih z pre y fs g true h = main-closed k (leaf a t) z pre y fs g h
   leaf-cases k a t ih z pre y fs g false h = rw h (main-leaf k (class k a) a t z pre y fs g refl h (λ y′ g′. ih z pre y′ fs g′))
@@ -261,7 +343,8 @@ module _ (I : Items) (Row : Type 0) (enc : Entry (I .Item) → List Row) (enc-so
   wrapped : (o x y : List Row) → o ++ enc push ++ x ++ enc activate ++ y ++ enc pop ≡ o ++ (enc push ++ (x ++ (enc activate ++ (y ++ (enc pop ++ [])))))
   wrapped o x y = simp (append-assoc, append-nil)
 
-  module _ (k : Kind) (l r t : Side Item) (ihl : Runs clip l) (ihr : Runs k r) (iht : Runs k t) (z : List (Entry Item)) (pre : List Row) (y : Side Item) (fs : List Frame) (g : Good k y) (h : hasOne I k y ≡ false) where
+  module _ (k : Kind) (l r t : Side Item) (ihl : Runs clip l) (ihr : Runs k r) (iht : Runs k t) (z : List (Entry Item)) (pre : List Row)
+      (y : Side Item) (fs : List Frame) (g : Good k y) (h : hasOne I k y ≡ false) where
     abbrev q : List Row
     q = pre ++ rows I Row enc k y
 
@@ -283,19 +366,27 @@ module _ (I : Items) (Row : Type 0) (enc : Entry (I .Item) → List Row) (enc-so
     abbrev past-left : Place → List Frame
     past-left p = frame p (length pre) (length pre) ∷ fs
 
-    case-empty : L ≡ end → run I Row enc (flatOver k r (pop ∷ T)) (step I Row enc (at clip (q ++ enc push) L (in-group left)) activate) ≡ run I Row enc z (at k pre (put I k y (put I k end N)) fs)
+    case-empty : L ≡ end
+        → run I Row enc (flatOver k r (pop ∷ T)) (step I Row enc (at clip (q ++ enc push) L (in-group left)) activate)
+        ≡ run I Row enc z (at k pre (put I k y (put I k end N)) fs)
     case-empty e =
         rw (e, at-bar-empty q (length pre) fs) (skip k r (pop ∷ T) q (length pre) 0 (past-left dead)
         ∙ (ap (run I Row enc T) (sym (at-open k pre y fs h)) ∙ (iht z pre y fs g ∙ ap (λ w. run I Row enc z (at k pre w fs)) (sym (put-seal k y N)))))
 
-    case-always : hasOne I clip L ≡ true → run I Row enc (flatOver k r (pop ∷ T)) (step I Row enc (at clip (q ++ enc push) L (in-group left)) activate) ≡ run I Row enc z (at k pre (put I k y (put I k R N)) fs)
+    case-always : hasOne I clip L ≡ true
+        → run I Row enc (flatOver k r (pop ∷ T)) (step I Row enc (at clip (q ++ enc push) L (in-group left)) activate)
+        ≡ run I Row enc z (at k pre (put I k y (put I k R N)) fs)
     case-always e =
         ap (run I Row enc (flatOver k r (pop ∷ T))) (at-bar-always q L (length pre) fs e ∙ sym (at-open k pre y (past-left through) h))
         ∙ (ihr (pop ∷ T) pre y (past-left through) g
         ∙ (ap (run I Row enc T) (at-pop-through k pre (put I k y R) (length pre) (length pre) fs)
-        ∙ (iht z pre (put I k y R) fs (good-put k y R (g .closed) (closed-normal I k r)) ∙ ap (λ w. run I Row enc z (at k pre w fs)) (sym (put-put I k y R N)))))
+        ∙ (iht z pre (put I k y R) fs (good-put k y R (g .closed) (closed-normal I k r))
+        ∙ ap (λ w. run I Row enc z (at k pre w fs)) (sym (put-put I k y R N)))))
 
-    after-right : (b : Bool) → isEnd R ≡ b → run I Row enc T (step I Row enc (at k (q ++ enc push ++ rows I Row enc clip L ++ enc activate) R (in-group right)) pop) ≡ run I Row enc z (at k pre (put I k y (put I k (oneGroup I mixed L R) N)) fs)
+    after-right : (b : Bool)
+        → isEnd R ≡ b
+        → run I Row enc T (step I Row enc (at k (q ++ enc push ++ rows I Row enc clip L ++ enc activate) R (in-group right)) pop)
+        ≡ run I Row enc z (at k pre (put I k y (put I k (oneGroup I mixed L R) N)) fs)
     after-right true e =
         rw (is-end R e) (ap (run I Row enc T) (at-pop-empty k (q ++ enc push ++ rows I Row enc clip L ++ enc activate) (length q) (length pre) fs
         ∙ (ap (λ o. st o (length pre) going fs) (take-whole q (rows I Row enc clip L) (enc push) (enc activate)) ∙ sym (at-open k pre y fs h)))
@@ -306,7 +397,10 @@ module _ (I : Items) (Row : Type 0) (enc : Entry (I .Item) → List Row) (enc-so
         ∙ (iht z pre (put I k y (group L R end)) fs (good-put k y (group L R end) (g .closed) (λ o. absurd (false≢true o)))
         ∙ ap (λ w. run I Row enc z (at k pre w fs)) (sym (put-put I k y (group L R end) N))))
 
-    case-mixed : isEnd L ≡ false → hasOne I clip L ≡ false → run I Row enc (flatOver k r (pop ∷ T)) (step I Row enc (at clip (q ++ enc push) L (in-group left)) activate) ≡ run I Row enc z (at k pre (put I k y (put I k (oneGroup I mixed L R) N)) fs)
+    case-mixed : isEnd L ≡ false
+        → hasOne I clip L ≡ false
+        → run I Row enc (flatOver k r (pop ∷ T)) (step I Row enc (at clip (q ++ enc push) L (in-group left)) activate)
+        ≡ run I Row enc z (at k pre (put I k y (put I k (oneGroup I mixed L R) N)) fs)
     case-mixed n o =
         ap (run I Row enc (flatOver k r (pop ∷ T))) (at-bar-mixed k q L (length pre) fs n o)
         ∙ (ihr (pop ∷ T) (q ++ enc push ++ rows I Row enc clip L ++ enc activate) end (in-group right) (good-end k)
@@ -314,13 +408,24 @@ module _ (I : Items) (Row : Type 0) (enc : Entry (I .Item) → List Row) (enc-so
 
     group-open : run I Row enc (flatOver k (group l r t) z) (at k pre y fs) ≡ run I Row enc z (at k pre (put I k y (normal I k (group l r t))) fs)
     group-open =
-        rw h (ap (run I Row enc (flatOver clip l (activate ∷ flatOver k r (pop ∷ T)))) (begin clip (q ++ enc push) (in-group left))
+        rw h
+        (ap (run I Row enc (flatOver clip l (activate ∷ flatOver k r (pop ∷ T)))) (begin clip (q ++ enc push) (in-group left))
         ∙ (ihl (activate ∷ flatOver k r (pop ∷ T)) (q ++ enc push) end (in-group left) (good-end clip)
-        ∙ rw (normal-sealed I clip l) (status-cases I
-        (λ s. run I Row enc (flatOver k r (pop ∷ T)) (step I Row enc (at clip (q ++ enc push) L (in-group left)) activate) ≡ run I Row enc z (at k pre (put I k y (put I k (oneGroup I s L R) N)) fs))
+        ∙ rw (normal-sealed I clip l)
+        (status-cases I
+        (λ s.
+        run I Row enc (flatOver k r (pop ∷ T)) (step I Row enc (at clip (q ++ enc push) L (in-group left)) activate)
+        ≡ run I Row enc z (at k pre (put I k y (put I k (oneGroup I s L R) N)) fs))
         L case-empty case-always case-mixed)))
 
-  group-cases : (k : Kind) (l r t : Side Item) → Runs clip l → Runs k r → Runs k t → (z : List (Entry Item)) (pre : List Row) (y : Side Item) (fs : List Frame) → Good k y → (b : Bool) → hasOne I k y ≡ b
+  group-cases : (k : Kind) (l r t : Side Item)
+      → Runs clip l
+      → Runs k r
+      → Runs k t
+      → (z : List (Entry Item)) (pre : List Row) (y : Side Item) (fs : List Frame)
+      → Good k y
+      → (b : Bool)
+      → hasOne I k y ≡ b
       → run I Row enc (flatOver k (group l r t) z) (at k pre y fs) ≡ run I Row enc z (at k pre (put I k y (normal I k (group l r t))) fs)
   group-cases k l r t ihl ihr iht z pre y fs g true h = main-closed k (group l r t) z pre y fs g h
   group-cases k l r t ihl ihr iht z pre y fs g false h = group-open k l r t ihl ihr iht z pre y fs g h
@@ -331,7 +436,9 @@ module _ (I : Items) (Row : Type 0) (enc : Entry (I .Item) → List Row) (enc-so
   main k (group l r t) z pre y fs g = group-cases k l r t (main clip l) (main k r) (main k t) z pre y fs g (hasOne I k y) refl
 
   -- the pruner writes the stream of the normal form
-  pub stream-normal : (x : Side Item) → run I Row enc (flat paint x) (st [] 0 going []) ≡ st (rows I Row enc paint (normal I paint x)) 0 (skipOf I Row enc (hasOne I paint (normal I paint x))) []
+  pub stream-normal : (x : Side Item)
+      → run I Row enc (flat paint x) (st [] 0 going [])
+      ≡ st (rows I Row enc paint (normal I paint x)) 0 (skipOf I Row enc (hasOne I paint (normal I paint x))) []
   stream-normal x = ap (λ e. run I Row enc e (st [] 0 going [])) (flat-is-over paint x) ∙ main paint x [] [] end [] (good-end paint)
 
   -- a child's rows, from the parent's stream in one reading

@@ -26,7 +26,9 @@ module _ (I : Items) (f : I .Item → I .Item)
     join-leaf : (k : Kind) (c : Class) (a : Item) (x y : Side Item) → class k a ≡ c → m k (join I k x y) ≡ put I k (m k x) (m k y)
         → m k (cutLeaf I c a (join I k x y)) ≡ put I k (put I k (X k (f a)) (m k x)) (m k y)
     join-leaf k fails a x y e h = ap (put I k (X k (f a))) h ∙ put-put I k (X k (f a)) (m k x) (m k y)
-    join-leaf k passes a x y e h = rw (keeps-passes k a e) (put-cut I k (f a) end (put I k (m k x) (m k y)) (keeps-passes k a e) ∙ put-put I k (oneLeaf I k passes (f a)) (m k x) (m k y))
+    join-leaf k passes a x y e h =
+        rw (keeps-passes k a e)
+        (put-cut I k (f a) end (put I k (m k x) (m k y)) (keeps-passes k a e) ∙ put-put I k (oneLeaf I k passes (f a)) (m k x) (m k y))
     join-leaf k other a x y e h = ap (put I k (X k (f a))) h ∙ put-put I k (X k (f a)) (m k x) (m k y)
 
     m-join : (k : Kind) (x y : Side Item) → m k (join I k x y) ≡ put I k (m k x) (m k y)
@@ -36,7 +38,11 @@ module _ (I : Items) (f : I .Item → I .Item)
         let g : Side Item = oneGroup I (status I (m clip l)) (m clip l) (m k r) in
         ap (put I k g) (m-join k x y) ∙ put-put I k g (m k x) (m k y)
 
-    one-leaf-map : (c : Class) (a : Item) (t : Side Item) → class clip a ≡ c → (hasOne I clip t ≡ true → hasOne I clip (mapSide f t) ≡ true) → (isPasses c || hasOne I clip t) ≡ true → (isPasses (class clip (f a)) || hasOne I clip (mapSide f t)) ≡ true
+    one-leaf-map : (c : Class) (a : Item) (t : Side Item)
+        → class clip a ≡ c
+        → (hasOne I clip t ≡ true → hasOne I clip (mapSide f t) ≡ true)
+        → (isPasses c || hasOne I clip t) ≡ true
+        → (isPasses (class clip (f a)) || hasOne I clip (mapSide f t)) ≡ true
     one-leaf-map fails a t e g h = rw (g h) (or-true (isPasses (class clip (f a))))
     one-leaf-map passes a t e g h = rw (keeps-passes clip a e)
     one-leaf-map other a t e g h = rw (g h) (or-true (isPasses (class clip (f a))))

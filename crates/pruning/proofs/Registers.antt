@@ -39,7 +39,10 @@ module _ {A O : Type 0} (pass opaque : A → Bool) (add : A → O → O) where
   item-by k p q a es S d s o h g = refl
   item-by k p q a es SA d s o h g = refl
 
-  either : (b : Bool) (r q : Registers O) (o : O) (x y : List A) (es : List (Entry A)) → ahead r es ≡ gathered add x o → ahead q es ≡ gathered add y o → ahead (cond b r q) es ≡ gathered add (cond b x y) o
+  either : (b : Bool) (r q : Registers O) (o : O) (x y : List A) (es : List (Entry A))
+      → ahead r es ≡ gathered add x o
+      → ahead q es ≡ gathered add y o
+      → ahead (cond b r q) es ≡ gathered add (cond b x y) o
   either true r q o x y es h g = h
   either false r q o x y es h g = g
 
@@ -51,13 +54,16 @@ module _ {A O : Type 0} (pass opaque : A → Bool) (add : A → O → O) where
   move-ahead (reg c d s o) (item k a) es = item-by k (pass a) (opaque a) a es c d s o refl refl
   move-ahead (reg c d s o) push es = refl
   move-ahead (reg P d s o) activate es = refl
-  move-ahead (reg S d s o) activate es = either (leb d s) (reg P d s o) (reg S d s o) o (scan pass opaque es processing d) (scan pass opaque es (skipping s) d) es refl refl
+  move-ahead (reg S d s o) activate es =
+      either (leb d s) (reg P d s o) (reg S d s o) o (scan pass opaque es processing d) (scan pass opaque es (skipping s) d) es refl refl
   move-ahead (reg SA d s o) activate es = refl
   move-ahead (reg P d s o) pop es = refl
   move-ahead (reg S d s o) pop es =
-      either (leb d s) (reg S (pred d) (pred d) o) (reg S (pred d) s o) o (scan pass opaque es (skipping (pred d)) (pred d)) (scan pass opaque es (skipping s) (pred d)) es refl refl
+      either (leb d s) (reg S (pred d) (pred d) o) (reg S (pred d) s o) o (scan pass opaque es (skipping (pred d)) (pred d))
+      (scan pass opaque es (skipping s) (pred d)) es refl refl
   move-ahead (reg SA d s o) pop es =
-      either (leb d s) (reg P (pred d) s o) (reg SA (pred d) s o) o (scan pass opaque es processing (pred d)) (scan pass opaque es (skippingBy s) (pred d)) es refl refl
+      either (leb d s) (reg P (pred d) s o) (reg SA (pred d) s o) o (scan pass opaque es processing (pred d))
+      (scan pass opaque es (skippingBy s) (pred d)) es refl refl
 
   pub moves-ahead : (es : List (Entry A)) (r : Registers O) → outOf (moves pass opaque add es r) ≡ ahead r es
   moves-ahead [] (reg P d s o) = refl

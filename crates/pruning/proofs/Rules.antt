@@ -14,7 +14,9 @@ module _ (I : Items) where
   open Items I using (Item, class, bare, bare-passes)
 
   -- each step keeps the normal form
-  cut-normal : (a : Side Item) (f : Item) (c d : Side Item) → class paint f ≡ passes → normal I paint (append a (leaf f c)) ≡ normal I paint (append a (leaf f d))
+  cut-normal : (a : Side Item) (f : Item) (c d : Side Item)
+      → class paint f ≡ passes
+      → normal I paint (append a (leaf f c)) ≡ normal I paint (append a (leaf f d))
   cut-normal end f c d e = rw (e, e)
   cut-normal (leaf x a) f c d e = ap (put I paint (oneLeaf I paint (class paint x) x)) (cut-normal a f c d e)
   cut-normal (group l r a) f c d e = ap (put I paint (groupOf I paint l r)) (cut-normal a f c d e)

@@ -5,7 +5,24 @@ use native.Mathlib.Omega.{arith}
 use Rattle.pruning.specs.Sides.{Kind, paint, clip, Side, end, leaf, group, append, size}
 use Rattle.pruning.specs.Items.{Items, Class, fails, passes, other}
 use Rattle.pruning.specs.Rules.{Rule, rule-12-13, rule-14, rule-15, rule-16, rule-17, rule-18, Bares, becomes-bare}
-use Rattle.pruning.specs.Rules.{Anywhere, here, in-leaf, in-left, in-right, in-rest, BareStep, Top, top-14, below, Steps, done, more, more-bare, Irreducible, Bared}
+use Rattle.pruning.specs.Rules.{
+  Anywhere,
+  here,
+  in-leaf,
+  in-left,
+  in-right,
+  in-rest,
+  BareStep,
+  Top,
+  top-14,
+  below,
+  Steps,
+  done,
+  more,
+  more-bare,
+  Irreducible,
+  Bared,
+}
 use Rattle.pruning.specs.Order.{markBy, bareSide, pruned}
 use Rattle.pruning.proofs.Sides.{size-append}
 use Rattle.pruning.proofs.Rules.{rule-size}

@@ -48,7 +48,14 @@ pub size-flat : {A : Type 0} (k : Kind) (s : Side A) → length (flat k s) ≡ s
 size-flat k end = refl
 size-flat k (leaf a t) = omega (arith, size-flat k t)
 size-flat k (group l r t) =
-    omega (arith, size-flat clip l, size-flat k r, size-flat k t, length-append (flat clip l) (activate ∷ (flat k r ++ (pop ∷ flat k t))), length-append (flat k r) (pop ∷ flat k t))
+    omega (
+      arith,
+      size-flat clip l,
+      size-flat k r,
+      size-flat k t,
+      length-append (flat clip l) (activate ∷ (flat k r ++ (pop ∷ flat k t))),
+      length-append (flat k r) (pop ∷ flat k t),
+    )
 
 -- ---- each item changed
 
@@ -70,4 +77,10 @@ pub flat-map : {A : Type 0} (f : A → A) (k : Kind) (s : Side A) → flat k (ma
 flat-map f k end = refl
 flat-map f k (leaf a t) = ap (λ z. item k (f a) ∷ z) (flat-map f k t)
 flat-map f k (group l r t) =
-    rw (map-append (mapEntry f) (flat clip l) (activate ∷ (flat k r ++ (pop ∷ flat k t))), map-append (mapEntry f) (flat k r) (pop ∷ flat k t), flat-map f clip l, flat-map f k r, flat-map f k t)
+    rw (
+      map-append (mapEntry f) (flat clip l) (activate ∷ (flat k r ++ (pop ∷ flat k t))),
+      map-append (mapEntry f) (flat k r) (pop ∷ flat k t),
+      flat-map f clip l,
+      flat-map f k r,
+      flat-map f k t,
+    )

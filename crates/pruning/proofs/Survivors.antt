@@ -67,9 +67,13 @@ module _ (I : Items) where
   sub-join : (k : Kind) (x y : Side Item) → Sub I (flat k (join I k x y)) (flat k x ++ flat k y)
   sub-join k end y = sub-refl (flat k y)
   sub-join k (leaf a x) y = sub-trans (sub-cut k (class k a) a (join I k x y)) (keeps (sub-join k x y))
-  sub-join k (group l r x) y = simp append-assoc (keeps (sub-append (sub-refl (flat clip l)) (keeps (sub-append (sub-refl (flat k r)) (keeps (sub-join k x y))))))
+  sub-join k (group l r x) y =
+      simp append-assoc (keeps (sub-append (sub-refl (flat clip l)) (keeps (sub-append (sub-refl (flat k r)) (keeps (sub-join k x y))))))
 
-  one-leaf : (c : Class) (a : Item) (t : Side Item) → class clip a ≡ c → (hasOne I clip t ≡ true → Sub I (item clip bare ∷ []) (flat clip t)) → (isPasses c || hasOne I clip t) ≡ true
+  one-leaf : (c : Class) (a : Item) (t : Side Item)
+      → class clip a ≡ c
+      → (hasOne I clip t ≡ true → Sub I (item clip bare ∷ []) (flat clip t))
+      → (isPasses c || hasOne I clip t) ≡ true
       → Sub I (item clip bare ∷ []) (item clip a ∷ flat clip t)
   one-leaf fails a t e f h = drops (f h)
   one-leaf passes a t e f h = bares e (sub-none (flat clip t))
@@ -112,9 +116,13 @@ module _ (I : Items) where
       sub-trans (sub-seal k (join I k (oneLeaf I k (class k a) a) (normal I k t)))
       (sub-trans (sub-join k (oneLeaf I k (class k a) a) (normal I k t)) (sub-append (sub-leaf k (class k a) a refl) (normal-sub k t)))
   normal-sub k (group l r t) =
-      simp append-assoc at (sub-trans (sub-seal k (join I k (groupOf I k l r) (normal I k t)))
+      simp append-assoc at
+      (sub-trans (sub-seal k (join I k (groupOf I k l r) (normal I k t)))
       (sub-trans (sub-join k (groupOf I k l r) (normal I k t))
-      (sub-append (sub-trans (sub-group k (normal I clip l) (normal I k r)) (keeps (sub-append (normal-sub clip l) (keeps (sub-append (normal-sub k r) (sub-refl (pop ∷ []))))))) (normal-sub k t))))
+      (sub-append
+      (sub-trans (sub-group k (normal I clip l) (normal I k r))
+      (keeps (sub-append (normal-sub clip l) (keeps (sub-append (normal-sub k r) (sub-refl (pop ∷ [])))))))
+      (normal-sub k t))))
 
   pub size-normal : (s : Side Item) → size (normal I paint s) ≤ size s
   size-normal s = omega (arith, sub-length (normal-sub paint s), size-flat paint s, size-flat paint (normal I paint s))

@@ -11,7 +11,25 @@ use lib.Seq.{take-take, take-length, take-append-le, length-take-le}
 use borrow.Author.Tests.{eq-eqb, ne-eqb, eqb-true, eqb-false}
 use Rattle.pruning.specs.Sides.{Kind, paint, clip, Entry, item, push, activate, pop}
 use Rattle.pruning.specs.Items.{Items, Class, fails, passes, other}
-use Rattle.pruning.specs.code.Pruner.{left, right, through, dead, Frame, frame, Skip, going, shut, State, st, step, addItem, keepLeft, keepRight, endLeft, endRight}
+use Rattle.pruning.specs.code.Pruner.{
+  left,
+  right,
+  through,
+  dead,
+  Frame,
+  frame,
+  Skip,
+  going,
+  shut,
+  State,
+  st,
+  step,
+  addItem,
+  keepLeft,
+  keepRight,
+  endLeft,
+  endRight,
+}
 use Rattle.pruning.specs.code.Counters.{Count, ct, countItem, countKeepLeft, countLeft, countKeepRight, countRight, countStep}
 use Rattle.pruning.specs.code.Weights.{total, before, frameAt, weighed, Sized, sized, sizedItems, sizeOf}
 use Rattle.pruning.proofs.Counters.{Chain, Fit, count}
@@ -70,7 +88,9 @@ module _ {Row : Type 0} (weight : Row → ℕ) where
     same-test out b h = go (eqb (length out) b) refl
       where
         go : (t : Bool) → eqb (length out) b ≡ t → eqb (total weight out) (before weight out b) ≡ t
-        go true e = eq-eqb (total weight out) (before weight out b) (ap (total weight) (sym (take-length out) ∙ ap (λ n. take n out) (eqb-true (length out) b e)))
+        go true e =
+            eq-eqb (total weight out) (before weight out b)
+            (ap (total weight) (sym (take-length out) ∙ ap (λ n. take n out) (eqb-true (length out) b e)))
         go false e =
             ne-eqb (total weight out) (before weight out b)
             (λ q. eqb-false (length out) b e
@@ -78,7 +98,12 @@ module _ {Row : Type 0} (weight : Row → ℕ) where
             let u : total weight out ≡ before weight out b + total weight (drop b out) = ap (total weight) (sym (take-append-drop b out)) ∙ t in
             none (length (drop b out)) refl (omega (arith, length-drop b out)) u q))
           where
-            none : (n : ℕ) → length (drop b out) ≡ n → n + b ≡ length out → total weight out ≡ before weight out b + total weight (drop b out) → total weight out ≡ before weight out b → length out ≡ b
+            none : (n : ℕ)
+                → length (drop b out) ≡ n
+                → n + b ≡ length out
+                → total weight out ≡ before weight out b + total weight (drop b out)
+                → total weight out ≡ before weight out b
+                → length out ≡ b
             none zero l m u q = omega arith
             none (suc n) l m u q = absurd (omega (arith, some-total (drop b out) (omega arith)))
 
@@ -97,8 +122,11 @@ module _ {Row : Type 0} (weight : Row → ℕ) where
           (frames-same b fs (take b out ++ enc (item clip bare)) out c (back-keeps b b out (enc (item clip bare)) (omega arith) h))
       item-weighs k other a out b fs h c = added out (enc (item k a)) b going fs h c
 
-      keep-left-weighs : (t : Bool) (out : List Row) (b s o : ℕ) (fs : List Frame) → b ≤ length out → Chain b (frame left s o ∷ fs)
-          → weighed weight (keepLeft I Row enc t s o out fs) ≡ countKeepLeft I weigh t (before weight out s) (before weight out o) (total weight out) (map (frameAt weight out) fs)
+      keep-left-weighs : (t : Bool) (out : List Row) (b s o : ℕ) (fs : List Frame)
+          → b ≤ length out
+          → Chain b (frame left s o ∷ fs)
+          → weighed weight (keepLeft I Row enc t s o out fs)
+          ≡ countKeepLeft I weigh t (before weight out s) (before weight out o) (total weight out) (map (frameAt weight out) fs)
       keep-left-weighs true out b s o fs h c = cut out s o (shut 0) (frame dead o o ∷ fs) (c .1 .0) (refl, refl, c .1 .1)
       keep-left-weighs false out b s o fs h c =
           same-count (total-append out (enc activate)) (ap (total weight) (take-length (out ++ enc activate)) ∙ total-append out (enc activate))
@@ -113,8 +141,11 @@ module _ {Row : Type 0} (weight : Row → ℕ) where
       left-weighs out b w (frame through s o ∷ fs) h c = refl
       left-weighs out b w (frame dead s o ∷ fs) h c = refl
 
-      keep-right-weighs : (t : Bool) (out : List Row) (b s o : ℕ) (fs : List Frame) → b ≤ length out → Chain b (frame right s o ∷ fs)
-          → weighed weight (keepRight I Row enc t s o out fs) ≡ countKeepRight I weigh t (before weight out s) (before weight out o) (total weight out) (map (frameAt weight out) fs)
+      keep-right-weighs : (t : Bool) (out : List Row) (b s o : ℕ) (fs : List Frame)
+          → b ≤ length out
+          → Chain b (frame right s o ∷ fs)
+          → weighed weight (keepRight I Row enc t s o out fs)
+          ≡ countKeepRight I weigh t (before weight out s) (before weight out o) (total weight out) (map (frameAt weight out) fs)
       keep-right-weighs true out b s o fs h c = cut out s o going fs (c .1 .0) (c .1 .1)
       keep-right-weighs false out b s o fs h c = added out (enc pop) o going fs (omega arith) (c .1 .1)
 
@@ -127,13 +158,19 @@ module _ {Row : Type 0} (weight : Row → ℕ) where
       right-weighs out b w (frame dead s o ∷ fs) h c = refl
 
       -- one step
-      pub step-weighs : (x : State Row) (e : Entry Item) → Fit (count I Row enc enc-some x) → weighed weight (step I Row enc x e) ≡ countStep I weigh (weighed weight x) e
+      pub step-weighs : (x : State Row) (e : Entry Item)
+          → Fit (count I Row enc enc-some x)
+          → weighed weight (step I Row enc x e) ≡ countStep I weigh (weighed weight x) e
       step-weighs (st out b going fs) (item k a) f = item-weighs k (class k a) a out b fs (f .0) (f .1)
       step-weighs (st out b going fs) push f =
           same-count (total-append out (enc push)) (ap (total weight) (take-length (out ++ enc push)) ∙ total-append out (enc push))
-          (frames-same (length out) (frame left (length out) b ∷ fs) (out ++ enc push) out (omega arith, (f .0, f .1)) (add-keeps (length out) out (enc push) (omega arith)) ∙ whole out b fs)
+          (frames-same (length out) (frame left (length out) b ∷ fs) (out ++ enc push) out (omega arith, (f .0, f .1))
+          (add-keeps (length out) out (enc push) (omega arith))
+          ∙ whole out b fs)
         where
-          whole : (out : List Row) (b : ℕ) (fs : List Frame) → map (frameAt weight out) (frame left (length out) b ∷ fs) ≡ frame left (total weight out) (before weight out b) ∷ map (frameAt weight out) fs
+          whole : (out : List Row) (b : ℕ) (fs : List Frame)
+              → map (frameAt weight out) (frame left (length out) b ∷ fs)
+              ≡ frame left (total weight out) (before weight out b) ∷ map (frameAt weight out) fs
           whole out b fs = rw (take-length out)
       step-weighs (st out b going fs) activate f = left-weighs out b going fs (f .0) (f .1)
       step-weighs (st out b going fs) pop f = right-weighs out b going fs (f .0) (f .1)
@@ -163,7 +200,12 @@ module _ {Row : Type 0} (weight : Row → ℕ) where
       right-sized o n b w (frame dead s u ∷ fs) = refl
 
       -- where delimiters and the bare item weigh 1, the counters need only classes and weights
-      pub sized-step : weigh push ≡ 1 → weigh activate ≡ 1 → weigh pop ≡ 1 → weigh (item clip bare) ≡ 1 → (c : Count) (e : Entry Item) → countStep I weigh c e ≡ countStep sizedItems sizeOf c (asSized e)
+      pub sized-step : weigh push ≡ 1
+          → weigh activate ≡ 1
+          → weigh pop ≡ 1
+          → weigh (item clip bare) ≡ 1
+          → (c : Count) (e : Entry Item)
+          → countStep I weigh c e ≡ countStep sizedItems sizeOf c (asSized e)
       sized-step p a o r (ct n b going fs) (item k v) = go k (class k v)
         where
           go : (j : Kind) (d : Class) → countItem I weigh j d v n b fs ≡ countItem sizedItems sizeOf j d (sized d (weigh (item j v))) n b fs
