@@ -16,7 +16,26 @@ use Rattle.records.specs.declared.Decoded.{Decoded}
 use Rattle.records.specs.declared.Decoded.the-variants.{Good, Bad}
 use Rattle.grammar.specs.declared.Counts.{Counts}
 use Rattle.grammar.specs.declared.Verdict.the-variants.{Accepted, Refused}
-use Rattle.grammar.specs.Grammar.{Progress, progress, fits, isShort, ends, limit, after, Course, at, stopped, next, course, begin, counts, final, checked, met, Verdict·place}
+use Rattle.grammar.specs.Grammar.{
+  Progress,
+  progress,
+  fits,
+  isShort,
+  ends,
+  limit,
+  after,
+  Course,
+  at,
+  stopped,
+  next,
+  course,
+  begin,
+  counts,
+  final,
+  checked,
+  met,
+  Verdict·place,
+}
 use Rattle.grammar.specs.declared.Scan.{Scan}
 use Rattle.grammar.specs.declared.Scan.the-variants.{At, Stopped}
 use Rattle.grammar.specs.code.Machine.{scanN, isStopped}
@@ -74,7 +93,10 @@ more p p′ q r ds m n =
       many = λ l. n .many (m .many l);
     }
 
-by-course : (p q : Progress) (r : Record) (i : ℕ) (ds : List Decoded) (c : Course) → next p r i ≡ c → ((p′ : Progress) → course (at p′) (i + 1) ds ≡ at q → Ran p′ q ds) → course c (i + 1) ds ≡ at q
+by-course : (p q : Progress) (r : Record) (i : ℕ) (ds : List Decoded) (c : Course)
+    → next p r i ≡ c
+    → ((p′ : Progress) → course (at p′) (i + 1) ds ≡ at q → Ran p′ q ds)
+    → course c (i + 1) ds ≡ at q
     → Ran p q (Good r ∷ ds)
 by-course p q r i ds (at p′) h rest e = more p p′ q r ds (went p p′ r i h) (rest p′ e)
 by-course p q r i ds (stopped x j) h rest e = halted x j q (sym (stays x j (i + 1) ds) ∙ e)
@@ -112,7 +134,14 @@ ended (at q) ds k h f = go (isEmpty (q .groups)) (isShort (q .run)) f
     go true false e =
         let m = ran (progress [] false 0 0 0) q 0 ds h in
         rw (← same-counts (counts n (q .areas) (q .corners)) k e)
-        (record { good = m .good; records = refl; areas = omega (arith, m .areas); corners = omega (arith, m .corners); few = m .few (omega arith); many = m .many (omega arith) })
+        (record {
+          good = m .good;
+          records = refl;
+          areas = omega (arith, m .areas);
+          corners = omega (arith, m .corners);
+          few = m .few (omega arith);
+          many = m .many (omega arith);
+        })
 
 pub sound : (ds : List Decoded) (k : Counts) → checked ds ≡ Accepted k → Sound ds k
 unfolding checked

@@ -12,7 +12,9 @@ enum-known-c-2 : tie.Need-enum-known-c-2
 enum-known-c-2 c = search needs
 
 returns : tie.Need-returns
-returns c = rw (c .before .before .c .given .1, c .advance-at .ensures)
+returns c =
+    let after-c = c .before .before in
+    rw (after-c .c .given .1, c .advance-at .ensures)
 
 returns-2 : tie.Need-returns-2
 returns-2 c = rw (c .before .c2 .given .1)

@@ -15,7 +15,10 @@ enum-known-d-2 : tie.Need-enum-known-d-2
 enum-known-d-2 c = search needs
 
 returns : tie.Need-returns
-returns c = rw (c .before .before .before .d .given .1, c .settled .ensures, c .before .stepped .ensures)
+returns c =
+    let after-stepped = c .before in
+    let after-d = after-stepped .before .before in
+    rw (after-d .d .given .1, c .settled .ensures, after-stepped .stepped .ensures)
 
 returns-2 : tie.Need-returns-2
 returns-2 c = rw (c .before .d2 .given .1)

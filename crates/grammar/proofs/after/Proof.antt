@@ -7,25 +7,33 @@ enum-told : tie.Need-enum-told
 enum-told c = search needs
 
 after-area-requires : tie.Need-after-area-requires
-after-area-requires c κs = ltb-true _ _ (rw (c .enum-told .given .1) at (c .before .before .pre))
+after-area-requires c κs =
+    let at-entry = c .before .before in
+    ltb-true _ _ (rw (c .enum-told .given .1) at (at-entry .pre))
 
 enum-told-2 : tie.Need-enum-told-2
 enum-told-2 c = search needs
 
 after-first-requires : tie.Need-after-first-requires
-after-first-requires c κs = ltb-true _ _ (rw (c .enum-told2 .given .1) at (c .before .before .pre))
+after-first-requires c κs =
+    let at-entry = c .before .before in
+    ltb-true _ _ (rw (c .enum-told2 .given .1) at (at-entry .pre))
 
 enum-told-3 : tie.Need-enum-told-3
 enum-told-3 c = search needs
 
 after-next-requires : tie.Need-after-next-requires
-after-next-requires c κs = ltb-true _ _ (rw (c .enum-told3 .given .1) at (c .before .before .pre))
+after-next-requires c κs =
+    let at-entry = c .before .before in
+    ltb-true _ _ (rw (c .enum-told3 .given .1) at (at-entry .pre))
 
 enum-told-4 : tie.Need-enum-told-4
 enum-told-4 c = search needs
 
 after-open-requires : tie.Need-after-open-requires
-after-open-requires c κs = rw (c .enum-told4 .given .1) at (c .before .before .pre)
+after-open-requires c κs =
+    let at-entry = c .before .before in
+    rw (c .enum-told4 .given .1) at (at-entry .pre)
 
 enum-told-5 : tie.Need-enum-told-5
 enum-told-5 c = search needs

@@ -30,7 +30,10 @@ on-right-requires : tie.Need-on-right-requires
 on-right-requires c κs = search needs
 
 returns : tie.Need-returns
-returns c = rw (c .before .before .before .r .given .1, c .before .role-here .ensures)
+returns c =
+    let after-role-here = c .before in
+    let after-r = after-role-here .before .before in
+    rw (after-r .r .given .1, after-role-here .role-here .ensures)
 
 returns-2 : tie.Need-returns-2
 returns-2 c = rw (c .enum-told .given .1)

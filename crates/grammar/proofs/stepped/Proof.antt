@@ -10,7 +10,11 @@ ends-short-requires : tie.Need-ends-short-requires
 ends-short-requires c κs = search needs
 
 returns : tie.Need-returns
-returns c = rw (sym (c .before .before .before .fits2 .ensures) ∙ c .before .before .if1 .taken, sym (c .before .ends-short .ensures) ∙ c .if2 .taken)
+returns c =
+    let after-ends-short = c .before in
+    let at-if1 = after-ends-short .before in
+    let after-fits2 = at-if1 .before in
+    rw (sym (after-fits2 .fits2 .ensures) ∙ at-if1 .if1 .taken, sym (after-ends-short .ends-short .ensures) ∙ c .if2 .taken)
 
 in-limit-requires : tie.Need-in-limit-requires
 in-limit-requires c κs = search needs
@@ -19,10 +23,32 @@ after-requires : tie.Need-after-requires
 after-requires c κs = sym (c .before .in-limit .ensures) ∙ c .if3 .taken
 
 returns-2 : tie.Need-returns-2
-returns-2 c = rw (sym (c .before .before .before .before .before .before .fits2 .ensures) ∙ c .before .before .before .before .before .if1 .taken, sym (c .before .before .before .before .ends-short .ensures) ∙ c .before .before .before .if2 .left, sym (c .before .before .in-limit .ensures) ∙ c .before .if3 .taken, c .after .ensures)
+returns-2 c =
+    let at-if3 = c .before in
+    let after-in-limit = at-if3 .before in
+    let at-if2 = after-in-limit .before in
+    let after-ends-short = at-if2 .before in
+    let at-if1 = after-ends-short .before in
+    let after-fits2 = at-if1 .before in
+    rw (
+      sym (after-fits2 .fits2 .ensures) ∙ at-if1 .if1 .taken,
+      sym (after-ends-short .ends-short .ensures) ∙ at-if2 .if2 .left,
+      sym (after-in-limit .in-limit .ensures) ∙ at-if3 .if3 .taken,
+      c .after .ensures,
+    )
 
 returns-3 : tie.Need-returns-3
-returns-3 c = rw (sym (c .before .before .before .before .before .fits2 .ensures) ∙ c .before .before .before .before .if1 .taken, sym (c .before .before .before .ends-short .ensures) ∙ c .before .before .if2 .left, sym (c .before .in-limit .ensures) ∙ c .if3 .left)
+returns-3 c =
+    let after-in-limit = c .before in
+    let at-if2 = after-in-limit .before in
+    let after-ends-short = at-if2 .before in
+    let at-if1 = after-ends-short .before in
+    let after-fits2 = at-if1 .before in
+    rw (
+      sym (after-fits2 .fits2 .ensures) ∙ at-if1 .if1 .taken,
+      sym (after-ends-short .ends-short .ensures) ∙ at-if2 .if2 .left,
+      sym (after-in-limit .in-limit .ensures) ∙ c .if3 .left,
+    )
 
 returns-4 : tie.Need-returns-4
 returns-4 c = rw (sym (c .before .fits2 .ensures) ∙ c .if1 .left)
