@@ -8,13 +8,17 @@ with-area-requires c κs = search needs
 
 returns : tie.Need-returns
 returns c =
-    let at-start = c .before .before .before in
-    (rw (at-start .pre .0, c .before .before .if1 .taken, c .if2 .taken, c .before .with-area .ensures), refl)
+    let after-with-area = c .before in
+    let at-if1 = after-with-area .before in
+    let at-entry = at-if1 .before in
+    (rw (at-entry .pre .0, at-if1 .if1 .taken, c .if2 .taken, after-with-area .with-area .ensures), refl)
 
 returns-2 : tie.Need-returns-2
 returns-2 c =
-    let at-start = c .before .before .before in
-    (rw (at-start .pre .0, c .before .before .if1 .taken, c .if2 .left, c .before .with-area .ensures), refl)
+    let after-with-area = c .before in
+    let at-if1 = after-with-area .before in
+    let at-entry = at-if1 .before in
+    (rw (at-entry .pre .0, at-if1 .if1 .taken, c .if2 .left, after-with-area .with-area .ensures), refl)
 
 returns-3 : tie.Need-returns-3
 returns-3 c = (rw (c .before .pre .0, c .if1 .left), refl)
