@@ -31,7 +31,10 @@ set-top : (l : List Frame) (f : Frame) (d : ℕ) → d < length l → framesOf (
 set-top l f d h = rw (add-one d) (ap₂ (λ a b. frameOf a ∷ b) (getD-set-same l d f noFrame h) (set-beyond l f d d (omega arith)))
 
 -- the array has eight elements: so the caller's record of it says, of the elements taken apart
-pub set-top-of-eight : {B : Type 0} (g : Frame → B) (l : List Frame) (f : Frame) (d : ℕ) → length (map g l) ≡ 8 → d < 8 → framesOf (set l d f) (d + 1) ≡ frameOf f ∷ framesOf l d
+pub set-top-of-eight : {B : Type 0} (g : Frame → B) (l : List Frame) (f : Frame) (d : ℕ)
+    → length (map g l) ≡ 8
+    → d < 8
+    → framesOf (set l d f) (d + 1) ≡ frameOf f ∷ framesOf l d
 set-top-of-eight g l f d e h = set-top l f d (omega (arith, mapped l))
   where
     mapped : (x : List Frame) → length (map g x) ≡ length x
@@ -49,12 +52,18 @@ frames-some l (suc d) h =
 not-zero : (w : ℕ) → eqb (suc w) 0 ≡ false
 not-zero w = ne-eqb (suc w) 0 (λ e. omega arith)
 
-pub item-is : (p : Pruner) (isPaint : Bool) (class weight : ℕ) → itemN p isPaint class weight ≡ countStep sizedItems sizeOf (counted p) (item (kindOf isPaint) (sized (classOf class) weight))
+pub item-is : (p : Pruner) (isPaint : Bool) (class weight : ℕ)
+    → itemN p isPaint class weight ≡ countStep sizedItems sizeOf (counted p) (item (kindOf isPaint) (sized (classOf class) weight))
 unfolding counted
 item-is p isPaint class weight = go (p .skip) refl isPaint (eqb class 0) (eqb class 1)
   where
-    go : (w : ℕ) → p .skip ≡ w → (k a b : Bool)
-        → cond (eqb w 0) (cond a (inPlace p (p .weight) w) (cond b (cond k (inPlace p (p .weight + weight) 1) (inPlace p (p .base + 1) 1)) (inPlace p (p .weight + weight) 0))) (inPlace p (p .weight) w)
+    go : (w : ℕ)
+        → p .skip ≡ w
+        → (k a b : Bool)
+        → cond (eqb w 0)
+        (cond a (inPlace p (p .weight) w)
+        (cond b (cond k (inPlace p (p .weight + weight) 1) (inPlace p (p .base + 1) 1)) (inPlace p (p .weight + weight) 0)))
+        (inPlace p (p .weight) w)
         ≡ countStep sizedItems sizeOf (inPlace p (p .weight) w) (item (kindOf k) (sized (cond a fails (cond b passes other)) weight))
     go zero e k true b = refl
     go zero e true false true = refl
@@ -66,7 +75,11 @@ pub open-is : (p : Pruner) → openN p ≡ countStep sizedItems sizeOf (counted 
 unfolding counted
 open-is p = go (p .skip)
   where
-    go : (w : ℕ) → cond (eqb w 0) (ct (p .weight + 1) (p .weight + 1) going (Pruning.frame left (p .weight) (p .base) ∷ framesOf (p .frames) (p .depth))) (inPlace p (p .weight) (w + 1)) ≡ countStep sizedItems sizeOf (inPlace p (p .weight) w) push
+    go : (w : ℕ)
+        → cond (eqb w 0)
+        (ct (p .weight + 1) (p .weight + 1) going (Pruning.frame left (p .weight) (p .base) ∷ framesOf (p .frames) (p .depth)))
+        (inPlace p (p .weight) (w + 1))
+        ≡ countStep sizedItems sizeOf (inPlace p (p .weight) w) push
     go zero = refl
     go (suc w) = rw (not-zero w, add-one (suc w))
 
@@ -79,15 +92,24 @@ module _ (p : Pruner) (d : ℕ) (f : Frame) (few : p .skip ≤ 1) (top : framesO
   unfolding counted
   bar-is = rw top (go (p .skip) few (eqb (f .mode) 0) (eqb (f .mode) 1) (eqb (f .mode) 2))
     where
-      go : (w : ℕ) → w ≤ 1 → (a b c : Bool)
+      go : (w : ℕ)
+          → w ≤ 1
+          → (a b c : Bool)
           → cond a
           (cond (eqb w 1) (ct (f .start) (f .outer) going (Pruning.frame through (f .outer) (f .outer) ∷ rest))
-          (cond (eqb (p .weight) (p .base)) (ct (f .start) (f .outer) (shut 0) (Pruning.frame dead (f .outer) (f .outer) ∷ rest)) (ct (p .weight + 1) (p .weight + 1) going (Pruning.frame right (f .start) (f .outer) ∷ rest))))
-          (ct (p .weight) (p .base) (skipOf w) (Pruning.frame (cond a left (cond b right (cond c through dead))) (f .start) (f .outer) ∷ rest))
-          ≡ countStep sizedItems sizeOf (ct (p .weight) (p .base) (skipOf w) (Pruning.frame (cond a left (cond b right (cond c through dead))) (f .start) (f .outer) ∷ rest)) activate
+          (cond (eqb (p .weight) (p .base)) (ct (f .start) (f .outer) (shut 0) (Pruning.frame dead (f .outer) (f .outer) ∷ rest))
+          (ct (p .weight + 1) (p .weight + 1) going (Pruning.frame right (f .start) (f .outer) ∷ rest))))
+          (ct (p .weight) (p .base) (skipOf w)
+          (Pruning.frame (cond a left (cond b right (cond c through dead))) (f .start) (f .outer) ∷ rest))
+          ≡ countStep sizedItems sizeOf
+          (ct (p .weight) (p .base) (skipOf w)
+          (Pruning.frame (cond a left (cond b right (cond c through dead))) (f .start) (f .outer) ∷ rest))
+          activate
       go zero h true b c = each (eqb (p .weight) (p .base))
         where
-          each : (t : Bool) → cond t (ct (f .start) (f .outer) (shut 0) (Pruning.frame dead (f .outer) (f .outer) ∷ rest)) (ct (p .weight + 1) (p .weight + 1) going (Pruning.frame right (f .start) (f .outer) ∷ rest))
+          each : (t : Bool)
+              → cond t (ct (f .start) (f .outer) (shut 0) (Pruning.frame dead (f .outer) (f .outer) ∷ rest))
+              (ct (p .weight + 1) (p .weight + 1) going (Pruning.frame right (f .start) (f .outer) ∷ rest))
               ≡ countKeepLeft sizedItems sizeOf t (f .start) (f .outer) (p .weight) rest
           each true = refl
           each false = refl
@@ -104,14 +126,24 @@ module _ (p : Pruner) (d : ℕ) (f : Frame) (few : p .skip ≤ 1) (top : framesO
   unfolding counted
   close-is = rw top (go (p .skip) few (eqb (f .mode) 0) (eqb (f .mode) 1) (eqb (f .mode) 2))
     where
-      each : (t : Bool) → cond t (ct (f .start) (f .outer) going rest) (ct (p .weight + 1) (f .outer) going rest) ≡ countKeepRight sizedItems sizeOf t (f .start) (f .outer) (p .weight) rest
+      each : (t : Bool)
+          → cond t (ct (f .start) (f .outer) going rest) (ct (p .weight + 1) (f .outer) going rest)
+          ≡ countKeepRight sizedItems sizeOf t (f .start) (f .outer) (p .weight) rest
       each true = refl
       each false = refl
 
-      go : (w : ℕ) → w ≤ 1 → (a b c : Bool)
-          → cond a (ct (p .weight) (p .base) (skipOf w) (Pruning.frame (cond a left (cond b right (cond c through dead))) (f .start) (f .outer) ∷ rest))
-          (cond b (cond (eqb (p .weight) (p .base)) (ct (f .start) (f .outer) going rest) (ct (p .weight + 1) (f .outer) going rest)) (cond c (ct (p .weight) (p .base) (skipOf w) rest) (ct (p .weight) (f .outer) going rest)))
-          ≡ countStep sizedItems sizeOf (ct (p .weight) (p .base) (skipOf w) (Pruning.frame (cond a left (cond b right (cond c through dead))) (f .start) (f .outer) ∷ rest)) pop
+      go : (w : ℕ)
+          → w ≤ 1
+          → (a b c : Bool)
+          → cond a
+          (ct (p .weight) (p .base) (skipOf w)
+          (Pruning.frame (cond a left (cond b right (cond c through dead))) (f .start) (f .outer) ∷ rest))
+          (cond b (cond (eqb (p .weight) (p .base)) (ct (f .start) (f .outer) going rest) (ct (p .weight + 1) (f .outer) going rest))
+          (cond c (ct (p .weight) (p .base) (skipOf w) rest) (ct (p .weight) (f .outer) going rest)))
+          ≡ countStep sizedItems sizeOf
+          (ct (p .weight) (p .base) (skipOf w)
+          (Pruning.frame (cond a left (cond b right (cond c through dead))) (f .start) (f .outer) ∷ rest))
+          pop
       go zero h true b c = refl
       go zero h false true c = each (eqb (p .weight) (p .base))
       go zero h false false true = refl

@@ -57,6 +57,9 @@ near-same weight c = record { weight-near = omega arith; base-same = refl; depth
 pub item-near : (k : Kind) (d : Items.Class) (weight : ℕ) (c : Count) → Near weight c (countStep sizedItems sizeOf c (item k (sized d weight)))
 item-near k d weight (ct n b (shut m) fs) = near-same weight (ct n b (shut m) fs)
 item-near k fails weight (ct n b going fs) = near-same weight (ct n b going fs)
-item-near paint passes weight (ct n b going fs) = record { weight-near = omega arith; base-same = refl; depth-same = refl; skip-near = omega arith; skip-zero = λ e. refl }
-item-near clip passes weight (ct n b going fs) = record { weight-near = omega arith; base-same = refl; depth-same = refl; skip-near = omega arith; skip-zero = λ e. refl }
-item-near k other weight (ct n b going fs) = record { weight-near = omega arith; base-same = refl; depth-same = refl; skip-near = omega arith; skip-zero = λ e. refl }
+item-near paint passes weight (ct n b going fs) =
+    record { weight-near = omega arith; base-same = refl; depth-same = refl; skip-near = omega arith; skip-zero = λ e. refl }
+item-near clip passes weight (ct n b going fs) =
+    record { weight-near = omega arith; base-same = refl; depth-same = refl; skip-near = omega arith; skip-zero = λ e. refl }
+item-near k other weight (ct n b going fs) =
+    record { weight-near = omega arith; base-same = refl; depth-same = refl; skip-near = omega arith; skip-zero = λ e. refl }

@@ -19,7 +19,14 @@ at-bar-requires : tie.Need-at-bar-requires
 at-bar-requires c κs = search needs
 
 returns-2 : tie.Need-returns-2
-returns-2 c = c .at-bar .ensures ∙ bar-is (c .before .before .before .before .before .before .before .args .p) (c .before .before .before .before .before .before .before .args .p .depth - 1) (c .before .frame-at .result) (search needs) (rw (c .before .frame-at .ensures) (frames-some (c .before .before .before .before .before .before .before .args .p .frames) (c .before .before .before .before .before .before .before .args .p .depth) (omega (arith, c .before .before .before .if2 .left))))
+returns-2 c =
+    let after-frame-at = c .before in
+    let at-if2 = after-frame-at .before .before in
+    let at-entry = at-if2 .before .before .before .before in
+    c .at-bar .ensures
+    ∙ bar-is (at-entry .args .p) (at-entry .args .p .depth - 1) (after-frame-at .frame-at .result) (search needs)
+    (rw (after-frame-at .frame-at .ensures)
+    (frames-some (at-entry .args .p .frames) (at-entry .args .p .depth) (omega (arith, at-if2 .if2 .left))))
 
 returns-3 : tie.Need-returns-3
 returns-3 c = bar-deep _ (search needs)

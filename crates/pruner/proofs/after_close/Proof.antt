@@ -19,7 +19,14 @@ at-close-requires : tie.Need-at-close-requires
 at-close-requires c κs = search needs
 
 returns-2 : tie.Need-returns-2
-returns-2 c = c .at-close .ensures ∙ close-is (c .before .before .before .before .before .before .before .args .p) (c .before .before .before .before .before .before .before .args .p .depth - 1) (c .before .frame-at .result) (search needs) (rw (c .before .frame-at .ensures) (frames-some (c .before .before .before .before .before .before .before .args .p .frames) (c .before .before .before .before .before .before .before .args .p .depth) (omega (arith, c .before .before .before .if2 .left))))
+returns-2 c =
+    let after-frame-at = c .before in
+    let at-if2 = after-frame-at .before .before in
+    let at-entry = at-if2 .before .before .before .before in
+    c .at-close .ensures
+    ∙ close-is (at-entry .args .p) (at-entry .args .p .depth - 1) (after-frame-at .frame-at .result) (search needs)
+    (rw (after-frame-at .frame-at .ensures)
+    (frames-some (at-entry .args .p .frames) (at-entry .args .p .depth) (omega (arith, at-if2 .if2 .left))))
 
 sub-unframed : tie.Need-sub-unframed
 sub-unframed c = search needs

@@ -11,10 +11,15 @@ add-framed-2 : tie.Need-add-framed-2
 add-framed-2 c = search needs
 
 framed-requires : tie.Need-framed-requires
-framed-requires c κs = c .before .before .before .before .pre .1 .1 (c .before .before .if1 .taken)
+framed-requires c κs =
+    let at-if1 = c .before .before in
+    let at-entry = at-if1 .before .before in
+    at-entry .pre .1 .1 (at-if1 .if1 .taken)
 
 returns : tie.Need-returns
-returns c = open-by (c .before .before .before .before .before .args .p) _ (search tests)
+returns c =
+    let at-entry = c .before .before .before .before .before in
+    open-by (at-entry .args .p) _ (search tests)
 
 add-unframed : tie.Need-add-unframed
 add-unframed c = search needs
@@ -23,7 +28,9 @@ unframed-requires : tie.Need-unframed-requires
 unframed-requires c κs = search needs
 
 returns-2 : tie.Need-returns-2
-returns-2 c = open-by (c .before .before .before .before .args .p) _ (search tests)
+returns-2 c =
+    let at-entry = c .before .before .before .before in
+    open-by (at-entry .args .p) _ (search tests)
 
 pub after-open-spec : {M : Type 1} → statement M
 after-open-spec =

@@ -15,7 +15,10 @@ add-t8 c = search needs
 
 returns : tie.Need-returns
 unfolding counted
-returns c = rw (set-top-of-eight _ (c .before .args .p .frames) (c .before .args .f) (c .before .args .d) (c .before .good .0 .1 .1 .1 .1 .1 .1 .0 .1 .0 .1) (search needs))
+returns c =
+    let at-entry = c .before in
+    rw (set-top-of-eight _ (at-entry .args .p .frames) (at-entry .args .f) (at-entry .args .d)
+    (at-entry .good .0 .1 .1 .1 .1 .1 .1 .0 .1 .0 .1) (search needs))
 
 pub framed-spec : {M : Type 1} → statement M
 framed-spec = tie.close (tie.spec mul-frames array-set-from-frames add-t8 returns)
