@@ -44,7 +44,11 @@ pub filed : (b : List ℕ) (k : Counts) → verdictOf b ≡ Accepted k → Filed
 unfolding verdictOf
 filed b k = go (eqb (length b % 16) 0) (leb (length b / 16) 4096) refl refl
   where
-    go : (a d : Bool) → eqb (length b % 16) 0 ≡ a → leb (length b / 16) 4096 ≡ d → cond a (cond d (checked (decodedIn b)) (Refused Length 0)) (Refused Length 0) ≡ Accepted k → Filed b k
+    go : (a d : Bool)
+        → eqb (length b % 16) 0 ≡ a
+        → leb (length b / 16) 4096 ≡ d
+        → cond a (cond d (checked (decodedIn b)) (Refused Length 0)) (Refused Length 0) ≡ Accepted k
+        → Filed b k
     go false d p q e = refused-not Length 0 k e
     go true false p q e = refused-not Length 0 k e
     go true true p q e =
@@ -134,7 +138,10 @@ module _ (b : List ℕ) (k : Counts) (c : Filed b k) where
   pub room-3 : (m : ℕ) → k .corners ≤ m → 0 + length (spread (wordsOf 3) (goods (decodedFrom b 0 (k .records)))) ≤ m
   room-3 m h = rw (← same-part, spread-3 (recordsIn b), ys-length (recordsIn b)) (omega (arith, c .corners))
 
-  pub left-0 : (t t₁ t₂ : List ℕ) → t₁ ≡ set (set (set t 0 (k .records)) 1 (k .areas)) 2 (k .corners) → t₂ ≡ sets t₁ 3 (spread (wordsOf 0) (goods (decodedFrom b 0 (k .records)))) → t₂ ≡ sets t 0 (planWords (recordsIn b))
+  pub left-0 : (t t₁ t₂ : List ℕ)
+      → t₁ ≡ set (set (set t 0 (k .records)) 1 (k .areas)) 2 (k .corners)
+      → t₂ ≡ sets t₁ 3 (spread (wordsOf 0) (goods (decodedFrom b 0 (k .records))))
+      → t₂ ≡ sets t 0 (planWords (recordsIn b))
   left-0 t t₁ t₂ p q = q ∙ rw (p, ← same-part, spread-0 (recordsIn b), c .records, c .areas, c .corners)
 
   pub left-1 : (t t₁ : List ℕ) → t₁ ≡ sets t 0 (spread (wordsOf 1) (goods (decodedFrom b 0 (k .records)))) → t₁ ≡ sets t 0 (spread areaW (recordsIn b))

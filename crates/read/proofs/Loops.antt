@@ -42,9 +42,16 @@ unfolding scanN
 scan-turn b i e s s′ whole d h p q inv = rw (q, p) (rw (from-step b i e h) at inv)
 
 -- a scan that stopped is the whole
-pub scan-stops : (b : List ℕ) (i e : ℕ) (s s′ whole : Scan) (d : Decoded) (t : Bool) → i < e → d ≡ decodedRaw (rawAt b i) → s′ ≡ advanceN s d i → t ≡ isStopped s′ → t ≡ true
-    → scanN s i (decodedFrom b i (e - i)) ≡ whole → s′ ≡ whole
-scan-stops b i e s s′ whole d t h p q u v inv = sym (stopped-stays s′ (i + 1) (decodedFrom b (i + 1) (e - (i + 1))) (sym u ∙ v)) ∙ scan-turn b i e s s′ whole d h p q inv
+pub scan-stops : (b : List ℕ) (i e : ℕ) (s s′ whole : Scan) (d : Decoded) (t : Bool)
+    → i < e
+    → d ≡ decodedRaw (rawAt b i)
+    → s′ ≡ advanceN s d i
+    → t ≡ isStopped s′
+    → t ≡ true
+    → scanN s i (decodedFrom b i (e - i)) ≡ whole
+    → s′ ≡ whole
+scan-stops b i e s s′ whole d t h p q u v inv =
+    sym (stopped-stays s′ (i + 1) (decodedFrom b (i + 1) (e - (i + 1))) (sym u ∙ v)) ∙ scan-turn b i e s s′ whole d h p q inv
 
 pub scan-done : (b : List ℕ) (i e : ℕ) (s whole : Scan) → e ≤ i → scanN s i (decodedFrom b i (e - i)) ≡ whole → s ≡ whole
 unfolding scanN
@@ -56,16 +63,27 @@ pub record Filling (f : Record → List ℕ) (b : List ℕ) (n : ℕ) (t₀ : Li
   pub room : at + length (spread f (goods (decodedFrom b i (n - i)))) ≤ length t
   pub rest : sets t at (spread f (goods (decodedFrom b i (n - i)))) ≡ sets t₀ first (spread f (goods (decodedFrom b 0 n)))
 
-pub fill-begin : (f : Record → List ℕ) (b : List ℕ) (n : ℕ) (t : List ℕ) (first : ℕ) → first + length (spread f (goods (decodedFrom b 0 n))) ≤ length t → Filling f b n t first t 0 first
+pub fill-begin : (f : Record → List ℕ) (b : List ℕ) (n : ℕ) (t : List ℕ) (first : ℕ)
+    → first + length (spread f (goods (decodedFrom b 0 n))) ≤ length t
+    → Filling f b n t first t 0 first
 fill-begin f b n t first h = record { size = refl; room = rw (from-zero b n) h; rest = rw (from-zero b n) }
 
-pub fill-room : (f : Record → List ℕ) (b : List ℕ) (n : ℕ) (t₀ : List ℕ) (first : ℕ) (t : List ℕ) (i at : ℕ) (d : Decoded) → i < n → d ≡ decodedRaw (rawAt b i) → Filling f b n t₀ first t i at → at + length (onGood f d) ≤ length t
+pub fill-room : (f : Record → List ℕ) (b : List ℕ) (n : ℕ) (t₀ : List ℕ) (first : ℕ) (t : List ℕ) (i at : ℕ) (d : Decoded)
+    → i < n
+    → d ≡ decodedRaw (rawAt b i)
+    → Filling f b n t₀ first t i at
+    → at + length (onGood f d) ≤ length t
 fill-room f b n t₀ first t i at d h p c =
     let r : at + length (spread f (goods (d ∷ decodedFrom b (i + 1) (n - (i + 1))))) ≤ length t = rw p (rw (from-step b i n h) at (c .room)) in
     omega (arith, length-on f d (decodedFrom b (i + 1) (n - (i + 1))))
 
-pub fill-turn : (f : Record → List ℕ) (b : List ℕ) (n : ℕ) (t₀ : List ℕ) (first : ℕ) (t t′ : List ℕ) (i at at′ : ℕ) (d : Decoded) → i < n → d ≡ decodedRaw (rawAt b i) → at′ ≡ at + length (onGood f d) → t′ ≡ sets t at (onGood f d)
-    → Filling f b n t₀ first t i at → Filling f b n t₀ first t′ (i + 1) at′
+pub fill-turn : (f : Record → List ℕ) (b : List ℕ) (n : ℕ) (t₀ : List ℕ) (first : ℕ) (t t′ : List ℕ) (i at at′ : ℕ) (d : Decoded)
+    → i < n
+    → d ≡ decodedRaw (rawAt b i)
+    → at′ ≡ at + length (onGood f d)
+    → t′ ≡ sets t at (onGood f d)
+    → Filling f b n t₀ first t i at
+    → Filling f b n t₀ first t′ (i + 1) at′
 fill-turn f b n t₀ first t t′ i at at′ d h p q r c =
     let ds : List Decoded = decodedFrom b (i + 1) (n - (i + 1)) in
     let w : at + length (spread f (goods (d ∷ ds))) ≤ length t = rw p (rw (from-step b i n h) at (c .room)) in
@@ -76,6 +94,9 @@ fill-turn f b n t₀ first t t′ i at at′ d h p q r c =
       rest = turn-table f t t′ at at′ d ds r q ∙ rw p (rw (from-step b i n h) at (c .rest));
     }
 
-pub fill-done : (f : Record → List ℕ) (b : List ℕ) (n : ℕ) (t₀ : List ℕ) (first : ℕ) (t : List ℕ) (i at : ℕ) → n ≤ i → Filling f b n t₀ first t i at → t ≡ sets t₀ first (spread f (goods (decodedFrom b 0 n)))
+pub fill-done : (f : Record → List ℕ) (b : List ℕ) (n : ℕ) (t₀ : List ℕ) (first : ℕ) (t : List ℕ) (i at : ℕ)
+    → n ≤ i
+    → Filling f b n t₀ first t i at
+    → t ≡ sets t₀ first (spread f (goods (decodedFrom b 0 n)))
 unfolding spread
 fill-done f b n t₀ first t i at h c = rw (from-none b i n h) at (c .rest)

@@ -40,8 +40,15 @@ one-room m at x ws e h = rw e at h
 pub row-at : (n at : ℕ) (f : Fields) (ws : List ℕ) → ws ≡ rowW f → n ≡ at + 8 → n ≡ at + length ws
 row-at n at f ws e h = rw e h
 
-pub row-table : (t t′ : List ℕ) (at : ℕ) (f : Fields) (ws : List ℕ) → ws ≡ rowW f
-    → t′ ≡ set (set (set (set (set (set (set (set t at (f .role)) (at + 1) (f .rule)) (at + 2) (f .alpha)) (at + 3) (f .red)) (at + 4) (f .green)) (at + 5) (f .blue)) (at + 6) (f .material)) (at + 7) 0
+pub row-table : (t t′ : List ℕ) (at : ℕ) (f : Fields) (ws : List ℕ)
+    → ws ≡ rowW f
+    → t′
+    ≡ set
+    (set
+    (set (set (set (set (set (set t at (f .role)) (at + 1) (f .rule)) (at + 2) (f .alpha)) (at + 3) (f .red)) (at + 4) (f .green)) (at + 5)
+    (f .blue))
+    (at + 6) (f .material))
+    (at + 7) 0
     → t′ ≡ sets t at ws
 row-table t t′ at f ws e h = rw e (h ∙ simp towards-suc)
 
@@ -71,10 +78,13 @@ unfolding spread
 spread-on f (Good r) ds = refl
 spread-on f (Bad x) ds = refl
 
-pub length-on : (f : Record → List ℕ) (d : Decoded) (ds : List Decoded) → length (spread f (goods (d ∷ ds))) ≡ length (onGood f d) + length (spread f (goods ds))
+pub length-on : (f : Record → List ℕ) (d : Decoded) (ds : List Decoded)
+    → length (spread f (goods (d ∷ ds))) ≡ length (onGood f d) + length (spread f (goods ds))
 length-on f d ds = ap length (spread-on f d ds) ∙ length-append (onGood f d) (spread f (goods ds))
 
 -- a turn of a loop that writes what was decoded
-pub turn-table : (f : Record → List ℕ) (t t′ : List ℕ) (at at′ : ℕ) (d : Decoded) (ds : List Decoded) → t′ ≡ sets t at (onGood f d) → at′ ≡ at + length (onGood f d)
+pub turn-table : (f : Record → List ℕ) (t t′ : List ℕ) (at at′ : ℕ) (d : Decoded) (ds : List Decoded)
+    → t′ ≡ sets t at (onGood f d)
+    → at′ ≡ at + length (onGood f d)
     → sets t′ at′ (spread f (goods ds)) ≡ sets t at (spread f (goods (d ∷ ds)))
 turn-table f t t′ at at′ d ds p q = rw (p, q, spread-on f d ds) (sets-append t at (onGood f d) (spread f (goods ds)))

@@ -15,7 +15,12 @@ ended-requires c κs = search needs
 
 returns : tie.Need-returns
 unfolding verdictOf
-returns c = rw (eq-eqb _ _ (c .before .before .before .if1 .taken), le-leb _ _ (c .before .before .if2 .taken), c .ended .ensures, c .before .scan-records .ensures) (checked-is _ _ (sym (length-from _ _ _)))
+returns c =
+    let after-scan-records = c .before in
+    let at-if2 = after-scan-records .before in
+    let at-if1 = at-if2 .before in
+    rw (eq-eqb _ _ (at-if1 .if1 .taken), le-leb _ _ (at-if2 .if2 .taken), c .ended .ensures, after-scan-records .scan-records .ensures)
+    (checked-is _ _ (sym (length-from _ _ _)))
 
 returns-2 : tie.Need-returns-2
 unfolding verdictOf

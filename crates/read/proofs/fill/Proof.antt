@@ -7,7 +7,12 @@ use Rattle.read.proofs.fill.Statement.{statement}
 use Rattle.read.proofs.fill.Tie as tie
 
 abbrev Inv-loop : tie.InvT-loop
-Inv-loop records n plan₀ areas₀ xs₀ ys₀ kind₀ area₀ x₀ y₀ i₀ plan areas xs ys kind area x y i = (i ≤ n) × Filling (wordsOf 0) records n plan₀ 3 plan i kind × Filling (wordsOf 1) records n areas₀ 0 areas i area × Filling (wordsOf 2) records n xs₀ 0 xs i x × Filling (wordsOf 3) records n ys₀ 0 ys i y
+Inv-loop records n plan₀ areas₀ xs₀ ys₀ kind₀ area₀ x₀ y₀ i₀ plan areas xs ys kind area x y i =
+    (i ≤ n)
+    × Filling (wordsOf 0) records n plan₀ 3 plan i kind
+    × Filling (wordsOf 1) records n areas₀ 0 areas i area
+    × Filling (wordsOf 2) records n xs₀ 0 xs i x
+    × Filling (wordsOf 3) records n ys₀ 0 ys i y
 
 abbrev μ-loop : tie.MeasureT-loop
 μ-loop records n plan₀ areas₀ xs₀ ys₀ kind₀ area₀ x₀ y₀ i₀ plan areas xs ys kind area x y i = n - i
@@ -38,8 +43,23 @@ loop-less c = search needs
 
 loop-again : tie.Need-loop-again Inv-loop μ-loop
 loop-again c =
-    let l = c .before .before .before .before .before .before .before .before .before .before .before .before .before .before .before .before .before in
-    (search needs, fill-turn _ _ _ _ _ _ _ _ _ _ _ (l .loop-test .taken) (c .before .before .before .before .before .before .before .before .before .before .before .before .before .before .before .before .read-record .ensures) (c .before .before .before .before .before .before .before .before .before .before .before .before .before .before .put-decoded .ensures .0) (c .before .before .before .before .before .before .before .before .before .before .before .before .before .before .put-decoded .ensures .1) (l .before .loop .inv .1), fill-turn _ _ _ _ _ _ _ _ _ _ _ (l .loop-test .taken) (c .before .before .before .before .before .before .before .before .before .before .before .before .before .before .before .before .read-record .ensures) (c .before .before .before .before .before .before .before .before .before .before .put-decoded2 .ensures .0) (c .before .before .before .before .before .before .before .before .before .before .put-decoded2 .ensures .1) (l .before .loop .inv .2), fill-turn _ _ _ _ _ _ _ _ _ _ _ (l .loop-test .taken) (c .before .before .before .before .before .before .before .before .before .before .before .before .before .before .before .before .read-record .ensures) (c .before .before .before .before .before .before .put-decoded3 .ensures .0) (c .before .before .before .before .before .before .put-decoded3 .ensures .1) (l .before .loop .inv .3), fill-turn _ _ _ _ _ _ _ _ _ _ _ (l .loop-test .taken) (c .before .before .before .before .before .before .before .before .before .before .before .before .before .before .before .before .read-record .ensures) (c .before .before .put-decoded4 .ensures .0) (c .before .before .put-decoded4 .ensures .1) (l .before .loop .inv .4))
+    let after-put-decoded4 = c .before .before in
+    let after-put-decoded3 = after-put-decoded4 .before .before .before .before in
+    let after-put-decoded2 = after-put-decoded3 .before .before .before .before in
+    let after-put-decoded = after-put-decoded2 .before .before .before .before in
+    let after-read-record = after-put-decoded .before .before in
+    let at-loop-test = after-read-record .before in
+    let at-loop = at-loop-test .before in (
+      search needs,
+      fill-turn _ _ _ _ _ _ _ _ _ _ _ (at-loop-test .loop-test .taken) (after-read-record .read-record .ensures)
+          (after-put-decoded .put-decoded .ensures .0) (after-put-decoded .put-decoded .ensures .1) (at-loop .loop .inv .1),
+      fill-turn _ _ _ _ _ _ _ _ _ _ _ (at-loop-test .loop-test .taken) (after-read-record .read-record .ensures)
+          (after-put-decoded2 .put-decoded2 .ensures .0) (after-put-decoded2 .put-decoded2 .ensures .1) (at-loop .loop .inv .2),
+      fill-turn _ _ _ _ _ _ _ _ _ _ _ (at-loop-test .loop-test .taken) (after-read-record .read-record .ensures)
+          (after-put-decoded3 .put-decoded3 .ensures .0) (after-put-decoded3 .put-decoded3 .ensures .1) (at-loop .loop .inv .3),
+      fill-turn _ _ _ _ _ _ _ _ _ _ _ (at-loop-test .loop-test .taken) (after-read-record .read-record .ensures)
+          (after-put-decoded4 .put-decoded4 .ensures .0) (after-put-decoded4 .put-decoded4 .ensures .1) (at-loop .loop .inv .4),
+    )
 
 same-length : tie.Need-same-length Inv-loop μ-loop
 same-length c = search needs

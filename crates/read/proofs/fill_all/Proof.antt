@@ -10,8 +10,15 @@ put-header-requires c κs = search needs
 
 fill-requires : tie.Need-fill-requires
 fill-requires c κs =
-    let p = c .before .before .before .before .before .before .before .before .before .before .before .before .before .pre in
-    (omega (arith, p .0 .whole), (room-0 _ _ (p .0) _ (rw (c .before .before .before .before .before .before .put-header .ensures) (simp length-set (p .1 .0))), (room-1 _ _ (p .0) _ (p .1 .1), (room-2 _ _ (p .0) _ (p .1 .2), room-3 _ _ (p .0) _ (p .1 .3)))))
+    let after-put-header = c .before .before .before .before .before .before in
+    let at-entry = after-put-header .before .before .before .before .before .before .before in
+    let p = at-entry .pre in (
+      omega (arith, p .0 .whole),
+      (
+        room-0 _ _ (p .0) _ (rw (after-put-header .put-header .ensures) (simp length-set (p .1 .0))),
+        (room-1 _ _ (p .0) _ (p .1 .1), (room-2 _ _ (p .0) _ (p .1 .2), room-3 _ _ (p .0) _ (p .1 .3))),
+      ),
+    )
 
 same-length : tie.Need-same-length
 same-length c = search needs
@@ -27,9 +34,14 @@ same-length-4 c = search needs
 
 returns : tie.Need-returns
 returns c =
-    let f = c .before .before .before .before .before .before .before .before .before .before .before .before .before .before .before .before .before .before .before .before .before .before .pre .0 in
-    let e = c .before .before .before .before .before .before .before .before .fill .ensures in
-    (left-0 _ _ f (c .before .before .before .before .before .before .before .before .before .before .before .before .before .before .before .before .before .before .before .before .before .before .args .plan .now) _ _ (c .before .before .before .before .before .before .before .before .before .before .before .before .before .before .before .put-header .ensures) (e .0), (left-1 _ _ f _ _ (e .1 .0), (left-2 _ _ f _ _ (e .1 .1 .0), left-3 _ _ f _ _ (e .1 .1 .1))))
+    let after-fill = c .before .before .before .before .before .before .before .before in
+    let after-put-header = after-fill .before .before .before .before .before .before .before in
+    let at-entry = after-put-header .before .before .before .before .before .before .before in
+    let f = at-entry .pre .0 in
+    let e = after-fill .fill .ensures in (
+      left-0 _ _ f (at-entry .args .plan .now) _ _ (after-put-header .put-header .ensures) (e .0),
+      (left-1 _ _ f _ _ (e .1 .0), (left-2 _ _ f _ _ (e .1 .1 .0), left-3 _ _ f _ _ (e .1 .1 .1))),
+    )
 
 pub fill-all-spec : {M : Type 1} → statement M
 fill-all-spec =

@@ -9,7 +9,10 @@ enum-known-r : tie.Need-enum-known-r
 enum-known-r c = search needs
 
 put-row-requires : tie.Need-put-row-requires
-put-row-requires c κs = row-room _ _ _ _ (ap areaW (c .before .before .r .given .1)) (c .before .before .before .before .before .pre)
+put-row-requires c κs =
+    let after-r = c .before .before in
+    let at-entry = after-r .before .before .before in
+    row-room _ _ _ _ (ap areaW (after-r .r .given .1)) (at-entry .pre)
 
 enum-told : tie.Need-enum-told
 enum-told c = search needs
@@ -30,7 +33,12 @@ same-length : tie.Need-same-length
 same-length c = search needs
 
 returns : tie.Need-returns
-returns c = (row-at _ _ _ _ (ap areaW (c .before .before .before .before .before .r .given .1)) (c .before .before .put-row .ensures .0), row-table _ _ _ _ _ (ap areaW (c .before .before .before .before .before .r .given .1)) (c .before .before .put-row .ensures .1))
+returns c =
+    let after-put-row = c .before .before in
+    let after-r = after-put-row .before .before .before in (
+      row-at _ _ _ _ (ap areaW (after-r .r .given .1)) (after-put-row .put-row .ensures .0),
+      row-table _ _ _ _ _ (ap areaW (after-r .r .given .1)) (after-put-row .put-row .ensures .1),
+    )
 
 returns-2 : tie.Need-returns-2
 returns-2 c = (none-at _ _ (ap areaW (c .enum-told .given .1)), none-table _ _ _ (ap areaW (c .enum-told .given .1)))

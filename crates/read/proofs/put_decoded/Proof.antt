@@ -9,7 +9,10 @@ enum-known-d : tie.Need-enum-known-d
 enum-known-d c = search needs
 
 put-record-requires : tie.Need-put-record-requires
-put-record-requires c κs = rw (c .before .before .d .given .1) at (c .before .before .before .before .before .pre)
+put-record-requires c κs =
+    let after-d = c .before .before in
+    let at-entry = after-d .before .before .before in
+    rw (after-d .d .given .1) at (at-entry .pre)
 
 enum-told : tie.Need-enum-told
 enum-told c = search needs
@@ -18,7 +21,12 @@ same-length : tie.Need-same-length
 same-length c = search needs
 
 returns : tie.Need-returns
-returns c = (rw (c .before .before .before .before .before .d .given .1) (c .before .before .put-record .ensures .0), rw (c .before .before .before .before .before .d .given .1) (c .before .before .put-record .ensures .1))
+returns c =
+    let after-put-record = c .before .before in
+    let after-d = after-put-record .before .before .before in (
+      rw (after-d .d .given .1) (after-put-record .put-record .ensures .0),
+      rw (after-d .d .given .1) (after-put-record .put-record .ensures .1),
+    )
 
 returns-2 : tie.Need-returns-2
 returns-2 c = (none-at _ _ (ap (onGood (wordsOf _)) (c .enum-told .given .1)), none-table _ _ _ (ap (onGood (wordsOf _)) (c .enum-told .given .1)))

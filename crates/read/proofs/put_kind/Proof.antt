@@ -12,7 +12,10 @@ same-length : tie.Need-same-length
 same-length c = search needs
 
 returns : tie.Need-returns
-returns c = (c .before .before .put-word .ensures .0, rw (← c .before .before .before .before .kind-of .ensures) (c .before .before .put-word .ensures .1))
+returns c =
+    let after-put-word = c .before .before in
+    let after-kind-of = after-put-word .before .before in
+    (after-put-word .put-word .ensures .0, rw (← after-kind-of .kind-of .ensures) (after-put-word .put-word .ensures .1))
 
 pub put-kind-spec : {M : Type 1} → statement M
 put-kind-spec = tie.close (tie.spec kind-of-requires put-word-requires same-length returns)

@@ -12,13 +12,19 @@ enum-known-r : tie.Need-enum-known-r
 enum-known-r c = search needs
 
 put-word-requires : tie.Need-put-word-requires
-put-word-requires c κs = one-room _ _ _ _ (ap xW (c .before .before .r .given .1)) (c .before .before .before .before .before .pre)
+put-word-requires c κs =
+    let after-r = c .before .before in
+    let at-entry = after-r .before .before .before in
+    one-room _ _ _ _ (ap xW (after-r .r .given .1)) (at-entry .pre)
 
 enum-known-r-2 : tie.Need-enum-known-r-2
 enum-known-r-2 c = search needs
 
 put-word-requires-2 : tie.Need-put-word-requires-2
-put-word-requires-2 c κs = one-room _ _ _ _ (ap xW (c .before .before .r2 .given .1)) (c .before .before .before .before .before .pre)
+put-word-requires-2 c κs =
+    let after-r2 = c .before .before in
+    let at-entry = after-r2 .before .before .before in
+    one-room _ _ _ _ (ap xW (after-r2 .r2 .given .1)) (at-entry .pre)
 
 enum-told-2 : tie.Need-enum-told-2
 enum-told-2 c = search needs
@@ -36,13 +42,23 @@ same-length : tie.Need-same-length
 same-length c = search needs
 
 returns-2 : tie.Need-returns-2
-returns-2 c = (one-at _ _ _ _ (ap xW (c .before .before .before .before .before .r .given .1)) (c .before .before .put-word .ensures .0), one-table _ _ _ _ _ (ap xW (c .before .before .before .before .before .r .given .1)) (c .before .before .put-word .ensures .1))
+returns-2 c =
+    let after-put-word = c .before .before in
+    let after-r = after-put-word .before .before .before in (
+      one-at _ _ _ _ (ap xW (after-r .r .given .1)) (after-put-word .put-word .ensures .0),
+      one-table _ _ _ _ _ (ap xW (after-r .r .given .1)) (after-put-word .put-word .ensures .1),
+    )
 
 same-length-2 : tie.Need-same-length-2
 same-length-2 c = search needs
 
 returns-3 : tie.Need-returns-3
-returns-3 c = (one-at _ _ _ _ (ap xW (c .before .before .before .before .before .r2 .given .1)) (c .before .before .put-word2 .ensures .0), one-table _ _ _ _ _ (ap xW (c .before .before .before .before .before .r2 .given .1)) (c .before .before .put-word2 .ensures .1))
+returns-3 c =
+    let after-put-word2 = c .before .before in
+    let after-r2 = after-put-word2 .before .before .before in (
+      one-at _ _ _ _ (ap xW (after-r2 .r2 .given .1)) (after-put-word2 .put-word2 .ensures .0),
+      one-table _ _ _ _ _ (ap xW (after-r2 .r2 .given .1)) (after-put-word2 .put-word2 .ensures .1),
+    )
 
 returns-4 : tie.Need-returns-4
 returns-4 c = (none-at _ _ (ap xW (c .enum-told2 .given .1)), none-table _ _ _ (ap xW (c .enum-told2 .given .1)))

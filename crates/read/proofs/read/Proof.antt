@@ -25,7 +25,13 @@ same-length-4 c = search needs
 
 returns : tie.Need-returns
 unfolding readAnswer
-returns c = (rw (eq-eqb _ _ (c .before .before .before .before .before .before .before .before .before .before .before .before .before .before .if1 .taken), ← c .before .before .before .before .before .before .before .before .before .before .before .before .before .check-records .ensures) (c .before .before .before .before .before .before .before .before .read-checked .ensures .0), c .before .before .before .before .before .before .before .before .read-checked .ensures .1)
+returns c =
+    let after-read-checked = c .before .before .before .before .before .before .before .before in
+    let after-check-records = after-read-checked .before .before .before .before .before in
+    let at-if1 = after-check-records .before in (
+      rw (eq-eqb _ _ (at-if1 .if1 .taken), ← after-check-records .check-records .ensures) (after-read-checked .read-checked .ensures .0),
+      after-read-checked .read-checked .ensures .1,
+    )
 
 returns-2 : tie.Need-returns-2
 unfolding readAnswer

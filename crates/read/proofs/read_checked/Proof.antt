@@ -8,7 +8,10 @@ enum-known-v : tie.Need-enum-known-v
 enum-known-v c = search needs
 
 fill-if-room-requires : tie.Need-fill-if-room-requires
-fill-if-room-requires c κs = (filed _ _ (sym (c .before .before .before .before .before .before .before .before .before .before .before .before .pre .0) ∙ c .before .before .before .before .before .v .given .1), c .before .before .before .before .before .before .before .before .before .before .before .before .pre .1)
+fill-if-room-requires c κs =
+    let after-v = c .before .before .before .before .before in
+    let at-entry = after-v .before .before .before .before .before .before .before in
+    (filed _ _ (sym (at-entry .pre .0) ∙ after-v .v .given .1), at-entry .pre .1)
 
 enum-known-v-2 : tie.Need-enum-known-v-2
 enum-known-v-2 c = search needs
@@ -26,7 +29,10 @@ same-length-4 : tie.Need-same-length-4
 same-length-4 c = search needs
 
 returns : tie.Need-returns
-returns c = (rw (c .before .before .before .before .before .before .before .before .before .before .before .before .before .before .v .given .1) (c .before .before .before .before .before .before .before .before .fill-if-room .ensures .0), c .before .before .before .before .before .before .before .before .fill-if-room .ensures .1)
+returns c =
+    let after-fill-if-room = c .before .before .before .before .before .before .before .before in
+    let after-v = after-fill-if-room .before .before .before .before .before .before in
+    (rw (after-v .v .given .1) (after-fill-if-room .fill-if-room .ensures .0), after-fill-if-room .fill-if-room .ensures .1)
 
 returns-2 : tie.Need-returns-2
 returns-2 c = (rw (c .before .v2 .given .1), (refl, (refl, (refl, refl))))

@@ -5,7 +5,9 @@ use Rattle.read.proofs.tables_hold.Tie as tie
 
 returns : tie.Need-returns
 unfolding holds
-returns c = rw (le-leb _ _ (c .before .before .before .if1 .taken))
+returns c =
+    let at-if1 = c .before .before .before in
+    rw (le-leb _ _ (at-if1 .if1 .taken))
 
 returns-2 : tie.Need-returns-2
 unfolding holds
