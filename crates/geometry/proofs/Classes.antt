@@ -73,10 +73,19 @@ module _ (f : ℕ → ℕ → Bool) (b d X Y S : ℕ) where
 
   is-cut : 0 < S → max b Y < min d (Y + S) → Everywhere → classOf f b d X Y S ≡ cut b d Y S
   unfolding classOf verdict cut Everywhere
-  is-cut wide rows g = simp (lt-leb _ _ rows, T-true {a = everywhere f (max b Y) (min d (Y + S)) X S} (everywhere-of f (max b Y) (min d (Y + S)) X S g), some (nowhere f (max b Y) (min d (Y + S)) X S) refl)
+  is-cut wide rows g =
+      simp (
+        lt-leb _ _ rows,
+        T-true {a = everywhere f (max b Y) (min d (Y + S)) X S} (everywhere-of f (max b Y) (min d (Y + S)) X S g),
+        some (nowhere f (max b Y) (min d (Y + S)) X S) refl,
+      )
     where
       some : (t : Bool) → nowhere f (max b Y) (min d (Y + S)) X S ≡ t → t ≡ false
-      some true e = absurd (T-not (f X (max b Y)) (nowhere-at f (max b Y) (min d (Y + S)) X S (true-T e) X (max b Y) (omega arith) rows (omega arith) (omega arith)) (g X (max b Y) (omega arith) rows (omega arith) (omega arith)))
+      some true e =
+          absurd
+          (T-not (f X (max b Y))
+          (nowhere-at f (max b Y) (min d (Y + S)) X S (true-T e) X (max b Y) (omega arith) rows (omega arith) (omega arith))
+          (g X (max b Y) (omega arith) rows (omega arith) (omega arith)))
       some false e = refl
 
   pub no-rows : min d (Y + S) ≤ max b Y → classOf f b d X Y S ≡ Dropped
@@ -85,7 +94,8 @@ module _ (f : ℕ → ℕ → Bool) (b d X Y S : ℕ) where
 
 -- ---- the class by four positions: lo and hi are the first row in the square and the one past the last, l the last, z the rightmost column
 
-module _ {f : ℕ → ℕ → Bool} {b d : ℕ} (k : Segment f b d) (X Y S lo hi l : ℕ) (p : lo ≡ max b Y) (q : hi ≡ min d (Y + S)) (some : lo < hi) (wide : 0 < S) (last : l + 1 ≡ hi) where
+module _ {f : ℕ → ℕ → Bool} {b d : ℕ} (k : Segment f b d) (X Y S lo hi l : ℕ) (p : lo ≡ max b Y) (q : hi ≡ min d (Y + S)) (some : lo < hi)
+    (wide : 0 < S) (last : l + 1 ≡ hi) where
   none-by : nowhere f (max b Y) (min d (Y + S)) X S ≡ not (f X lo) && not (f X l)
   none-by = rw (← p, ← q) (nowhere-quick k lo hi X S l some (omega arith) (omega arith) wide last)
 
@@ -138,7 +148,9 @@ module _ {f : ℕ → ℕ → Bool} {b d : ℕ} (k : Segment f b d) (X Y S x y :
   told (dropped g) (under p) = sym (off (inl p))
   told (dropped g) (over p q) = sym (off (inr q))
   told (start g r p q) o = sym (T-true {a = f x y} (g x y (omega arith) (omega arith) (i .west) (i .east)))
-  told (shortcut g r) (on p q) = rw (le-leb (max b Y) y (omega arith), lt-ltb y (min d (Y + S)) (omega arith)) (sym (T-true {a = f x y} (g x y (omega arith) (omega arith) (i .west) (i .east))))
+  told (shortcut g r) (on p q) =
+      rw (le-leb (max b Y) y (omega arith), lt-ltb y (min d (Y + S)) (omega arith))
+      (sym (T-true {a = f x y} (g x y (omega arith) (omega arith) (i .west) (i .east))))
   told (shortcut g r) (under p) = rw (lt-leb (max b Y) y (omega arith)) (sym (off (inl p)))
   told (shortcut g r) (over p q) = rw (le-leb (max b Y) y (omega arith), le-ltb y (min d (Y + S)) (omega arith)) (sym (off (inr q)))
   told kept o = refl

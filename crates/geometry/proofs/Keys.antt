@@ -35,7 +35,9 @@ spread-split (suc m) n lo hi h =
     half : lo < 2 ^ suc m → lo / 2 < 2 ^ m
     half h = omega arith
 
-    joined : (p : ℕ) → spread (m + n) (lo / 2 + p) ≡ spread m (lo / 2) + 4 ^ m * spread n hi → spread (suc (m + n)) (lo + 2 * p) ≡ spread (suc m) lo + 4 ^ suc m * spread n hi
+    joined : (p : ℕ)
+        → spread (m + n) (lo / 2 + p) ≡ spread m (lo / 2) + 4 ^ m * spread n hi
+        → spread (suc (m + n)) (lo + 2 * p) ≡ spread (suc m) lo + 4 ^ suc m * spread n hi
     joined p ih = let e : (lo + 2 * p) / 2 ≡ lo / 2 + p = omega arith in rw (e, pow-succ' 4 m) (omega arith)
 
 -- a number below 2^16 by its two bytes
@@ -56,7 +58,14 @@ digit zero i x y h = absurd (none i h)
     none i h = omega arith
 digit (suc n) zero x y h = omega arith
 digit (suc n) (suc i) x y h =
-    rw (pow-succ' 4 i, pow-succ' 2 i, ← div-div-eq-div-mul (x % 2 + 4 * spread n (x / 2) + 2 * (y % 2 + 4 * spread n (y / 2))) 4 (4 ^ i), ← div-div-eq-div-mul x 2 (2 ^ i), ← div-div-eq-div-mul y 2 (2 ^ i), quarter (spread n (x / 2)) (spread n (y / 2)))
+    rw (
+      pow-succ' 4 i,
+      pow-succ' 2 i,
+      ← div-div-eq-div-mul (x % 2 + 4 * spread n (x / 2) + 2 * (y % 2 + 4 * spread n (y / 2))) 4 (4 ^ i),
+      ← div-div-eq-div-mul x 2 (2 ^ i),
+      ← div-div-eq-div-mul y 2 (2 ^ i),
+      quarter (spread n (x / 2)) (spread n (y / 2)),
+    )
     (digit n i (x / 2) (y / 2) (omega arith))
   where
     quarter : (p q : ℕ) → (x % 2 + 4 * p + 2 * (y % 2 + 4 * q)) / 4 ≡ p + 2 * q
@@ -64,7 +73,9 @@ digit (suc n) (suc i) x y h =
 
 four-power : (i : ℕ) → 2 ^ (2 * i) ≡ 4 ^ i
 four-power zero = refl
-four-power (suc i) = ap (λ k. 2 ^ k) (twice i) ∙ (pow-suc 2 (suc (2 * i)) ∙ (ap (λ k. k * 2) (pow-suc 2 (2 * i)) ∙ quadruple (2 ^ (2 * i)) (4 ^ i) (four-power i) ∙ sym (pow-suc 4 i)))
+four-power (suc i) =
+    ap (λ k. 2 ^ k) (twice i)
+    ∙ (pow-suc 2 (suc (2 * i)) ∙ (ap (λ k. k * 2) (pow-suc 2 (2 * i)) ∙ quadruple (2 ^ (2 * i)) (4 ^ i) (four-power i) ∙ sym (pow-suc 4 i)))
   where
     twice : (i : ℕ) → 2 * suc i ≡ suc (suc (2 * i))
     twice i = omega arith
@@ -81,7 +92,8 @@ key-x-bit i x y h = rw (four-power i) (omega (arith, digit 16 i x y h))
 pub key-y-bit : (i x y : ℕ) → i < 16 → keyOf x y / 2 ^ (2 * i + 1) % 2 ≡ y / 2 ^ i % 2
 unfolding keyOf
 key-y-bit i x y h =
-    rw (add-one (2 * i), pow-suc 2 (2 * i), ← div-div-eq-div-mul (spread 16 x + 2 * spread 16 y) (2 ^ (2 * i)) 2, four-power i) (omega (arith, digit 16 i x y h))
+    rw (add-one (2 * i), pow-suc 2 (2 * i), ← div-div-eq-div-mul (spread 16 x + 2 * spread 16 y) (2 ^ (2 * i)) 2, four-power i)
+    (omega (arith, digit 16 i x y h))
 
 -- ---- the keys of a cell are consecutive from its low corner's
 
@@ -95,11 +107,18 @@ spread-zero zero = refl
 spread-zero (suc m) = ap (λ k. 0 + 4 * k) (spread-zero m)
 
 -- a position's key is the low corner's and the key within the cell, which is below 4^m
-pub cell-key : (m x y hx hy : ℕ) → m ≤ 16 → x < 2 ^ m → y < 2 ^ m → keyOf (x + 2 ^ m * hx) (y + 2 ^ m * hy) ≡ keyOf (0 + 2 ^ m * hx) (0 + 2 ^ m * hy) + keyIn m x y
+pub cell-key : (m x y hx hy : ℕ)
+    → m ≤ 16
+    → x < 2 ^ m
+    → y < 2 ^ m
+    → keyOf (x + 2 ^ m * hx) (y + 2 ^ m * hy) ≡ keyOf (0 + 2 ^ m * hx) (0 + 2 ^ m * hy) + keyIn m x y
 unfolding keyOf
 cell-key m x y hx hy h p q = go (16 - m) (omega arith)
   where
-    go : (n : ℕ) → m + n ≡ 16 → spread 16 (x + 2 ^ m * hx) + 2 * spread 16 (y + 2 ^ m * hy) ≡ spread 16 (0 + 2 ^ m * hx) + 2 * spread 16 (0 + 2 ^ m * hy) + keyIn m x y
+    go : (n : ℕ)
+        → m + n ≡ 16
+        → spread 16 (x + 2 ^ m * hx) + 2 * spread 16 (y + 2 ^ m * hy)
+        ≡ spread 16 (0 + 2 ^ m * hx) + 2 * spread 16 (0 + 2 ^ m * hy) + keyIn m x y
     go n e =
         let z : 0 < 2 ^ m = one-le-pow m 2 (omega arith) in
         rw (← e, spread-split m n x hx p, spread-split m n y hy q, spread-split m n 0 hx z, spread-split m n 0 hy z, spread-zero m) (omega arith)

@@ -47,7 +47,15 @@ product-test a b c d x y = ap (ltZ (pos 0)) (product-is a b c d x y) ∙ above-z
 module _ {a b c d x y : ℕ} (k : EndsIn a b c d) (s : PositionIn x y) where
   -- each of the eight products is at most reach × reach
   Small : Type 0
-  Small = (a * d ≤ reach * reach) × (x * b ≤ reach * reach) × (a * b ≤ reach * reach) × (x * d ≤ reach * reach) × (y * c ≤ reach * reach) × (b * a ≤ reach * reach) × (y * a ≤ reach * reach) × (b * c ≤ reach * reach)
+  Small =
+      (a * d ≤ reach * reach)
+      × (x * b ≤ reach * reach)
+      × (a * b ≤ reach * reach)
+      × (x * d ≤ reach * reach)
+      × (y * c ≤ reach * reach)
+      × (b * a ≤ reach * reach)
+      × (y * a ≤ reach * reach)
+      × (b * c ≤ reach * reach)
 
   smalls : Small
   unfolding Small

@@ -60,7 +60,8 @@ module _ (f : ℕ → ℕ → Bool) (lo hi X S : ℕ) where
 
 -- ---- four positions decide: the leftmost column whether it counts nowhere, the rightmost, z, whether everywhere; in the first row, lo, and the last, l
 
-module _ {f : ℕ → ℕ → Bool} {b d : ℕ} (k : Segment f b d) (lo hi X S l : ℕ) (some : lo < hi) (low : b ≤ lo) (high : hi ≤ d) (wide : 0 < S) (last : l + 1 ≡ hi) where
+module _ {f : ℕ → ℕ → Bool} {b d : ℕ} (k : Segment f b d) (lo hi X S l : ℕ) (some : lo < hi) (low : b ≤ lo) (high : hi ≤ d) (wide : 0 < S)
+    (last : l + 1 ≡ hi) where
   pub nowhere-quick : nowhere f lo hi X S ≡ not (f X lo) && not (f X l)
   nowhere-quick =
       T-eq _ _

@@ -28,7 +28,9 @@ abs-one false u v p q = q
 
 pub adds-abs : (e : Edge) (x y : ℕ) → natAbs (adds e x y) ≤ 1
 unfolding adds sign
-adds-abs e x y = abs-one (counts e x y) _ _ (abs-one (ltb (e .y0) (e .y1)) _ _ (omega arith) (abs-one (ltb (e .y1) (e .y0)) _ _ (omega arith) (omega arith))) (omega arith)
+adds-abs e x y =
+    abs-one (counts e x y) _ _
+    (abs-one (ltb (e .y0) (e .y1)) _ _ (omega arith) (abs-one (ltb (e .y1) (e .y0)) _ _ (omega arith) (omega arith))) (omega arith)
 
 pub sum-abs : (xs ys : List ℕ) (ls : List Line) (x y : ℕ) → natAbs (sumOf xs ys ls x y) ≤ length ls
 unfolding sumOf
@@ -53,12 +55,17 @@ module _ (xs ys : List ℕ) (x y : ℕ) where
       ap (λ z. t +ℤ z) (sum-append a b) ∙ sym (+ℤ-assoc t (sumOf xs ys a x y) (sumOf xs ys b x y))
 
   -- the edge from corner i, and those behind it
-  pub sum-step : (first i end : ℕ) → i < end →
-      sumOf xs ys (linesFrom first i (end - i)) x y ≡ adds (edgeBetween xs ys i (nextCorner first end i)) x y +ℤ sumOf xs ys (linesFrom first (i + 1) (end - (i + 1))) x y
+  pub sum-step : (first i end : ℕ)
+      → i < end
+      → sumOf xs ys (linesFrom first i (end - i)) x y
+      ≡ adds (edgeBetween xs ys i (nextCorner first end i)) x y +ℤ sumOf xs ys (linesFrom first (i + 1) (end - (i + 1))) x y
   unfolding sumOf
   sum-step first i end h = go (end - (i + 1)) (omega arith)
     where
-      go : (n : ℕ) → end ≡ i + 1 + n → sumOf xs ys (linesFrom first i (end - i)) x y ≡ adds (edgeBetween xs ys i (nextCorner first end i)) x y +ℤ sumOf xs ys (linesFrom first (i + 1) (end - (i + 1))) x y
+      go : (n : ℕ)
+          → end ≡ i + 1 + n
+          → sumOf xs ys (linesFrom first i (end - i)) x y
+          ≡ adds (edgeBetween xs ys i (nextCorner first end i)) x y +ℤ sumOf xs ys (linesFrom first (i + 1) (end - (i + 1))) x y
       go zero e =
           let p : end - i ≡ 1 = omega arith in
           let q : end - (i + 1) ≡ 0 = omega arith in
@@ -77,7 +84,8 @@ module _ (xs ys : List ℕ) (x y : ℕ) where
 
 follow-end : (from n : ℕ) (es : List ℕ) → T (follow from n es) → from ≤ n
 follow-end from n [] t = leb→le from n t
-follow-end from n (e ∷ es) t = omega (arith, leb→le from e (&&-left (leb from e) (follow e n es) t), follow-end e n es (&&-right (leb from e) (follow e n es) t))
+follow-end from n (e ∷ es) t =
+    omega (arith, leb→le from e (&&-left (leb from e) (follow e n es) t), follow-end e n es (&&-right (leb from e) (follow e n es) t))
 
 module _ (ends : List ℕ) (first n k e : ℕ) (h : k < length ends) (is : e ≡ getD ends k 0) where
   drop-step : drop k ends ≡ e ∷ drop (k + 1) ends
@@ -89,11 +97,15 @@ module _ (ends : List ℕ) (first n k e : ℕ) (h : k < length ends) (is : e ≡
       let r = &&-right (leb first e) (follow e n (drop (k + 1) ends)) u in
       (leb→le first e (&&-left (leb first e) (follow e n (drop (k + 1) ends)) u), follow-end e n (drop (k + 1) ends) r, r)
 
-  pub area-step : (xs ys : List ℕ) (x y : ℕ) →
-      winding xs ys (contoursTo first (drop k ends)) x y ≡ sumOf xs ys (linesFrom first first (e - first)) x y +ℤ winding xs ys (contoursTo e (drop (k + 1) ends)) x y
+  pub area-step : (xs ys : List ℕ) (x y : ℕ)
+      → winding xs ys (contoursTo first (drop k ends)) x y
+      ≡ sumOf xs ys (linesFrom first first (e - first)) x y +ℤ winding xs ys (contoursTo e (drop (k + 1) ends)) x y
   area-step xs ys x y = rw drop-step (sum-append xs ys x y (linesFrom first first (e - first)) (linesOf (contoursTo e (drop (k + 1) ends))))
 
-pub area-done : (xs ys : List ℕ) (x y : ℕ) (ends : List ℕ) (first k n bits : ℕ) {whole : ℤ} → length ends ≤ k → Running n bits (winding xs ys (contoursTo first (drop k ends)) x y) whole → toZ w64 bits ≡ whole
+pub area-done : (xs ys : List ℕ) (x y : ℕ) (ends : List ℕ) (first k n bits : ℕ) {whole : ℤ}
+    → length ends ≤ k
+    → Running n bits (winding xs ys (contoursTo first (drop k ends)) x y) whole
+    → toZ w64 bits ≡ whole
 unfolding sumOf
 area-done xs ys x y ends first k n bits h s = let e : drop k ends ≡ [] = drop-of-length-le ends h in running-end (rw e at s)
 
@@ -102,5 +114,12 @@ contour-abs xs ys first end x y = omega (arith, sum-abs xs ys (linesFrom first f
 
 -- ---- the ends of an edge between two corners are in range
 
-pub ends-in : (xs ys : List ℕ) → CornersIn xs ys → (p q : ℕ) → p < length xs → q < length xs → (e : Edge) → e ≡ edgeBetween xs ys p q → EndsIn (e .x0) (e .y0) (e .x1) (e .y1)
+pub ends-in : (xs ys : List ℕ)
+    → CornersIn xs ys
+    → (p q : ℕ)
+    → p < length xs
+    → q < length xs
+    → (e : Edge)
+    → e ≡ edgeBetween xs ys p q
+    → EndsIn (e .x0) (e .y0) (e .x1) (e .y1)
 ends-in xs ys h p q i j e is = rw is (record { first-x = h .each-x p i; first-y = h .each-y p i; second-x = h .each-x q j; second-y = h .each-y q j })

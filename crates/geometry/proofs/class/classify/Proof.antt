@@ -23,7 +23,10 @@ smaller-requires c κs = search needs
 
 returns : tie.Need-returns
 unfolding edgeClass
-returns c = let g = c .before .before .before .before .before .args in sym (no-rows (counts (g .e)) (firstRow (g .e)) (endRow (g .e)) (g .s .x) (g .s .y) (g .s .side) (omega arith))
+returns c =
+    let at-entry = c .before .before .before .before .before in
+    let g = at-entry .args in
+    sym (no-rows (counts (g .e)) (firstRow (g .e)) (endRow (g .e)) (g .s .x) (g .s .y) (g .s .side) (omega arith))
 
 sub-last : tie.Need-sub-last
 sub-last c = search needs
@@ -33,7 +36,14 @@ counts-in-neither-requires c κs = search needs
 
 returns-2 : tie.Need-returns-2
 unfolding edgeClass
-returns-2 c = let a = c .before .before in let g = a .before .before .before .before .before .args in sym (quick-dropped (edge-segment (g .e)) (g .s .x) (g .s .y) (g .s .side) _ _ _ (omega arith) (omega arith) (a .if1 .left) (omega arith) (omega arith) (sym (c .before .counts-in-neither .ensures) ∙ c .if2 .taken))
+returns-2 c =
+    let after-counts-in-neither = c .before in
+    let at-if1 = after-counts-in-neither .before in
+    let at-entry = at-if1 .before .before .before .before .before in
+    let g = at-entry .args in
+    sym
+    (quick-dropped (edge-segment (g .e)) (g .s .x) (g .s .y) (g .s .side) _ _ _ (omega arith) (omega arith) (at-if1 .if1 .left)
+    (omega arith) (omega arith) (sym (after-counts-in-neither .counts-in-neither .ensures) ∙ c .if2 .taken))
 
 add-counts-in-both : tie.Need-add-counts-in-both
 add-counts-in-both c = search needs
@@ -49,11 +59,25 @@ cut-rows-requires c κs = search needs
 
 returns-3 : tie.Need-returns-3
 unfolding edgeClass
-returns-3 c = let a = c .before .before .before .before .before .before in let g = a .before .before .before .before .before .args in c .cut-rows .ensures ∙ sym (quick-every (edge-segment (g .e)) (g .s .x) (g .s .y) (g .s .side) _ _ _ (omega arith) (omega arith) (a .if1 .left) (omega arith) (omega arith) _ (omega arith) (sym (c .before .before .counts-in-both .ensures) ∙ c .before .if3 .taken))
+returns-3 c =
+    let at-if3 = c .before in
+    let at-if1 = c .before .before .before .before .before .before in
+    let g = at-if1 .before .before .before .before .before .args in
+    c .cut-rows .ensures
+    ∙ sym
+    (quick-every (edge-segment (g .e)) (g .s .x) (g .s .y) (g .s .side) _ _ _ (omega arith) (omega arith) (at-if1 .if1 .left) (omega arith)
+    (omega arith) _ (omega arith) (sym (at-if3 .before .counts-in-both .ensures) ∙ at-if3 .if3 .taken))
 
 returns-4 : tie.Need-returns-4
 unfolding edgeClass
-returns-4 c = let a = c .before .before .before .before .before in let g = a .before .before .before .before .before .args in sym (quick-kept (edge-segment (g .e)) (g .s .x) (g .s .y) (g .s .side) _ _ _ (omega arith) (omega arith) (a .if1 .left) (omega arith) (omega arith) _ (omega arith) (sym (c .before .before .before .before .counts-in-neither .ensures) ∙ c .before .before .before .if2 .left) (sym (c .before .counts-in-both .ensures) ∙ c .if3 .left))
+returns-4 c =
+    let at-if2 = c .before .before .before in
+    let at-if1 = at-if2 .before .before in
+    let g = at-if1 .before .before .before .before .before .args in
+    sym
+    (quick-kept (edge-segment (g .e)) (g .s .x) (g .s .y) (g .s .side) _ _ _ (omega arith) (omega arith) (at-if1 .if1 .left) (omega arith)
+    (omega arith) _ (omega arith) (sym (at-if2 .before .counts-in-neither .ensures) ∙ at-if2 .if2 .left)
+    (sym (c .before .counts-in-both .ensures) ∙ c .if3 .left))
 
 pub classify-spec : {M : Type 1} → statement M
 classify-spec =

@@ -10,7 +10,10 @@ edge-counts-requires-2 : tie.Need-edge-counts-requires-2
 edge-counts-requires-2 c κs = search needs
 
 returns : tie.Need-returns
-returns c = simp (sym (c .before .before .edge-counts .ensures) ∙ c .before .if1 .taken) (c .edge-counts2 .ensures)
+returns c =
+    let at-if1 = c .before in
+    let after-edge-counts = at-if1 .before in
+    simp (sym (after-edge-counts .edge-counts .ensures) ∙ at-if1 .if1 .taken) (c .edge-counts2 .ensures)
 
 returns-2 : tie.Need-returns-2
 returns-2 c = simp (sym (c .before .edge-counts .ensures) ∙ c .if1 .left)

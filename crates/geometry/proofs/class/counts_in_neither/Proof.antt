@@ -14,7 +14,10 @@ returns : tie.Need-returns
 returns c = simp (sym (c .before .edge-counts .ensures) ∙ c .if1 .taken)
 
 returns-2 : tie.Need-returns-2
-returns-2 c = simp (sym (c .before .before .edge-counts .ensures) ∙ c .before .if1 .left) (ap not (c .edge-counts2 .ensures))
+returns-2 c =
+    let at-if1 = c .before in
+    let after-edge-counts = at-if1 .before in
+    simp (sym (after-edge-counts .edge-counts .ensures) ∙ at-if1 .if1 .left) (ap not (c .edge-counts2 .ensures))
 
 pub counts-in-neither-spec : {M : Type 1} → statement M
 counts-in-neither-spec =

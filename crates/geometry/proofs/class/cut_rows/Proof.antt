@@ -16,19 +16,53 @@ smaller-requires c κs = search needs
 
 returns : tie.Need-returns
 unfolding cut verdict
-returns c = simp (sym (c .before .before .larger .ensures), sym (c .before .smaller .ensures), le-leb _ _ (c .if1 .taken))
+returns c =
+    let after-smaller = c .before in
+    let after-larger = after-smaller .before in
+    simp (sym (after-larger .larger .ensures), sym (after-smaller .smaller .ensures), le-leb _ _ (c .if1 .taken))
 
 returns-2 : tie.Need-returns-2
 unfolding cut verdict
-returns-2 c = let a = c .before .before .before in simp (sym (a .before .before .larger .ensures), sym (a .before .smaller .ensures), lt-leb _ _ (a .if1 .left), eq-eqb _ _ (c .before .if2 .taken), eq-eqb _ _ (c .if3 .taken))
+returns-2 c =
+    let at-if2 = c .before in
+    let at-if1 = at-if2 .before .before in
+    let after-smaller = at-if1 .before in
+    let after-larger = after-smaller .before in
+    simp (
+      sym (after-larger .larger .ensures),
+      sym (after-smaller .smaller .ensures),
+      lt-leb _ _ (at-if1 .if1 .left),
+      eq-eqb _ _ (at-if2 .if2 .taken),
+      eq-eqb _ _ (c .if3 .taken),
+    )
 
 returns-3 : tie.Need-returns-3
 unfolding cut verdict
-returns-3 c = let a = c .before .before .before in simp (sym (a .before .before .larger .ensures), sym (a .before .smaller .ensures), lt-leb _ _ (a .if1 .left), eq-eqb _ _ (c .before .if2 .taken), ne-eqb _ _ (c .if3 .left))
+returns-3 c =
+    let at-if2 = c .before in
+    let at-if1 = at-if2 .before .before in
+    let after-smaller = at-if1 .before in
+    let after-larger = after-smaller .before in
+    simp (
+      sym (after-larger .larger .ensures),
+      sym (after-smaller .smaller .ensures),
+      lt-leb _ _ (at-if1 .if1 .left),
+      eq-eqb _ _ (at-if2 .if2 .taken),
+      ne-eqb _ _ (c .if3 .left),
+    )
 
 returns-4 : tie.Need-returns-4
 unfolding cut verdict
-returns-4 c = let a = c .before .before in simp (sym (a .before .before .larger .ensures), sym (a .before .smaller .ensures), lt-leb _ _ (a .if1 .left), ne-eqb _ _ (c .if2 .left))
+returns-4 c =
+    let at-if1 = c .before .before in
+    let after-smaller = at-if1 .before in
+    let after-larger = after-smaller .before in
+    simp (
+      sym (after-larger .larger .ensures),
+      sym (after-smaller .smaller .ensures),
+      lt-leb _ _ (at-if1 .if1 .left),
+      ne-eqb _ _ (c .if2 .left),
+    )
 
 pub cut-rows-spec : {M : Type 1} → statement M
 cut-rows-spec =

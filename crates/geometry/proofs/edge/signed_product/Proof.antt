@@ -17,11 +17,20 @@ difference-requires c κs = search needs
 difference-requires-2 : tie.Need-difference-requires-2
 difference-requires-2 c κs = search needs
 
-first : (c : tie.After-difference2) → let s = c .before .before .args in toZ w64 (ofZ w64 (c .before .difference .result)) *ℤ toZ w64 (ofZ w64 (c .difference2 .result)) ≡ left (s .a) (s .b) (s .d) (s .x)
-first c = ap₂ _*ℤ_ (read-back _ (c .before .difference .ok) ∙ c .before .difference .ensures) (read-back _ (c .difference2 .ok) ∙ c .difference2 .ensures) ∙ (let s = c .before .before .args in left-is (s .a) (s .b) (s .d) (s .x))
+first : (c : tie.After-difference2)
+    → let s = c .before .before .args in
+    toZ w64 (ofZ w64 (c .before .difference .result)) *ℤ toZ w64 (ofZ w64 (c .difference2 .result)) ≡ left (s .a) (s .b) (s .d) (s .x)
+first c =
+    let after-difference = c .before in
+    let at-entry = after-difference .before in
+    ap₂ _*ℤ_ (read-back _ (after-difference .difference .ok) ∙ after-difference .difference .ensures)
+    (read-back _ (c .difference2 .ok) ∙ c .difference2 .ensures)
+    ∙ (let s = at-entry .args in left-is (s .a) (s .b) (s .d) (s .x))
 
 mul-result : tie.Need-mul-result
-mul-result c = fits-as (first c) (left-fits (c .before .before .pre .0) (c .before .before .pre .1))
+mul-result c =
+    let at-entry = c .before .before in
+    fits-as (first c) (left-fits (at-entry .pre .0) (at-entry .pre .1))
 
 difference-requires-3 : tie.Need-difference-requires-3
 difference-requires-3 c κs = search needs
@@ -29,11 +38,21 @@ difference-requires-3 c κs = search needs
 difference-requires-4 : tie.Need-difference-requires-4
 difference-requires-4 c κs = search needs
 
-second : (c : tie.After-difference4) → let s = c .before .before .before .before .args in toZ w64 (ofZ w64 (c .before .difference3 .result)) *ℤ toZ w64 (ofZ w64 (c .difference4 .result)) ≡ right (s .a) (s .b) (s .c) (s .y)
-second c = ap₂ _*ℤ_ (read-back _ (c .before .difference3 .ok) ∙ c .before .difference3 .ensures) (read-back _ (c .difference4 .ok) ∙ c .difference4 .ensures) ∙ (let s = c .before .before .before .before .args in right-is (s .a) (s .b) (s .c) (s .y))
+second : (c : tie.After-difference4)
+    → let s = c .before .before .before .before .args in
+    toZ w64 (ofZ w64 (c .before .difference3 .result)) *ℤ toZ w64 (ofZ w64 (c .difference4 .result)) ≡ right (s .a) (s .b) (s .c) (s .y)
+second c =
+    let after-difference3 = c .before in
+    let at-entry = after-difference3 .before .before .before in
+    ap₂ _*ℤ_ (read-back _ (after-difference3 .difference3 .ok) ∙ after-difference3 .difference3 .ensures)
+    (read-back _ (c .difference4 .ok) ∙ c .difference4 .ensures)
+    ∙ (let s = at-entry .args in right-is (s .a) (s .b) (s .c) (s .y))
 
 mul-result-2 : tie.Need-mul-result-2
-mul-result-2 c = let s = c .before .before .before .before .pre in fits-as (second c) (right-fits (s .0) (s .1))
+mul-result-2 c =
+    let at-entry = c .before .before .before .before in
+    let s = at-entry .pre in
+    fits-as (second c) (right-fits (s .0) (s .1))
 
 -- the whole product, as the machine adds it
 whole : (c : tie.After-difference4) → let s = c .before .before .before .before .args in
@@ -41,18 +60,24 @@ whole : (c : tie.After-difference4) → let s = c .before .before .before .befor
     +ℤ toZ w64 (ofZ w64 (toZ w64 (ofZ w64 (c .before .difference3 .result)) *ℤ toZ w64 (ofZ w64 (c .difference4 .result))))
     ≡ subℕ (plus (s .a) (s .b) (s .c) (s .d) (s .x) (s .y)) (minus (s .a) (s .b) (s .c) (s .d) (s .x) (s .y))
 whole c =
-    let p = c .before .before .before .before .pre in
-    let s = c .before .before .before .before .args in
-    ap₂ _+ℤ_ (reads (first (c .before .before)) (left-fits (p .0) (p .1))) (reads (second c) (right-fits (p .0) (p .1)))
+    let after-difference2 = c .before .before in
+    let at-entry = after-difference2 .before .before in
+    let p = at-entry .pre in
+    let s = at-entry .args in
+    ap₂ _+ℤ_ (reads (first after-difference2) (left-fits (p .0) (p .1))) (reads (second c) (right-fits (p .0) (p .1)))
     ∙ add-sub (s .a * s .d + s .x * s .b) (s .a * s .b + s .x * s .d) (s .y * s .c + s .b * s .a) (s .y * s .a + s .b * s .c)
 
 add-result : tie.Need-add-result
-add-result c = let p = c .before .before .before .before .pre in fits-as (whole c) (product-fits (p .0) (p .1))
+add-result c =
+    let at-entry = c .before .before .before .before in
+    let p = at-entry .pre in
+    fits-as (whole c) (product-fits (p .0) (p .1))
 
 returns : tie.Need-returns
 returns c =
-    let p = c .before .before .before .before .pre in
-    let s = c .before .before .before .before .args in
+    let at-entry = c .before .before .before .before in
+    let p = at-entry .pre in
+    let s = at-entry .args in
     reads (whole c) (product-fits (p .0) (p .1)) ∙ sym (product-is (s .a) (s .b) (s .c) (s .d) (s .x) (s .y))
 
 pub signed-product-spec : {M : Type 1} → statement M

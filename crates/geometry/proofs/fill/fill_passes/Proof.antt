@@ -22,15 +22,22 @@ enum-told-2 c = search needs
 
 -- src/lib.rt:15:26
 rem-result : tie.Need-rem-result
-rem-result c = (omega arith, record { sfits = rw (back (c .before .before)) (half-fits (c .before .before .args .winding) (c .before .before .fits .winding .sfits)) })
+rem-result c =
+    let at-entry = c .before .before in
+    (omega arith, record { sfits = rw (back at-entry) (half-fits (at-entry .args .winding) (at-entry .fits .winding .sfits)) })
 
 -- src/lib.rt:10:1
 returns : tie.Need-returns
-returns c = let w = c .before .before .args .winding in rw (c .enum-told .given .1) (ap not (zero-test w (c .before .before .fits .winding .sfits)))
+returns c =
+    let at-entry = c .before .before in
+    let w = at-entry .args .winding in
+    rw (c .enum-told .given .1) (ap not (zero-test w (at-entry .fits .winding .sfits)))
 
 -- src/lib.rt:10:1
 returns-2 : tie.Need-returns-2
-returns-2 c = rw (back (c .before .before), c .enum-told2 .given .1) (rem-test (c .before .before .args .winding))
+returns-2 c =
+    let at-entry = c .before .before in
+    rw (back at-entry, c .enum-told2 .given .1) (rem-test (at-entry .args .winding))
 
 pub fill-passes-spec : {M : Type 1} → statement M
 fill-passes-spec = tie.close (tie.spec enum-told enum-told-2 rem-result returns returns-2)

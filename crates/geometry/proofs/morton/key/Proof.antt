@@ -12,10 +12,16 @@ spread-half-requires-2 : tie.Need-spread-half-requires-2
 spread-half-requires-2 c κs = search needs
 
 mul-result : tie.Need-mul-result
-mul-result c = omega (arith, c .spread-half2 .ensures, spread-bound 16 (c .before .before .args .y))
+mul-result c =
+    let at-entry = c .before .before in
+    omega (arith, c .spread-half2 .ensures, spread-bound 16 (at-entry .args .y))
 
 add-result : tie.Need-add-result
-add-result c = let a = c .before .before .args in omega (arith, c .before .spread-half .ensures, c .spread-half2 .ensures, spread-bound 16 (a .x), spread-bound 16 (a .y))
+add-result c =
+    let after-spread-half = c .before in
+    let at-entry = after-spread-half .before in
+    let a = at-entry .args in
+    omega (arith, after-spread-half .spread-half .ensures, c .spread-half2 .ensures, spread-bound 16 (a .x), spread-bound 16 (a .y))
 
 returns : tie.Need-returns
 unfolding keyOf

@@ -10,7 +10,10 @@ use Rattle.geometry.proofs.winding.contour_winding.Statement.{statement
 use Rattle.geometry.proofs.winding.contour_winding.Tie as tie
 
 abbrev Inv-loop : tie.InvT-loop
-Inv-loop xs ys first end x y sum₀ i₀ sum i = (first ≤ i) × (i ≤ end) × Running (i - first) sum (sumOf xs ys (linesFrom first i (end - i)) x y) (sumOf xs ys (linesFrom first first (end - first)) x y)
+Inv-loop xs ys first end x y sum₀ i₀ sum i =
+    (first ≤ i)
+    × (i ≤ end)
+    × Running (i - first) sum (sumOf xs ys (linesFrom first i (end - i)) x y) (sumOf xs ys (linesFrom first first (end - first)) x y)
 
 abbrev μ-loop : tie.MeasureT-loop
 μ-loop xs ys first end x y sum₀ i₀ sum i = end - i
@@ -23,10 +26,14 @@ corner-adds-requires c κs = search needs
 
 add-sum : tie.Need-add-sum Inv-loop μ-loop
 add-sum c =
-    let a = c .before .before .before .before .before .args in
-    let i = c .before .before .loop .i in
+    let at-loop = c .before .before in
+    let at-entry = at-loop .before .before .before in
+    let a = at-entry .args in
+    let i = at-loop .loop .i in
     let e = edgeBetween (now (a .xs)) (now (a .ys)) i (nextCorner (a .first) (a .end) i) in
-    running-fits (c .before .before .loop .inv .2) (adds e (a .x) (a .y)) _ _ (i + 1 - a .first) 1 (sum-step (now (a .xs)) (now (a .ys)) (a .x) (a .y) (a .first) i (a .end) (omega arith)) (c .corner-adds .ensures) (adds-abs e (a .x) (a .y)) (omega arith) (omega arith)
+    running-fits (at-loop .loop .inv .2) (adds e (a .x) (a .y)) _ _ (i + 1 - a .first) 1
+    (sum-step (now (a .xs)) (now (a .ys)) (a .x) (a .y) (a .first) i (a .end) (omega arith)) (c .corner-adds .ensures)
+    (adds-abs e (a .x) (a .y)) (omega arith) (omega arith)
 
 add-i : tie.Need-add-i Inv-loop μ-loop
 add-i c = search needs
@@ -36,15 +43,24 @@ loop-less c = search needs
 
 loop-again : tie.Need-loop-again Inv-loop μ-loop
 loop-again c =
-    let a = c .before .before .before .before .before .args in
-    let i = c .before .before .loop .i in
-    let e = edgeBetween (now (a .xs)) (now (a .ys)) i (nextCorner (a .first) (a .end) i) in
-    (omega arith, omega arith, running-more (c .before .before .loop .inv .2) (adds e (a .x) (a .y)) _ _ (i + 1 - a .first) 1 (sum-step (now (a .xs)) (now (a .ys)) (a .x) (a .y) (a .first) i (a .end) (omega arith)) (c .corner-adds .ensures) (adds-abs e (a .x) (a .y)) (omega arith) (omega arith))
+    let at-loop = c .before .before in
+    let at-entry = at-loop .before .before .before in
+    let a = at-entry .args in
+    let i = at-loop .loop .i in
+    let e = edgeBetween (now (a .xs)) (now (a .ys)) i (nextCorner (a .first) (a .end) i) in (
+      omega arith,
+      omega arith,
+      running-more (at-loop .loop .inv .2) (adds e (a .x) (a .y)) _ _ (i + 1 - a .first) 1
+          (sum-step (now (a .xs)) (now (a .ys)) (a .x) (a .y) (a .first) i (a .end) (omega arith)) (c .corner-adds .ensures)
+          (adds-abs e (a .x) (a .y)) (omega arith) (omega arith),
+    )
 
 returns : tie.Need-returns Inv-loop μ-loop
 returns c =
-    let a = c .before .before .before .before .args in
-    sum-done (now (a .xs)) (now (a .ys)) (a .x) (a .y) (a .first) _ (a .end) _ _ (omega arith) (c .before .loop .inv .2)
+    let at-loop = c .before in
+    let at-entry = at-loop .before .before .before in
+    let a = at-entry .args in
+    sum-done (now (a .xs)) (now (a .ys)) (a .x) (a .y) (a .first) _ (a .end) _ _ (omega arith) (at-loop .loop .inv .2)
 
 pub contour-winding-spec : {M : Type 1} → statement M
 contour-winding-spec =

@@ -13,10 +13,16 @@ edge-between-requires : tie.Need-edge-between-requires
 edge-between-requires c κs = search needs
 
 edge-adds-requires : tie.Need-edge-adds-requires
-edge-adds-requires c κs = (ends-in _ _ (c .before .before .before .before .pre .0) _ _ (omega arith) (omega arith) _ (c .edge-between .ensures), search needs)
+edge-adds-requires c κs =
+    let at-entry = c .before .before .before .before in
+    (ends-in _ _ (at-entry .pre .0) _ _ (omega arith) (omega arith) _ (c .edge-between .ensures), search needs)
 
 returns : tie.Need-returns
-returns c = rw (← c .before .before .next-corner .ensures .0, ← c .before .edge-between .ensures) (read-back _ (c .edge-adds .ok) ∙ c .edge-adds .ensures)
+returns c =
+    let after-edge-between = c .before in
+    let after-next-corner = after-edge-between .before in
+    rw (← after-next-corner .next-corner .ensures .0, ← after-edge-between .edge-between .ensures)
+    (read-back _ (c .edge-adds .ok) ∙ c .edge-adds .ensures)
 
 pub corner-adds-spec : {M : Type 1} → statement M
 corner-adds-spec =

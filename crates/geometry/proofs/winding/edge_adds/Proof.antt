@@ -13,7 +13,10 @@ edge-sign-requires c κs = search needs
 
 returns : tie.Need-returns
 unfolding adds
-returns c = simp (sym (c .before .before .edge-counts .ensures) ∙ c .before .if1 .taken) (read-back _ (c .edge-sign .ok) ∙ c .edge-sign .ensures)
+returns c =
+    let at-if1 = c .before in
+    let after-edge-counts = at-if1 .before in
+    simp (sym (after-edge-counts .edge-counts .ensures) ∙ at-if1 .if1 .taken) (read-back _ (c .edge-sign .ok) ∙ c .edge-sign .ensures)
 
 returns-2 : tie.Need-returns-2
 unfolding adds
