@@ -1,4 +1,5 @@
--- How large start numbers get: in a cell's stream the magnitude of an area's start number, with its lines and shortcuts, is at most the number of the area's edges.
+-- How large start numbers get: in a cell's stream the magnitude of an area's start number, with its lines and
+-- shortcuts, is at most the number of the area's edges.
 use mathlib.Core.Bool.{Bool, true, false, cond}
 use mathlib.Core.List.{List, [], _∷_, map}
 use Prim.Native.Nat.{ℕ, suc, _+_, _≤_}
@@ -55,19 +56,28 @@ module _ (xs ys : List ℕ) where
   start-by c z g gs (Shortcut lo hi) h f = omega (arith, f z)
   start-by c z g gs Kept h f = omega (arith, f z)
 
-  pub start-bound : (c : Cell) (z : ℤ) (gs : List Segment) → SignsIn xs ys gs → natAbs (startIn xs ys c z gs) + length (keptIn xs ys c gs) ≤ natAbs z + length gs
+  pub start-bound : (c : Cell) (z : ℤ) (gs : List Segment)
+      → SignsIn xs ys gs
+      → natAbs (startIn xs ys c z gs) + length (keptIn xs ys c gs) ≤ natAbs z + length gs
   start-bound c z [] s = omega arith
   start-bound c z (g ∷ gs) s = start-by c z g gs (classIn xs ys c g) (s .0) (λ y. start-bound c y gs (s .1))
 
 -- where no area has more than m edges, no start number of a made stream is beyond m, and no sign beyond 1
-pub made-small : (D : Drawing) (m : ℕ) → ((n : ℕ) → length (linesOf (getD (D .contours) n [])) ≤ m) → (c : Cell) → Each (Small D m) (flat paint (made D c (source D)))
+pub made-small : (D : Drawing) (m : ℕ)
+    → ((n : ℕ) → length (linesOf (getD (D .contours) n [])) ≤ m)
+    → (c : Cell)
+    → Each (Small D m) (flat paint (made D c (source D)))
 made-small D m h c =
     rw (made-normal D c (source D))
     (each-sub (items D) (Small D m) tt (normal-sub (items D) paint (mapSide (within D c) (source D)))
-    (rw (map-map (whole D) (within D c) (D .plan)) (each-mapped (λ k n. Unit {0}) (Small D m) (λ n. within D c (whole D n)) (λ k n u. small k n) paint (D .plan) (on-any paint (D .plan)))))
+    (rw (map-map (whole D) (within D c) (D .plan))
+    (each-mapped (λ k n. Unit {0}) (Small D m) (λ n. within D c (whole D n)) (λ k n u. small k n) paint (D .plan)
+    (on-any paint (D .plan)))))
   where
     small : (k : Kind) (n : ℕ) → Small D m k (within D c (whole D n))
     small k n =
         let ls : List Line = linesOf (getD (D .contours) n []) in
-        let s : SignsIn (D .xs) (D .ys) (map drawn ls) = signs-lines (D .xs) (D .ys) ls in
-        (omega (arith, start-bound (D .xs) (D .ys) c (pos 0) (map drawn ls) s, length-map {B = Segment} ls drawn, h n), signs-kept (D .xs) (D .ys) c (map drawn ls) s)
+        let s : SignsIn (D .xs) (D .ys) (map drawn ls) = signs-lines (D .xs) (D .ys) ls in (
+          omega (arith, start-bound (D .xs) (D .ys) c (pos 0) (map drawn ls) s, length-map {B = Segment} ls drawn, h n),
+          signs-kept (D .xs) (D .ys) c (map drawn ls) s,
+        )

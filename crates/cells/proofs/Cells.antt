@@ -7,7 +7,31 @@ use native.Mathlib.Omega.{arith}
 use lib.Dec.{leb}
 use borrow.Author.Tests.{leb-true, leb-false}
 use Rattle.geometry.specs.Classes.{Contains}
-use Rattle.cells.specs.Cells.{Position, at, col, row, OnGrid, Cell, cell, left, low, level, side, root, Holds, Quarter, lowLow, highLow, lowHigh, highHigh, alongX, alongY, child, quarterBy, quarterOf}
+use Rattle.cells.specs.Cells.{
+  Position,
+  at,
+  col,
+  row,
+  OnGrid,
+  Cell,
+  cell,
+  left,
+  low,
+  level,
+  side,
+  root,
+  Holds,
+  Quarter,
+  lowLow,
+  highLow,
+  lowHigh,
+  highHigh,
+  alongX,
+  alongY,
+  child,
+  quarterBy,
+  quarterOf,
+}
 
 pub some-side : (c : Cell) → 0 < side c
 some-side (cell x y k) = one-le-pow k 2 (omega arith)

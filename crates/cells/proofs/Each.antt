@@ -25,7 +25,11 @@ module _ {A : Type 0} (P : Kind → A → Type 0) where
   each-keep activate xs ys h g = g
   each-keep pop xs ys h g = g
 
-pub each-mapped : {A B : Type 0} (Q : Kind → A → Type 0) (P : Kind → B → Type 0) (f : A → B) → ((k : Kind) (a : A) → Q k a → P k (f a)) → (k : Kind) (s : Side A) → On Q k s → Each P (flat k (mapSide f s))
+pub each-mapped : {A B : Type 0} (Q : Kind → A → Type 0) (P : Kind → B → Type 0) (f : A → B)
+    → ((k : Kind) (a : A) → Q k a → P k (f a))
+    → (k : Kind) (s : Side A)
+    → On Q k s
+    → Each P (flat k (mapSide f s))
 each-mapped Q P f h k end o = tt
 each-mapped Q P f h k (leaf a t) o = (h k a (o .0), each-mapped Q P f h k t (o .1))
 each-mapped Q P f h k (group l r t) o =

@@ -62,7 +62,9 @@ module _ (D : Drawing) (c : Cell) where
   row-says opens ws (dec gs es) h = λ m. h (making (prune D c (end m) push) nothing) ∙ ap (λ x. prunes es (prune D c x push)) (sym (later-none m))
   row-says bar ws (dec gs es) h = λ m. h (making (prune D c (end m) activate) nothing) ∙ ap (λ x. prunes es (prune D c x activate)) (sym (later-none m))
   row-says closes ws (dec gs es) h = λ m. h (making (prune D c (end m) pop) nothing) ∙ ap (λ x. prunes es (prune D c x pop)) (sym (later-none m))
-  row-says bare ws (dec gs es) h = λ m. h (making (prune D c (end m) (item clip always)) nothing) ∙ ap (λ x. prunes es (prune D c x (item clip always))) (sym (later-none m))
+  row-says bare ws (dec gs es) h =
+      λ m.
+      h (making (prune D c (end m) (item clip always)) nothing) ∙ ap (λ x. prunes es (prune D c x (item clip always))) (sym (later-none m))
   row-says (named n z) ws (dec gs es) h = λ m. h (making (end m) (held n z []))
       ∙ ap (λ x. prunes es (prune D c x (item (roleIn D n) (within D c (area n z gs))))) (sym (later-none m))
   row-says (segment g) ws (dec gs es) h = λ m. h (addTo D c g m) ∙ ap (λ x. prunes es (end x)) (later-more g m gs)
@@ -81,7 +83,11 @@ module _ (D : Drawing) (c : Cell) where
   -- rows whose entries are a side's: the rows of what is made of that side
   pub rows-made : (ws : List Row) (x : Side Item) → entriesOf (decode (roleIn D) ws) ≡ flat paint x → madeRows D c ws ≡ rowsOf (flat paint (made D c x))
   rows-made ws x e =
-      ap outOf (made-by ws (decode (roleIn D) ws) (rows-say ws) ∙ (ap (λ es. prunes es (st [] 0 going [])) e
-      ∙ (ap (λ es. run (items D) Row entryRows es (st [] 0 going [])) (sym (flat-map (within D c) paint x)) ∙ stream-normal (items D) Row entryRows entry-some (mapSide (within D c) x))))
+      ap outOf
+      (made-by ws (decode (roleIn D) ws) (rows-say ws)
+      ∙ (ap (λ es. prunes es (st [] 0 going [])) e
+      ∙ (ap (λ es. run (items D) Row entryRows es (st [] 0 going [])) (sym (flat-map (within D c) paint x))
+      ∙ stream-normal (items D) Row entryRows entry-some (mapSide (within D c) x))))
       ∙ (rows-flat (items D) Row entryRows entry-some paint (normal (items D) paint (mapSide (within D c) x))
-      ∙ (rows-written (flat paint (normal (items D) paint (mapSide (within D c) x))) ∙ ap (λ y. rowsOf (flat paint y)) (sym (made-normal D c x))))
+      ∙ (rows-written (flat paint (normal (items D) paint (mapSide (within D c) x)))
+      ∙ ap (λ y. rowsOf (flat paint y)) (sym (made-normal D c x))))

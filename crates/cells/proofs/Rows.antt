@@ -19,7 +19,35 @@ use Rattle.cells.specs.Drawings.{Drawing, passesBy, isOpaque, shownAt}
 use Rattle.cells.specs.Streams.{Item, always, area, numberOf, Each, items, passesIn, opaqueIn, within, whole, source, made, shownIn}
 use Rattle.cells.proofs.Each.{each-sub, each-mapped}
 use Rattle.cells.proofs.Streams.{made-normal, made-shown, source-shown}
-use Rattle.cells.specs.Rows.{Row, opens, bar, closes, bare, named, segment, itemRows, rowsOf, Decoded, dec, entriesOf, decodeRow, decode, streamOf, settled, waits, State, state, settle, addTo, onRows, readRows, OnSide, roleIn, readAt, Fitted}
+use Rattle.cells.specs.Rows.{
+  Row,
+  opens,
+  bar,
+  closes,
+  bare,
+  named,
+  segment,
+  itemRows,
+  rowsOf,
+  Decoded,
+  dec,
+  entriesOf,
+  decodeRow,
+  decode,
+  streamOf,
+  settled,
+  waits,
+  State,
+  state,
+  settle,
+  addTo,
+  onRows,
+  readRows,
+  OnSide,
+  roleIn,
+  readAt,
+  Fitted,
+}
 
 abbrev pub addNumber : Item → ℕ → ℕ
 addNumber a set = withArea set (numberOf a)
@@ -71,8 +99,11 @@ module _ (role : ℕ → Kind) (pass : ℕ → ℤ → Bool) (opaque : ℕ → B
   row-says opens ws (dec gs es) h = λ st. h (state (onPush (end st)) settled) ∙ ap (λ r. mv es (onPush r)) (sym (later-none st))
   row-says bar ws (dec gs es) h = λ st. h (state (onActivate (end st)) settled) ∙ ap (λ r. mv es (onActivate r)) (sym (later-none st))
   row-says closes ws (dec gs es) h = λ st. h (state (onPop (end st)) settled) ∙ ap (λ r. mv es (onPop r)) (sym (later-none st))
-  row-says bare ws (dec gs es) h = λ st. h (state (onItem clip true true (λ set. set) (end st)) settled)
-      ∙ (ap (mv es) (clip-shows true true true (λ set. set) (addNumber always) (end st)) ∙ ap (λ r. mv es (onItem clip true true (addNumber always) r)) (sym (later-none st)))
+  row-says bare ws (dec gs es) h =
+      λ st.
+      h (state (onItem clip true true (λ set. set) (end st)) settled)
+      ∙ (ap (mv es) (clip-shows true true true (λ set. set) (addNumber always) (end st))
+      ∙ ap (λ r. mv es (onItem clip true true (addNumber always) r)) (sym (later-none st)))
   row-says (named n z) ws (dec gs es) h = λ st. h (state (end st) (waits n z))
       ∙ ap (λ r. mv es (onItem (role n) (pass n (z +ℤ total gs)) (opaque n) (λ set. withArea set n) r)) (sym (later-none st))
   row-says (segment g) ws (dec gs es) h = λ st. h (addTo role pass opaque adds g st) ∙ ap (λ x. mv es (end x)) (later-more g st gs)
@@ -89,8 +120,13 @@ module _ (role : ℕ → Kind) (pass : ℕ → ℤ → Bool) (opaque : ℕ → B
   read-says ws = read-by ws (decode role ws) (rows-say ws)
 
   -- so rows whose entries are a side's give the set of what the side shows
-  pub read-side : (ws : List Row) (x : Side Item) → entriesOf (decode role ws) ≡ flat paint x → readRows role pass opaque adds ws ≡ setOf (map numberOf (shown passItem opaqueItem x))
-  read-side ws x e = read-says ws ∙ (ap (λ es. outOf (mv es (reg P 0 0 0))) e ∙ (registers passItem opaqueItem addNumber x 0 ∙ gathered-set (shown passItem opaqueItem x) 0))
+  pub read-side : (ws : List Row) (x : Side Item)
+      → entriesOf (decode role ws) ≡ flat paint x
+      → readRows role pass opaque adds ws ≡ setOf (map numberOf (shown passItem opaqueItem x))
+  read-side ws x e =
+      read-says ws
+      ∙ (ap (λ es. outOf (mv es (reg P 0 0 0))) e
+      ∙ (registers passItem opaqueItem addNumber x 0 ∙ gathered-set (shown passItem opaqueItem x) 0))
 
 -- ---- the rows of a stream say that stream, where the roles fit the sides
 
@@ -99,7 +135,10 @@ module _ (role : ℕ → Kind) where
   decode-segments [] ws es e = e
   decode-segments (g ∷ gs) ws es e = rw (decode-segments gs ws es e)
 
-  decode-item : (k : Kind) (a : Item) (ws : List Row) (es : List (Entry Item)) → OnSide role k a → decode role ws ≡ dec [] es → decode role (itemRows a ++ ws) ≡ dec [] (item k a ∷ es)
+  decode-item : (k : Kind) (a : Item) (ws : List Row) (es : List (Entry Item))
+      → OnSide role k a
+      → decode role ws ≡ dec [] es
+      → decode role (itemRows a ++ ws) ≡ dec [] (item k a ∷ es)
   decode-item paint always ws es h e = absurd h
   decode-item clip always ws es h e = rw e
   decode-item k (area n z gs) ws es h e = rw (decode-segments gs ws es e, h)
@@ -144,7 +183,8 @@ module _ (D : Drawing) where
   made-on-side f c =
       rw (made-normal D c (source D))
       (each-sub (items D) (OnSide (roleIn D)) tt (normal-sub (items D) paint (mapSide (within D c) (source D)))
-      (rw (map-map (whole D) (within D c) (D .plan)) (each-mapped (λ k n. roleIn D n ≡ k) (OnSide (roleIn D)) (λ n. within D c (whole D n)) (λ k n e. stands k n e) paint (D .plan) f)))
+      (rw (map-map (whole D) (within D c) (D .plan))
+      (each-mapped (λ k n. roleIn D n ≡ k) (OnSide (roleIn D)) (λ n. within D c (whole D n)) (λ k n e. stands k n e) paint (D .plan) f)))
     where
       stands : (k : Kind) (n : ℕ) → roleIn D n ≡ k → OnSide (roleIn D) k (within D c (whole D n))
       stands paint n e = e

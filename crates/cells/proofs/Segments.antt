@@ -12,7 +12,23 @@ use Rattle.geometry.proofs.Segments as Shapes
 use Rattle.geometry.proofs.Lines.{edge-segment}
 use Rattle.geometry.proofs.Classes.{class-says, child-class, shortcut-class, rows-segment, cut-cases}
 use Rattle.cells.specs.Cells.{Position, col, row, Cell, left, low, side, Holds, Quarter, child}
-use Rattle.cells.specs.Segments.{Segment, drawn, shortcut, edgeOf, countsAt, signOf, firstOf, endOf, addsAt, sumAt, classIn, keptBy, keptIn, startBy, startIn}
+use Rattle.cells.specs.Segments.{
+  Segment,
+  drawn,
+  shortcut,
+  edgeOf,
+  countsAt,
+  signOf,
+  firstOf,
+  endOf,
+  addsAt,
+  sumAt,
+  classIn,
+  keptBy,
+  keptIn,
+  startBy,
+  startIn,
+}
 use Rattle.cells.proofs.Cells.{some-side, child-contains}
 
 left-comm : (a b c : ℤ) → a +ℤ (b +ℤ c) ≡ b +ℤ (a +ℤ c)
@@ -41,34 +57,43 @@ module _ (xs ys : List ℕ) where
   class-tells c g p i = ap (λ k. says k (λ x y. test g x y) (col p) (row p)) (class-is c g) ∙ class-says (shape g) (left c) (low c) (side c) (col p) (row p) i
 
   -- L3: its class in a quarter, from its class in the cell
-  pub class-child : (c : Cell) (q : Quarter) (g : Segment) → classIn xs ys (child c q) g ≡ childOf (classIn xs ys c g) (classIn xs ys (child c q) g) (low (child c q)) (side (child c q))
+  pub class-child : (c : Cell) (q : Quarter) (g : Segment)
+      → classIn xs ys (child c q) g ≡ childOf (classIn xs ys c g) (classIn xs ys (child c q) g) (low (child c q)) (side (child c q))
   class-child c q g =
       rw (class-is (child c q) g, class-is c g)
-      (child-class (λ x y. test g x y) (firstOf xs ys g) (endOf xs ys g) (left c) (low c) (side c) (left (child c q)) (low (child c q)) (side (child c q)) (child-contains c q))
+      (child-class (λ x y. test g x y) (firstOf xs ys g) (endOf xs ys g) (left c) (low c) (side c) (left (child c q)) (low (child c q))
+      (side (child c q)) (child-contains c q))
 
   -- ---- the winding stays
 
-  winding-by : (c : Cell) (p : Position) (z : ℤ) (g : Segment) (gs : List Segment) (k : Class) → says k (λ x y. test g x y) (col p) (row p) ≡ test g (col p) (row p)
+  winding-by : (c : Cell) (p : Position) (z : ℤ) (g : Segment) (gs : List Segment) (k : Class)
+      → says k (λ x y. test g x y) (col p) (row p) ≡ test g (col p) (row p)
       → ((x : ℤ) → startIn xs ys c x gs +ℤ sumAt xs ys p (keptIn xs ys c gs) ≡ x +ℤ sumAt xs ys p gs)
-      → startIn xs ys c (startBy xs ys k g z) gs +ℤ sumAt xs ys p (keptBy xs ys k g (keptIn xs ys c gs)) ≡ z +ℤ (addsAt xs ys p g +ℤ sumAt xs ys p gs)
+      → startIn xs ys c (startBy xs ys k g z) gs +ℤ sumAt xs ys p (keptBy xs ys k g (keptIn xs ys c gs))
+      ≡ z +ℤ (addsAt xs ys p g +ℤ sumAt xs ys p gs)
   winding-by c p z g gs Dropped h f = f z ∙ rw (← h, +ℤ-idl (sumAt xs ys p gs))
   winding-by c p z g gs Start h f = f (z +ℤ signOf xs ys g) ∙ rw (← h) (+ℤ-assoc z (signOf xs ys g) (sumAt xs ys p gs))
   winding-by c p z g gs (Shortcut lo hi) h f =
       left-comm (startIn xs ys c z gs) (addsAt xs ys p (shortcut (signOf xs ys g) lo hi)) (sumAt xs ys p (keptIn xs ys c gs))
       ∙ (ap (λ x. addsAt xs ys p (shortcut (signOf xs ys g) lo hi) +ℤ x) (f z)
-      ∙ (left-comm (addsAt xs ys p (shortcut (signOf xs ys g) lo hi)) z (sumAt xs ys p gs) ∙ ap (λ b. z +ℤ (cond b (signOf xs ys g) (pos 0) +ℤ sumAt xs ys p gs)) h))
+      ∙ (left-comm (addsAt xs ys p (shortcut (signOf xs ys g) lo hi)) z (sumAt xs ys p gs)
+      ∙ ap (λ b. z +ℤ (cond b (signOf xs ys g) (pos 0) +ℤ sumAt xs ys p gs)) h))
   winding-by c p z g gs Kept h f =
       left-comm (startIn xs ys c z gs) (addsAt xs ys p g) (sumAt xs ys p (keptIn xs ys c gs))
       ∙ (ap (λ x. addsAt xs ys p g +ℤ x) (f z) ∙ left-comm (addsAt xs ys p g) z (sumAt xs ys p gs))
 
-  pub winding-stays : (c : Cell) (p : Position) → Holds c p → (z : ℤ) (gs : List Segment) → startIn xs ys c z gs +ℤ sumAt xs ys p (keptIn xs ys c gs) ≡ z +ℤ sumAt xs ys p gs
+  pub winding-stays : (c : Cell) (p : Position)
+      → Holds c p
+      → (z : ℤ) (gs : List Segment)
+      → startIn xs ys c z gs +ℤ sumAt xs ys p (keptIn xs ys c gs) ≡ z +ℤ sumAt xs ys p gs
   winding-stays c p i z [] = refl
   winding-stays c p i z (g ∷ gs) = winding-by c p z g gs (classIn xs ys c g) (class-tells c g p i) (λ x. winding-stays c p i x gs)
 
   -- ---- a cell, then a quarter of it
 
   -- a shortcut of the cell is cut as its segment would be
-  kept-cut : (lo hi Y S : ℕ) (g : Segment) (gs : List Segment) → keptBy xs ys (cut lo hi Y S) (shortcut (signOf xs ys g) lo hi) gs ≡ keptBy xs ys (cut lo hi Y S) g gs
+  kept-cut : (lo hi Y S : ℕ) (g : Segment) (gs : List Segment)
+      → keptBy xs ys (cut lo hi Y S) (shortcut (signOf xs ys g) lo hi) gs ≡ keptBy xs ys (cut lo hi Y S) g gs
   kept-cut lo hi Y S g gs = cut-cases (λ k. keptBy xs ys k (shortcut (signOf xs ys g) lo hi) gs ≡ keptBy xs ys k g gs) lo hi Y S refl refl (λ l h. refl)
 
   start-cut : (lo hi Y S : ℕ) (g : Segment) (z : ℤ) → startBy xs ys (cut lo hi Y S) (shortcut (signOf xs ys g) lo hi) z ≡ startBy xs ys (cut lo hi Y S) g z
@@ -99,22 +124,28 @@ module _ (xs ys : List ℕ) where
   start-more c x (g ∷ gs) z = more-by c z x g gs (classIn xs ys c g) (start-more c x gs)
 
   -- a segment that is kept in the cell, whatever becomes of it in the quarter
-  later : (c d : Cell) (z : ℤ) (g : Segment) (gs : List Segment) (k : Class) → ((y : ℤ) → startIn xs ys d (startIn xs ys c y gs) (keptIn xs ys c gs) ≡ startIn xs ys d y gs)
+  later : (c d : Cell) (z : ℤ) (g : Segment) (gs : List Segment) (k : Class)
+      → ((y : ℤ) → startIn xs ys d (startIn xs ys c y gs) (keptIn xs ys c gs) ≡ startIn xs ys d y gs)
       → startIn xs ys d (startBy xs ys k g (startIn xs ys c z gs)) (keptIn xs ys c gs) ≡ startIn xs ys d (startBy xs ys k g z) gs
   later c d z g gs Dropped f = f z
   later c d z g gs Start f = ap (λ a. startIn xs ys d a (keptIn xs ys c gs)) (sym (start-more c (signOf xs ys g) gs z)) ∙ f (z +ℤ signOf xs ys g)
   later c d z g gs (Shortcut lo hi) f = f z
   later c d z g gs Kept f = f z
 
-  start-by : (c d : Cell) (z : ℤ) (g : Segment) (gs : List Segment) (k : Class) → classIn xs ys d g ≡ childOf k (classIn xs ys d g) (low d) (side d)
+  start-by : (c d : Cell) (z : ℤ) (g : Segment) (gs : List Segment) (k : Class)
+      → classIn xs ys d g ≡ childOf k (classIn xs ys d g) (low d) (side d)
       → ((y : ℤ) → startIn xs ys d (startIn xs ys c y gs) (keptIn xs ys c gs) ≡ startIn xs ys d y gs)
-      → startIn xs ys d (startIn xs ys c (startBy xs ys k g z) gs) (keptBy xs ys k g (keptIn xs ys c gs)) ≡ startIn xs ys d (startBy xs ys (classIn xs ys d g) g z) gs
+      → startIn xs ys d (startIn xs ys c (startBy xs ys k g z) gs) (keptBy xs ys k g (keptIn xs ys c gs))
+      ≡ startIn xs ys d (startBy xs ys (classIn xs ys d g) g z) gs
   start-by c d z g gs Dropped h f = rw h (f z)
   start-by c d z g gs Start h f = rw h (f (z +ℤ signOf xs ys g))
   start-by c d z g gs (Shortcut lo hi) h f =
-      rw h (ap (λ a. startIn xs ys d a (keptIn xs ys c gs)) (start-cut lo hi (low d) (side d) g (startIn xs ys c z gs)) ∙ later c d z g gs (cut lo hi (low d) (side d)) f)
+      rw h
+      (ap (λ a. startIn xs ys d a (keptIn xs ys c gs)) (start-cut lo hi (low d) (side d) g (startIn xs ys c z gs))
+      ∙ later c d z g gs (cut lo hi (low d) (side d)) f)
   start-by c d z g gs Kept h f = later c d z g gs (classIn xs ys d g) f
 
-  pub start-child : (c : Cell) (q : Quarter) (gs : List Segment) (z : ℤ) → startIn xs ys (child c q) (startIn xs ys c z gs) (keptIn xs ys c gs) ≡ startIn xs ys (child c q) z gs
+  pub start-child : (c : Cell) (q : Quarter) (gs : List Segment) (z : ℤ)
+      → startIn xs ys (child c q) (startIn xs ys c z gs) (keptIn xs ys c gs) ≡ startIn xs ys (child c q) z gs
   start-child c q [] z = refl
   start-child c q (g ∷ gs) z = start-by c (child c q) z g gs (classIn xs ys c g) (class-child c q g) (start-child c q gs)

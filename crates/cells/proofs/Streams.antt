@@ -20,7 +20,29 @@ use Rattle.pruning.proofs.Machine.{machine}
 use Rattle.cells.specs.Cells.{Position, col, row, Cell, Holds, root, Quarter, child}
 use Rattle.cells.specs.Segments.{drawn, sumAt}
 use Rattle.cells.specs.Drawings.{Drawing, winding, passesBy, passesAt, isOpaque, shownAt}
-use Rattle.cells.specs.Streams.{Item, always, area, numberOf, Each, passing, classOf, items, passesIn, opaqueIn, within, whole, source, made, shownIn, readIn, Winds, Reached, here, down, Right}
+use Rattle.cells.specs.Streams.{
+  Item,
+  always,
+  area,
+  numberOf,
+  Each,
+  passing,
+  classOf,
+  items,
+  passesIn,
+  opaqueIn,
+  within,
+  whole,
+  source,
+  made,
+  shownIn,
+  readIn,
+  Winds,
+  Reached,
+  here,
+  down,
+  Right,
+}
 use Rattle.cells.proofs.Segments.{winding-stays, kept-child, start-child}
 use Rattle.cells.proofs.Each.{each-sub, each-mapped, on-any}
 
@@ -163,7 +185,9 @@ module _ (D : Drawing) where
   made-winds c =
       rw (made-normal c (source D))
       (each-sub (items D) (Winds D c) tt (normal-sub (items D) paint (mapSide (within D c) (source D)))
-      (rw (map-map (whole D) (within D c) (D .plan)) (each-mapped (λ k n. Unit {0}) (Winds D c) (λ n. within D c (whole D n)) (λ k n u. whole-winds c k n) paint (D .plan) (on-any paint (D .plan)))))
+      (rw (map-map (whole D) (within D c) (D .plan))
+      (each-mapped (λ k n. Unit {0}) (Winds D c) (λ n. within D c (whole D n)) (λ k n u. whole-winds c k n) paint (D .plan)
+      (on-any paint (D .plan)))))
 
   -- ---- in one statement: every cell that splits lead to from cell 0
 
