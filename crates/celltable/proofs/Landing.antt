@@ -34,12 +34,15 @@ pub record LeafFound (t : List ℕ) (used entries : ℕ) (p : Position) (l : Lea
 
 -- ---- one cell on the way: a leaf ends it, a cell that is split gives the child
 
-module _ (t : List ℕ) (used entries : ℕ) (p : Position) (n i steps : ℕ) (c : Cell) (f : cellRange (cellAt t i) i used entries ≡ true) (s : onSquare (cellAt t i) c ≡ true) where
+module _ (t : List ℕ) (used entries : ℕ) (p : Position) (n i steps : ℕ) (c : Cell) (f : cellRange (cellAt t i) i used entries ≡ true)
+    (s : onSquare (cellAt t i) c ≡ true) where
   pub down-leaf : cellAt t i .child ≡ 0 → downFrom t used entries p (suc n) i steps c ≡ At (leafOf i steps (cellAt t i))
   unfolding downFrom
   down-leaf z = rw (f, s, eq-eqb (cellAt t i .child) 0 z)
 
-  pub down-split : (cellAt t i .child ≡ 0 → ⊥) → downFrom t used entries p (suc n) i steps c ≡ downFrom t used entries p n (cellAt t i .child + placeOf (quarterOf c p)) (steps + 1) (child c (quarterOf c p))
+  pub down-split : (cellAt t i .child ≡ 0 → ⊥)
+      → downFrom t used entries p (suc n) i steps c
+      ≡ downFrom t used entries p n (cellAt t i .child + placeOf (quarterOf c p)) (steps + 1) (child c (quarterOf c p))
   unfolding downFrom
   down-split z = rw (f, s, ne-eqb (cellAt t i .child) 0 z)
 
@@ -56,7 +59,13 @@ broken-not l e = absurd (let z : _≡_ {A = ℕ} 0 1 = cc in omega arith)
 
 module _ (t : List ℕ) (used entries : ℕ) (p : Position) (l : Leaf) where
   -- the cell c, i in the table, is the leaf
-  landed : (i steps x y k : ℕ) → steps + k ≡ 16 → i < used → Holds (cell x y k) p → cellRange (cellAt t i) i used entries ≡ true → onSquare (cellAt t i) (cell x y k) ≡ true → cellAt t i .child ≡ 0
+  landed : (i steps x y k : ℕ)
+      → steps + k ≡ 16
+      → i < used
+      → Holds (cell x y k) p
+      → cellRange (cellAt t i) i used entries ≡ true
+      → onSquare (cellAt t i) (cell x y k) ≡ true
+      → cellAt t i .child ≡ 0
       → LeafFound t used entries p (leafOf i steps (cellAt t i))
   landed i steps x y k d u h f s z =
       record {
@@ -77,9 +86,17 @@ module _ (t : List ℕ) (used entries : ℕ) (p : Position) (l : Leaf) where
       same-level = omega arith
 
   -- at one cell, where the rest of the way finds such a leaf
-  one-cell : (n i steps x y k : ℕ) → steps + k ≡ 16 → i < used → Holds (cell x y k) p
-      → (cellAt t i .child + 3 < used → downFrom t used entries p n (cellAt t i .child + placeOf (quarterOf (cell x y k) p)) (steps + 1) (child (cell x y k) (quarterOf (cell x y k) p)) ≡ At l → LeafFound t used entries p l)
-      → downFrom t used entries p (suc n) i steps (cell x y k) ≡ At l → LeafFound t used entries p l
+  one-cell : (n i steps x y k : ℕ)
+      → steps + k ≡ 16
+      → i < used
+      → Holds (cell x y k) p
+      → (cellAt t i .child + 3 < used
+      → downFrom t used entries p n (cellAt t i .child + placeOf (quarterOf (cell x y k) p)) (steps + 1)
+      (child (cell x y k) (quarterOf (cell x y k) p))
+      ≡ At l
+      → LeafFound t used entries p l)
+      → downFrom t used entries p (suc n) i steps (cell x y k) ≡ At l
+      → LeafFound t used entries p l
   unfolding downFrom
   one-cell n i steps x y k d u h next e = go (cellRange w i used entries) (onSquare w c) (eqb (w .child) 0) refl refl refl e
     where
@@ -89,8 +106,17 @@ module _ (t : List ℕ) (used entries : ℕ) (p : Position) (l : Leaf) where
       c : Cell
       c = cell x y k
 
-      go : (a b z : Bool) → cellRange w i used entries ≡ a → onSquare w c ≡ b → eqb (w .child) 0 ≡ z
-          → cond a (cond b (cond z (At (leafOf i steps w)) (downFrom t used entries p n (w .child + placeOf (quarterOf c p)) (steps + 1) (child c (quarterOf c p)))) Broken) Broken ≡ At l
+      go : (a b z : Bool)
+          → cellRange w i used entries ≡ a
+          → onSquare w c ≡ b
+          → eqb (w .child) 0 ≡ z
+          → cond a
+          (cond b
+          (cond z (At (leafOf i steps w))
+          (downFrom t used entries p n (w .child + placeOf (quarterOf c p)) (steps + 1) (child c (quarterOf c p))))
+          Broken)
+          Broken
+          ≡ At l
           → LeafFound t used entries p l
       go true true true f s z q =
           let r : leafOf i steps w ≡ l = cc in
@@ -99,7 +125,13 @@ module _ (t : List ℕ) (used entries : ℕ) (p : Position) (l : Leaf) where
       go true false z f s m q = broken-not l q
       go false b z f s m q = broken-not l q
 
-  down-found : (n i steps : ℕ) (c : Cell) → steps + level c ≡ 16 → n ≤ suc (level c) → i < used → Holds c p → downFrom t used entries p n i steps c ≡ At l → LeafFound t used entries p l
+  down-found : (n i steps : ℕ) (c : Cell)
+      → steps + level c ≡ 16
+      → n ≤ suc (level c)
+      → i < used
+      → Holds c p
+      → downFrom t used entries p n i steps c ≡ At l
+      → LeafFound t used entries p l
   unfolding downFrom
   down-found zero i steps c d m u h e = broken-not l e
   down-found (suc zero) i steps (cell x y k) d m u h e = one-cell zero i steps x y k d u h (λ b q. broken-not l q) e
@@ -108,9 +140,15 @@ module _ (t : List ℕ) (used entries : ℕ) (p : Position) (l : Leaf) where
       let c : Cell = cell x y (suc k) in
       let q : Quarter = quarterOf c p in
       one-cell (suc n) i steps x y (suc k) d u h
-      (λ b r. down-found (suc n) (cellAt t i .child + placeOf q) (steps + 1) (child c q) (omega arith) (omega arith) (omega (arith, few-places q)) (child-holds c p h) r)
+      (λ b r.
+      down-found (suc n) (cellAt t i .child + placeOf q) (steps + 1) (child c q) (omega arith) (omega arith) (omega (arith, few-places q))
+      (child-holds c p h) r)
       e
 
-pub leaf-found : (t : List ℕ) (used entries x y : ℕ) (l : Leaf) → 1 ≤ used → OnGrid (at x y) → descendIn t used entries x y ≡ At l → LeafFound t used entries (at x y) l
+pub leaf-found : (t : List ℕ) (used entries x y : ℕ) (l : Leaf)
+    → 1 ≤ used
+    → OnGrid (at x y)
+    → descendIn t used entries x y ≡ At l
+    → LeafFound t used entries (at x y) l
 unfolding descendIn
 leaf-found t used entries x y l u g e = down-found t used entries (at x y) l 17 0 0 root (omega arith) (omega arith) u (root-holds (at x y) g) e

@@ -52,7 +52,14 @@ deeper-is : (i steps x y k first : ℕ) (p : Position) (px py : ℕ) → p ≡ a
 deeper-is i steps x y k first p px py e = rw (e, half-pow k) (go (leb (x + 2 ^ k) px) (leb (y + 2 ^ k) py))
   where
     go : (a b : Bool)
-        → _≡_ {A = Cursor} (record { cell = first + halfN x (2 ^ k) a .bit + 2 * halfN y (2 ^ k) b .bit; x = halfN x (2 ^ k) a .at; y = halfN y (2 ^ k) b .at; side = 2 ^ k; steps = steps + 1 })
+        → _≡_ {A = Cursor}
+        (record {
+          cell = first + halfN x (2 ^ k) a .bit + 2 * halfN y (2 ^ k) b .bit;
+          x = halfN x (2 ^ k) a .at;
+          y = halfN y (2 ^ k) b .at;
+          side = 2 ^ k;
+          steps = steps + 1;
+        })
         (cursorOf (first + placeOf (quarterBy a b)) (steps + 1) (child (cell x y (suc k)) (quarterBy a b)))
     go a b = λ d. record { cell = place-is first x y (2 ^ k) a b d; x = part-x x (2 ^ k) a b d; y = part-y y (2 ^ k) a b d; side = 2 ^ k; steps = steps + 1 }
 
@@ -77,15 +84,23 @@ module _ (t : List ℕ) (used entries px py : ℕ) where
       astray true = refl
       astray false = refl
 
-      go : (a b d : Bool) → onSquare w c ≡ a → numbersRange w used entries ≡ b → eqb (w .child) 0 ≡ d
-          → goOn (cond a (cond b (cond d (Landed (leafOf i steps w)) (Deeper (deeperN (cursorOf i steps c) (w .child) px py))) Bad) Bad) (walkN t used entries px py n)
+      go : (a b d : Bool)
+          → onSquare w c ≡ a
+          → numbersRange w used entries ≡ b
+          → eqb (w .child) 0 ≡ d
+          → goOn (cond a (cond b (cond d (Landed (leafOf i steps w)) (Deeper (deeperN (cursorOf i steps c) (w .child) px py))) Bad) Bad)
+          (walkN t used entries px py n)
           ≡ cond (cellRange w i used entries) (cond a (cond d (At (leafOf i steps w)) deeper) Broken) Broken
       go true true true e f k = rw (gridded-range w c i used entries g o e, f)
       go true true false e f k = rw (gridded-range w c i used entries g o e, f) (next (eqb-false (w .child) 0 k))
       go true false d e f k = rw (gridded-range w c i used entries g o e, f)
       go false b d e f k = astray (cellRange w i used entries)
 
-  walk-down : (n i steps : ℕ) (c : Cell) → n ≤ suc (level c) → Gridded c → (i ≡ 0 → c ≡ root) → walkN t used entries px py n (cursorOf i steps c) ≡ downFrom t used entries (at px py) n i steps c
+  walk-down : (n i steps : ℕ) (c : Cell)
+      → n ≤ suc (level c)
+      → Gridded c
+      → (i ≡ 0 → c ≡ root)
+      → walkN t used entries px py n (cursorOf i steps c) ≡ downFrom t used entries (at px py) n i steps c
   unfolding walkN downFrom
   walk-down zero i steps c h g o = refl
   walk-down (suc zero) i steps c h g o = one-cell zero i steps c g o (λ s. refl)

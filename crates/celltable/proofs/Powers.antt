@@ -16,7 +16,11 @@ unfolding powerUpTo levelUpTo
 level-is zero s h = sym (eqb-true s 1 h)
 level-is (suc n) s h = go (eqb s (2 ^ suc n)) refl (λ q. level-is n s q) h
   where
-    go : (b : Bool) → eqb s (2 ^ suc n) ≡ b → (powerUpTo n s ≡ true → 2 ^ levelUpTo n s ≡ s) → (b || powerUpTo n s) ≡ true → 2 ^ cond b (suc n) (levelUpTo n s) ≡ s
+    go : (b : Bool)
+        → eqb s (2 ^ suc n) ≡ b
+        → (powerUpTo n s ≡ true → 2 ^ levelUpTo n s ≡ s)
+        → (b || powerUpTo n s) ≡ true
+        → 2 ^ cond b (suc n) (levelUpTo n s) ≡ s
     go true e f q = sym (eqb-true s (2 ^ suc n) e)
     go false e f q = f q
 
@@ -121,7 +125,12 @@ divisor (suc n) s q e = go (eqb (s % 2) 0) (eqb (q % 2) 0) refl refl (λ r h. di
     doubled : s * q ≡ 2 ^ n + 2 ^ n
     doubled = e ∙ two-pow-succ n
 
-    go : (a b : Bool) → eqb (s % 2) 0 ≡ a → eqb (q % 2) 0 ≡ b → ((r : ℕ) → r * q ≡ 2 ^ n → powerUpTo n r ≡ true) → ((r : ℕ) → s * r ≡ 2 ^ n → powerUpTo n s ≡ true) → goal ≡ true
+    go : (a b : Bool)
+        → eqb (s % 2) 0 ≡ a
+        → eqb (q % 2) 0 ≡ b
+        → ((r : ℕ) → r * q ≡ 2 ^ n → powerUpTo n r ≡ true)
+        → ((r : ℕ) → s * r ≡ 2 ^ n → powerUpTo n s ≡ true)
+        → goal ≡ true
     go true b f g l r =
         let h : s ≡ s / 2 + s / 2 = even s (eqb-true (s % 2) 0 f) in
         ap (λ (m : ℕ). powerUpTo (suc n) m) h ∙ power-double n (s / 2) (l (s / 2) (left-half (s / 2) q (2 ^ n) s h doubled))

@@ -13,7 +13,23 @@ use Rattle.celltable.proofs.Powers.{level-is, level-most}
 use Rattle.geometry.specs.code.Reach.{SquareIn}
 use Rattle.cells.specs.Cells.{level, squareOf}
 use Rattle.celltable.specs.declared.CellWords.{CellWords}
-use Rattle.celltable.specs.Ranges.{sideRange, gridRange, squareRange, rootRange, childRange, entryRange, numbersRange, cellRange, cellsHeld, entriesHeld, headRange, CellsIn, levelOf, cellOf, squareIn}
+use Rattle.celltable.specs.Ranges.{
+  sideRange,
+  gridRange,
+  squareRange,
+  rootRange,
+  childRange,
+  entryRange,
+  numbersRange,
+  cellRange,
+  cellsHeld,
+  entriesHeld,
+  headRange,
+  CellsIn,
+  levelOf,
+  cellOf,
+  squareIn,
+}
 
 -- ---- the square of a cell
 
@@ -65,7 +81,9 @@ module _ (w : CellWords) (h : squareRange w ≡ true) where
 module _ (w : CellWords) (used entries : ℕ) (h : numbersRange w used entries ≡ true) where
   -- the four children of a cell that is split are in use
   pub child-in-use : (w .child ≡ 0 → ⊥) → w .child + 3 < used
-  child-in-use f = ltb-true (w .child + 3) used (go (eqb (w .child) 0) refl (and-left (childRange (w .child) used) (entryRange (w .first) (w .count) entries) h))
+  child-in-use f =
+      ltb-true (w .child + 3) used
+      (go (eqb (w .child) 0) refl (and-left (childRange (w .child) used) (entryRange (w .first) (w .count) entries) h))
     where
       go : (b : Bool) → eqb (w .child) 0 ≡ b → (b || ltb (w .child + 3) used) ≡ true → ltb (w .child + 3) used ≡ true
       go true e q = absurd (f (eqb-true (w .child) 0 e))
@@ -76,7 +94,12 @@ module _ (w : CellWords) (used entries : ℕ) (h : numbersRange w used entries �
   entries-in-use = leb-true (w .first + w .count) entries (and-right (childRange (w .child) used) (entryRange (w .first) (w .count) entries) h)
 
 -- such a child has a number far below what a word holds; f is the outcome of the code's test
-pub child-few : (t : List ℕ) (w : CellWords) (used entries : ℕ) (f : Bool) → CellsIn t used → f ≡ numbersRange w used entries → f ≡ true → (w .child ≡ 0 → ⊥) → w .child < 65536
+pub child-few : (t : List ℕ) (w : CellWords) (used entries : ℕ) (f : Bool)
+    → CellsIn t used
+    → f ≡ numbersRange w used entries
+    → f ≡ true
+    → (w .child ≡ 0 → ⊥)
+    → w .child < 65536
 child-few t w used entries f r q h z = omega (arith, child-in-use w used entries (sym q ∙ h) z)
 
 -- a leaf with entries in use
@@ -84,7 +107,11 @@ pub leaf-numbers : (w : CellWords) (used entries : ℕ) → w .child ≡ 0 → w
 leaf-numbers w used entries z h = rw (eq-eqb (w .child) 0 z, le-leb (w .first + w .count) entries h)
 
 -- with more in use they are still in range
-pub numbers-more : (w : CellWords) (used entries used′ entries′ : ℕ) → used ≤ used′ → entries ≤ entries′ → numbersRange w used entries ≡ true → numbersRange w used′ entries′ ≡ true
+pub numbers-more : (w : CellWords) (used entries used′ entries′ : ℕ)
+    → used ≤ used′
+    → entries ≤ entries′
+    → numbersRange w used entries ≡ true
+    → numbersRange w used′ entries′ ≡ true
 numbers-more w used entries used′ entries′ u n h =
     and-both (childRange (w .child) used′) (entryRange (w .first) (w .count) entries′)
     (go (eqb (w .child) 0) refl)
@@ -133,7 +160,11 @@ module _ (w : CellWords) (i used entries : ℕ) (h : cellRange w i used entries 
   pub passes-entries : w .first + w .count ≤ entries
   passes-entries = entries-in-use w used entries numbers-pass
 
-pub range-more : (w : CellWords) (i used entries used′ entries′ : ℕ) → used ≤ used′ → entries ≤ entries′ → cellRange w i used entries ≡ true → cellRange w i used′ entries′ ≡ true
+pub range-more : (w : CellWords) (i used entries used′ entries′ : ℕ)
+    → used ≤ used′
+    → entries ≤ entries′
+    → cellRange w i used entries ≡ true
+    → cellRange w i used′ entries′ ≡ true
 unfolding cellRange
 range-more w i used entries used′ entries′ u n h =
     rw (passes-range w i used entries h, numbers-more w used entries used′ entries′ u n (numbers-pass w i used entries h)) (passes-root w i used entries h)

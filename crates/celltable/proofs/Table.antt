@@ -46,7 +46,11 @@ cell-beyond t t′ m i e h = same-words t t′ i (λ k l. at (i * 8 + k) (omega 
         rw q at (sym (getD-drop m t (k - m) 0) ∙ ap (λ (x : List ℕ). getD x (k - m) 0) e ∙ getD-drop m t′ (k - m) 0)
 
 -- two tables that agree before cell i and after it agree on every other cell
-pub cell-other : (t t′ : List ℕ) (i j : ℕ) → take (i * 8) t ≡ take (i * 8) t′ → drop (i * 8 + 8) t ≡ drop (i * 8 + 8) t′ → (j ≡ i → ⊥) → cellAt t j ≡ cellAt t′ j
+pub cell-other : (t t′ : List ℕ) (i j : ℕ)
+    → take (i * 8) t ≡ take (i * 8) t′
+    → drop (i * 8 + 8) t ≡ drop (i * 8 + 8) t′
+    → (j ≡ i → ⊥)
+    → cellAt t j ≡ cellAt t′ j
 cell-other t t′ i j e f n = go (decLt j i)
   where
     go : Dec (j < i) → cellAt t j ≡ cellAt t′ j
@@ -135,4 +139,5 @@ put-child-same t i n h =
     other k f = getD-set-other t (i * 8 + 3) k n 0 f
 
 pub put-child-other : (t : List ℕ) (i j n : ℕ) → (j ≡ i → ⊥) → cellAt (putChildAt t i n) j ≡ cellAt t j
-put-child-other t i j n f = cell-other (putChildAt t i n) t i j (put-child-before t (i * 8) i n (omega arith)) (put-child-beyond t (i * 8 + 8) i n (omega arith)) f
+put-child-other t i j n f =
+    cell-other (putChildAt t i n) t i j (put-child-before t (i * 8) i n (omega arith)) (put-child-beyond t (i * 8 + 8) i n (omega arith)) f

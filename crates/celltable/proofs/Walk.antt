@@ -56,14 +56,24 @@ module _ (t : List ℕ) (used entries : ℕ) (c : Cursor) (px py : ℕ) (w : Cel
 
 -- ---- the loop: what is left gives what the whole gives
 module _ (t : List ℕ) (used entries px py n : ℕ) (c : Cursor) (r : Down) (whole : Found) where
-  walk-step : (d : Down) → 0 < n → r ≡ stepN t used entries c px py → r ≡ d → walkN t used entries px py n c ≡ whole → goOn d (walkN t used entries px py (n - 1)) ≡ whole
+  walk-step : (d : Down)
+      → 0 < n
+      → r ≡ stepN t used entries c px py
+      → r ≡ d
+      → walkN t used entries px py n c ≡ whole
+      → goOn d (walkN t used entries px py (n - 1)) ≡ whole
   unfolding walkN
   walk-step d h p q inv =
       let s : n ≡ suc (n - 1) = omega arith in
       let i : walkN t used entries px py (suc (n - 1)) c ≡ whole = ap (λ (k : ℕ). walkN t used entries px py k c) (sym s) ∙ inv in
       rw (← q, p) i
 
-  pub walk-deeper : (c′ : Cursor) → 0 < n → r ≡ stepN t used entries c px py → r ≡ Deeper c′ → walkN t used entries px py n c ≡ whole → walkN t used entries px py (n - 1) c′ ≡ whole
+  pub walk-deeper : (c′ : Cursor)
+      → 0 < n
+      → r ≡ stepN t used entries c px py
+      → r ≡ Deeper c′
+      → walkN t used entries px py n c ≡ whole
+      → walkN t used entries px py (n - 1) c′ ≡ whole
   walk-deeper c′ h p q inv = walk-step (Deeper c′) h p q inv
 
   pub walk-landed : (l : Leaf) → 0 < n → r ≡ stepN t used entries c px py → r ≡ Landed l → walkN t used entries px py n c ≡ whole → At l ≡ whole

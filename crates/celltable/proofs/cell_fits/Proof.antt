@@ -14,7 +14,10 @@ root-fits-requires c κs = search needs
 
 returns : tie.Need-returns
 unfolding cellRange
-returns c = rw (c .root-fits .ensures, c .before .numbers-fit .ensures, c .before .before .square-fits .ensures)
+returns c =
+    let after-numbers-fit = c .before in
+    let after-square-fits = after-numbers-fit .before in
+    rw (c .root-fits .ensures, after-numbers-fit .numbers-fit .ensures, after-square-fits .square-fits .ensures)
 
 pub cell-fits-spec : {M : Type 1} → statement M
 cell-fits-spec =

@@ -18,7 +18,10 @@ wide-requires-2 c κs = search needs
 
 returns : tie.Need-returns
 unfolding headRange
-returns c = rw (le-leb _ _ (c .before .before .before .before .if1 .taken), c .wide2 .ensures, c .before .before .wide .ensures)
+returns c =
+    let after-wide = c .before .before in
+    let at-if1 = after-wide .before .before in
+    rw (le-leb _ _ (at-if1 .if1 .taken), c .wide2 .ensures, after-wide .wide .ensures)
 
 returns-2 : tie.Need-returns-2
 unfolding headRange

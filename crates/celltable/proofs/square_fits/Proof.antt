@@ -8,13 +8,22 @@ side-fits-requires : tie.Need-side-fits-requires
 side-fits-requires c κs = search needs
 
 rem-result : tie.Need-rem-result
-rem-result c = side-some _ (sym (c .before .before .side-fits .ensures) ∙ c .before .if1 .taken)
+rem-result c =
+    let at-if1 = c .before in
+    let after-side-fits = at-if1 .before in
+    side-some _ (sym (after-side-fits .side-fits .ensures) ∙ at-if1 .if1 .taken)
 
 rem-result-2 : tie.Need-rem-result-2
-rem-result-2 c = side-some _ (sym (c .before .before .before .before .side-fits .ensures) ∙ c .before .before .before .if1 .taken)
+rem-result-2 c =
+    let at-if1 = c .before .before .before in
+    let after-side-fits = at-if1 .before in
+    side-some _ (sym (after-side-fits .side-fits .ensures) ∙ at-if1 .if1 .taken)
 
 returns : tie.Need-returns
-returns c = rw (sym (c .before .before .before .before .before .side-fits .ensures) ∙ c .before .before .before .before .if1 .taken)
+returns c =
+    let at-if1 = c .before .before .before .before in
+    let after-side-fits = at-if1 .before in
+    rw (sym (after-side-fits .side-fits .ensures) ∙ at-if1 .if1 .taken)
 
 returns-2 : tie.Need-returns-2
 returns-2 c = rw (sym (c .before .side-fits .ensures) ∙ c .if1 .left)

@@ -27,7 +27,10 @@ add-t12 : tie.Need-add-t12
 add-t12 c = search needs
 
 returns : tie.Need-returns
-returns c = rw (c .before .before .before .half-of2 .ensures .0, c .before .before .before .before .before .half-of .ensures .0)
+returns c =
+    let after-half-of2 = c .before .before .before in
+    let after-half-of = after-half-of2 .before .before in
+    rw (after-half-of2 .half-of2 .ensures .0, after-half-of .half-of .ensures .0)
 
 pub deeper-spec : {M : Type 1} → statement M
 deeper-spec =
