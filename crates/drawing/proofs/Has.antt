@@ -16,7 +16,9 @@ before l (v ∷ vs) i j h = before (set l i v) vs (suc i) j (omega arith) ∙ ge
 sets-words : (t : List ℕ) (i : ℕ) (ws : List ℕ) → i + length ws ≤ length t → wordsFrom (sets t i ws) i (length ws) ≡ ws
 sets-words t i [] h = refl
 sets-words t i (w ∷ ws) h =
-    λ d. (before (set t i w) ws (suc i) i (omega arith) ∙ getD-set-same t i w 0 (omega arith)) d ∷ sets-words (set t i w) (suc i) ws (rw (length-set t i w) (omega arith)) d
+    λ d.
+    (before (set t i w) ws (suc i) i (omega arith) ∙ getD-set-same t i w 0 (omega arith)) d
+    ∷ sets-words (set t i w) (suc i) ws (rw (length-set t i w) (omega arith)) d
 
 pub has-sets : (t : List ℕ) (i : ℕ) (ws : List ℕ) → i + length ws ≤ length t → Has (sets t i ws) i ws
 has-sets t i ws h = record { room = rw (length-sets t i ws) h; same = sets-words t i ws h }
@@ -41,7 +43,10 @@ has-same t i ws h = same-sets t i ws (h .same)
 pub has-nil : (t : List ℕ) (i : ℕ) → i ≤ length t → Has t i []
 has-nil t i h = record { room = omega arith; same = refl }
 
-join-words : (t : List ℕ) (i : ℕ) (xs ys : List ℕ) → wordsFrom t i (length xs) ≡ xs → wordsFrom t (i + length xs) (length ys) ≡ ys → wordsFrom t i (length (xs ++ ys)) ≡ xs ++ ys
+join-words : (t : List ℕ) (i : ℕ) (xs ys : List ℕ)
+    → wordsFrom t i (length xs) ≡ xs
+    → wordsFrom t (i + length xs) (length ys) ≡ ys
+    → wordsFrom t i (length (xs ++ ys)) ≡ xs ++ ys
 join-words t i [] ys p q = rw (add-zero i) at q
 join-words t i (x ∷ xs) ys p q =
     let n : i + suc (length xs) ≡ suc i + length xs = omega arith in

@@ -44,17 +44,26 @@ unfolding decodedFrom spread
 file-read b i [] g h = refl
 file-read b i (r ∷ rs) g h =
     let n : i * 16 + 16 ≡ (i + 1) * 16 = omega arith in
-    λ d. byte-read b i r (and-left (inRange r) (allRange rs) g) (has-left b (i * 16) (bytesOf r) (fileOf rs) h) d ∷ file-read b (i + 1) rs (and-right (inRange r) (allRange rs) g) (has-at b (i * 16 + 16) ((i + 1) * 16) (fileOf rs) n (has-right b (i * 16) (bytesOf r) (fileOf rs) h)) d
+    λ d.
+    byte-read b i r (and-left (inRange r) (allRange rs) g) (has-left b (i * 16) (bytesOf r) (fileOf rs) h) d
+    ∷ file-read b (i + 1) rs (and-right (inRange r) (allRange rs) g)
+    (has-at b (i * 16 + 16) ((i + 1) * 16) (fileOf rs) n (has-right b (i * 16) (bytesOf r) (fileOf rs) h)) d
 
-pub file-told : (b : List ℕ) (i n : ℕ) (rs : List Record) → ((k : ℕ) → getD b k 0 < 256) → (i + n) * 16 ≤ length b → decodedFrom b i n ≡ map Good rs → Has b (i * 16) (fileOf rs)
+pub file-told : (b : List ℕ) (i n : ℕ) (rs : List Record)
+    → ((k : ℕ) → getD b k 0 < 256)
+    → (i + n) * 16 ≤ length b
+    → decodedFrom b i n ≡ map Good rs
+    → Has b (i * 16) (fileOf rs)
 unfolding decodedFrom spread
 file-told b i zero [] s h e = has-nil b (i * 16) (omega arith)
 file-told b i zero (r ∷ rs) s h e = not-nil (Good r) (map Good rs) e
 file-told b i (suc n) [] s h e = not-cons (decodedRaw (rawAt b i)) (decodedFrom b (i + 1) n) e
 file-told b i (suc n) (r ∷ rs) s h e =
     let m : (i + 1) * 16 ≡ i * 16 + 16 = omega arith in
-    has-join b (i * 16) (bytesOf r) (fileOf rs) (byte-told b i r s (omega arith) (head-is (decodedRaw (rawAt b i)) (Good r) (decodedFrom b (i + 1) n) (map Good rs) e))
-    (has-at b ((i + 1) * 16) (i * 16 + 16) (fileOf rs) m (file-told b (i + 1) n rs s (omega arith) (tail-is (decodedRaw (rawAt b i)) (Good r) (decodedFrom b (i + 1) n) (map Good rs) e)))
+    has-join b (i * 16) (bytesOf r) (fileOf rs)
+    (byte-told b i r s (omega arith) (head-is (decodedRaw (rawAt b i)) (Good r) (decodedFrom b (i + 1) n) (map Good rs) e))
+    (has-at b ((i + 1) * 16) (i * 16 + 16) (fileOf rs) m
+    (file-told b (i + 1) n rs s (omega arith) (tail-is (decodedRaw (rawAt b i)) (Good r) (decodedFrom b (i + 1) n) (map Good rs) e)))
 
 pub file-range : (b : List ℕ) (i n : ℕ) (rs : List Record) → decodedFrom b i n ≡ map Good rs → allRange rs ≡ true
 unfolding decodedFrom
@@ -108,16 +117,26 @@ from-rest t i c r rs h =
       ys = has-at (t .ys) _ _ (spread yW rs) (y-long r (c .corner)) (has-right (t .ys) (c .corner) (yW r) (spread yW rs) (h .ys));
     }
 
-pub tables-read : (t : Tables) (u : Counts) (i : ℕ) (c : Cursor) (rs : List Record) → allRange rs ≡ true → From t i c rs → c .area + areasIn rs ≤ u .areas → c .corner + cornersIn rs ≤ u .corners
+pub tables-read : (t : Tables) (u : Counts) (i : ℕ) (c : Cursor) (rs : List Record)
+    → allRange rs ≡ true
+    → From t i c rs
+    → c .area + areasIn rs ≤ u .areas
+    → c .corner + cornersIn rs ≤ u .corners
     → rebuilt t u i c (length rs) ≡ map Good rs
 unfolding rebuilt spread
 tables-read t u i c [] g h p q = refl
-tables-read t u i c (r ∷ rs) g h p q = rw here (ap (λ (l : List Decoded). Good r ∷ l) (tables-read t u (i + 1) (pastRecord c r) rs (and-right (inRange r) (allRange rs) g) (from-rest t i c r rs h) (omega arith) (omega arith)))
+tables-read t u i c (r ∷ rs) g h p q =
+    rw here
+    (ap (λ (l : List Decoded). Good r ∷ l)
+    (tables-read t u (i + 1) (pastRecord c r) rs (and-right (inRange r) (allRange rs) g) (from-rest t i c r rs h) (omega arith)
+    (omega arith)))
   where
     here : rowOf t u i c ≡ Good r
     here =
-        row-read t u i c r (and-left (inRange r) (allRange rs) g) (has-first (t .plan) (i + 3) (kindOf r) (spread kindW rs) (h .plan)) (has-left (t .areas) (c .area * 8) (areaW r) (spread areaW rs) (h .areas))
-        (has-left (t .xs) (c .corner) (xW r) (spread xW rs) (h .xs)) (has-left (t .ys) (c .corner) (yW r) (spread yW rs) (h .ys)) (omega arith) (omega arith)
+        row-read t u i c r (and-left (inRange r) (allRange rs) g) (has-first (t .plan) (i + 3) (kindOf r) (spread kindW rs) (h .plan))
+        (has-left (t .areas) (c .area * 8) (areaW r) (spread areaW rs) (h .areas))
+        (has-left (t .xs) (c .corner) (xW r) (spread xW rs) (h .xs)) (has-left (t .ys) (c .corner) (yW r) (spread yW rs) (h .ys))
+        (omega arith) (omega arith)
 
 -- lengths of the tables against the counts in use
 pub record Wide (t : Tables) (u : Counts) : Type 0 where
@@ -139,27 +158,51 @@ x-room r n m l p q = rw (x-long r n) (omega arith)
 y-room : (r : Record) (n m l : ℕ) → n + cornerOne r ≤ m → m ≤ l → n + length (yW r) ≤ l
 y-room r n m l p q = rw (y-long r n) (omega arith)
 
-told-more : (t : Tables) (u : Counts) (i : ℕ) (c : Cursor) (r : Record) (rs : List Record) → Wide t u → i < u .records → c .area ≤ u .areas → c .corner ≤ u .corners → RowTold t u (getD (t .plan) (i + 3) 0) c r → TablesTold t u (i + 1) (pastRecord c r) rs
+told-more : (t : Tables) (u : Counts) (i : ℕ) (c : Cursor) (r : Record) (rs : List Record)
+    → Wide t u
+    → i < u .records
+    → c .area ≤ u .areas
+    → c .corner ≤ u .corners
+    → RowTold t u (getD (t .plan) (i + 3) 0) c r
+    → TablesTold t u (i + 1) (pastRecord c r) rs
     → TablesTold t u i c (r ∷ rs)
 unfolding spread
 told-more t u i c r rs w l la lc k h =
     let n : i + 1 + 3 ≡ i + 3 + 1 = omega arith in
     record {
-      there =
-          record {
-            plan = has-join (t .plan) (i + 3) (kindW r) (spread kindW rs) (has-one (t .plan) (i + 3) (kindOf r) (omega (arith, w .plan)) (k .kind)) (has-at (t .plan) (i + 1 + 3) (i + 3 + 1) (spread kindW rs) n (h .there .plan));
-            areas = has-join (t .areas) (c .area * 8) (areaW r) (spread areaW rs) (record { room = area-room r (c .area) (u .areas) _ (k .few la) (w .areas); same = k .areas }) (has-at (t .areas) _ _ (spread areaW rs) (sym (area-long r (c .area))) (h .there .areas));
-            xs = has-join (t .xs) (c .corner) (xW r) (spread xW rs) (record { room = x-room r (c .corner) (u .corners) _ (k .many lc) (w .xs); same = k .xs }) (has-at (t .xs) _ _ (spread xW rs) (sym (x-long r (c .corner))) (h .there .xs));
-            ys = has-join (t .ys) (c .corner) (yW r) (spread yW rs) (record { room = y-room r (c .corner) (u .corners) _ (k .many lc) (w .ys); same = k .ys }) (has-at (t .ys) _ _ (spread yW rs) (sym (y-long r (c .corner))) (h .there .ys));
-          };
+      there = record {
+        plan = has-join (t .plan) (i + 3) (kindW r) (spread kindW rs)
+            (has-one (t .plan) (i + 3) (kindOf r) (omega (arith, w .plan)) (k .kind))
+            (has-at (t .plan) (i + 1 + 3) (i + 3 + 1) (spread kindW rs) n (h .there .plan));
+        areas = has-join (t .areas) (c .area * 8) (areaW r) (spread areaW rs)
+            (record { room = area-room r (c .area) (u .areas) _ (k .few la) (w .areas); same = k .areas })
+            (has-at (t .areas) _ _ (spread areaW rs) (sym (area-long r (c .area))) (h .there .areas));
+        xs = has-join (t .xs) (c .corner) (xW r) (spread xW rs)
+            (record { room = x-room r (c .corner) (u .corners) _ (k .many lc) (w .xs); same = k .xs })
+            (has-at (t .xs) _ _ (spread xW rs) (sym (x-long r (c .corner))) (h .there .xs));
+        ys = has-join (t .ys) (c .corner) (yW r) (spread yW rs)
+            (record { room = y-room r (c .corner) (u .corners) _ (k .many lc) (w .ys); same = k .ys })
+            (has-at (t .ys) _ _ (spread yW rs) (sym (y-long r (c .corner))) (h .there .ys));
+      };
       range = and-both (inRange r) (allRange rs) (k .range) (h .range);
     }
 
-pub tables-told : (t : Tables) (u : Counts) (i : ℕ) (c : Cursor) (n : ℕ) (rs : List Record) → Wide t u → i + n ≤ u .records → c .area ≤ u .areas → c .corner ≤ u .corners → rebuilt t u i c n ≡ map Good rs → TablesTold t u i c rs
+pub tables-told : (t : Tables) (u : Counts) (i : ℕ) (c : Cursor) (n : ℕ) (rs : List Record)
+    → Wide t u
+    → i + n ≤ u .records
+    → c .area ≤ u .areas
+    → c .corner ≤ u .corners
+    → rebuilt t u i c n ≡ map Good rs
+    → TablesTold t u i c rs
 unfolding rebuilt spread
 tables-told t u i c zero [] w l la lc e =
     record {
-      there = record { plan = has-nil (t .plan) (i + 3) (omega (arith, w .plan)); areas = has-nil (t .areas) (c .area * 8) (omega (arith, w .areas)); xs = has-nil (t .xs) (c .corner) (omega (arith, w .xs)); ys = has-nil (t .ys) (c .corner) (omega (arith, w .ys)) };
+      there = record {
+        plan = has-nil (t .plan) (i + 3) (omega (arith, w .plan));
+        areas = has-nil (t .areas) (c .area * 8) (omega (arith, w .areas));
+        xs = has-nil (t .xs) (c .corner) (omega (arith, w .xs));
+        ys = has-nil (t .ys) (c .corner) (omega (arith, w .ys));
+      };
       range = refl;
     }
 tables-told t u i c zero (r ∷ rs) w l la lc e = not-nil (Good r) (map Good rs) e
@@ -167,5 +210,7 @@ tables-told t u i c (suc n) [] w l la lc e = not-cons (rowOf t u i c) (rebuilt t
 tables-told t u i c (suc n) (r ∷ rs) w l la lc e =
     let q : rowOf t u i c ≡ Good r = head-is (rowOf t u i c) (Good r) (rebuilt t u (i + 1) (pastOf c (rowOf t u i c)) n) (map Good rs) e in
     let k : RowTold t u (getD (t .plan) (i + 3) 0) c r = row-told t u c r i q in
-    let f : rebuilt t u (i + 1) (pastRecord c r) n ≡ map Good rs = subst (λ (d : Decoded). rebuilt t u (i + 1) (pastOf c d) n ≡ map Good rs) q (tail-is (rowOf t u i c) (Good r) (rebuilt t u (i + 1) (pastOf c (rowOf t u i c)) n) (map Good rs) e) in
-    told-more t u i c r rs w (omega arith) la lc k (tables-told t u (i + 1) (pastRecord c r) n rs w (omega arith) (k .few la) (k .many lc) f)
+    let f : rebuilt t u (i + 1) (pastRecord c r) n ≡ map Good rs = subst (λ (d : Decoded). rebuilt t u (i + 1) (pastOf c d) n ≡ map Good rs)
+    q (tail-is (rowOf t u i c) (Good r) (rebuilt t u (i + 1) (pastOf c (rowOf t u i c)) n) (map Good rs) e) in
+    told-more t u i c r rs w (omega arith) la lc k
+    (tables-told t u (i + 1) (pastRecord c r) n rs w (omega arith) (k .few la) (k .many lc) f)

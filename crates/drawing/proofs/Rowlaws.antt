@@ -118,7 +118,11 @@ raw-same r s e =
 pub byte-read : (b : List ℕ) (i : ℕ) (r : Record) → inRange r ≡ true → Has b (i * 16) (bytesOf r) → decodedRaw (rawAt b i) ≡ Good r
 byte-read b i r g h = ap decodedRaw (raw-same (rawAt b i) (rawOf r) (sym (raw-words b i) ∙ h .same)) ∙ raw-again r g
 
-pub byte-told : (b : List ℕ) (i : ℕ) (r : Record) → ((k : ℕ) → getD b k 0 < 256) → i * 16 + 16 ≤ length b → decodedRaw (rawAt b i) ≡ Good r → Has b (i * 16) (bytesOf r)
+pub byte-told : (b : List ℕ) (i : ℕ) (r : Record)
+    → ((k : ℕ) → getD b k 0 < 256)
+    → i * 16 + 16 ≤ length b
+    → decodedRaw (rawAt b i) ≡ Good r
+    → Has b (i * 16) (bytesOf r)
 byte-told b i r s h e = record { room = h; same = raw-words b i ∙ ap rawBytes (sym (raw-back (rawAt b i) r small e)) }
   where
     small : Small (rawAt b i)
@@ -138,14 +142,35 @@ byte-told b i r s h e = record { room = h; same = raw-words b i ∙ ap rawBytes 
         }
 
 -- ---- an area's eight words
-area-words : (t : List ℕ) (i : ℕ) → wordsFrom t (i * 8) 8
-    ≡ getD t (i * 8) 0 ∷ getD t (i * 8 + 1) 0 ∷ getD t (i * 8 + 2) 0 ∷ getD t (i * 8 + 3) 0 ∷ getD t (i * 8 + 4) 0 ∷ getD t (i * 8 + 5) 0 ∷ getD t (i * 8 + 6) 0 ∷ getD t (i * 8 + 7) 0 ∷ []
+area-words : (t : List ℕ) (i : ℕ)
+    → wordsFrom t (i * 8) 8
+    ≡ getD t (i * 8) 0
+    ∷ getD t (i * 8 + 1) 0
+    ∷ getD t (i * 8 + 2) 0
+    ∷ getD t (i * 8 + 3) 0
+    ∷ getD t (i * 8 + 4) 0
+    ∷ getD t (i * 8 + 5) 0
+    ∷ getD t (i * 8 + 6) 0
+    ∷ getD t (i * 8 + 7) 0
+    ∷ []
 area-words t i = simp towards-suc
 
 pub row-fields : (t : List ℕ) (i : ℕ) (f : Fields) → wordsFrom t (i * 8) 8 ≡ rowW f → fieldsAt t i ≡ f
 row-fields t i f e₀ = λ d. record { role = at 0 d; rule = at 1 d; alpha = at 2 d; red = at 3 d; green = at 4 d; blue = at 5 d; material = at 6 d }
   where
-    at : (k : ℕ) → getD (getD t (i * 8) 0 ∷ getD t (i * 8 + 1) 0 ∷ getD t (i * 8 + 2) 0 ∷ getD t (i * 8 + 3) 0 ∷ getD t (i * 8 + 4) 0 ∷ getD t (i * 8 + 5) 0 ∷ getD t (i * 8 + 6) 0 ∷ getD t (i * 8 + 7) 0 ∷ []) k 0 ≡ getD (rowW f) k 0
+    at : (k : ℕ)
+        → getD
+        (getD t (i * 8) 0
+        ∷ getD t (i * 8 + 1) 0
+        ∷ getD t (i * 8 + 2) 0
+        ∷ getD t (i * 8 + 3) 0
+        ∷ getD t (i * 8 + 4) 0
+        ∷ getD t (i * 8 + 5) 0
+        ∷ getD t (i * 8 + 6) 0
+        ∷ getD t (i * 8 + 7) 0
+        ∷ [])
+        k 0
+        ≡ getD (rowW f) k 0
     at k = ap (λ (l : List ℕ). getD l k 0) (sym (area-words t i) ∙ e₀)
 
 row-last : (t : List ℕ) (i : ℕ) (f : Fields) → wordsFrom t (i * 8) 8 ≡ rowW f → getD t (i * 8 + 7) 0 ≡ 0
@@ -153,17 +178,33 @@ row-last t i f e = ap (λ (l : List ℕ). getD l 7 0) (sym (area-words t i) ∙ 
 
 -- ---- what is in the tables is read as it is
 module _ (t : Tables) (u : Counts) (i : ℕ) (c : Cursor) where
-  pub area-read : (f : Fields) → inRange (Area f) ≡ true → Has (t .areas) (c .area * 8) (rowW f) → c .area < u .areas → areaRow (t .areas) (u .areas) (c .area) ≡ Good (Area f)
+  pub area-read : (f : Fields)
+      → inRange (Area f) ≡ true
+      → Has (t .areas) (c .area * 8) (rowW f)
+      → c .area < u .areas
+      → areaRow (t .areas) (u .areas) (c .area) ≡ Good (Area f)
   unfolding areaRow
   area-read f g h l = rw (lt-ltb _ _ l, row-last (t .areas) (c .area) f (h .same), row-fields (t .areas) (c .area) f (h .same), g)
 
-  corner-read : (k x y : ℕ) (r : Record) → cornerOf k x y ≡ r → inRange r ≡ true → getD (t .xs) (c .corner) 0 ≡ x → getD (t .ys) (c .corner) 0 ≡ y → c .corner < u .corners
+  corner-read : (k x y : ℕ) (r : Record)
+      → cornerOf k x y ≡ r
+      → inRange r ≡ true
+      → getD (t .xs) (c .corner) 0 ≡ x
+      → getD (t .ys) (c .corner) 0 ≡ y
+      → c .corner < u .corners
       → cornerRow (t .xs) (t .ys) (u .corners) k (c .corner) ≡ Good r
   unfolding cornerRow
   corner-read k x y r q g a b l = rw (lt-ltb _ _ l, a, b, q, g)
 
-  pub row-read : (r : Record) → inRange r ≡ true → getD (t .plan) (i + 3) 0 ≡ kindOf r → Has (t .areas) (c .area * 8) (areaW r) → Has (t .xs) (c .corner) (xW r) → Has (t .ys) (c .corner) (yW r)
-      → c .area + areaOne r ≤ u .areas → c .corner + cornerOne r ≤ u .corners → rowOf t u i c ≡ Good r
+  pub row-read : (r : Record)
+      → inRange r ≡ true
+      → getD (t .plan) (i + 3) 0 ≡ kindOf r
+      → Has (t .areas) (c .area * 8) (areaW r)
+      → Has (t .xs) (c .corner) (xW r)
+      → Has (t .ys) (c .corner) (yW r)
+      → c .area + areaOne r ≤ u .areas
+      → c .corner + cornerOne r ≤ u .corners
+      → rowOf t u i c ≡ Good r
   unfolding rowOf kindRow cornerOf delimiterOf
   row-read (Area f) g k a x y p q = rw k (area-read f g a (omega arith))
   row-read (First m n) g k a x y p q = rw k (corner-read 2 m n (First m n) refl g (has-first _ _ m [] x) (has-first _ _ n [] y) (omega arith))
@@ -197,9 +238,22 @@ module _ (t : Tables) (u : Counts) (c : Cursor) (r : Record) where
       f = fieldsAt (t .areas) (c .area)
 
       told-row : c .area < u .areas → getD (t .areas) (c .area * 8 + 7) 0 ≡ 0 → inRange (Area f) ≡ true → RowTold t u 1 c (Area f)
-      told-row l z g = record { kind = refl; areas = area-words (t .areas) (c .area) ∙ rw z; xs = refl; ys = refl; few = λ h. omega arith; many = λ h. omega arith; range = g }
+      told-row l z g =
+          record {
+            kind = refl;
+            areas = area-words (t .areas) (c .area) ∙ rw z;
+            xs = refl;
+            ys = refl;
+            few = λ h. omega arith;
+            many = λ h. omega arith;
+            range = g;
+          }
 
-      go : (a b : Bool) → ltb (c .area) (u .areas) ≡ a → eqb (getD (t .areas) (c .area * 8 + 7) 0) 0 ≡ b → cond a (cond b (ranged (Area f)) (Bad Field)) (Bad Field) ≡ Good r → RowTold t u 1 c r
+      go : (a b : Bool)
+          → ltb (c .area) (u .areas) ≡ a
+          → eqb (getD (t .areas) (c .area * 8 + 7) 0) 0 ≡ b
+          → cond a (cond b (ranged (Area f)) (Bad Field)) (Bad Field) ≡ Good r
+          → RowTold t u 1 c r
       go false b p q e = good-bad Field r e
       go true false p q e = good-bad Field r e
       go true true p q e =
@@ -239,13 +293,19 @@ module _ (t : Tables) (u : Counts) (c : Cursor) (r : Record) where
           rw (← s .0) (told-row (ltb-true _ _ p) (rw (← s .0) at (s .1)))
 
   told-open : Good Open ≡ Good r → RowTold t u 4 c r
-  told-open e = rw (← good-is Open r e) (record { kind = refl; areas = refl; xs = refl; ys = refl; few = λ h. omega arith; many = λ h. omega arith; range = refl })
+  told-open e =
+      rw (← good-is Open r e)
+      (record { kind = refl; areas = refl; xs = refl; ys = refl; few = λ h. omega arith; many = λ h. omega arith; range = refl })
 
   told-bar : Good Bar ≡ Good r → RowTold t u 5 c r
-  told-bar e = rw (← good-is Bar r e) (record { kind = refl; areas = refl; xs = refl; ys = refl; few = λ h. omega arith; many = λ h. omega arith; range = refl })
+  told-bar e =
+      rw (← good-is Bar r e)
+      (record { kind = refl; areas = refl; xs = refl; ys = refl; few = λ h. omega arith; many = λ h. omega arith; range = refl })
 
   told-close : Good Close ≡ Good r → RowTold t u 6 c r
-  told-close e = rw (← good-is Close r e) (record { kind = refl; areas = refl; xs = refl; ys = refl; few = λ h. omega arith; many = λ h. omega arith; range = refl })
+  told-close e =
+      rw (← good-is Close r e)
+      (record { kind = refl; areas = refl; xs = refl; ys = refl; few = λ h. omega arith; many = λ h. omega arith; range = refl })
 
   told-kind : (k : ℕ) → leb 1 k ≡ true → leb k 6 ≡ true → kindRow (t .areas) (t .xs) (t .ys) u k c ≡ Good r → RowTold t u k c r
   unfolding kindRow delimiterOf
@@ -258,7 +318,11 @@ module _ (t : Tables) (u : Counts) (c : Cursor) (r : Record) where
       k : ℕ
       k = getD (t .plan) (i + 3) 0
 
-      go : (a b : Bool) → leb 1 k ≡ a → leb k 6 ≡ b → cond a (cond b (kindRow (t .areas) (t .xs) (t .ys) u k c) (Bad Kind)) (Bad Kind) ≡ Good r → RowTold t u k c r
+      go : (a b : Bool)
+          → leb 1 k ≡ a
+          → leb k 6 ≡ b
+          → cond a (cond b (kindRow (t .areas) (t .xs) (t .ys) u k c) (Bad Kind)) (Bad Kind) ≡ Good r
+          → RowTold t u k c r
       go false b p q e = good-bad Kind r e
       go true false p q e = good-bad Kind r e
       go true true p q e = told-kind k p q e

@@ -32,7 +32,9 @@ use Rattle.drawing.specs.Tables.{Tables, Ready, cursor, rowOf, pastOf, r
 use Rattle.read.proofs.Writes.{length-on, turn-table}
 use Rattle.read.proofs.Files.{file-length, Holds, held}
 
-pub re-step : (t : Tables) (u : Counts) (i e : ℕ) (c : Cursor) → i < e → rebuilt t u i c (e - i) ≡ rowOf t u i c ∷ rebuilt t u (i + 1) (pastOf c (rowOf t u i c)) (e - (i + 1))
+pub re-step : (t : Tables) (u : Counts) (i e : ℕ) (c : Cursor)
+    → i < e
+    → rebuilt t u i c (e - i) ≡ rowOf t u i c ∷ rebuilt t u (i + 1) (pastOf c (rowOf t u i c)) (e - (i + 1))
 unfolding rebuilt
 re-step t u i e c h =
     let q : e - i ≡ suc (e - (i + 1)) = omega arith in
@@ -77,17 +79,32 @@ past-corner i c c′ (Good r) h e = rw e (omega (arith, corner-one r))
 past-corner i c c′ (Bad x) h e = rw e (omega arith)
 
 -- ---- the check
-pub walk-begin : (t : Tables) (u : Counts) (n : ℕ) (s : Scan) → s ≡ startN → scanN s 0 (rebuilt t u 0 (cursor 0 0) (n - 0)) ≡ scanN startN 0 (rebuilt t u 0 (cursor 0 0) n)
+pub walk-begin : (t : Tables) (u : Counts) (n : ℕ) (s : Scan)
+    → s ≡ startN
+    → scanN s 0 (rebuilt t u 0 (cursor 0 0) (n - 0)) ≡ scanN startN 0 (rebuilt t u 0 (cursor 0 0) n)
 walk-begin t u n s e = rw (e, re-zero t u (cursor 0 0) n)
 
-pub walk-turn : (t : Tables) (u : Counts) (i e : ℕ) (s s′ whole : Scan) (d : Decoded) (c c′ : Cursor) → i < e → d ≡ rowOf t u i c → s′ ≡ advanceN s d i → c′ ≡ pastOf c d
-    → scanN s i (rebuilt t u i c (e - i)) ≡ whole → scanN s′ (i + 1) (rebuilt t u (i + 1) c′ (e - (i + 1))) ≡ whole
+pub walk-turn : (t : Tables) (u : Counts) (i e : ℕ) (s s′ whole : Scan) (d : Decoded) (c c′ : Cursor)
+    → i < e
+    → d ≡ rowOf t u i c
+    → s′ ≡ advanceN s d i
+    → c′ ≡ pastOf c d
+    → scanN s i (rebuilt t u i c (e - i)) ≡ whole
+    → scanN s′ (i + 1) (rebuilt t u (i + 1) c′ (e - (i + 1))) ≡ whole
 unfolding scanN
 walk-turn t u i e s s′ whole d c c′ h p q r inv = rw (q, r, p) (rw (re-step t u i e c h) at inv)
 
-pub walk-stops : (t : Tables) (u : Counts) (i e : ℕ) (s s′ whole : Scan) (d : Decoded) (c : Cursor) (b : Bool) → i < e → d ≡ rowOf t u i c → s′ ≡ advanceN s d i → b ≡ isStopped s′ → b ≡ true
-    → scanN s i (rebuilt t u i c (e - i)) ≡ whole → s′ ≡ whole
-walk-stops t u i e s s′ whole d c b h p q k v inv = sym (stopped-stays s′ (i + 1) (rebuilt t u (i + 1) (pastOf c d) (e - (i + 1))) (sym k ∙ v)) ∙ walk-turn t u i e s s′ whole d c (pastOf c d) h p q refl inv
+pub walk-stops : (t : Tables) (u : Counts) (i e : ℕ) (s s′ whole : Scan) (d : Decoded) (c : Cursor) (b : Bool)
+    → i < e
+    → d ≡ rowOf t u i c
+    → s′ ≡ advanceN s d i
+    → b ≡ isStopped s′
+    → b ≡ true
+    → scanN s i (rebuilt t u i c (e - i)) ≡ whole
+    → s′ ≡ whole
+walk-stops t u i e s s′ whole d c b h p q k v inv =
+    sym (stopped-stays s′ (i + 1) (rebuilt t u (i + 1) (pastOf c d) (e - (i + 1))) (sym k ∙ v))
+    ∙ walk-turn t u i e s s′ whole d c (pastOf c d) h p q refl inv
 
 pub walk-done : (t : Tables) (u : Counts) (i e : ℕ) (s whole : Scan) (c : Cursor) → e ≤ i → scanN s i (rebuilt t u i c (e - i)) ≡ whole → s ≡ whole
 unfolding scanN
@@ -116,18 +133,38 @@ copy-begin t u n b h =
 abbrev coming : Tables → Counts → ℕ → ℕ → Cursor → Decoded → List Decoded
 coming t u n i c d = rebuilt t u (i + 1) (pastOf c d) (n - (i + 1))
 
-now-room : (t : Tables) (u : Counts) (n : ℕ) (b₀ b : List ℕ) (i at : ℕ) (c : Cursor) (d : Decoded) → i < n → d ≡ rowOf t u i c → Copying t u n b₀ b i at c → at + length (spread bytesOf (goods (d ∷ coming t u n i c d))) ≤ length b
-now-room t u n b₀ b i at c d h p k = subst (λ (x : Decoded). at + length (spread bytesOf (goods (x ∷ coming t u n i c x))) ≤ length b) (sym p) (rw (re-step t u i n c h) at (k .room))
+now-room : (t : Tables) (u : Counts) (n : ℕ) (b₀ b : List ℕ) (i at : ℕ) (c : Cursor) (d : Decoded)
+    → i < n
+    → d ≡ rowOf t u i c
+    → Copying t u n b₀ b i at c
+    → at + length (spread bytesOf (goods (d ∷ coming t u n i c d))) ≤ length b
+now-room t u n b₀ b i at c d h p k =
+    subst (λ (x : Decoded). at + length (spread bytesOf (goods (x ∷ coming t u n i c x))) ≤ length b) (sym p)
+    (rw (re-step t u i n c h) at (k .room))
 
 now-rest : (t : Tables) (u : Counts) (n : ℕ) (b₀ b : List ℕ) (i at : ℕ) (c : Cursor) (d : Decoded) → i < n → d ≡ rowOf t u i c → Copying t u n b₀ b i at c
     → sets b at (spread bytesOf (goods (d ∷ coming t u n i c d))) ≡ sets b₀ 0 (spread bytesOf (goods (rebuilt t u 0 (cursor 0 0) n)))
-now-rest t u n b₀ b i at c d h p k = subst (λ (x : Decoded). sets b at (spread bytesOf (goods (x ∷ coming t u n i c x))) ≡ sets b₀ 0 (spread bytesOf (goods (rebuilt t u 0 (cursor 0 0) n)))) (sym p) (rw (re-step t u i n c h) at (k .rest))
+now-rest t u n b₀ b i at c d h p k =
+    subst
+    (λ (x : Decoded).
+    sets b at (spread bytesOf (goods (x ∷ coming t u n i c x))) ≡ sets b₀ 0 (spread bytesOf (goods (rebuilt t u 0 (cursor 0 0) n))))
+    (sym p) (rw (re-step t u i n c h) at (k .rest))
 
-pub copy-room : (t : Tables) (u : Counts) (n : ℕ) (b₀ b : List ℕ) (i at : ℕ) (c : Cursor) (d : Decoded) → i < n → d ≡ rowOf t u i c → Copying t u n b₀ b i at c → at + length (onGood bytesOf d) ≤ length b
+pub copy-room : (t : Tables) (u : Counts) (n : ℕ) (b₀ b : List ℕ) (i at : ℕ) (c : Cursor) (d : Decoded)
+    → i < n
+    → d ≡ rowOf t u i c
+    → Copying t u n b₀ b i at c
+    → at + length (onGood bytesOf d) ≤ length b
 copy-room t u n b₀ b i at c d h p k = omega (arith, now-room t u n b₀ b i at c d h p k, length-on bytesOf d (coming t u n i c d))
 
-pub copy-turn : (t : Tables) (u : Counts) (n : ℕ) (b₀ b b′ : List ℕ) (i at at′ : ℕ) (c c′ : Cursor) (d : Decoded) → i < n → d ≡ rowOf t u i c → at′ ≡ at + length (onGood bytesOf d) → b′ ≡ sets b at (onGood bytesOf d) → c′ ≡ pastOf c d
-    → Copying t u n b₀ b i at c → Copying t u n b₀ b′ (i + 1) at′ c′
+pub copy-turn : (t : Tables) (u : Counts) (n : ℕ) (b₀ b b′ : List ℕ) (i at at′ : ℕ) (c c′ : Cursor) (d : Decoded)
+    → i < n
+    → d ≡ rowOf t u i c
+    → at′ ≡ at + length (onGood bytesOf d)
+    → b′ ≡ sets b at (onGood bytesOf d)
+    → c′ ≡ pastOf c d
+    → Copying t u n b₀ b i at c
+    → Copying t u n b₀ b′ (i + 1) at′ c′
 copy-turn t u n b₀ b b′ i at at′ c c′ d h p q r s k =
     let ds : List Decoded = coming t u n i c d in
     let l : length b′ ≡ length b = ap length r ∙ length-sets b at (onGood bytesOf d) in
@@ -138,12 +175,19 @@ copy-turn t u n b₀ b b′ i at at′ c c′ d h p q r s k =
       rest = turn-table bytesOf b b′ at at′ d ds r q ∙ now-rest t u n b₀ b i at c d h p k;
     })
 
-pub copy-done : (t : Tables) (u : Counts) (n : ℕ) (b₀ b : List ℕ) (i at : ℕ) (c : Cursor) → n ≤ i → Copying t u n b₀ b i at c → b ≡ sets b₀ 0 (spread bytesOf (goods (rebuilt t u 0 (cursor 0 0) n)))
+pub copy-done : (t : Tables) (u : Counts) (n : ℕ) (b₀ b : List ℕ) (i at : ℕ) (c : Cursor)
+    → n ≤ i
+    → Copying t u n b₀ b i at c
+    → b ≡ sets b₀ 0 (spread bytesOf (goods (rebuilt t u 0 (cursor 0 0) n)))
 unfolding spread
 copy-done t u n b₀ b i at c h k = rw (re-none t u i n c h) at (k .rest)
 
 -- ---- one record's bytes
-pub bytes-table : (t t′ : List ℕ) (at : ℕ) (d : Decoded) (r : Record) (w : Raw) → d ≡ Good r → w ≡ rawOf r → t′ ≡ putRaw t at w → t′ ≡ sets t at (onGood bytesOf d)
+pub bytes-table : (t t′ : List ℕ) (at : ℕ) (d : Decoded) (r : Record) (w : Raw)
+    → d ≡ Good r
+    → w ≡ rawOf r
+    → t′ ≡ putRaw t at w
+    → t′ ≡ sets t at (onGood bytesOf d)
 bytes-table t t′ at d r w q e h = rw q (h ∙ put-is t at w ∙ ap (λ (v : Raw). sets t at (rawBytes v)) e)
 
 -- ---- what a drawing that passes has
@@ -154,7 +198,11 @@ pub record Drawn (t : Tables) (k : Counts) : Type 0 where
   pub room : Holds (length (t .plan)) (length (t .areas)) (length (t .xs)) k
   pub fold : checked (rebuiltIn t) ≡ Accepted k
 
-agreed-is : (v : Verdict) (u k : Counts) (ds : List Decoded) → checked ds ≡ v → length ds ≡ u .records → agreed v u ≡ Accepted k → (k ≡ u) × (checked ds ≡ Accepted k)
+agreed-is : (v : Verdict) (u k : Counts) (ds : List Decoded)
+    → checked ds ≡ v
+    → length ds ≡ u .records
+    → agreed v u ≡ Accepted k
+    → (k ≡ u) × (checked ds ≡ Accepted k)
 agreed-is (Refused r i) u k ds e l h = refused-not Broken 0 k h
 agreed-is (Accepted j) u k ds e l h = go (eqb (j .areas) (u .areas)) (eqb (j .corners) (u .corners)) refl refl h
   where
@@ -164,19 +212,31 @@ agreed-is (Accepted j) u k ds e l h = go (eqb (j .areas) (u .areas)) (eqb (j .co
     is : Accepted j ≡ Accepted k → j ≡ k
     is x = cc
 
-    go : (a b : Bool) → eqb (j .areas) (u .areas) ≡ a → eqb (j .corners) (u .corners) ≡ b → cond a (cond b (Accepted j) (Refused Broken 0)) (Refused Broken 0) ≡ Accepted k → (k ≡ u) × (checked ds ≡ Accepted k)
+    go : (a b : Bool)
+        → eqb (j .areas) (u .areas) ≡ a
+        → eqb (j .corners) (u .corners) ≡ b
+        → cond a (cond b (Accepted j) (Refused Broken 0)) (Refused Broken 0) ≡ Accepted k
+        → (k ≡ u) × (checked ds ≡ Accepted k)
     go false b p q x = refused-not Broken 0 k x
     go true false p q x = refused-not Broken 0 k x
     go true true p q x = (sym (is x) ∙ same (eqb-true _ _ p) (eqb-true _ _ q), e ∙ x)
 
-counts-drawn : (t : Tables) (u k : Counts) → countsJudged t u ≡ Accepted k → (k ≡ u) × (u .records ≤ 4096) × Holds (length (t .plan)) (length (t .areas)) (length (t .xs)) u × (checked (rebuilt t u 0 (cursor 0 0) (u .records)) ≡ Accepted k)
+counts-drawn : (t : Tables) (u k : Counts)
+    → countsJudged t u ≡ Accepted k
+    → (k ≡ u)
+    × (u .records ≤ 4096)
+    × Holds (length (t .plan)) (length (t .areas)) (length (t .xs)) u
+    × (checked (rebuilt t u 0 (cursor 0 0) (u .records)) ≡ Accepted k)
 unfolding countsJudged
 counts-drawn t u k h₀ = go (leb (u .records) 4096) (holds (length (t .plan)) (length (t .areas)) (length (t .xs)) u) refl refl h₀
   where
     ds : List Decoded
     ds = rebuilt t u 0 (cursor 0 0) (u .records)
 
-    go : (a b : Bool) → leb (u .records) 4096 ≡ a → holds (length (t .plan)) (length (t .areas)) (length (t .xs)) u ≡ b → cond a (cond b (agreed (checked ds) u) (Refused Broken 0)) (Refused Broken 0) ≡ Accepted k
+    go : (a b : Bool)
+        → leb (u .records) 4096 ≡ a
+        → holds (length (t .plan)) (length (t .areas)) (length (t .xs)) u ≡ b
+        → cond a (cond b (agreed (checked ds) u) (Refused Broken 0)) (Refused Broken 0) ≡ Accepted k
         → (k ≡ u) × (u .records ≤ 4096) × Holds (length (t .plan)) (length (t .areas)) (length (t .xs)) u × (checked ds ≡ Accepted k)
     go false b p q x = refused-not Broken 0 k x
     go true false p q x = refused-not Broken 0 k x
@@ -191,7 +251,11 @@ drawn t k h₀ = go (eqb (length (t .xs)) (length (t .ys))) (leb 3 (length (t .p
     u : Counts
     u = usedOf (t .plan)
 
-    go : (a b : Bool) → eqb (length (t .xs)) (length (t .ys)) ≡ a → leb 3 (length (t .plan)) ≡ b → cond a (cond b (countsJudged t (usedOf (t .plan))) (Refused Broken 0)) (Refused Argument 0) ≡ Accepted k → Drawn t k
+    go : (a b : Bool)
+        → eqb (length (t .xs)) (length (t .ys)) ≡ a
+        → leb 3 (length (t .plan)) ≡ b
+        → cond a (cond b (countsJudged t (usedOf (t .plan))) (Refused Broken 0)) (Refused Argument 0) ≡ Accepted k
+        → Drawn t k
     go false b p q x = refused-not Argument 0 k x
     go true false p q x = refused-not Broken 0 k x
     go true true p q x =
@@ -206,5 +270,9 @@ holds-ready p a x y u f h e =
     let g = held (length p) (length a) (length x) u h in
     record { records = g .plan; areas = g .areas; xs = g .corners; ys = omega (arith, g .corners); few = f }
 
-pub drawn-left : (t : Tables) (k : Counts) → drawingOf t ≡ Accepted k → (o o′ : List ℕ) → o′ ≡ sets o 0 (fileOf (goods (rebuilt t k 0 (cursor 0 0) (k .records)))) → o′ ≡ sets o 0 (fileOf (goods (rebuiltIn t)))
+pub drawn-left : (t : Tables) (k : Counts)
+    → drawingOf t ≡ Accepted k
+    → (o o′ : List ℕ)
+    → o′ ≡ sets o 0 (fileOf (goods (rebuilt t k 0 (cursor 0 0) (k .records))))
+    → o′ ≡ sets o 0 (fileOf (goods (rebuiltIn t)))
 drawn-left t k e o o′ h = h ∙ ap (λ (u : Counts). sets o 0 (fileOf (goods (rebuilt t u 0 (cursor 0 0) (u .records))))) (drawn t k e .used)

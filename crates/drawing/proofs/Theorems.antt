@@ -34,14 +34,19 @@ pub file-accepts : (b : List ℕ) (k : Counts) → verdictOf b ≡ Accepted k �
 file-accepts b k e =
     let s = sound (decodedIn b) k (filed-checked b k e) in
     let f = filed b k e in
-    record { range = file-range b 0 (length b / 16) (recordsIn b) (s .good); below = omega (arith, f .below, f .records); fold = ap checked (sym (s .good)) ∙ filed-checked b k e }
+    record {
+      range = file-range b 0 (length b / 16) (recordsIn b) (s .good);
+      below = omega (arith, f .below, f .records);
+      fold = ap checked (sym (s .good)) ∙ filed-checked b k e;
+    }
 
 -- the records of an accepted file, written as bytes, are the file
 pub file-back : (b : List ℕ) (k : Counts) → ((i : ℕ) → getD b i 0 < 256) → verdictOf b ≡ Accepted k → fileOf (recordsIn b) ≡ b
 file-back b k small e =
     let s = sound (decodedIn b) k (filed-checked b k e) in
     let f = filed b k e in
-    has-whole b (fileOf (recordsIn b)) (file-told b 0 (length b / 16) (recordsIn b) small (omega (arith, f .whole, f .parts)) (s .good)) (omega (arith, file-length (recordsIn b), f .records, f .whole))
+    has-whole b (fileOf (recordsIn b)) (file-told b 0 (length b / 16) (recordsIn b) small (omega (arith, f .whole, f .parts)) (s .good))
+    (omega (arith, file-length (recordsIn b), f .records, f .whole))
 
 has-self : (w : List ℕ) → Has w 0 w
 has-self w = subst (λ (t : List ℕ). Has t 0 w) same (has-sets w 0 w (omega arith))
@@ -61,7 +66,12 @@ again-decoded rs g = ap (decodedFrom (fileOf rs) 0) (whole-file rs) ∙ file-rea
 pub file-again : (rs : List Record) (k : Counts) → Acceptable rs k → verdictOf (fileOf rs) ≡ Accepted k
 unfolding verdictOf
 file-again rs k a =
-    rw (eq-eqb (length (fileOf rs) % 16) 0 (omega (arith, file-length rs)), le-leb (length (fileOf rs) / 16) 4096 (omega (arith, file-length rs, a .below)), again-decoded rs (a .range)) (a .fold)
+    rw (
+      eq-eqb (length (fileOf rs) % 16) 0 (omega (arith, file-length rs)),
+      le-leb (length (fileOf rs) / 16) 4096 (omega (arith, file-length rs, a .below)),
+      again-decoded rs (a .range),
+    )
+    (a .fold)
 
 pub file-records : (rs : List Record) (k : Counts) → Acceptable rs k → recordsIn (fileOf rs) ≡ rs
 file-records rs k a = ap goods (again-decoded rs (a .range)) ∙ goods-map rs
@@ -96,7 +106,8 @@ from-start t rs h =
 pub decoded-encoded : (t : Tables) (rs : List Record) → allRange rs ≡ true → Holding t rs → rebuiltIn t ≡ map Good rs
 decoded-encoded t rs g h =
     let u : Counts = counts (length rs) (areasIn rs) (cornersIn rs) in
-    ap (λ (v : Counts). rebuilt t v 0 (cursor 0 0) (v .records)) (used-is t rs h) ∙ tables-read t (counts (length rs) (areasIn rs) (cornersIn rs)) 0 (cursor 0 0) rs g (from-start t rs h) (omega arith) (omega arith)
+    ap (λ (v : Counts). rebuilt t v 0 (cursor 0 0) (v .records)) (used-is t rs h)
+    ∙ tables-read t (counts (length rs) (areasIn rs) (cornersIn rs)) 0 (cursor 0 0) rs g (from-start t rs h) (omega arith) (omega arith)
 
 pub drawn-records : (t : Tables) (rs : List Record) → allRange rs ≡ true → Holding t rs → drawnIn t ≡ rs
 drawn-records t rs g h = ap goods (decoded-encoded t rs g h) ∙ goods-map rs
@@ -108,7 +119,11 @@ room-for p a d k h r s t = rw (le-leb _ _ h, le-leb _ _ r, le-leb _ _ s, le-leb 
 agreed-same : (k : Counts) → agreed (Accepted k) k ≡ Accepted k
 agreed-same k = rw (eq-eqb (k .areas) (k .areas) refl, eq-eqb (k .corners) (k .corners) refl)
 
-counts-pass : (t : Tables) (k : Counts) → k .records ≤ 4096 → holds (length (t .plan)) (length (t .areas)) (length (t .xs)) k ≡ true → checked (rebuilt t k 0 (cursor 0 0) (k .records)) ≡ Accepted k → countsJudged t k ≡ Accepted k
+counts-pass : (t : Tables) (k : Counts)
+    → k .records ≤ 4096
+    → holds (length (t .plan)) (length (t .areas)) (length (t .xs)) k ≡ true
+    → checked (rebuilt t k 0 (cursor 0 0) (k .records)) ≡ Accepted k
+    → countsJudged t k ≡ Accepted k
 unfolding countsJudged
 counts-pass t k b r f = rw (le-leb (k .records) 4096 b, r, f) (agreed-same k)
 
@@ -121,9 +136,12 @@ holding-passes t rs k a h =
     let m : k .areas ≡ areasIn rs = ap (λ (x : Counts). x .areas) c in
     let o : k .corners ≡ cornersIn rs = ap (λ (x : Counts). x .corners) c in
     let u : usedOf (t .plan) ≡ k = used-is t rs h ∙ sym c in
-    let f : checked (rebuilt t k 0 (cursor 0 0) (k .records)) ≡ Accepted k = ap checked (ap (λ (v : Counts). rebuilt t v 0 (cursor 0 0) (v .records)) (sym u) ∙ decoded-encoded t rs (a .range) h) ∙ a .fold in
+    let f : checked (rebuilt t k 0 (cursor 0 0) (k .records)) ≡ Accepted k =
+    ap checked (ap (λ (v : Counts). rebuilt t v 0 (cursor 0 0) (v .records)) (sym u) ∙ decoded-encoded t rs (a .range) h) ∙ a .fold in
     let l : 3 ≤ length (t .plan) = omega (arith, h .plan .room) in
-    let r : holds (length (t .plan)) (length (t .areas)) (length (t .xs)) k ≡ true = room-for (length (t .plan)) (length (t .areas)) (length (t .xs)) k l (omega (arith, h .plan .room, kinds-length rs)) (omega (arith, h .areas .room, areas-length rs)) (omega (arith, h .xs .room, xs-length rs)) in
+    let r : holds (length (t .plan)) (length (t .areas)) (length (t .xs)) k ≡ true = room-for (length (t .plan)) (length (t .areas))
+    (length (t .xs)) k l (omega (arith, h .plan .room, kinds-length rs)) (omega (arith, h .areas .room, areas-length rs))
+    (omega (arith, h .xs .room, xs-length rs)) in
     rw (eq-eqb _ _ (h .pair), le-leb _ _ l) (ap (countsJudged t) u ∙ counts-pass t k (omega (arith, a .below)) r f)
 
 -- tables that pass hold acceptable records
@@ -134,12 +152,19 @@ passes-holding t k e =
     let n : usedOf (t .plan) .records ≡ k .records = ap (λ (x : Counts). x .records) (sym (d .used)) in
     let m : usedOf (t .plan) .areas ≡ k .areas = ap (λ (x : Counts). x .areas) (sym (d .used)) in
     let o : usedOf (t .plan) .corners ≡ k .corners = ap (λ (x : Counts). x .corners) (sym (d .used)) in
-    let w : Wide t (usedOf (t .plan)) = record { plan = omega (arith, d .room .plan); areas = omega (arith, d .room .areas); xs = omega (arith, d .room .corners); ys = omega (arith, d .room .corners, d .same) } in
+    let w : Wide t (usedOf (t .plan)) = record {
+      plan = omega (arith, d .room .plan);
+      areas = omega (arith, d .room .areas);
+      xs = omega (arith, d .room .corners);
+      ys = omega (arith, d .room .corners, d .same);
+    } in
     let g = tables-told t (usedOf (t .plan)) 0 (cursor 0 0) (usedOf (t .plan) .records) (drawnIn t) w (omega arith) (omega arith) (omega arith) (s .good) in
     let q : k .records ≡ length (drawnIn t) = s .records ∙ length-good (rebuiltIn t) (s .good) in (
       record { range = g .range; below = omega (arith, d .below); fold = ap checked (sym (s .good)) ∙ d .fold },
       record {
-        plan = has-cons (t .plan) 0 (length (drawnIn t)) _ (n ∙ q) (has-cons (t .plan) 1 (areasIn (drawnIn t)) _ (m ∙ s .areas) (has-cons (t .plan) 2 (cornersIn (drawnIn t)) _ (o ∙ s .corners) (g .there .plan)));
+        plan = has-cons (t .plan) 0 (length (drawnIn t)) _ (n ∙ q)
+            (has-cons (t .plan) 1 (areasIn (drawnIn t)) _ (m ∙ s .areas)
+            (has-cons (t .plan) 2 (cornersIn (drawnIn t)) _ (o ∙ s .corners) (g .there .plan)));
         areas = g .there .areas;
         xs = g .there .xs;
         ys = g .there .ys;
@@ -168,7 +193,10 @@ pub taken : (b p a x y : List ℕ) (k : Counts) → readAnswer b p a x y ≡ Acc
 unfolding readAnswer
 taken b p a x y k e₀ = go (eqb (length x) (length y)) refl e₀
   where
-    go : (t : Bool) → eqb (length x) (length y) ≡ t → cond t (ifRoom (verdictOf b) (length p) (length a) (length x)) (Refused Argument 0) ≡ Accepted k → Taken b p a x y k
+    go : (t : Bool)
+        → eqb (length x) (length y) ≡ t
+        → cond t (ifRoom (verdictOf b) (length p) (length a) (length x)) (Refused Argument 0) ≡ Accepted k
+        → Taken b p a x y k
     go false q e = refused-not Argument 0 k e
     go true q e =
         let s = room-told (verdictOf b) (length p) (length a) (length x) k e in
@@ -176,7 +204,9 @@ taken b p a x y k e₀ = go (eqb (length x) (length y)) refl e₀
 
 -- the four tables as `read` leaves them
 abbrev pub after : Verdict → List ℕ → List ℕ → List ℕ → List ℕ → List ℕ → Tables
-after v b p a x y = tables (leftBy v p (planWords (recordsIn b))) (leftBy v a (areaWords (recordsIn b))) (leftBy v x (xWords (recordsIn b))) (leftBy v y (yWords (recordsIn b)))
+after v b p a x y =
+    tables (leftBy v p (planWords (recordsIn b))) (leftBy v a (areaWords (recordsIn b))) (leftBy v x (xWords (recordsIn b)))
+    (leftBy v y (yWords (recordsIn b)))
 
 -- what an accepted reading leaves holds the file's records
 pub read-leaves : (b p a x y : List ℕ) (k : Counts) → readAnswer b p a x y ≡ Accepted k → Holding (after (Accepted k) b p a x y) (recordsIn b)
@@ -198,7 +228,10 @@ pub record Written-back (b : List ℕ) (t : Tables) (k : Counts) : Type 0 where
   pub answer : (out : List ℕ) → writeAnswer t out ≡ writtenOf (Accepted k) (length out)
 
 -- an accepted file, read into any tables and written out, gives the same bytes
-pub read-write : (b p a x y : List ℕ) (k : Counts) → ((i : ℕ) → getD b i 0 < 256) → readAnswer b p a x y ≡ Accepted k → Written-back b (after (Accepted k) b p a x y) k
+pub read-write : (b p a x y : List ℕ) (k : Counts)
+    → ((i : ℕ) → getD b i 0 < 256)
+    → readAnswer b p a x y ≡ Accepted k
+    → Written-back b (after (Accepted k) b p a x y) k
 unfolding writeAnswer
 read-write b p a x y k small e =
     let t = taken b p a x y k e in
@@ -230,13 +263,20 @@ write-read t k e =
     let v : verdictOf (fileOf (drawnIn t)) ≡ Accepted k = file-again (drawnIn t) k (q .0) in
     let r : recordsIn (fileOf (drawnIn t)) ≡ drawnIn t = file-records (drawnIn t) k (q .0) in
     let h : Holding t (recordsIn (fileOf (drawnIn t))) = subst (λ (rs : List Record). Holding t rs) (sym r) (q .1) in
-    let l : holds (length (t .plan)) (length (t .areas)) (length (t .xs)) k ≡ true = room-for (length (t .plan)) (length (t .areas)) (length (t .xs)) k (d .room .header) (omega (arith, d .room .plan)) (omega (arith, d .room .areas)) (d .room .corners) in
+    let l : holds (length (t .plan)) (length (t .areas)) (length (t .xs)) k ≡ true = room-for (length (t .plan)) (length (t .areas))
+    (length (t .xs)) k (d .room .header) (omega (arith, d .room .plan)) (omega (arith, d .room .areas)) (d .room .corners) in
     record {
       verdict = v;
       records = r;
       words = h;
       answer = rw (eq-eqb _ _ (d .same), v, l);
-      same = λ i. record { plan = has-same (t .plan) 0 _ (h .plan) i; areas = has-same (t .areas) 0 _ (h .areas) i; xs = has-same (t .xs) 0 _ (h .xs) i; ys = has-same (t .ys) 0 _ (h .ys) i };
+      same = λ i.
+          record {
+            plan = has-same (t .plan) 0 _ (h .plan) i;
+            areas = has-same (t .areas) 0 _ (h .areas) i;
+            xs = has-same (t .xs) 0 _ (h .xs) i;
+            ys = has-same (t .ys) 0 _ (h .ys) i;
+          };
     }
 
 -- ---- exactly
@@ -263,13 +303,43 @@ small1 : 1 < 256
 small1 = omega arith
 
 area-bytes : (f : Fields) → Bytes (rawBytes (rawArea f))
-area-bytes f = one (small1) (one (rest (f .role)) (one (rest (f .rule)) (one (rest (f .alpha)) (one (rest (f .red)) (one (rest (f .green)) (one (rest (f .blue)) (one (small0) (one (rest (f .material)) (one (rest (f .material / 256)) (one (small0) (one (small0) (one (small0) (one (small0) (one (small0) (one (small0) none)))))))))))))))
+area-bytes f =
+    one (small1)
+    (one (rest (f .role))
+    (one (rest (f .rule))
+    (one (rest (f .alpha))
+    (one (rest (f .red))
+    (one (rest (f .green))
+    (one (rest (f .blue))
+    (one (small0)
+    (one (rest (f .material))
+    (one (rest (f .material / 256)) (one (small0) (one (small0) (one (small0) (one (small0) (one (small0) (one (small0) none)))))))))))))))
 
 corner-bytes : (k x y : ℕ) → k < 256 → Bytes (rawBytes (rawCorner k x y))
-corner-bytes k x y h = one (h) (one (small0) (one (small0) (one (small0) (one (rest (x)) (one (rest (x / 256)) (one (rest (x / 65536)) (one (rest (x / 16777216)) (one (rest (y)) (one (rest (y / 256)) (one (rest (y / 65536)) (one (rest (y / 16777216)) (one (small0) (one (small0) (one (small0) (one (small0) none)))))))))))))))
+corner-bytes k x y h =
+    one (h)
+    (one (small0)
+    (one (small0)
+    (one (small0)
+    (one (rest (x))
+    (one (rest (x / 256))
+    (one (rest (x / 65536))
+    (one (rest (x / 16777216))
+    (one (rest (y))
+    (one (rest (y / 256))
+    (one (rest (y / 65536)) (one (rest (y / 16777216)) (one (small0) (one (small0) (one (small0) (one (small0) none)))))))))))))))
 
 delimiter-bytes : (k : ℕ) → k < 256 → Bytes (rawBytes (rawDelimiter k))
-delimiter-bytes k h = one (h) (one (small0) (one (small0) (one (small0) (one (small0) (one (small0) (one (small0) (one (small0) (one (small0) (one (small0) (one (small0) (one (small0) (one (small0) (one (small0) (one (small0) (one (small0) none)))))))))))))))
+delimiter-bytes k h =
+    one (h)
+    (one (small0)
+    (one (small0)
+    (one (small0)
+    (one (small0)
+    (one (small0)
+    (one (small0)
+    (one (small0)
+    (one (small0) (one (small0) (one (small0) (one (small0) (one (small0) (one (small0) (one (small0) (one (small0) none)))))))))))))))
 
 record-bytes : (r : Record) → Bytes (bytesOf r)
 record-bytes (Area f) = area-bytes f
@@ -299,4 +369,6 @@ passes-left t k e =
     record { file = fileOf (drawnIn t); bytes = bytes-at (fileOf (drawnIn t)) (file-bytes (drawnIn t)); before = t; accepted = r .answer; is = r .same }
 
 pub left-passes : (t : Tables) (k : Counts) → Left t k → drawingOf t ≡ Accepted k
-left-passes t k l = subst (λ (x : Tables). drawingOf x ≡ Accepted k) (l .is) (read-write (l .file) (l .before .plan) (l .before .areas) (l .before .xs) (l .before .ys) k (l .bytes) (l .accepted) .passes)
+left-passes t k l =
+    subst (λ (x : Tables). drawingOf x ≡ Accepted k) (l .is)
+    (read-write (l .file) (l .before .plan) (l .before .areas) (l .before .xs) (l .before .ys) k (l .bytes) (l .accepted) .passes)

@@ -7,16 +7,24 @@ enum-known-v : tie.Need-enum-known-v
 enum-known-v c = search needs
 
 returns : tie.Need-returns
-returns c = rw (c .before .before .before .before .before .before .before .v .given .1, eq-eqb _ _ (c .before .before .before .if1 .taken), eq-eqb _ _ (c .if2 .taken))
+returns c =
+    let at-if1 = c .before .before .before in
+    let after-v = at-if1 .before .before .before .before in
+    rw (after-v .v .given .1, eq-eqb _ _ (at-if1 .if1 .taken), eq-eqb _ _ (c .if2 .taken))
 
 returns-2 : tie.Need-returns-2
-returns-2 c = rw (c .before .before .before .before .before .before .before .v .given .1, eq-eqb _ _ (c .before .before .before .if1 .taken), ne-eqb _ _ (c .if2 .left))
+returns-2 c =
+    let at-if1 = c .before .before .before in
+    let after-v = at-if1 .before .before .before .before in
+    rw (after-v .v .given .1, eq-eqb _ _ (at-if1 .if1 .taken), ne-eqb _ _ (c .if2 .left))
 
 enum-told : tie.Need-enum-told
 enum-told c = search needs
 
 returns-3 : tie.Need-returns-3
-returns-3 c = rw (c .before .before .before .before .v .given .1, ne-eqb _ _ (c .if1 .left))
+returns-3 c =
+    let after-v = c .before .before .before .before in
+    rw (after-v .v .given .1, ne-eqb _ _ (c .if1 .left))
 
 returns-4 : tie.Need-returns-4
 returns-4 c = rw (c .enum-told .given .1)

@@ -24,11 +24,17 @@ ranged-of-requires c κs = search needs
 
 returns : tie.Need-returns
 unfolding areaRow
-returns c = rw (lt-ltb _ _ (c .before .before .before .before .if1 .taken), eq-eqb _ _ (c .before .before .if2 .taken), c .ranged-of .ensures, c .before .fields-at .ensures)
+returns c =
+    let after-fields-at = c .before in
+    let at-if2 = after-fields-at .before in
+    let at-if1 = at-if2 .before .before in
+    rw (lt-ltb _ _ (at-if1 .if1 .taken), eq-eqb _ _ (at-if2 .if2 .taken), c .ranged-of .ensures, after-fields-at .fields-at .ensures)
 
 returns-2 : tie.Need-returns-2
 unfolding areaRow
-returns-2 c = rw (lt-ltb _ _ (c .before .before .if1 .taken), ne-eqb _ _ (c .if2 .left))
+returns-2 c =
+    let at-if1 = c .before .before in
+    rw (lt-ltb _ _ (at-if1 .if1 .taken), ne-eqb _ _ (c .if2 .left))
 
 returns-3 : tie.Need-returns-3
 unfolding areaRow

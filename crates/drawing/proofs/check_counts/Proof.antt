@@ -13,7 +13,11 @@ tables-hold-requires c κs = search needs
 
 scan-tables-requires : tie.Need-scan-tables-requires
 unfolding countsJudged
-scan-tables-requires c κs = holds-ready _ _ _ _ _ (c .before .before .if1 .taken) (sym (c .before .tables-hold .ensures) ∙ c .if2 .taken) (c .before .before .before .before .before .before .before .before .pre)
+scan-tables-requires c κs =
+    let after-tables-hold = c .before in
+    let at-if1 = after-tables-hold .before in
+    let at-entry = at-if1 .before .before .before .before .before .before in
+    holds-ready _ _ _ _ _ (at-if1 .if1 .taken) (sym (after-tables-hold .tables-hold .ensures) ∙ c .if2 .taken) (at-entry .pre)
 
 ended-requires : tie.Need-ended-requires
 ended-requires c κs = search needs
@@ -23,11 +27,28 @@ agreed-with-requires c κs = search needs
 
 returns : tie.Need-returns
 unfolding countsJudged
-returns c = rw (le-leb _ _ (c .before .before .before .before .before .if1 .taken), sym (c .before .before .before .before .tables-hold .ensures) ∙ c .before .before .before .if2 .taken, c .agreed-with .ensures, c .before .ended .ensures, c .before .before .scan-tables .ensures) (ap (λ (v : Verdict). agreed v (c .before .before .before .before .before .before .before .before .before .before .before .args .used)) (checked-is _ _ (sym (re-length _ _ _ _ _))))
+returns c =
+    let after-ended = c .before in
+    let after-scan-tables = after-ended .before in
+    let at-if2 = after-scan-tables .before in
+    let after-tables-hold = at-if2 .before in
+    let at-if1 = after-tables-hold .before in
+    let at-entry = at-if1 .before .before .before .before .before .before in
+    rw (
+      le-leb _ _ (at-if1 .if1 .taken),
+      sym (after-tables-hold .tables-hold .ensures) ∙ at-if2 .if2 .taken,
+      c .agreed-with .ensures,
+      after-ended .ended .ensures,
+      after-scan-tables .scan-tables .ensures,
+    )
+    (ap (λ (v : Verdict). agreed v (at-entry .args .used)) (checked-is _ _ (sym (re-length _ _ _ _ _))))
 
 returns-2 : tie.Need-returns-2
 unfolding countsJudged
-returns-2 c = rw (le-leb _ _ (c .before .before .if1 .taken), sym (c .before .tables-hold .ensures) ∙ c .if2 .left)
+returns-2 c =
+    let after-tables-hold = c .before in
+    let at-if1 = after-tables-hold .before in
+    rw (le-leb _ _ (at-if1 .if1 .taken), sym (after-tables-hold .tables-hold .ensures) ∙ c .if2 .left)
 
 returns-3 : tie.Need-returns-3
 unfolding countsJudged

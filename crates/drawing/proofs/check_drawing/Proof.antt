@@ -27,7 +27,20 @@ check-counts-requires c κs = search needs
 
 returns : tie.Need-returns
 unfolding drawingOf
-returns c = rw (eq-eqb _ _ (c .before .before .before .before .before .before .before .before .if1 .taken), le-leb _ _ (c .before .before .before .before .before .before .before .if2 .taken), c .check-counts .ensures, c .before .before .before .before .before .wide .ensures, c .before .before .before .wide2 .ensures, c .before .wide3 .ensures)
+returns c =
+    let after-wide3 = c .before in
+    let after-wide2 = after-wide3 .before .before in
+    let after-wide = after-wide2 .before .before in
+    let at-if2 = after-wide .before .before in
+    let at-if1 = at-if2 .before in
+    rw (
+      eq-eqb _ _ (at-if1 .if1 .taken),
+      le-leb _ _ (at-if2 .if2 .taken),
+      c .check-counts .ensures,
+      after-wide .wide .ensures,
+      after-wide2 .wide2 .ensures,
+      after-wide3 .wide3 .ensures,
+    )
 
 returns-2 : tie.Need-returns-2
 unfolding drawingOf

@@ -24,7 +24,10 @@ ranged-of-requires c κs = search needs
 
 returns : tie.Need-returns
 unfolding cornerRow
-returns c = rw (lt-ltb _ _ (c .before .before .before .before .if1 .taken), c .ranged-of .ensures, c .before .corner-of .ensures)
+returns c =
+    let after-corner-of = c .before in
+    let at-if1 = after-corner-of .before .before .before in
+    rw (lt-ltb _ _ (at-if1 .if1 .taken), c .ranged-of .ensures, after-corner-of .corner-of .ensures)
 
 returns-2 : tie.Need-returns-2
 unfolding cornerRow

@@ -16,14 +16,20 @@ corner-row-requires c κs = search needs
 
 returns-2 : tie.Need-returns-2
 unfolding kindRow
-returns-2 c = rw (ne-eqb _ _ (c .before .before .if1 .left), lt-ltb _ _ (c .before .if2 .taken), c .corner-row .ensures)
+returns-2 c =
+    let at-if2 = c .before in
+    let at-if1 = at-if2 .before in
+    rw (ne-eqb _ _ (at-if1 .if1 .left), lt-ltb _ _ (at-if2 .if2 .taken), c .corner-row .ensures)
 
 delimiter-of-requires : tie.Need-delimiter-of-requires
 delimiter-of-requires c κs = search needs
 
 returns-3 : tie.Need-returns-3
 unfolding kindRow
-returns-3 c = rw (ne-eqb _ _ (c .before .before .if1 .left), le-ltb _ _ (c .before .if2 .left), c .delimiter-of .ensures)
+returns-3 c =
+    let at-if2 = c .before in
+    let at-if1 = at-if2 .before in
+    rw (ne-eqb _ _ (at-if1 .if1 .left), le-ltb _ _ (at-if2 .if2 .left), c .delimiter-of .ensures)
 
 pub kind-row-spec : {M : Type 1} → statement M
 kind-row-spec =

@@ -15,7 +15,10 @@ add-t6 : tie.Need-add-t6
 add-t6 c = search needs
 
 returns : tie.Need-returns
-returns c = rw (c .before .before .before .area-one .ensures .0, c .before .before .corner-one .ensures .0)
+returns c =
+    let after-corner-one = c .before .before in
+    let after-area-one = after-corner-one .before in
+    rw (after-area-one .area-one .ensures .0, after-corner-one .corner-one .ensures .0)
 
 pub past-record-spec : {M : Type 1} → statement M
 past-record-spec = tie.close (tie.spec area-one-requires corner-one-requires add-t5 add-t6 returns)

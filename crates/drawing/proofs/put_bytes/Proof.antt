@@ -14,7 +14,10 @@ raw-of-requires : tie.Need-raw-of-requires
 raw-of-requires c κs = search needs
 
 put-raw-requires : tie.Need-put-raw-requires
-put-raw-requires c κs = rw (c .before .before .before .d .given .1) at (c .before .before .before .before .before .before .pre)
+put-raw-requires c κs =
+    let after-d = c .before .before .before in
+    let at-entry = after-d .before .before .before in
+    rw (after-d .d .given .1) at (at-entry .pre)
 
 add-result : tie.Need-add-result
 add-result c = search needs
@@ -26,7 +29,9 @@ same-length : tie.Need-same-length
 same-length c = search needs
 
 returns : tie.Need-returns
-returns c = (rw (c .before .before .before .before .before .before .d .given .1), search bytes-table)
+returns c =
+    let after-d = c .before .before .before .before .before .before in
+    (rw (after-d .d .given .1), search bytes-table)
 
 returns-2 : tie.Need-returns-2
 returns-2 c = (none-at _ _ (ap (onGood bytesOf) (c .enum-told .given .1)), none-table _ _ _ (ap (onGood bytesOf) (c .enum-told .given .1)))

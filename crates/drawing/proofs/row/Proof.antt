@@ -18,7 +18,10 @@ kind-row-requires c κs = search needs
 
 returns : tie.Need-returns
 unfolding rowOf
-returns c = rw (le-leb _ _ (c .before .before .if1 .taken), le-leb _ _ (c .before .if2 .taken), c .kind-row .ensures)
+returns c =
+    let at-if2 = c .before in
+    let at-if1 = at-if2 .before in
+    rw (le-leb _ _ (at-if1 .if1 .taken), le-leb _ _ (at-if2 .if2 .taken), c .kind-row .ensures)
 
 returns-2 : tie.Need-returns-2
 unfolding rowOf

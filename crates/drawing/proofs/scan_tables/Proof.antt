@@ -10,7 +10,12 @@ use Rattle.drawing.proofs.scan_tables.Statement.{statement}
 use Rattle.drawing.proofs.scan_tables.Tie as tie
 
 abbrev Inv-loop : tie.InvT-loop
-Inv-loop plan areas xs ys used n s₀ c₀ i₀ s c i = (i ≤ n) × (c .area ≤ i) × (c .corner ≤ i) × (scanN s i (rebuilt (tables plan areas xs ys) used i c (n - i)) ≡ scanN startN 0 (rebuilt (tables plan areas xs ys) used 0 (cursor 0 0) n))
+Inv-loop plan areas xs ys used n s₀ c₀ i₀ s c i =
+    (i ≤ n)
+    × (c .area ≤ i)
+    × (c .corner ≤ i)
+    × (scanN s i (rebuilt (tables plan areas xs ys) used i c (n - i))
+    ≡ scanN startN 0 (rebuilt (tables plan areas xs ys) used 0 (cursor 0 0) n))
 
 abbrev μ-loop : tie.MeasureT-loop
 μ-loop plan areas xs ys used n s₀ c₀ i₀ s c i = n - i
@@ -43,7 +48,16 @@ loop-less : tie.Need-loop-less Inv-loop μ-loop
 loop-less c = search needs
 
 loop-again : tie.Need-loop-again Inv-loop μ-loop
-loop-again c = (search needs, search past-area, search past-corner, walk-turn _ _ _ _ _ _ _ _ _ _ (omega arith) (c .before .before .before .before .row .ensures) (c .before .before .before .advance .ensures) (c .past .ensures) (c .before .before .before .before .before .before .loop .inv .3))
+loop-again c =
+    let after-advance = c .before .before .before in
+    let after-row = after-advance .before in
+    let at-loop = after-row .before .before in (
+      search needs,
+      search past-area,
+      search past-corner,
+      walk-turn _ _ _ _ _ _ _ _ _ _ (omega arith) (after-row .row .ensures) (after-advance .advance .ensures) (c .past .ensures)
+          (at-loop .loop .inv .3),
+    )
 
 returns-2 : tie.Need-returns-2 Inv-loop μ-loop
 returns-2 c = search walk-done

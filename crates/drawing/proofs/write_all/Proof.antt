@@ -6,7 +6,8 @@ use Rattle.drawing.proofs.write_all.Statement.{statement}
 use Rattle.drawing.proofs.write_all.Tie as tie
 
 abbrev Inv-loop : tie.InvT-loop
-Inv-loop plan areas xs ys used out₀ n c₀ at₀ i₀ out c at i = (i ≤ n) × (c .area ≤ i) × (c .corner ≤ i) × Copying (tables plan areas xs ys) used n out₀ out i at c
+Inv-loop plan areas xs ys used out₀ n c₀ at₀ i₀ out c at i =
+    (i ≤ n) × (c .area ≤ i) × (c .corner ≤ i) × Copying (tables plan areas xs ys) used n out₀ out i at c
 
 abbrev μ-loop : tie.MeasureT-loop
 μ-loop plan areas xs ys used out₀ n c₀ at₀ i₀ out c at i = n - i

@@ -7,7 +7,10 @@ use Rattle.drawing.proofs.write_if_room.Statement.{statement}
 use Rattle.drawing.proofs.write_if_room.Tie as tie
 
 write-all-requires : tie.Need-write-all-requires
-write-all-requires c κs = (ready _ _ (drawn _ _ (c .before .before .before .before .before .before .before .before .pre)), omega (arith, c .before .if1 .taken))
+write-all-requires c κs =
+    let at-if1 = c .before in
+    let at-entry = at-if1 .before .before .before .before .before .before .before in
+    (ready _ _ (drawn _ _ (at-entry .pre)), omega (arith, at-if1 .if1 .taken))
 
 mul-t13 : tie.Need-mul-t13
 mul-t13 c = search needs
@@ -16,7 +19,11 @@ same-length : tie.Need-same-length
 same-length c = search needs
 
 returns : tie.Need-returns
-returns c = (rw (le-leb _ _ (c .before .before .before .before .before .if1 .taken)), drawn-left _ _ (c .before .before .before .before .before .before .before .before .before .before .before .before .pre) _ _ (c .before .before .before .write-all .ensures))
+returns c =
+    let after-write-all = c .before .before .before in
+    let at-if1 = after-write-all .before .before in
+    let at-entry = at-if1 .before .before .before .before .before .before .before in
+    (rw (le-leb _ _ (at-if1 .if1 .taken)), drawn-left _ _ (at-entry .pre) _ _ (after-write-all .write-all .ensures))
 
 returns-2 : tie.Need-returns-2
 returns-2 c = (rw (lt-leb _ _ (c .if1 .left)), refl)
