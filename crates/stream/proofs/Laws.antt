@@ -46,16 +46,28 @@ module _ (n used a x y : ℕ) (b : Bounds) (h : usedRange n used a x y b ≡ tru
   used-entries = omega (arith, leb-true used (n / 4) (and-left (leb used (n / 4)) (leb used 65536) (and-left ofEntries (ofAreas && ofCorners) parts)))
 
   used-areas : b .areas * 8 ≤ a
-  used-areas = omega (arith, leb-true (b .areas) (a / 8) (and-left (leb (b .areas) (a / 8)) (leb (b .areas) 64) (and-left ofAreas ofCorners (and-right ofEntries (ofAreas && ofCorners) parts))))
+  used-areas =
+      omega (
+        arith,
+        leb-true (b .areas) (a / 8)
+            (and-left (leb (b .areas) (a / 8)) (leb (b .areas) 64)
+            (and-left ofAreas ofCorners (and-right ofEntries (ofAreas && ofCorners) parts))),
+      )
 
   pub used-few : b .areas ≤ 64
-  used-few = leb-true (b .areas) 64 (and-right (leb (b .areas) (a / 8)) (leb (b .areas) 64) (and-left ofAreas ofCorners (and-right ofEntries (ofAreas && ofCorners) parts)))
+  used-few =
+      leb-true (b .areas) 64
+      (and-right (leb (b .areas) (a / 8)) (leb (b .areas) 64)
+      (and-left ofAreas ofCorners (and-right ofEntries (ofAreas && ofCorners) parts)))
 
   used-xs : b .corners ≤ x
   used-xs = leb-true (b .corners) x (and-left (leb (b .corners) x) (leb (b .corners) y && leb (b .corners) 2048) corners)
 
   used-ys : b .corners ≤ y
-  used-ys = leb-true (b .corners) y (and-left (leb (b .corners) y) (leb (b .corners) 2048) (and-right (leb (b .corners) x) (leb (b .corners) y && leb (b .corners) 2048) corners))
+  used-ys =
+      leb-true (b .corners) y
+      (and-left (leb (b .corners) y) (leb (b .corners) 2048)
+      (and-right (leb (b .corners) x) (leb (b .corners) y && leb (b .corners) 2048) corners))
 
 pub used-ready : (n used : ℕ) (a x y : List ℕ) (b : Bounds) → usedRange n used (length a) (length x) (length y) b ≡ true → Ready a x y b
 used-ready n used a x y b h =

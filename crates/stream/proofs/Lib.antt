@@ -1,4 +1,5 @@
--- Laws of the table of entries and of the loop over a stream; that the state in the code says what the grammar says; the signed numbers that words stand for; what holds of a stream that passes; examples.
+-- Laws of the table of entries and of the loop over a stream; that the state in the code says what the grammar says;
+-- the signed numbers that words stand for; what holds of a stream that passes; examples.
 pub mod Table
 pub mod Laws
 pub mod Runs

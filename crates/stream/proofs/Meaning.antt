@@ -16,7 +16,21 @@ use Rattle.stream.specs.declared.Words.{Words}
 use Rattle.stream.specs.declared.Scan.{Scan}
 use Rattle.stream.specs.Entry.{Entry, opens, bar, closes, area, line, shortcut, passes, decode, startRange}
 use Rattle.stream.specs.Grammar.{Env, isGood, areaMet, roleFits, inRange, Place, place, Course, at, off, next, met, course, begin, isWhole, accepts}
-use Rattle.stream.specs.code.Machine.{mk, offN, startN, inGroups, afterOpenN, afterBarN, afterCloseN, afterPassesN, withAreaN, areaFitsN, withLineN, stepN, scanN}
+use Rattle.stream.specs.code.Machine.{
+  mk,
+  offN,
+  startN,
+  inGroups,
+  afterOpenN,
+  afterBarN,
+  afterCloseN,
+  afterPassesN,
+  withAreaN,
+  areaFitsN,
+  withLineN,
+  stepN,
+  scanN,
+}
 
 abbrev enc : Course → Scan
 enc (at p) = mk (num (p .groups)) (p .held) (p .areas) (p .lines)
@@ -102,7 +116,10 @@ module _ (v : Env) (p : Place) where
       (k 6 _ _ (line-is (inRange v (shortcut (w .p) (w .q) (w .r))))
       (k 7 _ _ after-passes-is refl)))))))
     where
-      k : (n : ℕ) (x y : Entry) {X Y : Scan} → X ≡ enc (next v p x) → Y ≡ enc (next v p y) → cond (eqb (w .kind) n) X Y ≡ enc (next v p (cond (eqb (w .kind) n) x y))
+      k : (n : ℕ) (x y : Entry) {X Y : Scan}
+          → X ≡ enc (next v p x)
+          → Y ≡ enc (next v p y)
+          → cond (eqb (w .kind) n) X Y ≡ enc (next v p (cond (eqb (w .kind) n) x y))
       k n x y {X} {Y} = both (λ (e : Entry). enc (next v p e)) (eqb (w .kind) n) x y X Y
 
 -- ---- a whole stream

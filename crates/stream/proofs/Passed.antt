@@ -19,7 +19,9 @@ use Rattle.stream.proofs.Laws.{used-entries, used-few, used-ready, run-
 pub passed : (t : List ℕ) (first count used : ℕ) (v : Env) → checkStream t first count used v ≡ true → Passed t first count v
 passed t first count used v h =
     record {
-      within = run-fits first count used (length t) (used-entries (length t) used (length (v .areas)) (length (v .xs)) (length (v .ys)) (v .used) inUse) (leb-true count used (cond-left countOk rest run)) (leb-true first (used - count) (cond-left firstOk fewOk firstAndFew));
+      within = run-fits first count used (length t)
+          (used-entries (length t) used (length (v .areas)) (length (v .xs)) (length (v .ys)) (v .used) inUse)
+          (leb-true count used (cond-left countOk rest run)) (leb-true first (used - count) (cond-left firstOk fewOk firstAndFew));
       few-areas = used-few (length t) used (length (v .areas)) (length (v .xs)) (length (v .ys)) (v .used) inUse;
       few = leb-true count 4096 (cond-right firstOk fewOk firstAndFew);
       ready = used-ready (length t) used (v .areas) (v .xs) (v .ys) (v .used) inUse;
@@ -70,15 +72,22 @@ alive v (at p) w ws h = go (inRange v (decode w)) refl
     go true e = refl
     go false e = clash (sym (off-stays v ws) ∙ (rw e at h))
 
-range-from : (v : Env) (t : List ℕ) (c : Course) (i n k : ℕ) → isWhole (course v c (wordsFrom t i n)) ≡ true → k < n → inRange v (decode (wordsAt t (i + k))) ≡ true
+range-from : (v : Env) (t : List ℕ) (c : Course) (i n k : ℕ)
+    → isWhole (course v c (wordsFrom t i n)) ≡ true
+    → k < n
+    → inRange v (decode (wordsAt t (i + k))) ≡ true
 unfolding course wordsFrom
 range-from v t c i zero k h l = absurd (not-suc-le-zero l)
-range-from v t c i (suc n) zero h l = subst (λ (j : ℕ). inRange v (decode (wordsAt t j)) ≡ true) (sym (add-zero i)) (alive v c (wordsAt t i) (wordsFrom t (i + 1) n) h)
+range-from v t c i (suc n) zero h l =
+    subst (λ (j : ℕ). inRange v (decode (wordsAt t j)) ≡ true) (sym (add-zero i)) (alive v c (wordsAt t i) (wordsFrom t (i + 1) n) h)
 range-from v t c i (suc n) (suc k) h l =
     let e : i + 1 + k ≡ i + suc k = omega arith in
     subst (λ (j : ℕ). inRange v (decode (wordsAt t j)) ≡ true) e (range-from v t (met v c (decode (wordsAt t i))) (i + 1) n k h (le-of-suc-le-suc l))
 
 -- entry k of an accepted stream
-pub in-range : (v : Env) (t : List ℕ) (first count k : ℕ) → accepts v (wordsFrom t first count) ≡ true → k < count → inRange v (decode (wordsAt t (first + k))) ≡ true
+pub in-range : (v : Env) (t : List ℕ) (first count k : ℕ)
+    → accepts v (wordsFrom t first count) ≡ true
+    → k < count
+    → inRange v (decode (wordsAt t (first + k))) ≡ true
 unfolding accepts
 in-range v t first count k h l = range-from v t begin first count k h l

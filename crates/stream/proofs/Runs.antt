@@ -56,15 +56,20 @@ few-segments t (suc n) i = go (isSegment (wordsAt t i .kind)) (few-segments t n 
 
 module _ (xs ys : List ℕ) (b : Bounds) where
   module _ (t : List ℕ) (i e : ℕ) (w : Words) (q : w ≡ wordsAt t i) (l : i < e) where
-    pub fits-more : (n : ℕ) → isSegment (w .kind) ≡ true → runFits xs ys b n (wordsFrom t i (e - i)) ≡ ((segmentFits xs ys b w && ltb n 2048) && runFits xs ys b (n + 1) (wordsFrom t (i + 1) (e - (i + 1))))
+    pub fits-more : (n : ℕ)
+        → isSegment (w .kind) ≡ true
+        → runFits xs ys b n (wordsFrom t i (e - i))
+        ≡ ((segmentFits xs ys b w && ltb n 2048) && runFits xs ys b (n + 1) (wordsFrom t (i + 1) (e - (i + 1))))
     unfolding runFits
     fits-more n s =
-        ap (runFits xs ys b n) (words-first t i e w q l) ∙ ap (λ c. cond c ((segmentFits xs ys b w && ltb n 2048) && runFits xs ys b (n + 1) (wordsFrom t (i + 1) (e - (i + 1)))) true) s
+        ap (runFits xs ys b n) (words-first t i e w q l)
+        ∙ ap (λ c. cond c ((segmentFits xs ys b w && ltb n 2048) && runFits xs ys b (n + 1) (wordsFrom t (i + 1) (e - (i + 1)))) true) s
 
     pub fits-stop : (n : ℕ) → isSegment (w .kind) ≡ false → runFits xs ys b n (wordsFrom t i (e - i)) ≡ true
     unfolding runFits
     fits-stop n s =
-        ap (runFits xs ys b n) (words-first t i e w q l) ∙ ap (λ c. cond c ((segmentFits xs ys b w && ltb n 2048) && runFits xs ys b (n + 1) (wordsFrom t (i + 1) (e - (i + 1)))) true) s
+        ap (runFits xs ys b n) (words-first t i e w q l)
+        ∙ ap (λ c. cond c ((segmentFits xs ys b w && ltb n 2048) && runFits xs ys b (n + 1) (wordsFrom t (i + 1) (e - (i + 1)))) true) s
 
   pub fits-last : (t : List ℕ) (i e n : ℕ) → e ≤ i → runFits xs ys b n (wordsFrom t i (e - i)) ≡ true
   unfolding runFits
@@ -104,13 +109,17 @@ scan-off v (w ∷ ws) = scan-off v ws
 
 module _ (v : Env) (t : List ℕ) (n a : ℕ) (some : n ≡ 0 → ⊥) where
   -- a line or a shortcut, with l before it
-  segment-step : (l : ℕ) (w : Words) → isSegment (w .kind) ≡ true → stepN v (mk n true a l) w ≡ cond (segmentFits (v .xs) (v .ys) (v .used) w && ltb l 2048) (mk n true a (l + 1)) offN
+  segment-step : (l : ℕ) (w : Words)
+      → isSegment (w .kind) ≡ true
+      → stepN v (mk n true a l) w ≡ cond (segmentFits (v .xs) (v .ys) (v .used) w && ltb l 2048) (mk n true a (l + 1)) offN
   segment-step l w s =
       by-kind (w .kind) s
       (λ e. rw (ne-eqb n 0 some, e) (both-fit (lineRange (v .xs) (v .ys) (v .used .corners) (w .p) (w .q)) (ltb l 2048) (mk n true a (l + 1)) offN))
       (λ e. rw (ne-eqb n 0 some, e) (both-fit (shortcutRange (v .used .low) (v .used .side) (w .p) (w .q) (w .r)) (ltb l 2048) (mk n true a (l + 1)) offN))
 
-  pub run-step : (k i l : ℕ) → scanN v (cond (runFits (v .xs) (v .ys) (v .used) l (wordsFrom t i k)) (mk n true a (l + segmentsIn (wordsFrom t i k))) offN) (wordsFrom t (i + segmentsIn (wordsFrom t i k)) (k - segmentsIn (wordsFrom t i k)))
+  pub run-step : (k i l : ℕ)
+      → scanN v (cond (runFits (v .xs) (v .ys) (v .used) l (wordsFrom t i k)) (mk n true a (l + segmentsIn (wordsFrom t i k))) offN)
+      (wordsFrom t (i + segmentsIn (wordsFrom t i k)) (k - segmentsIn (wordsFrom t i k)))
       ≡ scanN v (mk n true a l) (wordsFrom t i k)
   unfolding runFits segmentsIn wordsFrom scanN
   run-step zero i l = let e : l + 0 ≡ l = omega arith in ap (λ m. mk n true a m) e
@@ -138,8 +147,12 @@ module _ (v : Env) (t : List ℕ) (n a : ℕ) (some : n ≡ 0 → ⊥) where
           ∙ (ap₂ (λ p q. scanN v (cond r (mk n true a (l + 1 + m)) offN) (wordsFrom t p q)) y z ∙ ih)
       more false ih = scan-off v (wordsFrom t (i + suc m) (suc k - suc m)) ∙ sym (scan-off v ws)
 
-      go : (c : Bool) → isSegment (wordsAt t i .kind) ≡ c → scanN v (cond r (mk n true a (l + 1 + m)) offN) (wordsFrom t (i + 1 + m) (k - m)) ≡ scanN v (mk n true a (l + 1)) ws
-          → scanN v (cond (cond c (fit && r) true) (mk n true a (l + cond c (suc m) 0)) offN) (wordsFrom t (i + cond c (suc m) 0) (suc k - cond c (suc m) 0)) ≡ scanN v (mk n true a l) (wordsAt t i ∷ ws)
+      go : (c : Bool)
+          → isSegment (wordsAt t i .kind) ≡ c
+          → scanN v (cond r (mk n true a (l + 1 + m)) offN) (wordsFrom t (i + 1 + m) (k - m)) ≡ scanN v (mk n true a (l + 1)) ws
+          → scanN v (cond (cond c (fit && r) true) (mk n true a (l + cond c (suc m) 0)) offN)
+          (wordsFrom t (i + cond c (suc m) 0) (suc k - cond c (suc m) 0))
+          ≡ scanN v (mk n true a l) (wordsAt t i ∷ ws)
       go true e ih = more fit ih ∙ sym (ap (λ u. scanN v u ws) (segment-step l (wordsAt t i) e))
       go false e ih =
           let x : l + 0 ≡ l = omega arith in
@@ -158,18 +171,29 @@ module _ (v : Env) (t : List ℕ) (i e : ℕ) (s : Scan) (w : Words) (q : w ≡ 
   one-onward r g n =
       record { later = omega (arith, n); inside = omega (arith, n, l); same = ap₂ (λ (u : Scan) j. scanN v u (wordsFrom t j (e - j))) g n ∙ scan-step }
 
-  pub run-onward : (n : Scan) → n ≡ stepN v s w → (n .stack ≡ 0 → ⊥) → n .held ≡ true → (r : Scanned) (fits : Bool) (lines : ℕ)
-      → fits ≡ runFits (v .xs) (v .ys) (v .used) (n .lines) (wordsFrom t (i + 1) (e - (i + 1))) → lines ≡ n .lines + segmentsIn (wordsFrom t (i + 1) (e - (i + 1)))
-      → r .scan ≡ afterRunN n fits lines → r .next ≡ i + 1 + segmentsIn (wordsFrom t (i + 1) (e - (i + 1))) → Onward v t i e s r
+  pub run-onward : (n : Scan)
+      → n ≡ stepN v s w
+      → (n .stack ≡ 0 → ⊥)
+      → n .held ≡ true
+      → (r : Scanned) (fits : Bool) (lines : ℕ)
+      → fits ≡ runFits (v .xs) (v .ys) (v .used) (n .lines) (wordsFrom t (i + 1) (e - (i + 1)))
+      → lines ≡ n .lines + segmentsIn (wordsFrom t (i + 1) (e - (i + 1)))
+      → r .scan ≡ afterRunN n fits lines
+      → r .next ≡ i + 1 + segmentsIn (wordsFrom t (i + 1) (e - (i + 1)))
+      → Onward v t i e s r
   run-onward n g some held r fits lines f m h k =
       let ws = wordsFrom t (i + 1) (e - (i + 1)) in
       let z : e - (i + 1 + segmentsIn ws) ≡ e - (i + 1) - segmentsIn ws = omega arith in
       record {
         later = omega (arith, k);
         inside = omega (arith, k, few-segments t (e - (i + 1)) (i + 1), l);
-        same =
-            ap₂ (λ (u : Scan) j. scanN v u (wordsFrom t j (e - j))) (h ∙ ap₂ (λ b j. cond b (mk (n .stack) true (n .areas) j) offN) f m) k
-            ∙ (ap (λ j. scanN v (cond (runFits (v .xs) (v .ys) (v .used) (n .lines) ws) (mk (n .stack) true (n .areas) (n .lines + segmentsIn ws)) offN) (wordsFrom t (i + 1 + segmentsIn ws) j)) z
+        same = ap₂ (λ (u : Scan) j. scanN v u (wordsFrom t j (e - j))) (h ∙ ap₂ (λ b j. cond b (mk (n .stack) true (n .areas) j) offN) f m)
+            k
+            ∙ (ap
+            (λ j.
+            scanN v (cond (runFits (v .xs) (v .ys) (v .used) (n .lines) ws) (mk (n .stack) true (n .areas) (n .lines + segmentsIn ws)) offN)
+            (wordsFrom t (i + 1 + segmentsIn ws) j))
+            z
             ∙ (run-step v t (n .stack) (n .areas) some (e - (i + 1)) (i + 1) (n .lines)
             ∙ (ap (λ b. scanN v (mk (n .stack) b (n .areas) (n .lines)) ws) (sym held) ∙ (ap (λ (u : Scan). scanN v u ws) g ∙ scan-step))));
       }

@@ -40,7 +40,8 @@ start-range-is w = go (ltb w 2147483648) refl
         rw (toZ-pos w32 w h, lt-leb 4294965248 w (omega arith)) (or-false (leb w 2048))
     go false e =
         let h : 2147483648 ≤ w = ltb-false w 2147483648 e in
-        rw (upper w h, lt-leb w 2048 (omega arith)) (same 4294965248 w (4294967296 - suc w) 2047 (λ k. omega arith) (λ k. omega arith) ∙ sym (and-true (leb (4294967296 - suc w) 2047)))
+        rw (upper w h, lt-leb w 2048 (omega arith))
+        (same 4294965248 w (4294967296 - suc w) 2047 (λ k. omega arith) (λ k. omega arith) ∙ sym (and-true (leb (4294967296 - suc w) 2047)))
 
 -- two numbers are the same where neither is above the other
 eq-leb : (a b m n : ℕ) → (a ≡ b → m ≤ n) → (a ≡ b → n ≤ m) → (m ≡ n → a ≡ b) → eqb a b ≡ (leb m n && leb n m)
@@ -65,7 +66,8 @@ sign-range-is w l = go (ltb w 2147483648) refl
     go : (b : Bool) → ltb w 2147483648 ≡ b → signRange w ≡ (eqZ (toZ w32 w) (pos 1) || eqZ (toZ w32 w) (negsuc 0))
     go true e =
         let h : w < 2147483648 = ltb-true w 2147483648 e in
-        rw (toZ-pos w32 w h, ne-eqb w 4294967295 (λ q. omega arith)) (ap (λ (b : Bool). b || false) (eq-leb w 1 w 1 (λ q. omega arith) (λ q. omega arith) (λ q. q)))
+        rw (toZ-pos w32 w h, ne-eqb w 4294967295 (λ q. omega arith))
+        (ap (λ (b : Bool). b || false) (eq-leb w 1 w 1 (λ q. omega arith) (λ q. omega arith) (λ q. q)))
     go false e =
         let h : 2147483648 ≤ w = ltb-false w 2147483648 e in
         rw (upper w h, ne-eqb w 1 (λ q. omega arith)) (eq-leb w 4294967295 0 (4294967296 - suc w) (λ q. omega arith) (λ q. omega arith) (λ q. omega arith))

@@ -26,7 +26,14 @@ words-none t i e h =
 -- ---- what a write leaves as it was
 -- the entries within the first m words go by those words alone
 pub at-agree : (t t′ : List ℕ) (m i : ℕ) → take m t ≡ take m t′ → i * 4 + 4 ≤ m → wordsAt t i ≡ wordsAt t′ i
-at-agree t t′ m i e h = λ d. record { kind = at (i * 4) (omega arith) d; p = at (i * 4 + 1) (omega arith) d; q = at (i * 4 + 2) (omega arith) d; r = at (i * 4 + 3) (omega arith) d }
+at-agree t t′ m i e h =
+    λ d.
+    record {
+      kind = at (i * 4) (omega arith) d;
+      p = at (i * 4 + 1) (omega arith) d;
+      q = at (i * 4 + 2) (omega arith) d;
+      r = at (i * 4 + 3) (omega arith) d;
+    }
   where
     at : (k : ℕ) → k < m → getD t k 0 ≡ getD t′ k 0
     at k l = sym (getD-take m t k 0 l) ∙ ap (λ (x : List ℕ). getD x k 0) e ∙ getD-take m t′ k 0 l
@@ -73,7 +80,9 @@ length-flat [] = refl
 length-flat (w ∷ ws) = rw (length-flat ws) (omega arith)
 
 -- where there is room, the whole table: what stands before, the entries, and what stands after
-pub written-eq : (t : List ℕ) (i : ℕ) (ws : List Words) → (i + length ws) * 4 ≤ length t → written t i ws ≡ take (i * 4) t ++ flat ws ++ drop ((i + length ws) * 4) t
+pub written-eq : (t : List ℕ) (i : ℕ) (ws : List Words)
+    → (i + length ws) * 4 ≤ length t
+    → written t i ws ≡ take (i * 4) t ++ flat ws ++ drop ((i + length ws) * 4) t
 unfolding written
 written-eq t i ws h =
     let n : i * 4 + length (flat ws) ≡ (i + length ws) * 4 = omega (arith, length-flat ws) in
@@ -108,10 +117,17 @@ put-same t i w h = λ d. record { kind = k d; p = p′ d; q = q′ d; r = r′ d
     t₃ = set t₂ (i * 4 + 2) (w .q)
 
     k : wordsAt (putAt t i w) i .kind ≡ w .kind
-    k = skip t₃ (i * 4 + 3) (i * 4) (w .r) (omega arith) ∙ skip t₂ (i * 4 + 2) (i * 4) (w .q) (omega arith) ∙ skip t₁ (i * 4 + 1) (i * 4) (w .p) (omega arith) ∙ getD-set-same t (i * 4) (w .kind) 0 (omega arith)
+    k =
+        skip t₃ (i * 4 + 3) (i * 4) (w .r) (omega arith)
+        ∙ skip t₂ (i * 4 + 2) (i * 4) (w .q) (omega arith)
+        ∙ skip t₁ (i * 4 + 1) (i * 4) (w .p) (omega arith)
+        ∙ getD-set-same t (i * 4) (w .kind) 0 (omega arith)
 
     p′ : wordsAt (putAt t i w) i .p ≡ w .p
-    p′ = skip t₃ (i * 4 + 3) (i * 4 + 1) (w .r) (omega arith) ∙ skip t₂ (i * 4 + 2) (i * 4 + 1) (w .q) (omega arith) ∙ getD-set-same t₁ (i * 4 + 1) (w .p) 0 (simp length-set (omega arith))
+    p′ =
+        skip t₃ (i * 4 + 3) (i * 4 + 1) (w .r) (omega arith)
+        ∙ skip t₂ (i * 4 + 2) (i * 4 + 1) (w .q) (omega arith)
+        ∙ getD-set-same t₁ (i * 4 + 1) (w .p) 0 (simp length-set (omega arith))
 
     q′ : wordsAt (putAt t i w) i .q ≡ w .q
     q′ = skip t₃ (i * 4 + 3) (i * 4 + 2) (w .r) (omega arith) ∙ getD-set-same t₂ (i * 4 + 2) (w .q) 0 (simp length-set (omega arith))

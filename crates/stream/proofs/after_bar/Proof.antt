@@ -13,13 +13,20 @@ in-groups-requires : tie.Need-in-groups-requires
 in-groups-requires c κs = search needs
 
 returns : tie.Need-returns
-returns c = rw (sym (c .before .before .before .on-left .ensures) ∙ c .before .before .if1 .taken, c .in-groups .ensures, c .before .barred .ensures)
+returns c =
+    let after-barred = c .before in
+    let at-if1 = after-barred .before in
+    let after-on-left = at-if1 .before in
+    rw (sym (after-on-left .on-left .ensures) ∙ at-if1 .if1 .taken, c .in-groups .ensures, after-barred .barred .ensures)
 
 off-requires : tie.Need-off-requires
 off-requires c κs = search needs
 
 returns-2 : tie.Need-returns-2
-returns-2 c = rw (sym (c .before .before .on-left .ensures) ∙ c .before .if1 .left, c .off .ensures)
+returns-2 c =
+    let at-if1 = c .before in
+    let after-on-left = at-if1 .before in
+    rw (sym (after-on-left .on-left .ensures) ∙ at-if1 .if1 .left, c .off .ensures)
 
 pub after-bar-spec : {M : Type 1} → statement M
 after-bar-spec =

@@ -13,13 +13,20 @@ in-groups-requires : tie.Need-in-groups-requires
 in-groups-requires c κs = search needs
 
 returns : tie.Need-returns
-returns c = rw (sym (c .before .before .before .has-room .ensures) ∙ c .before .before .if1 .taken, c .in-groups .ensures, c .before .opened .ensures)
+returns c =
+    let after-opened = c .before in
+    let at-if1 = after-opened .before in
+    let after-has-room = at-if1 .before in
+    rw (sym (after-has-room .has-room .ensures) ∙ at-if1 .if1 .taken, c .in-groups .ensures, after-opened .opened .ensures)
 
 off-requires : tie.Need-off-requires
 off-requires c κs = search needs
 
 returns-2 : tie.Need-returns-2
-returns-2 c = rw (sym (c .before .before .has-room .ensures) ∙ c .before .if1 .left, c .off .ensures)
+returns-2 c =
+    let at-if1 = c .before in
+    let after-has-room = at-if1 .before in
+    rw (sym (after-has-room .has-room .ensures) ∙ at-if1 .if1 .left, c .off .ensures)
 
 pub after-open-spec : {M : Type 1} → statement M
 after-open-spec =

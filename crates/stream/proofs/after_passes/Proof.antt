@@ -10,13 +10,19 @@ off-requires : tie.Need-off-requires
 off-requires c κs = search needs
 
 returns : tie.Need-returns
-returns c = rw (sym (c .before .before .on-paint .ensures) ∙ c .before .if1 .taken, c .off .ensures)
+returns c =
+    let at-if1 = c .before in
+    let after-on-paint = at-if1 .before in
+    rw (sym (after-on-paint .on-paint .ensures) ∙ at-if1 .if1 .taken, c .off .ensures)
 
 in-groups-requires : tie.Need-in-groups-requires
 in-groups-requires c κs = search needs
 
 returns-2 : tie.Need-returns-2
-returns-2 c = rw (sym (c .before .before .on-paint .ensures) ∙ c .before .if1 .left, c .in-groups .ensures)
+returns-2 c =
+    let at-if1 = c .before in
+    let after-on-paint = at-if1 .before in
+    rw (sym (after-on-paint .on-paint .ensures) ∙ at-if1 .if1 .left, c .in-groups .ensures)
 
 pub after-passes-spec : {M : Type 1} → statement M
 after-passes-spec =

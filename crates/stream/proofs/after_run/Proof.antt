@@ -3,7 +3,10 @@ use Rattle.stream.proofs.after_run.Statement.{statement}
 use Rattle.stream.proofs.after_run.Tie as tie
 
 cast-t4 : tie.Need-cast-t4
-cast-t4 c = record { fits = c .before .before .pre (c .before .if1 .taken) }
+cast-t4 c =
+    let at-if1 = c .before in
+    let at-entry = at-if1 .before in
+    record { fits = at-entry .pre (at-if1 .if1 .taken) }
 
 returns : tie.Need-returns
 returns c = rw (c .before .if1 .taken)

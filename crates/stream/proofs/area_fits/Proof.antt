@@ -15,7 +15,11 @@ role-fits-requires : tie.Need-role-fits-requires
 role-fits-requires c κs = search needs
 
 returns : tie.Need-returns
-returns c = rw (c .before .before .role-fits .ensures, c .before .before .before .on-paint .ensures, c .before .before .before .before .area-row .ensures)
+returns c =
+    let after-role-fits = c .before .before in
+    let after-on-paint = after-role-fits .before in
+    let after-area-row = after-on-paint .before in
+    rw (after-role-fits .role-fits .ensures, after-on-paint .on-paint .ensures, after-area-row .area-row .ensures)
 
 pub area-fits-spec : {M : Type 1} → statement M
 area-fits-spec =

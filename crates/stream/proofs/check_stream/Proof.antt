@@ -10,19 +10,58 @@ used-range-requires : tie.Need-used-range-requires
 used-range-requires c κs = search needs
 
 scan-all-requires : tie.Need-scan-all-requires
-scan-all-requires c κs = (run-fits _ _ _ _ (used-entries _ _ _ _ _ _ (sym (c .before .before .before .before .used-range .ensures) ∙ c .before .before .before .if1 .taken)) (c .before .before .if2 .taken) (c .before .if3 .taken), (c .if4 .taken, used-ready _ _ _ _ _ _ (sym (c .before .before .before .before .used-range .ensures) ∙ c .before .before .before .if1 .taken)))
+scan-all-requires c κs =
+    let at-if3 = c .before in
+    let at-if2 = at-if3 .before in
+    let at-if1 = at-if2 .before in
+    let after-used-range = at-if1 .before in (
+      run-fits _ _ _ _ (used-entries _ _ _ _ _ _ (sym (after-used-range .used-range .ensures) ∙ at-if1 .if1 .taken)) (at-if2 .if2 .taken)
+          (at-if3 .if3 .taken),
+      (c .if4 .taken, used-ready _ _ _ _ _ _ (sym (after-used-range .used-range .ensures) ∙ at-if1 .if1 .taken)),
+    )
 
 returns : tie.Need-returns
-returns c = rw (sym (c .before .before .before .before .before .before .used-range .ensures) ∙ c .before .before .before .before .before .if1 .taken, le-leb _ _ (c .before .before .before .before .if2 .taken), le-leb _ _ (c .before .before .before .if3 .taken), le-leb _ _ (c .before .before .if4 .taken), c .before .scan-all .ensures) (accepts-is _ _)
+returns c =
+    let after-scan-all = c .before in
+    let at-if4 = after-scan-all .before in
+    let at-if3 = at-if4 .before in
+    let at-if2 = at-if3 .before in
+    let at-if1 = at-if2 .before in
+    let after-used-range = at-if1 .before in
+    rw (
+      sym (after-used-range .used-range .ensures) ∙ at-if1 .if1 .taken,
+      le-leb _ _ (at-if2 .if2 .taken),
+      le-leb _ _ (at-if3 .if3 .taken),
+      le-leb _ _ (at-if4 .if4 .taken),
+      after-scan-all .scan-all .ensures,
+    )
+    (accepts-is _ _)
 
 returns-2 : tie.Need-returns-2
-returns-2 c = rw (sym (c .before .before .before .before .used-range .ensures) ∙ c .before .before .before .if1 .taken, le-leb _ _ (c .before .before .if2 .taken), le-leb _ _ (c .before .if3 .taken), lt-leb _ _ (c .if4 .left))
+returns-2 c =
+    let at-if3 = c .before in
+    let at-if2 = at-if3 .before in
+    let at-if1 = at-if2 .before in
+    let after-used-range = at-if1 .before in
+    rw (
+      sym (after-used-range .used-range .ensures) ∙ at-if1 .if1 .taken,
+      le-leb _ _ (at-if2 .if2 .taken),
+      le-leb _ _ (at-if3 .if3 .taken),
+      lt-leb _ _ (c .if4 .left),
+    )
 
 returns-3 : tie.Need-returns-3
-returns-3 c = rw (sym (c .before .before .before .used-range .ensures) ∙ c .before .before .if1 .taken, le-leb _ _ (c .before .if2 .taken), lt-leb _ _ (c .if3 .left))
+returns-3 c =
+    let at-if2 = c .before in
+    let at-if1 = at-if2 .before in
+    let after-used-range = at-if1 .before in
+    rw (sym (after-used-range .used-range .ensures) ∙ at-if1 .if1 .taken, le-leb _ _ (at-if2 .if2 .taken), lt-leb _ _ (c .if3 .left))
 
 returns-4 : tie.Need-returns-4
-returns-4 c = rw (sym (c .before .before .used-range .ensures) ∙ c .before .if1 .taken, lt-leb _ _ (c .if2 .left))
+returns-4 c =
+    let at-if1 = c .before in
+    let after-used-range = at-if1 .before in
+    rw (sym (after-used-range .used-range .ensures) ∙ at-if1 .if1 .taken, lt-leb _ _ (c .if2 .left))
 
 returns-5 : tie.Need-returns-5
 returns-5 c = rw (sym (c .before .used-range .ensures) ∙ c .if1 .left)

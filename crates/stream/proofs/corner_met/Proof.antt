@@ -16,7 +16,9 @@ shared-slice-read-result-2 : tie.Need-shared-slice-read-result-2
 shared-slice-read-result-2 c = search needs
 
 returns : tie.Need-returns
-returns c = rw (lt-ltb _ _ (c .before .before .if1 .taken))
+returns c =
+    let at-if1 = c .before .before in
+    rw (lt-ltb _ _ (at-if1 .if1 .taken))
 
 returns-2 : tie.Need-returns-2
 returns-2 c = rw (le-ltb _ _ (c .if1 .left))

@@ -15,7 +15,9 @@ corner-met-requires-2 : tie.Need-corner-met-requires-2
 corner-met-requires-2 c κs = search needs
 
 returns : tie.Need-returns
-returns c = rw (c .corner-met2 .ensures, c .before .before .corner-met .ensures)
+returns c =
+    let after-corner-met = c .before .before in
+    rw (c .corner-met2 .ensures, after-corner-met .corner-met .ensures)
 
 pub line-range-spec : {M : Type 1} → statement M
 line-range-spec =

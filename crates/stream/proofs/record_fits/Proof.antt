@@ -21,10 +21,16 @@ enum-told-5 : tie.Need-enum-told-5
 enum-told-5 c = search needs
 
 returns : tie.Need-returns
-returns c = rw (c .before .before .before .r .given .1, c .before .if1 .taken)
+returns c =
+    let at-if1 = c .before in
+    let after-r = at-if1 .before .before in
+    rw (after-r .r .given .1, at-if1 .if1 .taken)
 
 returns-2 : tie.Need-returns-2
-returns-2 c = rw (c .before .before .before .r .given .1, c .before .if1 .left)
+returns-2 c =
+    let at-if1 = c .before in
+    let after-r = at-if1 .before .before in
+    rw (after-r .r .given .1, at-if1 .if1 .left)
 
 returns-3 : tie.Need-returns-3
 returns-3 c = rw (c .enum-told .given .1)

@@ -12,7 +12,9 @@ enum-told : tie.Need-enum-told
 enum-told c = search needs
 
 returns : tie.Need-returns
-returns c = rw (c .before .before .d .given .1, c .record-fits .ensures)
+returns c =
+    let after-d = c .before .before in
+    rw (after-d .d .given .1, c .record-fits .ensures)
 
 returns-2 : tie.Need-returns-2
 returns-2 c = rw (c .enum-told .given .1)

@@ -23,13 +23,24 @@ loop-holds : tie.Need-loop-holds Inv-loop μ-loop
 loop-holds c = (omega arith, omega arith, scan-begin _ _ _ _ _)
 
 scan-next-requires : tie.Need-scan-next-requires Inv-loop μ-loop
-scan-next-requires c κs = let p = c .before .before .before .before .before .before .pre in let l = c .before .loop in let t = c .loop-test .taken in ((t, omega (arith, p .1 .0, l .inv .0), p .0), p .1 .1)
+scan-next-requires c κs =
+    let at-loop = c .before in
+    let at-entry = at-loop .before .before .before .before .before in
+    let p = at-entry .pre in
+    let l = at-loop .loop in
+    let t = c .loop-test .taken in
+    ((t, omega (arith, p .1 .0, l .inv .0), p .0), p .1 .1)
 
 loop-less : tie.Need-loop-less Inv-loop μ-loop
 loop-less c = let n = c .before .scan-next .ensures in omega (arith, n .later, n .inside)
 
 loop-again : tie.Need-loop-again Inv-loop μ-loop
-loop-again c = let l = c .before .before .before .loop in let n = c .before .scan-next .ensures in (omega (arith, n .later, l .inv .0), n .inside, n .same ∙ l .inv .2)
+loop-again c =
+    let after-scan-next = c .before in
+    let at-loop = after-scan-next .before .before in
+    let l = at-loop .loop in
+    let n = after-scan-next .scan-next .ensures in
+    (omega (arith, n .later, l .inv .0), n .inside, n .same ∙ l .inv .2)
 
 returns : tie.Need-returns Inv-loop μ-loop
 returns c = scan-done _ _ _ _ _ _ (c .loop-test .left) (c .before .loop .inv .2)

@@ -9,7 +9,10 @@ use Rattle.stream.proofs.scan_next.Statement.{statement}
 use Rattle.stream.proofs.scan_next.Tie as tie
 
 read-entry-requires : tie.Need-read-entry-requires
-read-entry-requires c κs = let p = c .before .before .before .before .pre in omega (arith, p .0 .0, p .0 .2)
+read-entry-requires c κs =
+    let at-entry = c .before .before .before .before in
+    let p = at-entry .pre in
+    omega (arith, p .0 .0, p .0 .2)
 
 step-requires : tie.Need-step-requires
 step-requires c κs = search needs
@@ -19,9 +22,13 @@ add-t14 c = search needs
 
 returns : tie.Need-returns
 returns c =
-    let a = c .before .before .before .before .before .before .before .before .args in
-    let w = c .before .before .before .read-entry in
-    one-onward (env (now (a .areas)) (now (a .xs)) (now (a .ys)) (a .b)) (now (a .entries)) (a .i) (a .end) (a .s) (w .result) (w .ensures) (c .before .before .before .before .before .before .before .before .pre .0 .0) _ (c .before .before .step .ensures) refl
+    let after-step = c .before .before in
+    let after-read-entry = after-step .before in
+    let at-entry = after-read-entry .before .before .before .before .before in
+    let a = at-entry .args in
+    let w = after-read-entry .read-entry in
+    one-onward (env (now (a .areas)) (now (a .xs)) (now (a .ys)) (a .b)) (now (a .entries)) (a .i) (a .end) (a .s) (w .result) (w .ensures)
+    (at-entry .pre .0 .0) _ (after-step .step .ensures) refl
 
 add-scan-run : tie.Need-add-scan-run
 add-scan-run c = search needs
@@ -31,32 +38,56 @@ cast-scan-run c = search needs
 
 scan-run-requires : tie.Need-scan-run-requires
 scan-run-requires c κs =
-    let p = c .before .before .before .before .before .before .before .before .before .before .pre in
-    ((omega (arith, p .0 .0), omega (arith, p .0 .1), p .0 .2), ((p .1 .xs, p .1 .ys), omega (arith, c .before .before .before .before .step .ok .1 .1 .1 .1 .1 .0 .1)))
+    let after-step = c .before .before .before .before in
+    let at-entry = after-step .before .before .before .before .before .before in
+    let p = at-entry .pre in (
+      (omega (arith, p .0 .0), omega (arith, p .0 .1), p .0 .2),
+      ((p .1 .xs, p .1 .ys), omega (arith, after-step .step .ok .1 .1 .1 .1 .1 .0 .1)),
+    )
 
 after-run-requires : tie.Need-after-run-requires
 after-run-requires c κs =
-    let a = c .before .before .before .before .before .before .before .before .before .before .before .args in
+    let after-step = c .before .before .before .before .before in
+    let at-entry = after-step .before .before .before .before .before .before in
+    let a = at-entry .args in
     let r = c .scan-run in
-    let n = c .before .before .before .before .before .step in
-    λ h. omega (arith, r .ensures .1 .0, fits-few (now (a .xs)) (now (a .ys)) (a .b) (now (a .entries)) (a .end - (a .i + 1)) (a .i + 1) (n .result .lines) (sym (r .ensures .0) ∙ h) (omega (arith, n .ok .1 .1 .1 .1 .1 .0 .1)))
+    let n = after-step .step in
+    λ h.
+    omega (
+      arith,
+      r .ensures .1 .0,
+      fits-few (now (a .xs)) (now (a .ys)) (a .b) (now (a .entries)) (a .end - (a .i + 1)) (a .i + 1) (n .result .lines)
+          (sym (r .ensures .0) ∙ h) (omega (arith, n .ok .1 .1 .1 .1 .1 .0 .1)),
+    )
 
 returns-2 : tie.Need-returns-2
 returns-2 c =
-    let a = c .before .before .before .before .before .before .before .before .before .before .before .before .args in
-    let w = c .before .before .before .before .before .before .before .read-entry in
-    let n = c .before .before .before .before .before .before .step in
-    let r = c .before .scan-run in
-    run-onward (env (now (a .areas)) (now (a .xs)) (now (a .ys)) (a .b)) (now (a .entries)) (a .i) (a .end) (a .s) (w .result) (w .ensures) (c .before .before .before .before .before .before .before .before .before .before .before .before .pre .0 .0) (n .result) (n .ensures) (c .before .before .before .before .if1 .left) (c .before .before .before .if2 .taken) _ (r .result .fits) (r .result .lines) (r .ensures .0) (r .ensures .1 .0) (c .after-run .ensures) (r .ensures .1 .1)
+    let after-scan-run = c .before in
+    let at-if2 = after-scan-run .before .before in
+    let at-if1 = at-if2 .before in
+    let after-step = at-if1 .before .before in
+    let after-read-entry = after-step .before in
+    let at-entry = after-read-entry .before .before .before .before .before in
+    let a = at-entry .args in
+    let w = after-read-entry .read-entry in
+    let n = after-step .step in
+    let r = after-scan-run .scan-run in
+    run-onward (env (now (a .areas)) (now (a .xs)) (now (a .ys)) (a .b)) (now (a .entries)) (a .i) (a .end) (a .s) (w .result) (w .ensures)
+    (at-entry .pre .0 .0) (n .result) (n .ensures) (at-if1 .if1 .left) (at-if2 .if2 .taken) _ (r .result .fits) (r .result .lines)
+    (r .ensures .0) (r .ensures .1 .0) (c .after-run .ensures) (r .ensures .1 .1)
 
 add-t17 : tie.Need-add-t17
 add-t17 c = search needs
 
 returns-3 : tie.Need-returns-3
 returns-3 c =
-    let a = c .before .before .before .before .before .before .before .before .before .args in
-    let w = c .before .before .before .before .read-entry in
-    one-onward (env (now (a .areas)) (now (a .xs)) (now (a .ys)) (a .b)) (now (a .entries)) (a .i) (a .end) (a .s) (w .result) (w .ensures) (c .before .before .before .before .before .before .before .before .before .pre .0 .0) _ (c .before .before .before .step .ensures) refl
+    let after-step = c .before .before .before in
+    let after-read-entry = after-step .before in
+    let at-entry = after-read-entry .before .before .before .before .before in
+    let a = at-entry .args in
+    let w = after-read-entry .read-entry in
+    one-onward (env (now (a .areas)) (now (a .xs)) (now (a .ys)) (a .b)) (now (a .entries)) (a .i) (a .end) (a .s) (w .result) (w .ensures)
+    (at-entry .pre .0 .0) _ (after-step .step .ensures) refl
 
 pub scan-next-spec : {M : Type 1} → statement M
 scan-next-spec =

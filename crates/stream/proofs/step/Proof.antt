@@ -41,25 +41,49 @@ off-requires : tie.Need-off-requires
 off-requires c κs = search needs
 
 returns-2 : tie.Need-returns-2
-returns-2 c = rw (ne-eqb _ _ (c .before .before .if1 .left), c .before .match .keys1, c .after-open .ensures)
+returns-2 c =
+    let at-match = c .before in
+    let at-if1 = at-match .before in
+    rw (ne-eqb _ _ (at-if1 .if1 .left), at-match .match .keys1, c .after-open .ensures)
 
 returns-3 : tie.Need-returns-3
-returns-3 c = rw (ne-eqb _ _ (c .before .before .if1 .left), c .before .match .keys2, c .after-bar .ensures)
+returns-3 c =
+    let at-match = c .before in
+    let at-if1 = at-match .before in
+    rw (ne-eqb _ _ (at-if1 .if1 .left), at-match .match .keys2, c .after-bar .ensures)
 
 returns-4 : tie.Need-returns-4
-returns-4 c = rw (ne-eqb _ _ (c .before .before .if1 .left), c .before .match .keys3, c .after-close .ensures)
+returns-4 c =
+    let at-match = c .before in
+    let at-if1 = at-match .before in
+    rw (ne-eqb _ _ (at-if1 .if1 .left), at-match .match .keys3, c .after-close .ensures)
 
 returns-5 : tie.Need-returns-5
-returns-5 c = rw (ne-eqb _ _ (c .before .before .before .if1 .left), c .before .before .match .keys4, c .with-area .ensures, c .before .area-fits .ensures)
+returns-5 c =
+    let after-area-fits = c .before in
+    let at-match = after-area-fits .before in
+    let at-if1 = at-match .before in
+    rw (ne-eqb _ _ (at-if1 .if1 .left), at-match .match .keys4, c .with-area .ensures, after-area-fits .area-fits .ensures)
 
 returns-6 : tie.Need-returns-6
-returns-6 c = rw (ne-eqb _ _ (c .before .before .before .if1 .left), c .before .before .match .keys5, c .with-line .ensures, c .before .line-range .ensures)
+returns-6 c =
+    let after-line-range = c .before in
+    let at-match = after-line-range .before in
+    let at-if1 = at-match .before in
+    rw (ne-eqb _ _ (at-if1 .if1 .left), at-match .match .keys5, c .with-line .ensures, after-line-range .line-range .ensures)
 
 returns-7 : tie.Need-returns-7
-returns-7 c = rw (ne-eqb _ _ (c .before .before .before .if1 .left), c .before .before .match .keys6, c .with-line2 .ensures, c .before .shortcut-range .ensures)
+returns-7 c =
+    let after-shortcut-range = c .before in
+    let at-match = after-shortcut-range .before in
+    let at-if1 = at-match .before in
+    rw (ne-eqb _ _ (at-if1 .if1 .left), at-match .match .keys6, c .with-line2 .ensures, after-shortcut-range .shortcut-range .ensures)
 
 returns-8 : tie.Need-returns-8
-returns-8 c = rw (ne-eqb _ _ (c .before .before .if1 .left), c .before .match .keys7, c .after-passes .ensures)
+returns-8 c =
+    let at-match = c .before in
+    let at-if1 = at-match .before in
+    rw (ne-eqb _ _ (at-if1 .if1 .left), at-match .match .keys7, c .after-passes .ensures)
 
 returns-9 : tie.Need-returns-9
 returns-9 c = search (tests, c .before .match .rest)

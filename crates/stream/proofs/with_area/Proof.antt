@@ -7,13 +7,19 @@ add-t5 : tie.Need-add-t5
 add-t5 c = search needs
 
 returns : tie.Need-returns
-returns c = rw (c .before .before .before .if1 .taken, lt-ltb _ _ (c .before .if2 .taken))
+returns c =
+    let at-if2 = c .before in
+    let at-if1 = at-if2 .before .before in
+    rw (at-if1 .if1 .taken, lt-ltb _ _ (at-if2 .if2 .taken))
 
 off-requires : tie.Need-off-requires
 off-requires c κs = search needs
 
 returns-2 : tie.Need-returns-2
-returns-2 c = rw (c .before .before .before .if1 .taken, le-ltb _ _ (c .before .if2 .left), c .off .ensures)
+returns-2 c =
+    let at-if2 = c .before in
+    let at-if1 = at-if2 .before .before in
+    rw (at-if1 .if1 .taken, le-ltb _ _ (at-if2 .if2 .left), c .off .ensures)
 
 off-requires-2 : tie.Need-off-requires-2
 off-requires-2 c κs = search needs
