@@ -78,8 +78,13 @@ both false b h = clash h
 met-in : (xs ys : List ℕ) (used n : ℕ) → cornerMet xs ys used n ≡ true → (n < used) × (getD xs n 0 ≤ 65536) × (getD ys n 0 ≤ 65536)
 met-in xs ys used n h = go (ltb n used) refl h
   where
-    go : (b : Bool) → ltb n used ≡ b → cond b (cornerRange (getD xs n 0) (getD ys n 0)) false ≡ true → (n < used) × (getD xs n 0 ≤ 65536) × (getD ys n 0 ≤ 65536)
-    go true e t = let p = both (leb (getD xs n 0) 65536) (leb (getD ys n 0) 65536) t in (ltb-true n used e, leb-true (getD xs n 0) 65536 (p .0), leb-true (getD ys n 0) 65536 (p .1))
+    go : (b : Bool)
+        → ltb n used ≡ b
+        → cond b (cornerRange (getD xs n 0) (getD ys n 0)) false ≡ true
+        → (n < used) × (getD xs n 0 ≤ 65536) × (getD ys n 0 ≤ 65536)
+    go true e t =
+        let p = both (leb (getD xs n 0) 65536) (leb (getD ys n 0) 65536) t in
+        (ltb-true n used e, leb-true (getD xs n 0) 65536 (p .0), leb-true (getD ys n 0) 65536 (p .1))
     go false e t = clash t
 
 pub line-used : (xs ys : List ℕ) (used a b : ℕ) → lineRange xs ys used a b ≡ true → (a < used) × (b < used)
@@ -87,7 +92,10 @@ line-used xs ys used a b h =
     let p = both (cornerMet xs ys used a) (cornerMet xs ys used b) h in
     (met-in xs ys used a (p .0) .0, met-in xs ys used b (p .1) .0)
 
-pub line-below : (xs ys : List ℕ) (used a b : ℕ) → lineRange xs ys used a b ≡ true → (used ≤ length xs) × (used ≤ length ys) → (a < length xs) × (a < length ys) × (b < length xs) × (b < length ys)
+pub line-below : (xs ys : List ℕ) (used a b : ℕ)
+    → lineRange xs ys used a b ≡ true
+    → (used ≤ length xs) × (used ≤ length ys)
+    → (a < length xs) × (a < length ys) × (b < length xs) × (b < length ys)
 line-below xs ys used a b h l =
     let p = both (cornerMet xs ys used a) (cornerMet xs ys used b) h in
     let u = met-in xs ys used a (p .0) in
@@ -130,6 +138,9 @@ pub area-below : (areas : List ℕ) (used n : ℕ) → isGood (areaRow areas use
 unfolding areaRow
 area-below areas used n h = go (ltb n used) refl h
   where
-    go : (b : Bool) → ltb n used ≡ b → isGood (cond b (cond (eqb (getD areas (n * 8 + 7) 0) 0) (ranged (Area (fieldsAt areas n))) (Bad Field)) (Bad Field)) ≡ true → n < used
+    go : (b : Bool)
+        → ltb n used ≡ b
+        → isGood (cond b (cond (eqb (getD areas (n * 8 + 7) 0) 0) (ranged (Area (fieldsAt areas n))) (Bad Field)) (Bad Field)) ≡ true
+        → n < used
     go true e t = ltb-true n used e
     go false e t = clash t

@@ -28,13 +28,18 @@ use Rattle.evaluate.proofs.Steps.{in-name, in-segment, area-step, idle-
 -- ---- the lines and shortcuts of an area
 
 module _ (t xs ys : List ℕ) (x y i e : ℕ) (w : Words) (q : w ≡ wordsAt t i) (l : i < e) where
-  pub sum-more : isSegment (w .kind) ≡ true → segmentsSum xs ys x y (wordsFrom t i (e - i)) ≡ segmentAdds xs ys x y w +ℤ segmentsSum xs ys x y (wordsFrom t (i + 1) (e - (i + 1)))
+  pub sum-more : isSegment (w .kind) ≡ true
+      → segmentsSum xs ys x y (wordsFrom t i (e - i)) ≡ segmentAdds xs ys x y w +ℤ segmentsSum xs ys x y (wordsFrom t (i + 1) (e - (i + 1)))
   unfolding segmentsSum
-  sum-more s = ap (segmentsSum xs ys x y) (words-first t i e w q l) ∙ ap (λ b. cond b (segmentAdds xs ys x y w +ℤ segmentsSum xs ys x y (wordsFrom t (i + 1) (e - (i + 1)))) (pos 0)) s
+  sum-more s =
+      ap (segmentsSum xs ys x y) (words-first t i e w q l)
+      ∙ ap (λ b. cond b (segmentAdds xs ys x y w +ℤ segmentsSum xs ys x y (wordsFrom t (i + 1) (e - (i + 1)))) (pos 0)) s
 
   pub sum-stop : isSegment (w .kind) ≡ false → segmentsSum xs ys x y (wordsFrom t i (e - i)) ≡ pos 0
   unfolding segmentsSum
-  sum-stop s = ap (segmentsSum xs ys x y) (words-first t i e w q l) ∙ ap (λ b. cond b (segmentAdds xs ys x y w +ℤ segmentsSum xs ys x y (wordsFrom t (i + 1) (e - (i + 1)))) (pos 0)) s
+  sum-stop s =
+      ap (segmentsSum xs ys x y) (words-first t i e w q l)
+      ∙ ap (λ b. cond b (segmentAdds xs ys x y w +ℤ segmentsSum xs ys x y (wordsFrom t (i + 1) (e - (i + 1)))) (pos 0)) s
 
 pub sum-last : (t xs ys : List ℕ) (x y i e : ℕ) → e ≤ i → segmentsSum xs ys x y (wordsFrom t i (e - i)) ≡ pos 0
 unfolding segmentsSum
@@ -45,7 +50,14 @@ sum-last t xs ys x y i e h = ap (segmentsSum xs ys x y) (words-none t i e h)
 -- the entries from i on of a stream that passes
 pub passed-ranged : (t : List ℕ) (first count i : ℕ) (v : Env) → Passed t first count v → first ≤ i → i < first + count → Ranged t i (first + count) v
 passed-ranged t first count i v p a l =
-    record { some = l; within = p .within; few = omega (arith, p .few); few-areas = p .few-areas; ready = p .ready; range = λ k b m. entry-in k (omega arith) m }
+    record {
+      some = l;
+      within = p .within;
+      few = omega (arith, p .few);
+      few-areas = p .few-areas;
+      ready = p .ready;
+      range = λ k b m. entry-in k (omega arith) m;
+    }
   where
     entry-in : (k : ℕ) → first ≤ k → k < first + count → inRange v (decode (wordsAt t k)) ≡ true
     entry-in k b m =
@@ -65,22 +77,33 @@ ranged-segments t i e v r =
     }
 
 -- what an area asks
-pub ranged-name : (t : List ℕ) (i e : ℕ) (v : Env) (w : Words) → Ranged t i e v → w ≡ wordsAt t i → w .kind ≡ 4 → (isGood (areaMet v (w .p)) ≡ true) × (startRange (w .q) ≡ true)
+pub ranged-name : (t : List ℕ) (i e : ℕ) (v : Env) (w : Words)
+    → Ranged t i e v
+    → w ≡ wordsAt t i
+    → w .kind ≡ 4
+    → (isGood (areaMet v (w .p)) ≡ true) × (startRange (w .q) ≡ true)
 ranged-name t i e v w r q k = in-name v w k (subst (λ u. inRange v (decode u) ≡ true) (sym q) (r .range i (omega arith) (r .some)))
 
 -- ---- one entry, and where it leads
 
 module _ (areas xs ys : List ℕ) (x y : ℕ) (t : List ℕ) (i e : ℕ) (v : Env) (R : Ranged t i e v) (m : Machine) (w : Words) (q : w ≡ wordsAt t i) where
-  pub area-onward : (r : Reading) (sum : ℤ) → w .kind ≡ 4
-      → meant (r .machine) ≡ onItem (roleAt areas (w .p)) (passAt areas (w .p) sum) (opaqueAt areas (w .p)) (λ s. withArea s (w .p)) (meant m) → r .machine .depth ≡ m .depth
-      → sum ≡ toZ w32 (w .q) +ℤ segmentsSum xs ys x y (wordsFrom t (i + 1) (e - (i + 1))) → r .next ≡ i + 1 + segmentsIn (wordsFrom t (i + 1) (e - (i + 1))) → Onward areas xs ys x y t i e m r
+  pub area-onward : (r : Reading) (sum : ℤ)
+      → w .kind ≡ 4
+      → meant (r .machine)
+      ≡ onItem (roleAt areas (w .p)) (passAt areas (w .p) sum) (opaqueAt areas (w .p)) (λ s. withArea s (w .p)) (meant m)
+      → r .machine .depth ≡ m .depth
+      → sum ≡ toZ w32 (w .q) +ℤ segmentsSum xs ys x y (wordsFrom t (i + 1) (e - (i + 1)))
+      → r .next ≡ i + 1 + segmentsIn (wordsFrom t (i + 1) (e - (i + 1)))
+      → Onward areas xs ys x y t i e m r
   area-onward r sum k g d z n =
       record {
         later = omega (arith, n);
         inside = omega (arith, n, few-segments t (e - (i + 1)) (i + 1), R .some);
         deeper = omega (arith, d);
-        same =
-            ap₂ (λ h j. setFrom areas xs ys x y (state h settled) (wordsFrom t j (e - j))) (g ∙ ap (λ u. onItem (roleAt areas (w .p)) (passAt areas (w .p) u) (opaqueAt areas (w .p)) (λ s. withArea s (w .p)) (meant m)) z) n
+        same = ap₂ (λ h j. setFrom areas xs ys x y (state h settled) (wordsFrom t j (e - j)))
+            (g
+            ∙ ap (λ u. onItem (roleAt areas (w .p)) (passAt areas (w .p) u) (opaqueAt areas (w .p)) (λ s. withArea s (w .p)) (meant m)) z)
+            n
             ∙ area-step areas xs ys x y v t (meant m) i e w q k (R .some) (R .range);
       }
 
@@ -90,22 +113,30 @@ module _ (areas xs ys : List ℕ) (x y : ℕ) (t : List ℕ) (i e : ℕ) (v : En
         later = omega (arith, n);
         inside = omega (arith, n, R .some);
         deeper = rw h (omega arith);
-        same = ap₂ (λ (u : Machine) j. setFrom areas xs ys x y (state (meant u) settled) (wordsFrom t j (e - j))) h n ∙ idle-step areas xs ys x y m t i e w q k (R .some) s;
+        same = ap₂ (λ (u : Machine) j. setFrom areas xs ys x y (state (meant u) settled) (wordsFrom t j (e - j))) h n
+            ∙ idle-step areas xs ys x y m t i e w q k (R .some) s;
       }
 
-  pub other-onward : (r : Reading) → (w .kind ≡ 4 → ⊥) → meant (r .machine) ≡ movedBy (w .kind) (meant m) → r .machine .depth ≤ m .depth + 1 → r .next ≡ i + 1 → Onward areas xs ys x y t i e m r
+  pub other-onward : (r : Reading)
+      → (w .kind ≡ 4 → ⊥)
+      → meant (r .machine) ≡ movedBy (w .kind) (meant m)
+      → r .machine .depth ≤ m .depth + 1
+      → r .next ≡ i + 1
+      → Onward areas xs ys x y t i e m r
   other-onward r k g d n =
       record {
         later = omega (arith, n);
         inside = omega (arith, n, R .some);
         deeper = d;
-        same =
-            ap₂ (λ h j. setFrom areas xs ys x y (state h settled) (wordsFrom t j (e - j))) g n
-            ∙ other-step areas xs ys x y v t (meant m) i e w q k (R .some) (subst (λ u. inRange v (decode u) ≡ true) (sym q) (R .range i (omega arith) (R .some)));
+        same = ap₂ (λ h j. setFrom areas xs ys x y (state h settled) (wordsFrom t j (e - j))) g n
+            ∙ other-step areas xs ys x y v t (meant m) i e w q k (R .some)
+            (subst (λ u. inRange v (decode u) ≡ true) (sym q) (R .range i (omega arith) (R .some)));
       }
 
 -- ---- a stream
 
-pub begin : (areas xs ys : List ℕ) (x y : ℕ) (t : List ℕ) (first count : ℕ) → setFrom areas xs ys x y (state (meant (machine 0 0 0 0)) settled) (wordsFrom t first (first + count - first)) ≡ setAt areas xs ys x y (wordsFrom t first count)
+pub begin : (areas xs ys : List ℕ) (x y : ℕ) (t : List ℕ) (first count : ℕ)
+    → setFrom areas xs ys x y (state (meant (machine 0 0 0 0)) settled) (wordsFrom t first (first + count - first))
+    ≡ setAt areas xs ys x y (wordsFrom t first count)
 unfolding setAt
 begin areas xs ys x y t first count = let e : first + count - first ≡ count = omega arith in rw e

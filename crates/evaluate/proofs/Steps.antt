@@ -70,23 +70,35 @@ module _ (areas xs ys : List ℕ) (x y : ℕ) where
   -- an entry by the tests of its kind
   abbrev FromRow : Entry → List Words → State → ℕ
   FromRow e ws st =
-      outOf (settle (roleAt areas) (passAt areas) (opaqueAt areas) (addsAt xs ys (at x y)) (onRows (roleAt areas) (passAt areas) (opaqueAt areas) (addsAt xs ys (at x y)) (rowFor e (rowsIn ws)) st))
+      outOf
+      (settle (roleAt areas) (passAt areas) (opaqueAt areas) (addsAt xs ys (at x y))
+      (onRows (roleAt areas) (passAt areas) (opaqueAt areas) (addsAt xs ys (at x y)) (rowFor e (rowsIn ws)) st))
 
   abbrev kindOf : (a b c d e f g : Bool) → Words → Entry
-  kindOf a b c d e f g w = cond a opens (cond b bar (cond c closes (cond d (area (w .p) (w .q)) (cond e (line (w .p) (w .q)) (cond f (shortcut (w .p) (w .q) (w .r)) (cond g passes bad))))))
+  kindOf a b c d e f g w =
+      cond a opens
+      (cond b bar
+      (cond c closes
+      (cond d (area (w .p) (w .q)) (cond e (line (w .p) (w .q)) (cond f (shortcut (w .p) (w .q) (w .r)) (cond g passes bad))))))
 
   -- an area waits with its start number
-  named-step : (w : Words) (ws : List Words) (g : Registers ℕ) → w .kind ≡ 4 → From (state g settled) (w ∷ ws) ≡ From (state g (waits (w .p) (toZ w32 (w .q)))) ws
+  named-step : (w : Words) (ws : List Words) (g : Registers ℕ)
+      → w .kind ≡ 4
+      → From (state g settled) (w ∷ ws) ≡ From (state g (waits (w .p) (toZ w32 (w .q)))) ws
   unfolding rowsIn
   named-step w ws g e = rw e
 
   -- a line or a shortcut is added to the sum of the area that waits
-  segment-step : (w : Words) (ws : List Words) (g : Registers ℕ) (n : ℕ) (z : ℤ) → isSegment (w .kind) ≡ true → From (state g (waits n z)) (w ∷ ws) ≡ From (state g (waits n (z +ℤ segmentAdds xs ys x y w))) ws
+  segment-step : (w : Words) (ws : List Words) (g : Registers ℕ) (n : ℕ) (z : ℤ)
+      → isSegment (w .kind) ≡ true
+      → From (state g (waits n z)) (w ∷ ws) ≡ From (state g (waits n (z +ℤ segmentAdds xs ys x y w))) ws
   unfolding rowsIn adds
   segment-step w ws g n z s = by-kind (w .kind) s (λ e. rw e) (λ e. rw e)
 
   -- before an entry that is neither, the area that waits has all its lines and shortcuts
-  settle-entry : (v : Env) (a b c d e f g : Bool) (w : Words) (ws : List Words) (m : Registers ℕ) (n : ℕ) (z : ℤ) → inRange v (kindOf a b c d e f g w) ≡ true → (e || f) ≡ false
+  settle-entry : (v : Env) (a b c d e f g : Bool) (w : Words) (ws : List Words) (m : Registers ℕ) (n : ℕ) (z : ℤ)
+      → inRange v (kindOf a b c d e f g w) ≡ true
+      → (e || f) ≡ false
       → FromRow (kindOf a b c d e f g w) ws (state m (waits n z)) ≡ FromRow (kindOf a b c d e f g w) ws (state (afterArea m n z) settled)
   settle-entry v true b c d e f g w ws m n z h k = refl
   settle-entry v false true c d e f g w ws m n z h k = refl
@@ -101,16 +113,20 @@ module _ (areas xs ys : List ℕ) (x y : ℕ) where
       → From (state g (waits n z)) (w ∷ ws) ≡ From (state (afterArea g n z) settled) (w ∷ ws)
   unfolding rowsIn
   settle-step v w ws g n z h k =
-      settle-entry v (eqb (w .kind) 1) (eqb (w .kind) 2) (eqb (w .kind) 3) (eqb (w .kind) 4) (eqb (w .kind) 5) (eqb (w .kind) 6) (eqb (w .kind) 7) w ws g n z h k
+      settle-entry v (eqb (w .kind) 1) (eqb (w .kind) 2) (eqb (w .kind) 3) (eqb (w .kind) 4) (eqb (w .kind) 5) (eqb (w .kind) 6)
+      (eqb (w .kind) 7) w ws g n z h k
 
   -- so an area settles behind its lines and shortcuts
-  pub winding-step : (v : Env) (t : List ℕ) (g : Registers ℕ) (m k i : ℕ) (z : ℤ) → ((j : ℕ) → i ≤ j → j < i + k → inRange v (decode (wordsAt t j)) ≡ true)
-      → From (state (afterArea g m (z +ℤ segmentsSum xs ys x y (wordsFrom t i k))) settled) (wordsFrom t (i + segmentsIn (wordsFrom t i k)) (k - segmentsIn (wordsFrom t i k)))
+  pub winding-step : (v : Env) (t : List ℕ) (g : Registers ℕ) (m k i : ℕ) (z : ℤ)
+      → ((j : ℕ) → i ≤ j → j < i + k → inRange v (decode (wordsAt t j)) ≡ true)
+      → From (state (afterArea g m (z +ℤ segmentsSum xs ys x y (wordsFrom t i k))) settled)
+      (wordsFrom t (i + segmentsIn (wordsFrom t i k)) (k - segmentsIn (wordsFrom t i k)))
       ≡ From (state g (waits m z)) (wordsFrom t i k)
   unfolding wordsFrom segmentsIn segmentsSum rowsIn
   winding-step v t g m zero i z h = ap (λ u. From (state (afterArea g m u) settled) []) (+ℤ-idr z)
   winding-step v t g m (suc k) i z h =
-      go (isSegment (wordsAt t i .kind)) refl (winding-step v t g m k (i + 1) (z +ℤ segmentAdds xs ys x y (wordsAt t i)) (λ j a b. h j (omega arith) (omega arith)))
+      go (isSegment (wordsAt t i .kind)) refl
+      (winding-step v t g m k (i + 1) (z +ℤ segmentAdds xs ys x y (wordsAt t i)) (λ j a b. h j (omega arith) (omega arith)))
     where
       ws : List Words
       ws = wordsFrom t (i + 1) k
@@ -118,15 +134,20 @@ module _ (areas xs ys : List ℕ) (x y : ℕ) where
       a : ℤ
       a = segmentAdds xs ys x y (wordsAt t i)
 
-      go : (b : Bool) → isSegment (wordsAt t i .kind) ≡ b
-          → From (state (afterArea g m ((z +ℤ a) +ℤ segmentsSum xs ys x y ws)) settled) (wordsFrom t (i + 1 + segmentsIn ws) (k - segmentsIn ws)) ≡ From (state g (waits m (z +ℤ a))) ws
-          → From (state (afterArea g m (z +ℤ cond b (a +ℤ segmentsSum xs ys x y ws) (pos 0))) settled) (wordsFrom t (i + cond b (suc (segmentsIn ws)) 0) (suc k - cond b (suc (segmentsIn ws)) 0))
+      go : (b : Bool)
+          → isSegment (wordsAt t i .kind) ≡ b
+          → From (state (afterArea g m ((z +ℤ a) +ℤ segmentsSum xs ys x y ws)) settled)
+          (wordsFrom t (i + 1 + segmentsIn ws) (k - segmentsIn ws))
+          ≡ From (state g (waits m (z +ℤ a))) ws
+          → From (state (afterArea g m (z +ℤ cond b (a +ℤ segmentsSum xs ys x y ws) (pos 0))) settled)
+          (wordsFrom t (i + cond b (suc (segmentsIn ws)) 0) (suc k - cond b (suc (segmentsIn ws)) 0))
           ≡ From (state g (waits m z)) (wordsAt t i ∷ ws)
       go true e ih =
           let p : i + suc (segmentsIn ws) ≡ i + 1 + segmentsIn ws = omega arith in
           let q : suc k - suc (segmentsIn ws) ≡ k - segmentsIn ws = omega arith in
           ap₂ (λ n r. From (state (afterArea g m (z +ℤ (a +ℤ segmentsSum xs ys x y ws))) settled) (wordsFrom t n r)) p q
-          ∙ (ap (λ u. From (state (afterArea g m u) settled) (wordsFrom t (i + 1 + segmentsIn ws) (k - segmentsIn ws))) (sym (+ℤ-assoc z a (segmentsSum xs ys x y ws)))
+          ∙ (ap (λ u. From (state (afterArea g m u) settled) (wordsFrom t (i + 1 + segmentsIn ws) (k - segmentsIn ws)))
+          (sym (+ℤ-assoc z a (segmentsSum xs ys x y ws)))
           ∙ (ih ∙ sym (segment-step (wordsAt t i) ws g m z e)))
       go false e ih =
           let p : i + 0 ≡ i = omega arith in
@@ -136,13 +157,21 @@ module _ (areas xs ys : List ℕ) (x y : ℕ) where
           ∙ sym (settle-step v (wordsAt t i) ws g m z (h i (omega arith) (omega arith)) e))
 
   -- entry i, and what is left behind it
-  first-step : (st : State) (t : List ℕ) (i e : ℕ) (w : Words) → w ≡ wordsAt t i → i < e → From st (w ∷ wordsFrom t (i + 1) (e - (i + 1))) ≡ From st (wordsFrom t i (e - i))
+  first-step : (st : State) (t : List ℕ) (i e : ℕ) (w : Words)
+      → w ≡ wordsAt t i
+      → i < e
+      → From st (w ∷ wordsFrom t (i + 1) (e - (i + 1))) ≡ From st (wordsFrom t i (e - i))
   first-step st t i e w q l = ap (λ u. From st (u ∷ wordsFrom t (i + 1) (e - (i + 1)))) q ∙ ap (From st) (sym (words-step t i e l))
 
   -- ---- an area that is looked at, and one that is not
 
-  pub area-step : (v : Env) (t : List ℕ) (g : Registers ℕ) (i e : ℕ) (w : Words) → w ≡ wordsAt t i → w .kind ≡ 4 → i < e → ((j : ℕ) → i ≤ j → j < e → inRange v (decode (wordsAt t j)) ≡ true)
-      → From (state (afterArea g (w .p) (toZ w32 (w .q) +ℤ segmentsSum xs ys x y (wordsFrom t (i + 1) (e - (i + 1))))) settled) (wordsFrom t (i + 1 + segmentsIn (wordsFrom t (i + 1) (e - (i + 1)))) (e - (i + 1 + segmentsIn (wordsFrom t (i + 1) (e - (i + 1))))))
+  pub area-step : (v : Env) (t : List ℕ) (g : Registers ℕ) (i e : ℕ) (w : Words)
+      → w ≡ wordsAt t i
+      → w .kind ≡ 4
+      → i < e
+      → ((j : ℕ) → i ≤ j → j < e → inRange v (decode (wordsAt t j)) ≡ true)
+      → From (state (afterArea g (w .p) (toZ w32 (w .q) +ℤ segmentsSum xs ys x y (wordsFrom t (i + 1) (e - (i + 1))))) settled)
+      (wordsFrom t (i + 1 + segmentsIn (wordsFrom t (i + 1) (e - (i + 1)))) (e - (i + 1 + segmentsIn (wordsFrom t (i + 1) (e - (i + 1))))))
       ≡ From (state g settled) (wordsFrom t i (e - i))
   area-step v t g i e w q a l h =
       let ws = wordsFrom t (i + 1) (e - (i + 1)) in
@@ -161,8 +190,12 @@ module _ (areas xs ys : List ℕ) (x y : ℕ) where
 
   -- ---- an entry that is no area
 
-  moved-entry : (v : Env) (a b c d e f g : Bool) (w : Words) (ws : List Words) (m : Registers ℕ) → inRange v (kindOf a b c d e f g w) ≡ true → d ≡ false
-      → From (state (cond a (onPush m) (cond b (onActivate m) (cond c (onPop m) (cond (e || f) m (onItem clip true true (λ s. s) m))))) settled) ws ≡ FromRow (kindOf a b c d e f g w) ws (state m settled)
+  moved-entry : (v : Env) (a b c d e f g : Bool) (w : Words) (ws : List Words) (m : Registers ℕ)
+      → inRange v (kindOf a b c d e f g w) ≡ true
+      → d ≡ false
+      → From
+      (state (cond a (onPush m) (cond b (onActivate m) (cond c (onPop m) (cond (e || f) m (onItem clip true true (λ s. s) m))))) settled) ws
+      ≡ FromRow (kindOf a b c d e f g w) ws (state m settled)
   moved-entry v true b c d e f g w ws m h k = refl
   moved-entry v false true c d e f g w ws m h k = refl
   moved-entry v false false true d e f g w ws m h k = refl
@@ -172,10 +205,14 @@ module _ (areas xs ys : List ℕ) (x y : ℕ) where
   moved-entry v false false false false false false true w ws m h k = refl
   moved-entry v false false false false false false false w ws m h k = clash h
 
-  moved-step : (v : Env) (w : Words) (ws : List Words) (g : Registers ℕ) → inRange v (decode w) ≡ true → (w .kind ≡ 4 → ⊥) → From (state (movedBy (w .kind) g) settled) ws ≡ From (state g settled) (w ∷ ws)
+  moved-step : (v : Env) (w : Words) (ws : List Words) (g : Registers ℕ)
+      → inRange v (decode w) ≡ true
+      → (w .kind ≡ 4 → ⊥)
+      → From (state (movedBy (w .kind) g) settled) ws ≡ From (state g settled) (w ∷ ws)
   unfolding rowsIn
   moved-step v w ws g h n =
-      moved-entry v (eqb (w .kind) 1) (eqb (w .kind) 2) (eqb (w .kind) 3) (eqb (w .kind) 4) (eqb (w .kind) 5) (eqb (w .kind) 6) (eqb (w .kind) 7) w ws g h (ne-eqb (w .kind) 4 n)
+      moved-entry v (eqb (w .kind) 1) (eqb (w .kind) 2) (eqb (w .kind) 3) (eqb (w .kind) 4) (eqb (w .kind) 5) (eqb (w .kind) 6)
+      (eqb (w .kind) 7) w ws g h (ne-eqb (w .kind) 4 n)
 
   pub other-step : (v : Env) (t : List ℕ) (g : Registers ℕ) (i e : ℕ) (w : Words) → w ≡ wordsAt t i → (w .kind ≡ 4 → ⊥) → i < e → inRange v (decode w) ≡ true
       → From (state (movedBy (w .kind) g) settled) (wordsFrom t (i + 1) (e - (i + 1))) ≡ From (state g settled) (wordsFrom t i (e - i))
@@ -185,9 +222,13 @@ module _ (areas xs ys : List ℕ) (x y : ℕ) where
 
   pub stopped-set : (m : Machine) (ws : List Words) {whole : ℕ} → m .state ≡ 3 → From (state (meant m) settled) ws ≡ whole → m .set ≡ whole
   stopped-set m ws h k =
-      sym (ap (λ g. From (state g settled) ws) (three m h) ∙ ap outOf (stopped (roleAt areas) (passAt areas) (opaqueAt areas) (addsAt xs ys (at x y)) (m .set) (rowsIn ws))) ∙ k
+      sym
+      (ap (λ g. From (state g settled) ws) (three m h)
+      ∙ ap outOf (stopped (roleAt areas) (passAt areas) (opaqueAt areas) (addsAt xs ys (at x y)) (m .set) (rowsIn ws)))
+      ∙ k
 
   pub last-set : (m : Machine) (t : List ℕ) (i e : ℕ) {whole : ℕ} → e ≤ i → From (state (meant m) settled) (wordsFrom t i (e - i)) ≡ whole → m .set ≡ whole
   unfolding rowsIn
   last-set m t i e h k =
-      sym (out-meant (m .depth) (m .stop) (m .set) (eqb (m .state) 0) (eqb (m .state) 1) (eqb (m .state) 2)) ∙ (ap (From (state (meant m) settled)) (sym (words-none t i e h)) ∙ k)
+      sym (out-meant (m .depth) (m .stop) (m .set) (eqb (m .state) 0) (eqb (m .state) 1) (eqb (m .state) 2))
+      ∙ (ap (From (state (meant m) settled)) (sym (words-none t i e h)) ∙ k)

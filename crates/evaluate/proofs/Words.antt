@@ -21,7 +21,28 @@ use Rattle.pruning.proofs.Sides.{map-map}
 use Rattle.pruning.proofs.Survivors.{normal-sub}
 use Rattle.cells.specs.Streams.{Item, always, area, Each, On, items, within, whole, source, made}
 use Rattle.cells.specs.code.Sizes.{SignsIn, Small}
-use Rattle.cells.specs.Rows.{Row, opens, bar, closes, bare, named, segment, rowsOf, settled, waits, State, state, settle, addTo, onRow, onRows, readRows, roleIn, readAt, Fitted}
+use Rattle.cells.specs.Rows.{
+  Row,
+  opens,
+  bar,
+  closes,
+  bare,
+  named,
+  segment,
+  rowsOf,
+  settled,
+  waits,
+  State,
+  state,
+  settle,
+  addTo,
+  onRow,
+  onRows,
+  readRows,
+  roleIn,
+  readAt,
+  Fitted,
+}
 use Rattle.cells.proofs.Each.{each-sub, each-mapped}
 use Rattle.cells.proofs.Streams.{made-normal}
 use Rattle.cells.proofs.Bounds.{made-small}
@@ -78,7 +99,10 @@ pub agreed-read : (areas : List ℕ) (D : Drawing) (p : Position) (ws : List Row
 agreed-read areas D p ws e = ap outOf (read-same areas D (addsAt (D .xs) (D .ys) p) ws (state (reg P 0 0 0) settled) tt e)
 
 -- the words of rows, read in the tables at a position, give the set that the rows show with the drawing
-pub words-read : (areas : List ℕ) (D : Drawing) (x y : ℕ) (ws : List Row) → EachFits ws → EachAgrees areas D ws → setAt areas (D .xs) (D .ys) x y (map wordsOf ws) ≡ readAt D (at x y) ws
+pub words-read : (areas : List ℕ) (D : Drawing) (x y : ℕ) (ws : List Row)
+    → EachFits ws
+    → EachAgrees areas D ws
+    → setAt areas (D .xs) (D .ys) x y (map wordsOf ws) ≡ readAt D (at x y) ws
 unfolding setAt
 words-read areas D x y ws h e =
     ap (readRows (roleAt areas) (passAt areas) (opaqueAt areas) (addsAt (D .xs) (D .ys) (at x y))) (rows-back ws h)
@@ -101,8 +125,10 @@ fits-segments xs ys (shortcut z lo hi ∷ gs) s = (small-fits z 1 (s .0) (omega 
 pub fits-rows : (D : Drawing) (es : List (Entry Item)) → Each (Small D 2048) es → EachFits (rowsOf es)
 fits-rows D [] h = tt
 fits-rows D (item k always ∷ es) h = (tt, fits-rows D es (h .1))
-fits-rows D (item k (area n z gs) ∷ es) h =
-    (small-fits z 2048 (omega (arith, h .0 .0)) (omega arith), fits-append (map segment gs) (rowsOf es) (fits-segments (D .xs) (D .ys) gs (h .0 .1)) (fits-rows D es (h .1)))
+fits-rows D (item k (area n z gs) ∷ es) h = (
+  small-fits z 2048 (omega (arith, h .0 .0)) (omega arith),
+  fits-append (map segment gs) (rowsOf es) (fits-segments (D .xs) (D .ys) gs (h .0 .1)) (fits-rows D es (h .1)),
+)
 fits-rows D (push ∷ es) h = (tt, fits-rows D es h)
 fits-rows D (activate ∷ es) h = (tt, fits-rows D es h)
 fits-rows D (pop ∷ es) h = (tt, fits-rows D es h)
@@ -128,11 +154,18 @@ module _ (areas : List ℕ) (D : Drawing) where
   agrees-made o c =
       rw (made-normal D c (source D))
       (each-sub (items D) AgreesIn tt (normal-sub (items D) paint (mapSide (within D c) (source D)))
-      (rw (map-map (whole D) (within D c) (D .plan)) (each-mapped (λ k n. Agrees areas D n) AgreesIn (λ n. within D c (whole D n)) (λ k n a. a) paint (D .plan) o)))
+      (rw (map-map (whole D) (within D c) (D .plan))
+      (each-mapped (λ k n. Agrees areas D n) AgreesIn (λ n. within D c (whole D n)) (λ k n a. a) paint (D .plan) o)))
 
   -- a cell's stream, as words in tables that hold the drawing, is read at each position of the cell for the set that the drawing shows
-  pub cell-words-read : Fitted D → On (λ k n. Agrees areas D n) paint (D .plan) → ((n : ℕ) → length (linesOf (getD (D .contours) n [])) ≤ 2048) → (c : Cell) (x y : ℕ) → Holds c (at x y)
+  pub cell-words-read : Fitted D
+      → On (λ k n. Agrees areas D n) paint (D .plan)
+      → ((n : ℕ) → length (linesOf (getD (D .contours) n [])) ≤ 2048)
+      → (c : Cell) (x y : ℕ)
+      → Holds c (at x y)
       → setAt areas (D .xs) (D .ys) x y (map wordsOf (rowsOf (flat paint (made D c (source D))))) ≡ setOf (shownAt D (at x y))
   cell-words-read f o m c x y i =
-      words-read areas D x y (rowsOf (flat paint (made D c (source D)))) (fits-rows D (flat paint (made D c (source D))) (made-small D 2048 m c)) (agrees-rows (flat paint (made D c (source D))) (agrees-made o c))
+      words-read areas D x y (rowsOf (flat paint (made D c (source D))))
+      (fits-rows D (flat paint (made D c (source D))) (made-small D 2048 m c))
+      (agrees-rows (flat paint (made D c (source D))) (agrees-made o c))
       ∙ cell-read D f c (at x y) i

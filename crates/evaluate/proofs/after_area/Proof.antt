@@ -30,13 +30,30 @@ after-paint-requires : tie.Need-after-paint-requires
 after-paint-requires c κs = search needs
 
 returns : tie.Need-returns
-returns c = (rw (c .before .before .if1 .taken) (rw (c .before .before .before .before .area-passes .ensures, read-back (c .before .before .before .before .before .before .args .sum) (c .before .before .before .before .before .before .fits .sum .sfits)) at (c .after-paint .ensures .0)), c .after-paint .ensures .1)
+returns c =
+    let at-if1 = c .before .before in
+    let after-area-passes = at-if1 .before .before in
+    let at-entry = after-area-passes .before .before in (
+      rw (at-if1 .if1 .taken)
+          (rw (after-area-passes .area-passes .ensures, read-back (at-entry .args .sum) (at-entry .fits .sum .sfits)) at
+          (c .after-paint .ensures .0)),
+      c .after-paint .ensures .1,
+    )
 
 after-clip-requires : tie.Need-after-clip-requires
 after-clip-requires c κs = search needs
 
 returns-2 : tie.Need-returns-2
-returns-2 c = (simp (ne-eqb _ 0 (c .before .if1 .left)) (rw (clip-plain) (rw (c .before .before .before .area-passes .ensures, read-back (c .before .before .before .before .before .args .sum) (c .before .before .before .before .before .fits .sum .sfits)) at (c .after-clip .ensures .0))), c .after-clip .ensures .1)
+returns-2 c =
+    let at-if1 = c .before in
+    let after-area-passes = at-if1 .before .before in
+    let at-entry = after-area-passes .before .before in (
+      simp (ne-eqb _ 0 (at-if1 .if1 .left))
+          (rw (clip-plain)
+          (rw (after-area-passes .area-passes .ensures, read-back (at-entry .args .sum) (at-entry .fits .sum .sfits)) at
+          (c .after-clip .ensures .0))),
+      c .after-clip .ensures .1,
+    )
 
 pub after-area-spec : {M : Type 1} → statement M
 after-area-spec =

@@ -23,13 +23,20 @@ fill-passes-requires : tie.Need-fill-passes-requires
 fill-passes-requires c κs = search needs
 
 returns : tie.Need-returns
-returns c = rw (c .before .if1 .taken) (c .fill-passes .ensures ∙ ap (passes NonZero) (read-back (c .before .before .before .before .args .sum) (c .before .before .before .before .fits .sum .sfits)))
+returns c =
+    let at-if1 = c .before in
+    let at-entry = at-if1 .before .before .before in
+    rw (at-if1 .if1 .taken) (c .fill-passes .ensures ∙ ap (passes NonZero) (read-back (at-entry .args .sum) (at-entry .fits .sum .sfits)))
 
 fill-passes-requires-2 : tie.Need-fill-passes-requires-2
 fill-passes-requires-2 c κs = search needs
 
 returns-2 : tie.Need-returns-2
-returns-2 c = simp (ne-eqb _ 0 (c .before .if1 .left)) (c .fill-passes2 .ensures ∙ ap (passes EvenOdd) (read-back (c .before .before .before .before .args .sum) (c .before .before .before .before .fits .sum .sfits)))
+returns-2 c =
+    let at-if1 = c .before in
+    let at-entry = at-if1 .before .before .before in
+    simp (ne-eqb _ 0 (at-if1 .if1 .left))
+    (c .fill-passes2 .ensures ∙ ap (passes EvenOdd) (read-back (at-entry .args .sum) (at-entry .fits .sum .sfits)))
 
 pub area-passes-spec : {M : Type 1} → statement M
 area-passes-spec =

@@ -14,7 +14,9 @@ edge-between-requires : tie.Need-edge-between-requires
 edge-between-requires c κs = search needs
 
 edge-adds-requires : tie.Need-edge-adds-requires
-edge-adds-requires c κs = rw (c .edge-between .ensures) (c .before .before .before .before .before .pre .1)
+edge-adds-requires c κs =
+    let at-entry = c .before .before .before .before .before in
+    rw (c .edge-between .ensures) (at-entry .pre .1)
 
 returns : tie.Need-returns
 returns c = rw (← c .before .edge-between .ensures) (read-back _ (c .edge-adds .ok) ∙ c .edge-adds .ensures)

@@ -23,9 +23,14 @@ add-t14 c = search needs
 
 returns-2 : tie.Need-returns-2
 returns-2 c =
-    let a = c .before .before .before .before .before .before .before .before .args in
-    let w = c .before .before .before .read-entry in
-    other-onward (now (a .areas)) (now (a .xs)) (now (a .ys)) (a .x) (a .y) (now (a .entries)) (a .i) (a .end) (env (now (a .areas)) (now (a .xs)) (now (a .ys)) (a .b)) (c .before .before .before .before .before .before .before .before .pre .0) (a .m) (w .result) (w .ensures) _ (c .before .if1 .left) (c .moved .ensures .0) (c .moved .ensures .1) refl
+    let at-if1 = c .before in
+    let after-read-entry = at-if1 .before .before in
+    let at-entry = after-read-entry .before .before .before .before .before in
+    let a = at-entry .args in
+    let w = after-read-entry .read-entry in
+    other-onward (now (a .areas)) (now (a .xs)) (now (a .ys)) (a .x) (a .y) (now (a .entries)) (a .i) (a .end)
+    (env (now (a .areas)) (now (a .xs)) (now (a .ys)) (a .b)) (at-entry .pre .0) (a .m) (w .result) (w .ensures) _ (at-if1 .if1 .left)
+    (c .moved .ensures .0) (c .moved .ensures .1) refl
 
 pub read-next-spec : {M : Type 1} → statement M
 read-next-spec =

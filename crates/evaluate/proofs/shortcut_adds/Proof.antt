@@ -4,10 +4,15 @@ use Rattle.evaluate.proofs.shortcut_adds.Statement.{statement}
 use Rattle.evaluate.proofs.shortcut_adds.Tie as tie
 
 returns : tie.Need-returns
-returns c = rw (c .before .before .if1 .taken) (search (tests, c .if2 .taken))
+returns c =
+    let at-if1 = c .before .before in
+    rw (at-if1 .if1 .taken) (search (tests, c .if2 .taken))
 
 returns-2 : tie.Need-returns-2
-returns-2 c = rw (c .before .before .if1 .taken) (search (tests, other-sign _ (c .before .before .before .before .before .pre) (c .if2 .left)))
+returns-2 c =
+    let at-if1 = c .before .before in
+    let at-entry = at-if1 .before .before .before in
+    rw (at-if1 .if1 .taken) (search (tests, other-sign _ (at-entry .pre) (c .if2 .left)))
 
 returns-3 : tie.Need-returns-3
 returns-3 c = rw (c .if1 .left)

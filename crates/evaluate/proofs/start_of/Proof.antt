@@ -23,14 +23,22 @@ difference-requires-3 c κs = search needs
 whole : (c : tie.After-difference3) → let w = c .before .before .before .before .args .w in
     toZ w64 (ofZ w64 (c .before .difference2 .result)) +ℤ toZ w64 (ofZ w64 (c .difference3 .result)) ≡ toZ w32 (w .q)
 whole c =
-    ap₂ _+ℤ_ (read-back _ (c .before .difference2 .ok) ∙ c .before .difference2 .ensures) (read-back _ (c .difference3 .ok) ∙ c .difference3 .ensures)
-    ∙ start-down _ (c .before .before .before .before .pre) (c .before .before .if1 .left) (search needs)
+    let after-difference2 = c .before in
+    let at-if1 = after-difference2 .before in
+    let at-entry = at-if1 .before .before in
+    ap₂ _+ℤ_ (read-back _ (after-difference2 .difference2 .ok) ∙ after-difference2 .difference2 .ensures)
+    (read-back _ (c .difference3 .ok) ∙ c .difference3 .ensures)
+    ∙ start-down _ (at-entry .pre) (at-if1 .if1 .left) (search needs)
 
 add-result : tie.Need-add-result
-add-result c = fits-as (whole c) (start-fits (c .before .before .before .before .args .w .q) (search needs))
+add-result c =
+    let at-entry = c .before .before .before .before in
+    fits-as (whole c) (start-fits (at-entry .args .w .q) (search needs))
 
 returns-2 : tie.Need-returns-2
-returns-2 c = reads (whole c) (start-fits (c .before .before .before .before .args .w .q) (search needs))
+returns-2 c =
+    let at-entry = c .before .before .before .before in
+    reads (whole c) (start-fits (at-entry .args .w .q) (search needs))
 
 pub start-of-spec : {M : Type 1} → statement M
 start-of-spec =
