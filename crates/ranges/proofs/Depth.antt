@@ -57,7 +57,14 @@ module _ (I : Items) where
   depth-normal k end = omega arith
   depth-normal k (leaf a t) = omega (arith, depth-put k (oneLeaf I k (class k a) a) (normal I k t), depth-leaf k (class k a) a, depth-normal k t)
   depth-normal k (group l r t) =
-      omega (arith, depth-put k (groupOf I k l r) (normal I k t), depth-group (status I (normal I clip l)) (normal I clip l) (normal I k r), depth-normal clip l, depth-normal k r, depth-normal k t)
+      omega (
+        arith,
+        depth-put k (groupOf I k l r) (normal I k t),
+        depth-group (status I (normal I clip l)) (normal I clip l) (normal I k r),
+        depth-normal clip l,
+        depth-normal k r,
+        depth-normal k t,
+      )
 
 -- the groups of a made stream that are open at once
 pub made-depth : (D : Drawing) (c : Cell) → depth (made D c (source D)) ≤ depth (D .plan)

@@ -26,7 +26,9 @@ use Rattle.ranges.proofs.Streams.{made-passes}
 abbrev clipped : Drawing
 clipped =
     record {
-      fields = record { role = 1; rule = 0; alpha = 0; red = 0; green = 0; blue = 0; material = 0 } ∷ record { role = 0; rule = 1; alpha = 255; red = 9; green = 8; blue = 7; material = 3 } ∷ [];
+      fields = record { role = 1; rule = 0; alpha = 0; red = 0; green = 0; blue = 0; material = 0 }
+          ∷ record { role = 0; rule = 1; alpha = 255; red = 9; green = 8; blue = 7; material = 3 }
+          ∷ [];
       xs = 0 ∷ 8 ∷ 0 ∷ 65536 ∷ [];
       ys = 0 ∷ 0 ∷ 8 ∷ 65536 ∷ [];
       contours = (contour 0 3 ∷ []) ∷ (contour 1 3 ∷ []) ∷ [];

@@ -1,4 +1,5 @@
--- The open groups of a drawing or a stream, by sides (`Rattle.groups.specs.Sides`), as the open groups of the grammar of streams (`Rattle.pruning.specs.Grammar`).
+-- The open groups of a drawing or a stream, by sides (`Rattle.groups.specs.Sides`), as the open groups of the grammar
+-- of streams (`Rattle.pruning.specs.Grammar`).
 use Prim.Native.Nat.{ℕ, suc}
 use mathlib.Core.Path.{_≡_, refl, ap}
 use mathlib.Core.Bool.{Bool, true, false, cond}
@@ -72,18 +73,27 @@ module _ {A : Type 0} (es : List (Entry A)) where
   pub fits-open : (fs : List Frame) → Stream.fits es (kindOn (opening fs)) (opens (opening fs)) ≡ true → Stream.fits (push ∷ es) (kindOn fs) (opens fs) ≡ true
   fits-open fs h₀ = go (isPaint fs) h₀
     where
-      go : (b : Bool) → Stream.fits es (kindOn (cond b paintLeft clipLeft ∷ fs)) (opens (cond b paintLeft clipLeft ∷ fs)) ≡ true → Stream.fits es clip (inLeft (kindBy b) ∷ opens fs) ≡ true
+      go : (b : Bool)
+          → Stream.fits es (kindOn (cond b paintLeft clipLeft ∷ fs)) (opens (cond b paintLeft clipLeft ∷ fs)) ≡ true
+          → Stream.fits es clip (inLeft (kindBy b) ∷ opens fs) ≡ true
       go true h = h
       go false h = h
 
-  pub fits-bar : (fs : List Frame) → onLeft fs ≡ true → Stream.fits es (kindOn (toRight fs)) (opens (toRight fs)) ≡ true → Stream.fits (activate ∷ es) (kindOn fs) (opens fs) ≡ true
+  pub fits-bar : (fs : List Frame)
+      → onLeft fs ≡ true
+      → Stream.fits es (kindOn (toRight fs)) (opens (toRight fs)) ≡ true
+      → Stream.fits (activate ∷ es) (kindOn fs) (opens fs) ≡ true
   fits-bar [] h g = clash h
   fits-bar (paintLeft ∷ fs) h g = g
   fits-bar (paintRight ∷ fs) h g = clash h
   fits-bar (clipLeft ∷ fs) h g = g
   fits-bar (clipRight ∷ fs) h g = clash h
 
-  pub fits-close : (fs : List Frame) → Nested fs → onRight fs ≡ true → Stream.fits es (kindOn (toOuter fs)) (opens (toOuter fs)) ≡ true → Stream.fits (pop ∷ es) (kindOn fs) (opens fs) ≡ true
+  pub fits-close : (fs : List Frame)
+      → Nested fs
+      → onRight fs ≡ true
+      → Stream.fits es (kindOn (toOuter fs)) (opens (toOuter fs)) ≡ true
+      → Stream.fits (pop ∷ es) (kindOn fs) (opens fs) ≡ true
   fits-close [] n h g = clash h
   fits-close (paintLeft ∷ fs) n h g = clash h
   fits-close (paintRight ∷ fs) n h g = rw (n .0) at g

@@ -52,8 +52,11 @@ module _ {A : Type 0} (P : Kind → A → Type 0) where
   each-on k (leaf a t) h = (h .0, each-on k t (h .1))
   each-on k (group l r t) h =
       let after = activate ∷ (flat k r ++ (pop ∷ flat k t)) in
-      let right = each-back (flat clip l) after h in
-      (each-on clip l (each-front (flat clip l) after h), each-on k r (each-front (flat k r) (pop ∷ flat k t) right), each-on k t (each-back (flat k r) (pop ∷ flat k t) right))
+      let right = each-back (flat clip l) after h in (
+        each-on clip l (each-front (flat clip l) after h),
+        each-on k r (each-front (flat k r) (pop ∷ flat k t) right),
+        each-on k t (each-back (flat k r) (pop ∷ flat k t) right),
+      )
 
 -- two facts of each item give a third
 pub on-both : {A : Type 0} (P Q R : Kind → A → Type 0) → ((k : Kind) (a : A) → P k a → Q k a → R k a) → (k : Kind) (s : Side A) → On P k s → On Q k s → On R k s
@@ -72,7 +75,8 @@ module _ (D : Drawing) (c : Cell) where
       rw (made-normal D c (source D))
       (each-sub (items D) Numbered tt (normal-sub (items D) paint (mapSide (within D c) (source D)))
       (rw (map-map (whole D) (within D c) (D .plan))
-      (each-mapped (λ k n. n < length (D .fields)) Numbered (λ n. within D c (whole D n)) (λ k n l. (l, lines-kept (length (D .xs)) c (D .xs) (D .ys) (lines D n) (ok .corners n))) paint (D .plan) (ok .numbers))))
+      (each-mapped (λ k n. n < length (D .fields)) Numbered (λ n. within D c (whole D n))
+      (λ k n l. (l, lines-kept (length (D .xs)) c (D .xs) (D .ys) (lines D n) (ok .corners n))) paint (D .plan) (ok .numbers))))
 
   -- its role is that of its side, and its start number is small
   abbrev pub Placed : Kind → Item → Type 0
@@ -92,7 +96,11 @@ module _ (D : Drawing) (c : Cell) where
     role : (k : Kind) (n : ℕ) → n < length (D .fields) → roleIn D n ≡ k → roleFits (areaRow areas (b .areas) n) (isPaintSide k) ≡ true
     role k n l e = ap (λ r. roleFits r (isPaintSide k)) (row n l) ∙ role-fits k (fieldsOf D n) (ok .fields n l) e
 
-    area-in : (k : Kind) (n : ℕ) (z : ℤ) (gs : List Segment) → roleIn D n ≡ k → natAbs z + length gs ≤ 2048 → n < length (D .fields) → EachIn (length (D .xs)) c gs
+    area-in : (k : Kind) (n : ℕ) (z : ℤ) (gs : List Segment)
+        → roleIn D n ≡ k
+        → natAbs z + length gs ≤ 2048
+        → n < length (D .fields)
+        → EachIn (length (D .xs)) c gs
         → AreaPasses (env areas xs ys b) k n z gs
     area-in k n z gs e m l h = (ap isGood (row n l), role k n l e, start-word z (omega arith), each-passes D areas xs ys b H c same-low same-side ok gs h)
 

@@ -73,6 +73,8 @@ module _ (D : Drawing) (areas xs ys : List ℕ) (b : Bounds) (H : Held areas xs 
 
     pub each-passes : Valid D → (gs : List Segment) → EachIn (length (D .xs)) c gs → EachPasses (env areas xs ys b) gs
     each-passes ok [] h = tt
-    each-passes ok (drawn (line i j) ∷ gs) h =
-        (and-both (cornerMet xs ys (b .corners) i) (cornerMet xs ys (b .corners) j) (corner-met ok i (h .0 .0)) (corner-met ok j (h .0 .1)), each-passes ok gs (h .1))
+    each-passes ok (drawn (line i j) ∷ gs) h = (
+      and-both (cornerMet xs ys (b .corners) i) (cornerMet xs ys (b .corners) j) (corner-met ok i (h .0 .0)) (corner-met ok j (h .0 .1)),
+      each-passes ok gs (h .1),
+    )
     each-passes ok (shortcut z lo hi ∷ gs) h = (shortcut-in z lo hi (h .0 .0) (h .0 .1) (h .0 .2) (h .0 .3), each-passes ok gs (h .1))

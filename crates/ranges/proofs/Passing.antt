@@ -118,10 +118,15 @@ sideWords k s = map wordsOf (rowsOf (flat k s))
 leaf-words : (k : Kind) (i : Item) (t : Side Item) → sideWords k (leaf i t) ≡ map wordsOf (itemRows i) ++ sideWords k t
 leaf-words k i t = map-append wordsOf (itemRows i) (rowsOf (flat k t))
 
-group-words : (k : Kind) (l r t : Side Item) → sideWords k (group l r t) ≡ words 1 0 0 0 ∷ (sideWords clip l ++ (words 2 0 0 0 ∷ (sideWords k r ++ (words 3 0 0 0 ∷ sideWords k t))))
+group-words : (k : Kind) (l r t : Side Item)
+    → sideWords k (group l r t) ≡ words 1 0 0 0 ∷ (sideWords clip l ++ (words 2 0 0 0 ∷ (sideWords k r ++ (words 3 0 0 0 ∷ sideWords k t))))
 group-words k l r t =
     rw (rows-append (flat clip l) (activate ∷ (flat k r ++ (pop ∷ flat k t))), rows-append (flat k r) (pop ∷ flat k t))
-    (rw (map-append wordsOf (rowsOf (flat clip l)) (bar ∷ (rowsOf (flat k r) ++ (closes ∷ rowsOf (flat k t)))), map-append wordsOf (rowsOf (flat k r)) (closes ∷ rowsOf (flat k t))) refl)
+    (rw (
+      map-append wordsOf (rowsOf (flat clip l)) (bar ∷ (rowsOf (flat k r) ++ (closes ∷ rowsOf (flat k t)))),
+      map-append wordsOf (rowsOf (flat k r)) (closes ∷ rowsOf (flat k t)),
+    )
+    refl)
 
 module _ (v : Env) where
   segments-pass : (g : List Frame) (a l : ℕ) (gs : List Segment) → EachPasses v gs → l + length gs ≤ 2048
@@ -135,14 +140,19 @@ module _ (v : Env) where
       step v (place g true a l) (words 6 (ofZ w32 z) lo hi) (map wordsOf (map segment gs)) (h .0) refl (lt-ltb l 2048 (omega arith))
       ∙ (segments-pass g a (l + 1) gs (h .1) (omega arith) ∙ at-counts g true a a (l + 1 + length gs) (l + suc (length gs)) refl (omega arith))
 
-  item-passes : (k : Kind) (i : Item) (g : List Frame) (h : Bool) (a l : ℕ) → isPaint g ≡ isPaintSide k → ItemPasses v k i → a + oneArea i ≤ 64 → l + segments i ≤ 2048
+  item-passes : (k : Kind) (i : Item) (g : List Frame) (h : Bool) (a l : ℕ)
+      → isPaint g ≡ isPaintSide k
+      → ItemPasses v k i
+      → a + oneArea i ≤ 64
+      → l + segments i ≤ 2048
       → course v (at (place g h a l)) (map wordsOf (itemRows i)) ≡ at (place g (heldBy i) (a + oneArea i) (l + segments i))
   unfolding course
   item-passes paint always g h a l e p m n = absurd p
   item-passes clip always g h a l e p m n =
       step v (place g h a l) (words 7 0 0 0) [] refl (ap not e) refl ∙ at-counts g false a (a + 0) l (l + 0) (omega arith) (omega arith)
   item-passes k (area i z gs) g h a l e p m n =
-      step v (place g h a l) (words 4 i (ofZ w32 z) 0) (map wordsOf (map segment gs)) (rw (p .0, p .2)) (ap (roleFits (areaMet v i)) e ∙ p .1) (lt-ltb a 64 (omega arith))
+      step v (place g h a l) (words 4 i (ofZ w32 z) 0) (map wordsOf (map segment gs)) (rw (p .0, p .2))
+      (ap (roleFits (areaMet v i)) e ∙ p .1) (lt-ltb a 64 (omega arith))
       ∙ segments-pass g (a + 1) l gs (p .3) n
 
   -- with so many groups open and so many areas and lines so far, and room for those of the side
@@ -157,7 +167,8 @@ module _ (v : Env) where
       ∙ (through v (at (place g h a l)) (at (place g (heldBy i) a′ l′)) _ (map wordsOf (itemRows i)) (sideWords k t)
       (item-passes k i g h a l e (o .0) (omega arith) (omega arith))
       (side-passes k t g (heldBy i) a′ l′ e (o .1) d (omega arith) (omega arith))
-      ∙ at-counts g (heldAfter t (heldBy i)) (a′ + weigh oneArea 0 t) (a + weigh oneArea 0 (leaf i t)) (l′ + weigh segments 0 t) (l + weigh segments 0 (leaf i t)) (omega arith) (omega arith))
+      ∙ at-counts g (heldAfter t (heldBy i)) (a′ + weigh oneArea 0 t) (a + weigh oneArea 0 (leaf i t)) (l′ + weigh segments 0 t)
+      (l + weigh segments 0 (leaf i t)) (omega arith) (omega arith))
   side-passes k (group x y t) g h a l e o d m n =
       let q = turned g in
       let r = toRight (opening g) in
@@ -178,4 +189,5 @@ module _ (v : Env) where
       (step v (place r (heldAfter y false) a₂ l₂) (words 3 0 0 0) (sideWords k t) refl (q .right) refl
       ∙ (ap (λ z. course v (at (place z false a₂ l₂)) (sideWords k t)) (q .outer)
       ∙ (side-passes k t g false a₂ l₂ e (o .2) (omega arith) (omega arith) (omega arith)
-      ∙ at-counts g (heldAfter t false) (a₂ + weigh oneArea 0 t) (a + weigh oneArea 0 (group x y t)) (l₂ + weigh segments 0 t) (l + weigh segments 0 (group x y t)) (omega arith) (omega arith))))))
+      ∙ at-counts g (heldAfter t false) (a₂ + weigh oneArea 0 t) (a + weigh oneArea 0 (group x y t)) (l₂ + weigh segments 0 t)
+      (l + weigh segments 0 (group x y t)) (omega arith) (omega arith))))))

@@ -41,7 +41,8 @@ fields-at t i (suc n) (suc k) l = fields-at t (i + 1) n k (omega arith) ∙ ap (
 module _ (D : Drawing) (areas xs ys : List ℕ) (b : Bounds) (H : Held areas xs ys b D) where
   pub fields-are : (n : ℕ) → n < length (D .fields) → fieldsAt areas n ≡ fieldsOf D n
   fields-are n l =
-      ap (fieldsAt areas) (omega arith) ∙ (sym (fields-at areas 0 (b .areas) n (omega (arith, H .areas-used))) ∙ ap (λ (f : List Fields). getD f n noFields) (H .fields-same))
+      ap (fieldsAt areas) (omega arith)
+      ∙ (sym (fields-at areas 0 (b .areas) n (omega (arith, H .areas-used))) ∙ ap (λ (f : List Fields). getD f n noFields) (H .fields-same))
 
   agrees : (n : ℕ) → n < length (D .fields) → Agrees areas D n
   agrees n l =
@@ -55,7 +56,8 @@ module _ (D : Drawing) (areas xs ys : List ℕ) (b : Bounds) (H : Held areas xs 
 -- the table says of the areas on the plan what the drawing says
 pub held-agrees : (D : Drawing) (areas xs ys : List ℕ) (b : Bounds) → Held areas xs ys b D → Valid D → On (λ k n. Agrees areas D n) paint (D .plan)
 held-agrees D areas xs ys b H ok =
-    on-both (λ k n. n < length (D .fields)) (λ k n. n < length (D .fields)) (λ k n. Agrees areas D n) (λ k n l m. agrees D areas xs ys b H n l) paint (D .plan) (ok .numbers) (ok .numbers)
+    on-both (λ k n. n < length (D .fields)) (λ k n. n < length (D .fields)) (λ k n. Agrees areas D n)
+    (λ k n l m. agrees D areas xs ys b H n l) paint (D .plan) (ok .numbers) (ok .numbers)
 
 -- ---- the tables of corners
 
@@ -102,10 +104,16 @@ module _ (D : Drawing) (areas xs ys : List ℕ) (b : Bounds) (H : Held areas xs 
   edge-same : (i j : ℕ) → i < length (D .xs) → j < length (D .xs) → edgeBetween xs ys i j ≡ edgeBetween (D .xs) (D .ys) i j
   edge-same i j l m = rw (same-x D areas xs ys b H i l, same-x D areas xs ys b H j m, same-y D areas xs ys b H i l, same-y D areas xs ys b H j m)
 
-  line-same : (i j : ℕ) → i < length (D .xs) → j < length (D .xs) → addsAt xs ys (at x y) (drawn (line i j)) ≡ addsAt (D .xs) (D .ys) (at x y) (drawn (line i j))
+  line-same : (i j : ℕ)
+      → i < length (D .xs)
+      → j < length (D .xs)
+      → addsAt xs ys (at x y) (drawn (line i j)) ≡ addsAt (D .xs) (D .ys) (at x y) (drawn (line i j))
   line-same i j l m = ap (λ (e : Edge). cond (counts e x y) (sign e) (pos 0)) (edge-same i j l m)
 
-  segments-same : (gs : List Segment) (ws : List Row) → EachIn (length (D .xs)) c gs → Same (rowsIn (map wordsOf ws)) → Same (rowsIn (map wordsOf (map segment gs ++ ws)))
+  segments-same : (gs : List Segment) (ws : List Row)
+      → EachIn (length (D .xs)) c gs
+      → Same (rowsIn (map wordsOf ws))
+      → Same (rowsIn (map wordsOf (map segment gs ++ ws)))
   unfolding rowsIn
   segments-same [] ws h s = s
   segments-same (drawn (line i j) ∷ gs) ws h s = (line-same i j (h .0 .0) (h .0 .1), segments-same gs ws (h .1) s)

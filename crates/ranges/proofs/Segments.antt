@@ -28,7 +28,12 @@ sign-one e h = go (decLt (e .y0) (e .y1))
     go (no p) = rw (le-ltb (e .y0) (e .y1) (omega arith), lt-ltb (e .y1) (e .y0) (omega arith))
 
 -- a verdict of a shortcut is one with rows
-verdict-cases : (P : Class → Type 0) (none every : Bool) (lo hi Y S : ℕ) → P Dropped → P Start → P Kept → (lo < hi → P (Shortcut lo hi)) → P (verdict none every lo hi Y S)
+verdict-cases : (P : Class → Type 0) (none every : Bool) (lo hi Y S : ℕ)
+    → P Dropped
+    → P Start
+    → P Kept
+    → (lo < hi → P (Shortcut lo hi))
+    → P (verdict none every lo hi Y S)
 unfolding verdict
 verdict-cases P none every lo hi Y S d s k f = go (leb hi lo) none every (eqb lo Y && eqb hi (Y + S)) (λ e. f (leb-false hi lo e))
   where

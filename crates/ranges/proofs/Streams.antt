@@ -33,7 +33,12 @@ made-passes D ok areas xs ys b H c same-low same-side =
 
 -- ---- in a table of entries
 
-used-in : (t : List ℕ) (used : ℕ) (areas xs ys : List ℕ) (b : Bounds) → used * 4 ≤ length t → used ≤ 65536 → Ready areas xs ys b → b .areas ≤ 64 → b .corners ≤ 2048
+used-in : (t : List ℕ) (used : ℕ) (areas xs ys : List ℕ) (b : Bounds)
+    → used * 4 ≤ length t
+    → used ≤ 65536
+    → Ready areas xs ys b
+    → b .areas ≤ 64
+    → b .corners ≤ 2048
     → usedRange (length t) used (length areas) (length xs) (length ys) b ≡ true
 unfolding usedRange
 used-in t used areas xs ys b e m r a c =
@@ -65,7 +70,9 @@ pub made-checks : (D : Drawing) → Valid D → (areas xs ys : List ℕ) (b : Bo
 made-checks D ok areas xs ys b H c same-low same-side t first count used same end room few =
     let ws = rowsOf (flat paint (made D c (source D))) in
     let many : count ≡ length ws = sym (words-length t first count) ∙ (ap length same ∙ length-map {B = Words} ws wordsOf) in
-    both-tests (usedRange (length t) used (length areas) (length xs) (length ys) b) (runRange first count used) (accepts (env areas xs ys b) (wordsFrom t first count))
-    (used-in t used areas xs ys b room few (H .ready) (omega (arith, H .areas-used, ok .few-fields)) (omega (arith, H .corners-used, ok .few-corners)))
+    both-tests (usedRange (length t) used (length areas) (length xs) (length ys) b) (runRange first count used)
+    (accepts (env areas xs ys b) (wordsFrom t first count))
+    (used-in t used areas xs ys b room few (H .ready) (omega (arith, H .areas-used, ok .few-fields))
+    (omega (arith, H .corners-used, ok .few-corners)))
     (run-in first count used end (omega (arith, many, made-short D ok c)))
     (ap (accepts (env areas xs ys b)) same ∙ made-passes D ok areas xs ys b H c same-low same-side)

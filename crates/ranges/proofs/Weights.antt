@@ -1,4 +1,5 @@
--- Neither classing in a cell nor pruning adds to a sum over items and delimiters: a made stream has at most the rows, areas, lines and shortcuts of the drawing.
+-- Neither classing in a cell nor pruning adds to a sum over items and delimiters: a made stream has at most the rows,
+-- areas, lines and shortcuts of the drawing.
 use mathlib.Core.Path.{_≡_, refl, sym, ap, _∙_}
 use mathlib.Core.List.{List, [], _∷_, _++_, append-assoc, map}
 use Prim.Native.Nat.{ℕ, suc, _+_, _≤_}
@@ -46,7 +47,14 @@ module _ (I : Items) (v : I .Item → ℕ) (d : ℕ) (least : (a : I .Item) → 
   total-flat k end = refl
   total-flat k (leaf a t) = omega (arith, total-flat k t)
   total-flat k (group l r t) =
-      omega (arith, total-append (flat clip l) (activate ∷ (flat k r ++ (pop ∷ flat k t))), total-append (flat k r) (pop ∷ flat k t), total-flat clip l, total-flat k r, total-flat k t)
+      omega (
+        arith,
+        total-append (flat clip l) (activate ∷ (flat k r ++ (pop ∷ flat k t))),
+        total-append (flat k r) (pop ∷ flat k t),
+        total-flat clip l,
+        total-flat k r,
+        total-flat k t,
+      )
 
   total-sub : {xs ys : List (Entry Item)} → Sub I xs ys → total xs ≤ total ys
   total-sub nothing = omega arith
@@ -106,7 +114,12 @@ module _ (D : Drawing) (c : Cell) where
       → weigh v d (made D c (source D)) ≤ weigh u d (D .plan)
   made-weighs v u d bare inside full =
       rw (made-normal D c (source D))
-      (omega (arith, weigh-normal (items D) v d bare paint (mapSide (within D c) (source D)), weigh-map (within D c) v v d inside (source D), weigh-map (whole D) v u d full (D .plan)))
+      (omega (
+        arith,
+        weigh-normal (items D) v d bare paint (mapSide (within D c) (source D)),
+        weigh-map (within D c) v v d inside (source D),
+        weigh-map (whole D) v u d full (D .plan),
+      ))
 
   pub made-areas : weigh oneArea 0 (made D c (source D)) ≤ weigh (λ n. 1) 0 (D .plan)
   made-areas = made-weighs oneArea (λ n. 1) 0 (λ a. omega arith) areas-within (λ n. omega arith)
