@@ -57,5 +57,6 @@ eight-side (group l r t) k d z b h =
 
 pub plan-depth : (rs : List Record) → Runs start rs → depth (tree (entriesFrom 0 rs)) ≤ 8
 plan-depth rs h =
-    let e : Eight 0 (flatOver paint (tree (entriesFrom 0 rs)) []) = subst (Eight 0) (entries-flat rs h ∙ flat-is-over paint (tree (entriesFrom 0 rs))) (eight-run rs start 0 h) in
+    let e : Eight 0 (flatOver paint (tree (entriesFrom 0 rs)) []) =
+    subst (Eight 0) (entries-flat rs h ∙ flat-is-over paint (tree (entriesFrom 0 rs))) (eight-run rs start 0 h) in
     omega (arith, eight-side (tree (entriesFrom 0 rs)) paint 0 [] (omega arith) e .0)

@@ -39,7 +39,8 @@ none-drawing = refl
 abbrev triangle : List Record
 triangle = Area black ∷ First 0 0 ∷ Next 10 0 ∷ Next 10 10 ∷ []
 
-triangle-drawing : drawingFrom triangle ≡ record { fields = black ∷ []; xs = 0 ∷ 10 ∷ 10 ∷ []; ys = 0 ∷ 0 ∷ 10 ∷ []; contours = (contour 0 3 ∷ []) ∷ []; plan = leaf 0 end }
+triangle-drawing : drawingFrom triangle
+    ≡ record { fields = black ∷ []; xs = 0 ∷ 10 ∷ 10 ∷ []; ys = 0 ∷ 0 ∷ 10 ∷ []; contours = (contour 0 3 ∷ []) ∷ []; plan = leaf 0 end }
 unfolding spread
 triangle-drawing = refl
 
@@ -70,7 +71,23 @@ triangle-valid = accepted-valid triangle (Grammar.counts 4 1 3) triangle-accepte
 
 abbrev clipped : List Record
 clipped =
-    Open ∷ Area clipping ∷ First 0 0 ∷ Next 9 0 ∷ Next 9 9 ∷ First 1 1 ∷ Next 5 1 ∷ Next 5 5 ∷ Next 1 5 ∷ Bar ∷ Area black ∷ Close ∷ Area black ∷ First 0 0 ∷ Next 10 0 ∷ Next 10 10 ∷ []
+    Open
+    ∷ Area clipping
+    ∷ First 0 0
+    ∷ Next 9 0
+    ∷ Next 9 9
+    ∷ First 1 1
+    ∷ Next 5 1
+    ∷ Next 5 5
+    ∷ Next 1 5
+    ∷ Bar
+    ∷ Area black
+    ∷ Close
+    ∷ Area black
+    ∷ First 0 0
+    ∷ Next 10 0
+    ∷ Next 10 10
+    ∷ []
 
 clipped-contours : drawingFrom clipped .contours ≡ (contour 0 3 ∷ contour 3 4 ∷ []) ∷ [] ∷ (contour 7 3 ∷ []) ∷ []
 clipped-contours = refl

@@ -16,7 +16,10 @@ use Rattle.ranges.proofs.Groups.{opens, kindOn, Nested, nested-open, nested-rig
 use Rattle.plans.specs.Plans.{entriesFrom}
 use Rattle.plans.proofs.Runs.{Runs, start}
 
-fits-run : (rs : List Record) (p : Progress) (a : ℕ) → Nested (p .groups) → Runs p rs → Stream.fits (entriesFrom a rs) (kindOn (p .groups)) (opens (p .groups)) ≡ true
+fits-run : (rs : List Record) (p : Progress) (a : ℕ)
+    → Nested (p .groups)
+    → Runs p rs
+    → Stream.fits (entriesFrom a rs) (kindOn (p .groups)) (opens (p .groups)) ≡ true
 fits-run [] p a n h = fits-end {A = ℕ} [] (p .groups) (kindOn (p .groups)) h
 fits-run (Area f ∷ rs) p a n h = and-both _ _ (role-kind (isPaint (p .groups)) (f .role) (h .0 .fit)) (fits-run rs (after p (Area f)) (suc a) n (h .1))
 fits-run (First x y ∷ rs) p a n h = fits-run rs (after p (First x y)) a n (h .1)

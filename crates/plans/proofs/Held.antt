@@ -52,11 +52,17 @@ module _ (t : Tables) (u : Counts) where
   abbrev Reads : ℕ → Fields → Type 0
   Reads i f = areaRow (t .areas) (u .areas) i ≡ Good (Area f)
 
-  rows-held : (rs : List Record) (i n : ℕ) → allRange rs ≡ true → Has (t .areas) (i * 8) (areaWords rs) → i + areasIn rs ≤ u .areas → n < areasIn rs → Reads (i + n) (getD (fieldsIn rs) n noFields)
+  rows-held : (rs : List Record) (i n : ℕ)
+      → allRange rs ≡ true
+      → Has (t .areas) (i * 8) (areaWords rs)
+      → i + areasIn rs ≤ u .areas
+      → n < areasIn rs
+      → Reads (i + n) (getD (fieldsIn rs) n noFields)
   unfolding spread
   rows-held [] i n g h l m = absurd (omega arith)
   rows-held (Area f ∷ rs) i zero g h l m =
-      subst (λ (j : ℕ). Reads j f) (omega arith) (area-read t u 0 (cursor i 0) f (and-left (inRange (Area f)) (allRange rs) g) (area-here (t .areas) f rs i h) (omega arith))
+      subst (λ (j : ℕ). Reads j f) (omega arith)
+      (area-read t u 0 (cursor i 0) f (and-left (inRange (Area f)) (allRange rs) g) (area-here (t .areas) f rs i h) (omega arith))
   rows-held (Area f ∷ rs) i (suc n) g h l m =
       subst (λ (j : ℕ). Reads j (getD (fieldsIn rs) n noFields)) (omega arith)
       (rows-held rs (i + 1) n (and-right (inRange (Area f)) (allRange rs) g) (area-rest (t .areas) f rs i h) (omega arith) (omega arith))

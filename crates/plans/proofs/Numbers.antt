@@ -49,7 +49,11 @@ fields-range (Close ∷ rs) h n l = fields-range rs (range-rest Close rs h) n l
 
 -- ---- the corners' coordinates
 
-pub corners-range : (rs : List Record) → allRange rs ≡ true → (n : ℕ) → n < length (xWords rs) → cornerRange (getD (xWords rs) n 0) (getD (yWords rs) n 0) ≡ true
+pub corners-range : (rs : List Record)
+    → allRange rs ≡ true
+    → (n : ℕ)
+    → n < length (xWords rs)
+    → cornerRange (getD (xWords rs) n 0) (getD (yWords rs) n 0) ≡ true
 unfolding spread
 corners-range [] h n l = absurd (omega arith)
 corners-range (Area f ∷ rs) h n l = corners-range rs (range-rest (Area f) rs h) n l
@@ -82,8 +86,10 @@ module _ (all : List Fields) where
 
   roles-from : (rs : List Record) (a : ℕ) → Follows all noFields a (fieldsIn rs) → Each Role (entriesFrom a rs)
   roles-from [] a h = tt
-  roles-from (Area f ∷ rs) a h =
-      (ap (λ (g : Fields). kindOf (g .role)) (follows-here all noFields a f (fieldsIn rs) h), roles-from rs (suc a) (follows-rest all noFields a f (fieldsIn rs) h))
+  roles-from (Area f ∷ rs) a h = (
+    ap (λ (g : Fields). kindOf (g .role)) (follows-here all noFields a f (fieldsIn rs) h),
+    roles-from rs (suc a) (follows-rest all noFields a f (fieldsIn rs) h),
+  )
   roles-from (First x y ∷ rs) a h = roles-from rs a h
   roles-from (Next x y ∷ rs) a h = roles-from rs a h
   roles-from (Open ∷ rs) a h = roles-from rs a h
@@ -124,7 +130,8 @@ module _ (rs : List Record) (s : Side ℕ) (e : entriesFrom 0 rs ≡ flat paint 
 
   pub plan-numbers : On (Numbered (length (fieldsIn rs))) paint s
   plan-numbers =
-      each-on (Numbered (length (fieldsIn rs))) paint s (subst (Each (Numbered (length (fieldsIn rs)))) e (numbers-from (length (fieldsIn rs)) rs 0 (omega (arith, fields-length rs))))
+      each-on (Numbered (length (fieldsIn rs))) paint s
+      (subst (Each (Numbered (length (fieldsIn rs)))) e (numbers-from (length (fieldsIn rs)) rs 0 (omega (arith, fields-length rs))))
 
 -- ---- the corners of the lines
 

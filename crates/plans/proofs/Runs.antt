@@ -45,8 +45,15 @@ unfolding course
 runs-on [] p i n k h = ended p n k h
 runs-on (r ∷ rs) p i n k h = go (fits p r) (ends p r) (limit p r) refl refl refl (runs-on rs (after p r) (i + 1) n k) h
   where
-    go : (a b d : Bool) → fits p r ≡ a → ends p r ≡ b → limit p r ≡ d → (final (course (at (after p r)) (i + 1) (map Good rs)) n ≡ Accepted k → Runs (after p r) rs)
-        → final (course (cond a (cond b (stopped Short i) (cond d (at (after p r)) (stopped Limit i))) (stopped Unfit i)) (i + 1) (map Good rs)) n ≡ Accepted k → Runs p (r ∷ rs)
+    go : (a b d : Bool)
+        → fits p r ≡ a
+        → ends p r ≡ b
+        → limit p r ≡ d
+        → (final (course (at (after p r)) (i + 1) (map Good rs)) n ≡ Accepted k → Runs (after p r) rs)
+        → final
+        (course (cond a (cond b (stopped Short i) (cond d (at (after p r)) (stopped Limit i))) (stopped Unfit i)) (i + 1) (map Good rs)) n
+        ≡ Accepted k
+        → Runs p (r ∷ rs)
     go false b d ea eb ed rest e = stopped-not Unfit i (i + 1) n (map Good rs) k e
     go true true d ea eb ed rest e = stopped-not Short i (i + 1) n (map Good rs) k e
     go true false false ea eb ed rest e = stopped-not Limit i (i + 1) n (map Good rs) k e

@@ -49,7 +49,9 @@ rows-append [] y = refl
 rows-append (l ∷ x) y = ap (λ z. segment (drawn l) ∷ z) (rows-append x y)
 
 -- one more corner in front
-edge-more : (rs : List Record) (c first : ℕ) → segment (drawn (line c (edgeEnd rs c first))) ∷ lineRows (linesFrom first (suc c) (nexts rs)) ≡ lineRows (linesFrom first c (suc (nexts rs)))
+edge-more : (rs : List Record) (c first : ℕ)
+    → segment (drawn (line c (edgeEnd rs c first))) ∷ lineRows (linesFrom first (suc c) (nexts rs))
+    ≡ lineRows (linesFrom first c (suc (nexts rs)))
 edge-more [] c first = refl
 edge-more (Area f ∷ rs) c first = refl
 edge-more (First x y ∷ rs) c first = refl
@@ -108,7 +110,8 @@ module _ (all : List (List Contour)) where
       → rowsBy (nexts rs) (contoursHere c rs) c first (entriesFrom a rs) ≡ written (entriesFrom a rs)
   after-mark rs p a c first e g h = ap₂ (λ n cs. rowsBy n cs c first (entriesFrom a rs)) (no-next rs p e h) (no-corner rs p c e g h)
 
-  first-rows : (rs : List Record) (c : ℕ) (es : List (Entry ℕ)) → segment (drawn (line c (edgeEnd rs c c))) ∷ rowsBy (nexts rs) (contoursHere (suc c) rs) (suc c) c es
+  first-rows : (rs : List Record) (c : ℕ) (es : List (Entry ℕ))
+      → segment (drawn (line c (edgeEnd rs c c))) ∷ rowsBy (nexts rs) (contoursHere (suc c) rs) (suc c) c es
       ≡ lineRows (linesOf (contour c (suc (nexts rs)) ∷ contoursHere (suc c) rs)) ++ written es
   first-rows rs c es =
       ap (λ z. z ++ (lineRows (linesOf (contoursHere (suc c) rs)) ++ written es)) (edge-more rs c c)
@@ -121,15 +124,19 @@ module _ (all : List (List Contour)) where
   source-by (Area f ∷ rs) p a c first h l =
       ap (λ z. named a (pos 0) ∷ z)
       (source-by rs (after p (Area f)) (suc a) c first (h .1) (follows-rest all [] a (contoursHere c rs) (contoursFrom c rs) l)
-      ∙ ap₂ (λ n cs. rowsBy n cs c first (entriesFrom (suc a) rs)) (no-next rs (after p (Area f)) refl (h .1)) (sym (follows-here all [] a (contoursHere c rs) (contoursFrom c rs) l)))
+      ∙ ap₂ (λ n cs. rowsBy n cs c first (entriesFrom (suc a) rs)) (no-next rs (after p (Area f)) refl (h .1))
+      (sym (follows-here all [] a (contoursHere c rs) (contoursFrom c rs) l)))
   source-by (First x y ∷ rs) p a c first h l =
       ap (λ z. segment (drawn (line c (edgeEnd rs c c))) ∷ z) (source-by rs (after p (First x y)) a (suc c) c (h .1) l) ∙ first-rows rs c (entriesFrom a rs)
   source-by (Next x y ∷ rs) p a c first h l =
       ap (λ z. segment (drawn (line c (edgeEnd rs c first))) ∷ z) (source-by rs (after p (Next x y)) a (suc c) first (h .1) l)
       ∙ ap (λ z. z ++ (lineRows (linesOf (contoursHere (suc c) rs)) ++ written (entriesFrom a rs))) (edge-more rs c first)
-  source-by (Open ∷ rs) p a c first h l = ap (λ z. opens ∷ z) (source-by rs (after p Open) a c first (h .1) l ∙ after-mark rs (after p Open) a c first refl refl (h .1))
-  source-by (Bar ∷ rs) p a c first h l = ap (λ z. bar ∷ z) (source-by rs (after p Bar) a c first (h .1) l ∙ after-mark rs (after p Bar) a c first refl refl (h .1))
-  source-by (Close ∷ rs) p a c first h l = ap (λ z. closes ∷ z) (source-by rs (after p Close) a c first (h .1) l ∙ after-mark rs (after p Close) a c first refl refl (h .1))
+  source-by (Open ∷ rs) p a c first h l =
+      ap (λ z. opens ∷ z) (source-by rs (after p Open) a c first (h .1) l ∙ after-mark rs (after p Open) a c first refl refl (h .1))
+  source-by (Bar ∷ rs) p a c first h l =
+      ap (λ z. bar ∷ z) (source-by rs (after p Bar) a c first (h .1) l ∙ after-mark rs (after p Bar) a c first refl refl (h .1))
+  source-by (Close ∷ rs) p a c first h l =
+      ap (λ z. closes ∷ z) (source-by rs (after p Close) a c first (h .1) l ∙ after-mark rs (after p Close) a c first refl refl (h .1))
 
 -- ---- the rows of the drawing
 
@@ -139,11 +146,16 @@ module _ (D : Drawing) where
   side-rows k end z w e = e
   side-rows k (leaf n t) z w e = ap₂ (λ x y. named n (pos 0) ∷ (x ++ y)) (lines-rows (linesAt (D .contours) n)) (side-rows k t z w e)
   side-rows k (group l r t) z w e =
-      ap (λ x. opens ∷ x) (side-rows clip l (activate ∷ flatOver k r (pop ∷ flatOver k t z)) (activate ∷ flatOver k (mapSide (whole D) r) (pop ∷ flatOver k (mapSide (whole D) t) w))
-      (ap (λ x. bar ∷ x) (side-rows k r (pop ∷ flatOver k t z) (pop ∷ flatOver k (mapSide (whole D) t) w) (ap (λ x. closes ∷ x) (side-rows k t z w e)))))
+      ap (λ x. opens ∷ x)
+      (side-rows clip l (activate ∷ flatOver k r (pop ∷ flatOver k t z))
+      (activate ∷ flatOver k (mapSide (whole D) r) (pop ∷ flatOver k (mapSide (whole D) t) w))
+      (ap (λ x. bar ∷ x)
+      (side-rows k r (pop ∷ flatOver k t z) (pop ∷ flatOver k (mapSide (whole D) t) w) (ap (λ x. closes ∷ x) (side-rows k t z w e)))))
 
   drawing-rows : rowsOf (flat paint (source D)) ≡ written (D .contours) (flat paint (D .plan))
-  drawing-rows = ap rowsOf (flat-is-over paint (source D)) ∙ (side-rows paint (D .plan) [] [] refl ∙ ap (written (D .contours)) (sym (flat-is-over paint (D .plan))))
+  drawing-rows =
+      ap rowsOf (flat-is-over paint (source D))
+      ∙ (side-rows paint (D .plan) [] [] refl ∙ ap (written (D .contours)) (sym (flat-is-over paint (D .plan))))
 
 pub source-rows : (rs : List Record) (k : Counts) → Acceptable rs k → rowsOf (flat paint (source (drawingFrom rs))) ≡ sourceOf rs
 source-rows rs k a =

@@ -82,7 +82,11 @@ module _ (all : List (List Contour)) where
       → nexts rs + (length (linesOf (contoursHere c rs)) + tally linesAt 0 (entriesFrom a rs)) ≤ cornersIn rs
   lines-from [] a c h = omega arith
   lines-from (Area f ∷ rs) a c h =
-      omega (arith, here-is a (contoursHere c rs) (contoursFrom c rs) h, lines-from rs (suc a) c (follows-rest all [] a (contoursHere c rs) (contoursFrom c rs) h))
+      omega (
+        arith,
+        here-is a (contoursHere c rs) (contoursFrom c rs) h,
+        lines-from rs (suc a) c (follows-rest all [] a (contoursHere c rs) (contoursFrom c rs) h),
+      )
   lines-from (First x y ∷ rs) a c h = omega (arith, lines-from rs a (suc c) h, lines-first c (suc (nexts rs)) (contoursHere (suc c) rs))
   lines-from (Next x y ∷ rs) a c h = omega (arith, lines-from rs a (suc c) h)
   lines-from (Open ∷ rs) a c h = omega (arith, lines-from rs a c h)
@@ -93,7 +97,11 @@ module _ (all : List (List Contour)) where
       → nexts rs + (length (linesOf (contoursHere c rs)) + tally (λ n. suc (linesAt n)) 1 (entriesFrom a rs)) ≤ length rs
   records-from [] a c h = omega arith
   records-from (Area f ∷ rs) a c h =
-      omega (arith, here-is a (contoursHere c rs) (contoursFrom c rs) h, records-from rs (suc a) c (follows-rest all [] a (contoursHere c rs) (contoursFrom c rs) h))
+      omega (
+        arith,
+        here-is a (contoursHere c rs) (contoursFrom c rs) h,
+        records-from rs (suc a) c (follows-rest all [] a (contoursHere c rs) (contoursFrom c rs) h),
+      )
   records-from (First x y ∷ rs) a c h = omega (arith, records-from rs a (suc c) h, lines-first c (suc (nexts rs)) (contoursHere (suc c) rs))
   records-from (Next x y ∷ rs) a c h = omega (arith, records-from rs a (suc c) h)
   records-from (Open ∷ rs) a c h = omega (arith, records-from rs a c h)
@@ -105,7 +113,12 @@ module _ (rs : List Record) (s : Side ℕ) (e : entriesFrom 0 rs ≡ flat paint 
   count n = linesAt (contoursFrom 0 rs) n
 
   pub plan-records : weigh (λ n. suc (count n)) 1 s ≤ length rs
-  plan-records = omega (arith, weigh-tally (λ n. suc (count n)) 1 (entriesFrom 0 rs) s e, records-from (contoursFrom 0 rs) rs 0 0 (follows-all (contoursFrom 0 rs) []))
+  plan-records =
+      omega (
+        arith,
+        weigh-tally (λ n. suc (count n)) 1 (entriesFrom 0 rs) s e,
+        records-from (contoursFrom 0 rs) rs 0 0 (follows-all (contoursFrom 0 rs) []),
+      )
 
   pub plan-areas : weigh (λ n. 1) 0 s ≤ areasIn rs
   plan-areas = omega (arith, weigh-tally (λ n. 1) 0 (entriesFrom 0 rs) s e, areas-from rs 0)
