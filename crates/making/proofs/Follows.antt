@@ -109,7 +109,9 @@ module _ (areas : List ℕ) (D : Drawing) (c : Cell) (agrees : (n : ℕ) → n <
       → weighed rowSize (prune D c x e) ≡ countStep (items D) (λ e. total rowSize (entryRows e)) (weighed rowSize x) e
   step-is x e f = step-weighs rowSize row-some (items D) entryRows entry-some x e f
 
-  pub step-fits : (x : Pruning.State Row) (e : Entry Item) → Fit (count (items D) Row entryRows entry-some x) → Fit (count (items D) Row entryRows entry-some (prune D c x e))
+  pub step-fits : (x : Pruning.State Row) (e : Entry Item)
+      → Fit (count (items D) Row entryRows entry-some x)
+      → Fit (count (items D) Row entryRows entry-some (prune D c x e))
   step-fits x e f = let q = step-counts (items D) Row entryRows entry-some x e f in subst Fit (sym (q .0)) (q .1)
 
   out-length : (x : Pruning.State Row) → lengthOf (count (items D) Row entryRows entry-some x) ≡ length (outOf x)
@@ -119,10 +121,18 @@ module _ (areas : List ℕ) (D : Drawing) (c : Cell) (agrees : (n : ℕ) → n <
   bare-short always = omega arith
   bare-short (area n z gs) = omega arith
 
-  pub step-short : (x : Pruning.State Row) (e : Entry Item) → Fit (count (items D) Row entryRows entry-some x) → length (outOf (prune D c x e)) ≤ length (outOf x) + length (entryRows e)
+  pub step-short : (x : Pruning.State Row) (e : Entry Item)
+      → Fit (count (items D) Row entryRows entry-some x)
+      → length (outOf (prune D c x e)) ≤ length (outOf x) + length (entryRows e)
   step-short x e f =
       let q = step-counts (items D) Row entryRows entry-some x e f in
-      omega (arith, count-grows (items D) Row entryRows entry-some bare-short (count (items D) Row entryRows entry-some x) e f, out-length x, out-length (prune D c x e), ap lengthOf (q .0))
+      omega (
+        arith,
+        count-grows (items D) Row entryRows entry-some bare-short (count (items D) Row entryRows entry-some x) e f,
+        out-length x,
+        out-length (prune D c x e),
+        ap lengthOf (q .0),
+      )
 
   -- the class of the area that waits
   class-alone : (n : ℕ) (z : ℤ) → n < length (D .fields) → Numbers.classOf (classN areas (waiting true n z 4294967297)) ≡ classOf D (roleIn D n) (area n z [])
@@ -146,11 +156,16 @@ module _ (areas : List ℕ) (D : Drawing) (c : Cell) (agrees : (n : ℕ) → n <
   class-is n z (g ∷ gs) h = rw (ne-eqb (total rowSize (itemRows (area n z (g ∷ gs)))) 4294967297 (λ e. omega (arith, row-some (segment g))))
 
   -- the area that waits goes to the pruner
-  pub settle-counts : (k : ℕ) (p : Pruner) (a : Declared.Waiting) (m : Making) → Follows D k p a m → settledN areas (counted p) a ≡ weighed rowSize (settle D c m)
+  pub settle-counts : (k : ℕ) (p : Pruner) (a : Declared.Waiting) (m : Making)
+      → Follows D k p a m
+      → settledN areas (counted p) a ≡ weighed rowSize (settle D c m)
   settle-counts k p a (making x nothing) f = rw (f .waits) (f .counts)
   settle-counts k p a (making x (held n z gs)) f =
       rw (f .waits, class-is n z gs (f .named-in .0), agrees n (f .named-in .0) .role, f .counts)
-      (sym (step-is x (item (roleIn D n) (area n z gs)) (f .fit) ∙ sized-step rowSize row-some (items D) entryRows entry-some refl refl refl refl (weighed rowSize x) (item (roleIn D n) (area n z gs))))
+      (sym
+      (step-is x (item (roleIn D n) (area n z gs)) (f .fit)
+      ∙ sized-step rowSize row-some (items D) entryRows entry-some refl refl refl refl (weighed rowSize x)
+      (item (roleIn D n) (area n z gs))))
 
   pub settle-fits : (k : ℕ) (p : Pruner) (a : Declared.Waiting) (m : Making) → Follows D k p a m → Fit (count (items D) Row entryRows entry-some (settle D c m))
   settle-fits k p a (making x nothing) f = f .fit
@@ -158,14 +173,20 @@ module _ (areas : List ℕ) (D : Drawing) (c : Cell) (agrees : (n : ℕ) → n <
 
   pub settle-short : (k : ℕ) (p : Pruner) (a : Declared.Waiting) (m : Making) → Follows D k p a m → length (outOf (settle D c m)) ≤ k
   settle-short k p a (making x nothing) f = omega (arith, f .short)
-  settle-short k p a (making x (held n z gs)) f = omega (arith, f .short, step-short x (item (roleIn D n) (area n z gs)) (f .fit), length-map {B = Row} gs segment)
+  settle-short k p a (making x (held n z gs)) f =
+      omega (arith, f .short, step-short x (item (roleIn D n) (area n z gs)) (f .fit), length-map {B = Row} gs segment)
 
   -- a delimiter or "passes"
-  pub mark-follows : (k : ℕ) (p p′ : Pruner) (a : Declared.Waiting) (m : Making) (e : Entry Item) → length (entryRows e) ≡ 1 → Follows D k p a m
-      → counted p′ ≡ countStep (items D) (λ e. total rowSize (entryRows e)) (settledN areas (counted p) a) e → Follows D (k + 1) p′ resting (making (prune D c (settle D c m) e) nothing)
+  pub mark-follows : (k : ℕ) (p p′ : Pruner) (a : Declared.Waiting) (m : Making) (e : Entry Item)
+      → length (entryRows e) ≡ 1
+      → Follows D k p a m
+      → counted p′ ≡ countStep (items D) (λ e. total rowSize (entryRows e)) (settledN areas (counted p) a) e
+      → Follows D (k + 1) p′ resting (making (prune D c (settle D c m) e) nothing)
   mark-follows k p p′ a m e l f h =
       record {
-        counts = h ∙ (ap (λ x. countStep (items D) (λ e. total rowSize (entryRows e)) x e) (settle-counts k p a m f) ∙ sym (step-is (settle D c m) e (settle-fits k p a m f)));
+        counts = h
+            ∙ (ap (λ x. countStep (items D) (λ e. total rowSize (entryRows e)) x e) (settle-counts k p a m f)
+            ∙ sym (step-is (settle D c m) e (settle-fits k p a m f)));
         waits = refl;
         fit = step-fits (settle D c m) e (settle-fits k p a m f);
         short = omega (arith, settle-short k p a m f, step-short (settle D c m) e (settle-fits k p a m f));
@@ -208,14 +229,21 @@ module _ (areas : List ℕ) (D : Drawing) (c : Cell) (agrees : (n : ℕ) → n <
   pub kept-weight : (g : Segment) → classIn (D .xs) (D .ys) c g ≡ Kept → rowSize (segment g) ≡ 65537
   unfolding cut verdict
   kept-weight (drawn l) e = refl
-  kept-weight (shortcut z lo hi) e = absurd (cut-kept (leb (min hi (low c + side c)) (max lo (low c)) || false) (max lo (low c)) (min hi (low c + side c)) (low c) (side c) e)
+  kept-weight (shortcut z lo hi) e =
+      absurd
+      (cut-kept (leb (min hi (low c + side c)) (max lo (low c)) || false) (max lo (low c)) (min hi (low c + side c)) (low c) (side c) e)
 
   abbrev Left : (k : ℕ) (x : Pruning.State Row) (n : ℕ) (z : ℤ) (gs : List Segment) (g : Segment) → Classes.Class → Type 0
   Left k x n z gs g f =
-      (withClass f (waitingFor (held n z gs)) (signOf (D .xs) (D .ys) g) ≡ waitingFor (held n (startBy (D .xs) (D .ys) f g z) (gs ++ keptBy (D .xs) (D .ys) f g [])))
-      × (length (gs ++ keptBy (D .xs) (D .ys) f g []) ≤ length gs + 1) × (natAbs (startBy (D .xs) (D .ys) f g z) ≤ natAbs z + 1)
+      (withClass f (waitingFor (held n z gs)) (signOf (D .xs) (D .ys) g)
+      ≡ waitingFor (held n (startBy (D .xs) (D .ys) f g z) (gs ++ keptBy (D .xs) (D .ys) f g [])))
+      × (length (gs ++ keptBy (D .xs) (D .ys) f g []) ≤ length gs + 1)
+      × (natAbs (startBy (D .xs) (D .ys) f g z) ≤ natAbs z + 1)
 
-  left-by : (k : ℕ) (x : Pruning.State Row) (n : ℕ) (z : ℤ) (gs : List Segment) (g : Segment) (f : Classes.Class) → natAbs (signOf (D .xs) (D .ys) g) ≤ 1 → (f ≡ Kept → rowSize (segment g) ≡ 65537) → Left k x n z gs g f
+  left-by : (k : ℕ) (x : Pruning.State Row) (n : ℕ) (z : ℤ) (gs : List Segment) (g : Segment) (f : Classes.Class)
+      → natAbs (signOf (D .xs) (D .ys) g) ≤ 1
+      → (f ≡ Kept → rowSize (segment g) ≡ 65537)
+      → Left k x n z gs g f
   left-by k x n z gs g Dropped s e = (rw (append-nil gs) refl, rw (append-nil gs) (omega arith), omega arith)
   left-by k x n z gs g Start s e = (rw (append-nil gs) refl, rw (append-nil gs) (omega arith), omega (arith, abs-add z (signOf (D .xs) (D .ys) g)))
   left-by k x n z gs g (Shortcut lo hi) s e =

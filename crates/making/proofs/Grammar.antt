@@ -55,7 +55,12 @@ one-passes v p w ws h = go (Stream.inRange v e) (fits v p e) (limit p e) refl re
     none : {A : Type 0} → isWhole (course v off ws) ≡ true → A
     none h = clash (sym (off-stays v ws) ∙ h)
 
-    go : (a b c : Bool) → Stream.inRange v e ≡ a → fits v p e ≡ b → limit p e ≡ c → isWhole (course v (cond a (cond b (cond c (at (after p e)) off) off) off) ws) ≡ true → Passes v p e ws
+    go : (a b c : Bool)
+        → Stream.inRange v e ≡ a
+        → fits v p e ≡ b
+        → limit p e ≡ c
+        → isWhole (course v (cond a (cond b (cond c (at (after p e)) off) off) off) ws) ≡ true
+        → Passes v p e ws
     go true true true i f l h = record { range = i; fit = f; room = l; rest = h }
     go true true false i f l h = none h
     go true false c i f l h = none h
@@ -72,7 +77,9 @@ role-by areas used n b h = go (ltb n used) (eqb (getD areas (n * 8 + 7) 0) 0) (i
     told true h = rw (eqb-true (getD areas (n * 8) 0) 0 h)
     told false h = rw (eqb-true (getD areas (n * 8) 0) 1 h)
 
-    go : (x y z : Bool) → roleFits (cond x (cond y (cond z (Good (Area (fieldsAt areas n))) (Bad Field)) (Bad Field)) (Bad Field)) b ≡ true → sameKind (roleAt areas n) (kindBy b) ≡ true
+    go : (x y z : Bool)
+        → roleFits (cond x (cond y (cond z (Good (Area (fieldsAt areas n))) (Bad Field)) (Bad Field)) (Bad Field)) b ≡ true
+        → sameKind (roleAt areas n) (kindBy b) ≡ true
     go true true true h = told b h
     go true true false h = clash h
     go true false z h = clash h
@@ -88,28 +95,44 @@ module _ (v : Env) (role : ℕ → Kind) (same : (n : ℕ) → n < v .used .area
   by-bar : (p : Place) (d : Decoded) → onLeft (p .groups) ≡ true → Fits (after p Entries.bar) d → Fits p (decodeRow role Rows.bar d)
   by-bar p (dec gs es) f h = fits-bar es (p .groups) f h
 
-  by-close : (p : Place) (d : Decoded) → Nested (p .groups) → onRight (p .groups) ≡ true → Fits (after p Entries.closes) d → Fits p (decodeRow role Rows.closes d)
+  by-close : (p : Place) (d : Decoded)
+      → Nested (p .groups)
+      → onRight (p .groups) ≡ true
+      → Fits (after p Entries.closes) d
+      → Fits p (decodeRow role Rows.closes d)
   by-close p (dec gs es) n f h = fits-close es (p .groups) n f h
 
   by-passes : (p : Place) (d : Decoded) → not (isPaint (p .groups)) ≡ true → Fits p d → Fits p (decodeRow role Rows.bare d)
-  by-passes p (dec gs es) f h = and-both (sameKind clip (kindOn (p .groups))) (Sides.fits es (kindOn (p .groups)) (opens (p .groups))) (go (isPaint (p .groups)) f) h
+  by-passes p (dec gs es) f h =
+      and-both (sameKind clip (kindOn (p .groups))) (Sides.fits es (kindOn (p .groups)) (opens (p .groups))) (go (isPaint (p .groups)) f) h
     where
       go : (b : Bool) → not b ≡ true → sameKind clip (kindBy b) ≡ true
       go true f = clash f
       go false f = refl
 
-  by-area : (p : Place) (n : ℕ) (z : ℤ) (d : Decoded) → n < v .used .areas → roleFits (areaMet v n) (isPaint (p .groups)) ≡ true → Fits p d → Fits p (decodeRow role (Rows.named n z) d)
+  by-area : (p : Place) (n : ℕ) (z : ℤ) (d : Decoded)
+      → n < v .used .areas
+      → roleFits (areaMet v n) (isPaint (p .groups)) ≡ true
+      → Fits p d
+      → Fits p (decodeRow role (Rows.named n z) d)
   by-area p n z (dec gs es) l f h =
-      and-both (sameKind (role n) (kindOn (p .groups))) (Sides.fits es (kindOn (p .groups)) (opens (p .groups))) (rw (← same n l) (role-by (v .areas) (v .used .areas) n (isPaint (p .groups)) f)) h
+      and-both (sameKind (role n) (kindOn (p .groups))) (Sides.fits es (kindOn (p .groups)) (opens (p .groups)))
+      (rw (← same n l) (role-by (v .areas) (v .used .areas) n (isPaint (p .groups)) f)) h
 
   by-segment : (p : Place) (g : Segment) (d : Decoded) → Fits p d → Fits p (decodeRow role (Rows.segment g) d)
   by-segment p g (dec gs es) h = h
 
-  one-fits : (e : Entries.Entry) (p : Place) (ws : List Words) → Nested (p .groups) → Passes v p e ws → (Nested (after p e .groups) → Fits (after p e) (decode role (rowsIn ws))) → Fits p (decode role (rowFor e (rowsIn ws)))
+  one-fits : (e : Entries.Entry) (p : Place) (ws : List Words)
+      → Nested (p .groups)
+      → Passes v p e ws
+      → (Nested (after p e .groups) → Fits (after p e) (decode role (rowsIn ws)))
+      → Fits p (decode role (rowFor e (rowsIn ws)))
   one-fits Entries.opens p ws n h ih = by-open p (decode role (rowsIn ws)) (ih (nested-open (p .groups) n))
   one-fits Entries.bar p ws n h ih = by-bar p (decode role (rowsIn ws)) (h .fit) (ih (nested-right (p .groups) n))
   one-fits Entries.closes p ws n h ih = by-close p (decode role (rowsIn ws)) n (h .fit) (ih (nested-outer (p .groups) n))
-  one-fits (area k q) p ws n h ih = by-area p k (toZ w32 q) (decode role (rowsIn ws)) (area-below (v .areas) (v .used .areas) k (both (isGood (areaMet v k)) (startRange q) (h .range) .0)) (h .fit) (ih n)
+  one-fits (area k q) p ws n h ih =
+      by-area p k (toZ w32 q) (decode role (rowsIn ws))
+      (area-below (v .areas) (v .used .areas) k (both (isGood (areaMet v k)) (startRange q) (h .range) .0)) (h .fit) (ih n)
   one-fits (line a b) p ws n h ih = by-segment p (drawn (Windings.line a b)) (decode role (rowsIn ws)) (ih n)
   one-fits (shortcut s a b) p ws n h ih = by-segment p (Segments.shortcut (toZ w32 s) a b) (decode role (rowsIn ws)) (ih n)
   one-fits Entries.passes p ws n h ih = by-passes p (decode role (rowsIn ws)) (h .fit) (ih n)

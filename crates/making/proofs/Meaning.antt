@@ -35,13 +35,23 @@ use Rattle.making.proofs.Lent.{lent-reads}
 module _ (v : Env) (D : Drawing) (R : Reads v D) (x y : ℕ) where
   -- the tables and the drawing agree on the areas, lines and shortcuts of rows
   abbrev Same : List Row → Type 0
-  Same ws = EachAgrees (v .areas) D ws × SameOn (roleAt (v .areas)) (passAt (v .areas)) (opaqueAt (v .areas)) (addsAt (v .xs) (v .ys) (Cells.at x y)) (addsAt (D .xs) (D .ys) (Cells.at x y)) ws
+  Same ws =
+      EachAgrees (v .areas) D ws
+      × SameOn (roleAt (v .areas)) (passAt (v .areas)) (opaqueAt (v .areas)) (addsAt (v .xs) (v .ys) (Cells.at x y))
+      (addsAt (D .xs) (D .ys) (Cells.at x y)) ws
 
   one-same : (e : Entries.Entry) (ws : List Row) → Stream.inRange v e ≡ true → Same ws → Same (rowFor e ws)
   one-same Entries.opens ws h s = s
   one-same Entries.bar ws h s = s
   one-same Entries.closes ws h s = s
-  one-same (area n q) ws h s = ((R .agrees n (omega (arith, R .fields, area-below (v .areas) (v .used .areas) n (both (isGood (areaMet v n)) (startRange q) h .0))), s .0), s .1)
+  one-same (area n q) ws h s = (
+    (
+      R .agrees n
+          (omega (arith, R .fields, area-below (v .areas) (v .used .areas) n (both (isGood (areaMet v n)) (startRange q) h .0))),
+      s .0,
+    ),
+    s .1,
+  )
   one-same (line a b) ws h s =
       let l = line-used (v .xs) (v .ys) (v .used .corners) a b h in
       (s .0, (ap (λ (e : Edge). cond (counts e x y) (sign e) (pos 0)) (sym (R .edges a b (l .0) (l .1))), s .1))
@@ -52,16 +62,22 @@ module _ (v : Env) (D : Drawing) (R : Reads v D) (x y : ℕ) where
   all-same : (ws : List Words) (p : Place) → isWhole (course v (at p) ws) ≡ true → Same (rowsIn ws)
   unfolding course rowsIn
   all-same [] p h = (tt, tt)
-  all-same (w ∷ ws) p h = let q = one-passes v p w ws h in one-same (Entries.decode w) (rowsIn ws) (q .range) (all-same ws (after p (Entries.decode w)) (q .rest))
+  all-same (w ∷ ws) p h =
+      let q = one-passes v p w ws h in
+      one-same (Entries.decode w) (rowsIn ws) (q .range) (all-same ws (after p (Entries.decode w)) (q .rest))
 
   -- of tables that say of their areas and corners what a drawing says
-  pub accepted-meaning : (ws : List Words) → accepts v ws ≡ true → setAt (v .areas) (v .xs) (v .ys) x y ws ≡ setOf (shownIn D (Cells.at x y) (streamOf (roleIn D) (rowsIn ws)))
+  pub accepted-meaning : (ws : List Words)
+      → accepts v ws ≡ true
+      → setAt (v .areas) (v .xs) (v .ys) x y ws ≡ setOf (shownIn D (Cells.at x y) (streamOf (roleIn D) (rowsIn ws)))
   unfolding accepts setAt
   accepted-meaning ws h =
       let s = all-same ws (Stream.place [] false 0 0) h in
-      read-same (roleAt (v .areas)) (passAt (v .areas)) (opaqueAt (v .areas)) (addsAt (v .xs) (v .ys) (Cells.at x y)) (addsAt (D .xs) (D .ys) (Cells.at x y)) (rowsIn ws) (s .1)
+      read-same (roleAt (v .areas)) (passAt (v .areas)) (opaqueAt (v .areas)) (addsAt (v .xs) (v .ys) (Cells.at x y))
+      (addsAt (D .xs) (D .ys) (Cells.at x y)) (rowsIn ws) (s .1)
       ∙ (agreed-read (v .areas) D (Cells.at x y) (rowsIn ws) (s .0)
-      ∙ side-read D (Cells.at x y) (rowsIn ws) (streamOf (roleIn D) (rowsIn ws)) (entries-flat v (roleIn D) (λ n l. R .agrees n (omega (arith, R .fields)) .role) ws h))
+      ∙ side-read D (Cells.at x y) (rowsIn ws) (streamOf (roleIn D) (rowsIn ws))
+      (entries-flat v (roleIn D) (λ n l. R .agrees n (omega (arith, R .fields)) .role) ws h))
 
 -- the drawing is that of the lent tables: the areas and corners in use
 pub lent-meaning : (areas xs ys : List ℕ) (b : Bounds) (x y : ℕ) (ws : List Words) → accepts (env areas xs ys b) ws ≡ true

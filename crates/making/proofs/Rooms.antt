@@ -22,7 +22,9 @@ use Rattle.making.specs.code.Numbers.{classN, settledN, movedN, prunedN,
 pub settled-near : (areas : List ℕ) (c : Count) (a : Waiting) → Near (a .weight) c (settledN areas c a)
 settled-near areas c a = go (a .waits)
   where
-    go : (b : Bool) → Near (a .weight) c (cond b (countStep sizedItems sizeOf c (item (roleAt areas (a .number)) (sized (classOf (classN areas a)) (a .weight)))) c)
+    go : (b : Bool)
+        → Near (a .weight) c
+        (cond b (countStep sizedItems sizeOf c (item (roleAt areas (a .number)) (sized (classOf (classN areas a)) (a .weight)))) c)
     go true = item-near (roleAt areas (a .number)) (classOf (classN areas a)) (a .weight) c
     go false = near-same (a .weight) c
 
@@ -44,5 +46,10 @@ room-after areas p q a kind e r =
 pub passes-same : (areas : List ℕ) (n : ℕ) (z : ℤ) (r b : Bool) → natAbs z ≤ 8192 → r ≡ passAt areas n (toZ w64 (ofZ w64 z)) → r ≡ b → passAt areas n z ≡ b
 passes-same areas n z r b h e t = ap (passAt areas n) (sym (small-back z h)) ∙ (sym e ∙ t)
 
-pub pruned-by : (areas : List ℕ) (c : Count) (a : Waiting) (kind : ℕ) (d r : Count) → (kind ≡ 5 → ⊥) → (kind ≡ 6 → ⊥) → r ≡ movedN kind d → d ≡ settledN areas c a → r ≡ prunedN areas c a kind
+pub pruned-by : (areas : List ℕ) (c : Count) (a : Waiting) (kind : ℕ) (d r : Count)
+    → (kind ≡ 5 → ⊥)
+    → (kind ≡ 6 → ⊥)
+    → r ≡ movedN kind d
+    → d ≡ settledN areas c a
+    → r ≡ prunedN areas c a kind
 pruned-by areas c a kind d r x y e f = rw (ne-eqb kind 5 x, ne-eqb kind 6 y) (e ∙ ap (movedN kind) f)

@@ -51,8 +51,16 @@ pub record Standing (v : Env) (D : Drawing) (c : Cell) (k : ℕ) (p : Pruner) (a
   pub ahead : onRows D c (rowsIn ws) rows ≡ whole
 
 -- ---- the kinds of entries
-pub by-kind : (w : Words) (P : Entries.Entry → Type 0) → (w .kind ≡ 1 → P Entries.opens) → (w .kind ≡ 2 → P Entries.bar) → (w .kind ≡ 3 → P Entries.closes) → (w .kind ≡ 4 → P (Entries.area (w .p) (w .q)))
-    → (w .kind ≡ 5 → P (Entries.line (w .p) (w .q))) → (w .kind ≡ 6 → P (Entries.shortcut (w .p) (w .q) (w .r))) → (w .kind ≡ 7 → P Entries.passes) → P Entries.bad → P (decode w)
+pub by-kind : (w : Words) (P : Entries.Entry → Type 0)
+    → (w .kind ≡ 1 → P Entries.opens)
+    → (w .kind ≡ 2 → P Entries.bar)
+    → (w .kind ≡ 3 → P Entries.closes)
+    → (w .kind ≡ 4 → P (Entries.area (w .p) (w .q)))
+    → (w .kind ≡ 5 → P (Entries.line (w .p) (w .q)))
+    → (w .kind ≡ 6 → P (Entries.shortcut (w .p) (w .q) (w .r)))
+    → (w .kind ≡ 7 → P Entries.passes)
+    → P Entries.bad
+    → P (decode w)
 by-kind w P p₁ p₂ p₃ p₄ p₅ p₆ p₇ p₈ =
     test 1 p₁ (test 2 p₂ (test 3 p₃ (test 4 p₄ (test 5 p₅ (test 6 p₆ (test 7 p₇ p₈))))))
   where
@@ -64,7 +72,8 @@ by-kind w P p₁ p₂ p₃ p₄ p₅ p₆ p₇ p₈ =
         go false e = g
 
 -- one entry, then the others
-pub one-then : (D : Drawing) (c : Cell) (e : Entries.Entry) (ws : List Row) (m : Making) → onRows D c ws (onRows D c (rowFor e []) m) ≡ onRows D c (rowFor e ws) m
+pub one-then : (D : Drawing) (c : Cell) (e : Entries.Entry) (ws : List Row) (m : Making)
+    → onRows D c ws (onRows D c (rowFor e []) m) ≡ onRows D c (rowFor e ws) m
 one-then D c Entries.opens ws m = refl
 one-then D c Entries.bar ws m = refl
 one-then D c Entries.closes ws m = refl
@@ -80,34 +89,69 @@ module _ (D : Drawing) (c : Cell) where
   Fitted x = Fit (count (items D) Row entryRows entry-some x)
 
   -- one entry more in the pruner, by its counters
-  stepped : (P : Count → Type 0) (x : Pruning.State Row) (e : Entry Item) → Fitted x → P (countStep (items D) (λ e. total rowSize (entryRows e)) (weighed rowSize x) e) → P (weighed rowSize (prune D c x e))
+  stepped : (P : Count → Type 0) (x : Pruning.State Row) (e : Entry Item)
+      → Fitted x
+      → P (countStep (items D) (λ e. total rowSize (entryRows e)) (weighed rowSize x) e)
+      → P (weighed rowSize (prune D c x e))
   stepped P x e f h = subst P (sym (step-weighs rowSize row-some (items D) entryRows entry-some x e f)) h
 
-  pub settle-tracks : (m : Making) (fs : List Frame) → Fitted (stateOf m) → Tracks (weighed rowSize (stateOf m)) (opens fs) → Tracks (weighed rowSize (settle D c m)) (opens fs)
+  pub settle-tracks : (m : Making) (fs : List Frame)
+      → Fitted (stateOf m)
+      → Tracks (weighed rowSize (stateOf m)) (opens fs)
+      → Tracks (weighed rowSize (settle D c m)) (opens fs)
   settle-tracks (making x nothing) fs f t = t
   settle-tracks (making x (held n z gs)) fs f t =
-      stepped (λ (k : Count). Tracks k (opens fs)) x (item (roleIn D n) (area n z gs)) f (tracks-item (items D) (λ e. total rowSize (entryRows e)) (weighed rowSize x) (roleIn D n) (area n z gs) (opens fs) t)
+      stepped (λ (k : Count). Tracks k (opens fs)) x (item (roleIn D n) (area n z gs)) f
+      (tracks-item (items D) (λ e. total rowSize (entryRows e)) (weighed rowSize x) (roleIn D n) (area n z gs) (opens fs) t)
 
-  pub item-tracks : (x : Pruning.State Row) (fs : List Frame) → Fitted x → Tracks (weighed rowSize x) (opens fs) → Tracks (weighed rowSize (prune D c x (item clip always))) (opens fs)
-  item-tracks x fs f t = stepped (λ (k : Count). Tracks k (opens fs)) x (item clip always) f (tracks-item (items D) (λ e. total rowSize (entryRows e)) (weighed rowSize x) clip always (opens fs) t)
+  pub item-tracks : (x : Pruning.State Row) (fs : List Frame)
+      → Fitted x
+      → Tracks (weighed rowSize x) (opens fs)
+      → Tracks (weighed rowSize (prune D c x (item clip always))) (opens fs)
+  item-tracks x fs f t =
+      stepped (λ (k : Count). Tracks k (opens fs)) x (item clip always) f
+      (tracks-item (items D) (λ e. total rowSize (entryRows e)) (weighed rowSize x) clip always (opens fs) t)
 
-  pub open-tracks : (x : Pruning.State Row) (fs : List Frame) → Fitted x → Tracks (weighed rowSize x) (opens fs) → Tracks (weighed rowSize (prune D c x push)) (opens (opening fs))
+  pub open-tracks : (x : Pruning.State Row) (fs : List Frame)
+      → Fitted x
+      → Tracks (weighed rowSize x) (opens fs)
+      → Tracks (weighed rowSize (prune D c x push)) (opens (opening fs))
   open-tracks x fs f t = go (isPaint fs)
     where
       go : (b : Bool) → Tracks (weighed rowSize (prune D c x push)) (opens (cond b paintLeft clipLeft ∷ fs))
-      go true = stepped (λ (k : Count). Tracks k (opens (paintLeft ∷ fs))) x push f (tracks-push (items D) (λ e. total rowSize (entryRows e)) (weighed rowSize x) paint (opens fs) t)
-      go false = stepped (λ (k : Count). Tracks k (opens (clipLeft ∷ fs))) x push f (tracks-push (items D) (λ e. total rowSize (entryRows e)) (weighed rowSize x) clip (opens fs) t)
+      go true =
+          stepped (λ (k : Count). Tracks k (opens (paintLeft ∷ fs))) x push f
+          (tracks-push (items D) (λ e. total rowSize (entryRows e)) (weighed rowSize x) paint (opens fs) t)
+      go false =
+          stepped (λ (k : Count). Tracks k (opens (clipLeft ∷ fs))) x push f
+          (tracks-push (items D) (λ e. total rowSize (entryRows e)) (weighed rowSize x) clip (opens fs) t)
 
-  pub bar-tracks : (x : Pruning.State Row) (fs : List Frame) → onLeft fs ≡ true → Fitted x → Tracks (weighed rowSize x) (opens fs) → Tracks (weighed rowSize (prune D c x activate)) (opens (toRight fs))
+  pub bar-tracks : (x : Pruning.State Row) (fs : List Frame)
+      → onLeft fs ≡ true
+      → Fitted x
+      → Tracks (weighed rowSize x) (opens fs)
+      → Tracks (weighed rowSize (prune D c x activate)) (opens (toRight fs))
   bar-tracks x [] h f t = clash h
-  bar-tracks x (paintLeft ∷ fs) h f t = stepped (λ (k : Count). Tracks k (opens (paintRight ∷ fs))) x activate f (tracks-activate (items D) (λ e. total rowSize (entryRows e)) (weighed rowSize x) paint (opens fs) t)
+  bar-tracks x (paintLeft ∷ fs) h f t =
+      stepped (λ (k : Count). Tracks k (opens (paintRight ∷ fs))) x activate f
+      (tracks-activate (items D) (λ e. total rowSize (entryRows e)) (weighed rowSize x) paint (opens fs) t)
   bar-tracks x (paintRight ∷ fs) h f t = clash h
-  bar-tracks x (clipLeft ∷ fs) h f t = stepped (λ (k : Count). Tracks k (opens (clipRight ∷ fs))) x activate f (tracks-activate (items D) (λ e. total rowSize (entryRows e)) (weighed rowSize x) clip (opens fs) t)
+  bar-tracks x (clipLeft ∷ fs) h f t =
+      stepped (λ (k : Count). Tracks k (opens (clipRight ∷ fs))) x activate f
+      (tracks-activate (items D) (λ e. total rowSize (entryRows e)) (weighed rowSize x) clip (opens fs) t)
   bar-tracks x (clipRight ∷ fs) h f t = clash h
 
-  pub close-tracks : (x : Pruning.State Row) (fs : List Frame) → onRight fs ≡ true → Fitted x → Tracks (weighed rowSize x) (opens fs) → Tracks (weighed rowSize (prune D c x pop)) (opens (toOuter fs))
+  pub close-tracks : (x : Pruning.State Row) (fs : List Frame)
+      → onRight fs ≡ true
+      → Fitted x
+      → Tracks (weighed rowSize x) (opens fs)
+      → Tracks (weighed rowSize (prune D c x pop)) (opens (toOuter fs))
   close-tracks x [] h f t = clash h
   close-tracks x (paintLeft ∷ fs) h f t = clash h
-  close-tracks x (paintRight ∷ fs) h f t = stepped (λ (k : Count). Tracks k (opens fs)) x pop f (tracks-pop (items D) (λ e. total rowSize (entryRows e)) (weighed rowSize x) paint (opens fs) t)
+  close-tracks x (paintRight ∷ fs) h f t =
+      stepped (λ (k : Count). Tracks k (opens fs)) x pop f
+      (tracks-pop (items D) (λ e. total rowSize (entryRows e)) (weighed rowSize x) paint (opens fs) t)
   close-tracks x (clipLeft ∷ fs) h f t = clash h
-  close-tracks x (clipRight ∷ fs) h f t = stepped (λ (k : Count). Tracks k (opens fs)) x pop f (tracks-pop (items D) (λ e. total rowSize (entryRows e)) (weighed rowSize x) clip (opens fs) t)
+  close-tracks x (clipRight ∷ fs) h f t =
+      stepped (λ (k : Count). Tracks k (opens fs)) x pop f
+      (tracks-pop (items D) (λ e. total rowSize (entryRows e)) (weighed rowSize x) clip (opens fs) t)

@@ -46,7 +46,20 @@ use Rattle.ranges.proofs.Groups.{opens, opens-length}
 use Rattle.making.specs.declared.Waiting as Declared
 use Rattle.making.specs.code.Numbers.{leftSign, leftClass, leftRange, waiting, resting, withLeft, waitingN, settledN, prunedN, Room, Inside}
 use Rattle.cells.proofs.Making.{entry-some}
-use Rattle.making.proofs.Follows.{stateOf, waitingOf, waitingFor, rowsFor, WaitsIn, row-some, Follows, total-most, settle-fits, mark-follows, area-follows, segment-follows}
+use Rattle.making.proofs.Follows.{
+  stateOf,
+  waitingOf,
+  waitingFor,
+  rowsFor,
+  WaitsIn,
+  row-some,
+  Follows,
+  total-most,
+  settle-fits,
+  mark-follows,
+  area-follows,
+  segment-follows,
+}
 use Rattle.making.proofs.Grammar.{Passes, one-passes}
 use Rattle.making.proofs.Standing.{Reads, Standing, by-kind, one-then, settle-tracks, item-tracks, open-tracks, bar-tracks, close-tracks}
 
@@ -161,8 +174,9 @@ module _ (v : Env) (D : Drawing) (c : Cell) (R : Reads v D) (k : ℕ) (p : Prune
 
     pub standing-sign : natAbs (leftSign (v .xs) (v .ys) w) ≤ 1
     standing-sign =
-        by-kind w (λ e. inRange v e ≡ true → natAbs (leftSign (v .xs) (v .ys) w) ≤ 1)
-        (λ e r. rw e (omega arith)) (λ e r. rw e (omega arith)) (λ e r. rw e (omega arith)) (λ e r. rw e (omega arith)) (λ e r. rw e (sign-abs (edgeBetween (v .xs) (v .ys) (w .p) (w .q))))
+        by-kind w (λ e. inRange v e ≡ true → natAbs (leftSign (v .xs) (v .ys) w) ≤ 1) (λ e r. rw e (omega arith))
+        (λ e r. rw e (omega arith)) (λ e r. rw e (omega arith)) (λ e r. rw e (omega arith))
+        (λ e r. rw e (sign-abs (edgeBetween (v .xs) (v .ys) (w .p) (w .q))))
         (λ e r. rw e (shortcut-small (w .p) true (both (signRange (w .p)) _ r .0))) (λ e r. rw e (omega arith)) (λ r. clash r)
         (passes .range)
 
@@ -171,7 +185,10 @@ module _ (v : Env) (D : Drawing) (c : Cell) (R : Reads v D) (k : ℕ) (p : Prune
     next e = onRows D c (rowFor e []) (s .rows)
 
     abbrev Next : Pruner → Declared.Waiting → Entries.Entry → Type 0
-    Next p′ a′ e = Follows D (k + 1) p′ a′ (next e) × Tracks (weighed rowSize (stateOf (next e))) (opens (after (s .place) e .groups)) × (length (after (s .place) e .groups) ≤ 8)
+    Next p′ a′ e =
+        Follows D (k + 1) p′ a′ (next e)
+        × Tracks (weighed rowSize (stateOf (next e))) (opens (after (s .place) e .groups))
+        × (length (after (s .place) e .groups) ≤ 8)
 
     fitted : Fit (count (items D) Row entryRows entry-some (settle D c (s .rows)))
     fitted = settle-fits (v .areas) D c (R .agrees) k p a (s .rows) (s .follows)
@@ -179,54 +196,83 @@ module _ (v : Env) (D : Drawing) (c : Cell) (R : Reads v D) (k : ℕ) (p : Prune
     tracked : Tracks (weighed rowSize (settle D c (s .rows))) (opens (s .place .groups))
     tracked = settle-tracks D c (s .rows) (s .place .groups) (s .follows .fit) (s .tracks)
 
-    marked : (p′ : Pruner) (e : Entry Item) → length (entryRows e) ≡ 1
-        → counted p′ ≡ countStep (items D) (λ e. total rowSize (entryRows e)) (settledN (v .areas) (counted p) a) e → Follows D (k + 1) p′ resting (making (prune D c (settle D c (s .rows)) e) nothing)
+    marked : (p′ : Pruner) (e : Entry Item)
+        → length (entryRows e) ≡ 1
+        → counted p′ ≡ countStep (items D) (λ e. total rowSize (entryRows e)) (settledN (v .areas) (counted p) a) e
+        → Follows D (k + 1) p′ resting (making (prune D c (settle D c (s .rows)) e) nothing)
     marked p′ e l h = mark-follows (v .areas) D c (R .agrees) k p p′ a (s .rows) e l (s .follows) h
 
-    sized-is : (k : Count) (e : Entry Item) → countStep sizedItems sizeOf k (asSized rowSize row-some (items D) entryRows entry-some e) ≡ countStep (items D) (λ e. total rowSize (entryRows e)) k e
+    sized-is : (k : Count) (e : Entry Item)
+        → countStep sizedItems sizeOf k (asSized rowSize row-some (items D) entryRows entry-some e)
+        ≡ countStep (items D) (λ e. total rowSize (entryRows e)) k e
     sized-is k e = sym (sized-step rowSize row-some (items D) entryRows entry-some refl refl refl refl k e)
 
-    module _ (p′ : Pruner) (a′ : Declared.Waiting) (hp : counted p′ ≡ prunedN (v .areas) (counted p) a (w .kind)) (ha : a′ ≡ waitingN a (leftClass (v .xs) (v .ys) (squareOf c) w) (leftSign (v .xs) (v .ys) w) w) where
+    module _ (p′ : Pruner) (a′ : Declared.Waiting) (hp : counted p′ ≡ prunedN (v .areas) (counted p) a (w .kind))
+        (ha : a′ ≡ waitingN a (leftClass (v .xs) (v .ys) (squareOf c) w) (leftSign (v .xs) (v .ys) w) w) where
       abbrev settled : Count
       settled = settledN (v .areas) (counted p) a
 
       on-open : w .kind ≡ 1 → Passes v (s .place) Entries.opens ws → Next p′ a′ Entries.opens
       on-open e h =
           let a₁ : a′ ≡ resting = rw e at ha in
-          let p₁ : counted p′ ≡ countStep sizedItems sizeOf settled push = rw e at hp in
-          (rw a₁ (marked p′ push refl (p₁ ∙ sized-is settled push)), open-tracks D c (settle D c (s .rows)) (s .place .groups) fitted tracked, omega (arith, ltb-true (length (s .place .groups)) 8 (h .room)))
+          let p₁ : counted p′ ≡ countStep sizedItems sizeOf settled push = rw e at hp in (
+            rw a₁ (marked p′ push refl (p₁ ∙ sized-is settled push)),
+            open-tracks D c (settle D c (s .rows)) (s .place .groups) fitted tracked,
+            omega (arith, ltb-true (length (s .place .groups)) 8 (h .room)),
+          )
 
       on-bar : w .kind ≡ 2 → Passes v (s .place) Entries.bar ws → Next p′ a′ Entries.bar
       on-bar e h =
           let a₁ : a′ ≡ resting = rw e at ha in
-          let p₁ : counted p′ ≡ countStep sizedItems sizeOf settled activate = rw e at hp in
-          (rw a₁ (marked p′ activate refl (p₁ ∙ sized-is settled activate)), bar-tracks D c (settle D c (s .rows)) (s .place .groups) (h .fit) fitted tracked, omega (arith, s .few, right-length (s .place .groups)))
+          let p₁ : counted p′ ≡ countStep sizedItems sizeOf settled activate = rw e at hp in (
+            rw a₁ (marked p′ activate refl (p₁ ∙ sized-is settled activate)),
+            bar-tracks D c (settle D c (s .rows)) (s .place .groups) (h .fit) fitted tracked,
+            omega (arith, s .few, right-length (s .place .groups)),
+          )
 
       on-close : w .kind ≡ 3 → Passes v (s .place) Entries.closes ws → Next p′ a′ Entries.closes
       on-close e h =
           let a₁ : a′ ≡ resting = rw e at ha in
-          let p₁ : counted p′ ≡ countStep sizedItems sizeOf settled pop = rw e at hp in
-          (rw a₁ (marked p′ pop refl (p₁ ∙ sized-is settled pop)), close-tracks D c (settle D c (s .rows)) (s .place .groups) (h .fit) fitted tracked, omega (arith, s .few, outer-length (s .place .groups)))
+          let p₁ : counted p′ ≡ countStep sizedItems sizeOf settled pop = rw e at hp in (
+            rw a₁ (marked p′ pop refl (p₁ ∙ sized-is settled pop)),
+            close-tracks D c (settle D c (s .rows)) (s .place .groups) (h .fit) fitted tracked,
+            omega (arith, s .few, outer-length (s .place .groups)),
+          )
 
       on-passes : w .kind ≡ 7 → Passes v (s .place) Entries.passes ws → Next p′ a′ Entries.passes
       on-passes e h =
           let a₁ : a′ ≡ resting = rw e at ha in
-          let p₁ : counted p′ ≡ countStep sizedItems sizeOf settled (item clip (sized Items.passes 1)) = rw e at hp in
-          (rw a₁ (marked p′ (item clip always) refl (p₁ ∙ sized-is settled (item clip always))), item-tracks D c (settle D c (s .rows)) (s .place .groups) fitted tracked, s .few)
+          let p₁ : counted p′ ≡ countStep sizedItems sizeOf settled (item clip (sized Items.passes 1)) = rw e at hp in (
+            rw a₁ (marked p′ (item clip always) refl (p₁ ∙ sized-is settled (item clip always))),
+            item-tracks D c (settle D c (s .rows)) (s .place .groups) fitted tracked,
+            s .few,
+          )
 
       on-area : w .q < 4294967296 → w .kind ≡ 4 → Passes v (s .place) (Entries.area (w .p) (w .q)) ws → Next p′ a′ (Entries.area (w .p) (w .q))
       on-area l e h =
           let a₁ : a′ ≡ waiting true (w .p) (toZ w32 (w .q)) 4294967297 = rw e at ha in
           let p₁ : counted p′ ≡ settled = rw e at hp in
           let r = both (isGood (areaMet v (w .p))) (startRange (w .q)) (h .range) in
-          let n : w .p < length (D .fields) = omega (arith, R .fields, area-below (v .areas) (v .used .areas) (w .p) (r .0)) in
-          (rw a₁ (area-follows (v .areas) D c (R .agrees) k p p′ a (s .rows) (w .p) (toZ w32 (w .q)) n (start-small (w .q) (r .1) l) (s .follows) p₁), tracked, s .few)
+          let n : w .p < length (D .fields) = omega (arith, R .fields, area-below (v .areas) (v .used .areas) (w .p) (r .0)) in (
+            rw a₁
+                (area-follows (v .areas) D c (R .agrees) k p p′ a (s .rows) (w .p) (toZ w32 (w .q)) n (start-small (w .q) (r .1) l)
+                (s .follows) p₁),
+            tracked,
+            s .few,
+          )
 
-      segment-next : (g : Segment) → natAbs (signOf (D .xs) (D .ys) g) ≤ 1 → counted p′ ≡ counted p → a′ ≡ withLeft a (classIn (D .xs) (D .ys) c g) (signOf (D .xs) (D .ys) g)
-          → Follows D (k + 1) p′ a′ (addTo D c g (s .rows)) × Tracks (weighed rowSize (stateOf (addTo D c g (s .rows)))) (opens (s .place .groups)) × (length (s .place .groups) ≤ 8)
+      segment-next : (g : Segment)
+          → natAbs (signOf (D .xs) (D .ys) g) ≤ 1
+          → counted p′ ≡ counted p
+          → a′ ≡ withLeft a (classIn (D .xs) (D .ys) c g) (signOf (D .xs) (D .ys) g)
+          → Follows D (k + 1) p′ a′ (addTo D c g (s .rows))
+          × Tracks (weighed rowSize (stateOf (addTo D c g (s .rows)))) (opens (s .place .groups))
+          × (length (s .place .groups) ≤ 8)
       segment-next g z x y = (segment-follows (v .areas) D c (R .agrees) k p p′ a a′ (s .rows) g z (s .follows) x y, same (s .rows) (s .tracks), s .few)
         where
-          same : (m : Making) → Tracks (weighed rowSize (stateOf m)) (opens (s .place .groups)) → Tracks (weighed rowSize (stateOf (addTo D c g m))) (opens (s .place .groups))
+          same : (m : Making)
+              → Tracks (weighed rowSize (stateOf m)) (opens (s .place .groups))
+              → Tracks (weighed rowSize (stateOf (addTo D c g m))) (opens (s .place .groups))
           same (making x nothing) t = t
           same (making x (held n z gs)) t = t
 
@@ -234,18 +280,22 @@ module _ (v : Env) (D : Drawing) (c : Cell) (R : Reads v D) (k : ℕ) (p : Prune
       on-line e h =
           let u = line-used (v .xs) (v .ys) (v .used .corners) (w .p) (w .q) (h .range) in
           let d = R .edges (w .p) (w .q) (u .0) (u .1) in
-          let a₁ : a′ ≡ withLeft a (edgeClass (edgeBetween (v .xs) (v .ys) (w .p) (w .q)) (squareOf c)) (sign (edgeBetween (v .xs) (v .ys) (w .p) (w .q))) = rw e at ha in
+          let a₁ : a′
+          ≡ withLeft a (edgeClass (edgeBetween (v .xs) (v .ys) (w .p) (w .q)) (squareOf c))
+          (sign (edgeBetween (v .xs) (v .ys) (w .p) (w .q))) = rw e at ha in
           segment-next (drawn (Windings.line (w .p) (w .q))) (sign-abs (edgeBetween (D .xs) (D .ys) (w .p) (w .q))) (rw e at hp) (rw d a₁)
 
       on-shortcut : w .kind ≡ 6 → Passes v (s .place) (Entries.shortcut (w .p) (w .q) (w .r)) ws → Next p′ a′ (Entries.shortcut (w .p) (w .q) (w .r))
       on-shortcut e h =
-          segment-next (Segments.shortcut (toZ w32 (w .p)) (w .q) (w .r)) (shortcut-small (w .p) true (both (signRange (w .p)) _ (h .range) .0)) (rw e at hp) (rw e at ha)
+          segment-next (Segments.shortcut (toZ w32 (w .p)) (w .q) (w .r))
+          (shortcut-small (w .p) true (both (signRange (w .p)) _ (h .range) .0)) (rw e at hp) (rw e at ha)
 
       -- with the rows that it then has
       pub standing-rows : w .q < 4294967296 → (x : Standing v D c (k + 1) p′ a′ ws whole) × (x .rows ≡ next (decode w))
       unfolding rowsIn
       standing-rows l =
-          let n = by-kind w (λ e. Passes v (s .place) e ws → Next p′ a′ e) on-open on-bar on-close (on-area l) on-line on-shortcut on-passes (λ h. clash (h .range)) passes in (
+          let n = by-kind w (λ e. Passes v (s .place) e ws → Next p′ a′ e) on-open on-bar on-close (on-area l) on-line on-shortcut on-passes
+          (λ h. clash (h .range)) passes in (
             record {
               rows = next (decode w);
               place = after (s .place) (decode w);

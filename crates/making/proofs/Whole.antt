@@ -33,7 +33,10 @@ abbrev pub allOf : Drawing → Cell → List Words → Making
 allOf D c ws = onRows D c (rowsIn ws) (begun D c)
 
 module _ (v : Env) (D : Drawing) (c : Cell) (R : Reads v D) (ws : List Words) (h : accepts v ws ≡ true) where
-  pub standing-start : (p : Pruner) (a : Waiting) → counted p ≡ ct 0 0 going [] → a ≡ resting → (x : Standing v D c 0 p a ws (allOf D c ws)) × (x .rows ≡ begun D c)
+  pub standing-start : (p : Pruner) (a : Waiting)
+      → counted p ≡ ct 0 0 going []
+      → a ≡ resting
+      → (x : Standing v D c 0 p a ws (allOf D c ws)) × (x .rows ≡ begun D c)
   unfolding accepts
   standing-start p a e f = (
     record {

@@ -34,16 +34,54 @@ shared-slice-read-if4 : tie.Need-shared-slice-read-if4
 shared-slice-read-if4 c = search needs
 
 returns : tie.Need-returns
-returns c = let a = c .before .before .before .before .before .before .before .before .before .before .before .before .args in let p = c .before .before .before .before .before .before .before .before .before .before .before .before .pre in search (tests, passes-same (now (a .areas)) (a .a .number) (a .a .start) _ true (p .0) (c .before .before .before .before .before .area-passes .ensures) (c .before .before .before .before .if2 .taken))
+returns c =
+    let at-if2 = c .before .before .before .before in
+    let after-area-passes = at-if2 .before in
+    let at-entry = after-area-passes .before .before .before .before .before .before .before in
+    let a = at-entry .args in
+    let p = at-entry .pre in
+    search (
+      tests,
+      passes-same (now (a .areas)) (a .a .number) (a .a .start) _ true (p .0) (after-area-passes .area-passes .ensures)
+          (at-if2 .if2 .taken),
+    )
 
 returns-2 : tie.Need-returns-2
-returns-2 c = let a = c .before .before .before .before .before .before .before .before .before .before .before .before .args in let p = c .before .before .before .before .before .before .before .before .before .before .before .before .pre in search (tests, passes-same (now (a .areas)) (a .a .number) (a .a .start) _ true (p .0) (c .before .before .before .before .before .area-passes .ensures) (c .before .before .before .before .if2 .taken))
+returns-2 c =
+    let at-if2 = c .before .before .before .before in
+    let after-area-passes = at-if2 .before in
+    let at-entry = after-area-passes .before .before .before .before .before .before .before in
+    let a = at-entry .args in
+    let p = at-entry .pre in
+    search (
+      tests,
+      passes-same (now (a .areas)) (a .a .number) (a .a .start) _ true (p .0) (after-area-passes .area-passes .ensures)
+          (at-if2 .if2 .taken),
+    )
 
 returns-3 : tie.Need-returns-3
-returns-3 c = let a = c .before .before .before .before .before .before .before .before .before .before .args in let p = c .before .before .before .before .before .before .before .before .before .before .pre in search (tests, passes-same (now (a .areas)) (a .a .number) (a .a .start) _ true (p .0) (c .before .before .before .area-passes .ensures) (c .before .before .if2 .taken))
+returns-3 c =
+    let at-if2 = c .before .before in
+    let after-area-passes = at-if2 .before in
+    let at-entry = after-area-passes .before .before .before .before .before .before .before in
+    let a = at-entry .args in
+    let p = at-entry .pre in
+    search (
+      tests,
+      passes-same (now (a .areas)) (a .a .number) (a .a .start) _ true (p .0) (after-area-passes .area-passes .ensures)
+          (at-if2 .if2 .taken),
+    )
 
 returns-4 : tie.Need-returns-4
-returns-4 c = let a = c .before .before .before .before .before .before .before .before .args in let p = c .before .before .before .before .before .before .before .before .pre in search (tests, passes-same (now (a .areas)) (a .a .number) (a .a .start) _ false (p .0) (c .before .area-passes .ensures) (c .if2 .left))
+returns-4 c =
+    let after-area-passes = c .before in
+    let at-entry = after-area-passes .before .before .before .before .before .before .before in
+    let a = at-entry .args in
+    let p = at-entry .pre in
+    search (
+      tests,
+      passes-same (now (a .areas)) (a .a .number) (a .a .start) _ false (p .0) (after-area-passes .area-passes .ensures) (c .if2 .left),
+    )
 
 returns-5 : tie.Need-returns-5
 returns-5 c = search tests

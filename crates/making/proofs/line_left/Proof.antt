@@ -17,10 +17,18 @@ edge-sign-requires : tie.Need-edge-sign-requires
 edge-sign-requires c κs = search needs
 
 classify-requires : tie.Need-classify-requires
-classify-requires c κs = rw (c .before .edge-between .ensures) (c .before .before .before .before .before .before .pre .1)
+classify-requires c κs =
+    let after-edge-between = c .before in
+    let at-entry = after-edge-between .before .before .before .before .before in
+    rw (after-edge-between .edge-between .ensures) (at-entry .pre .1)
 
 returns : tie.Need-returns
-returns c = (rw (← c .before .before .edge-between .ensures) (read-back _ (c .before .edge-sign .ok) ∙ c .before .edge-sign .ensures), rw (← c .before .before .edge-between .ensures) (c .classify .ensures))
+returns c =
+    let after-edge-sign = c .before in
+    let after-edge-between = after-edge-sign .before in (
+      rw (← after-edge-between .edge-between .ensures) (read-back _ (after-edge-sign .edge-sign .ok) ∙ after-edge-sign .edge-sign .ensures),
+      rw (← after-edge-between .edge-between .ensures) (c .classify .ensures),
+    )
 
 pub line-left-spec : {M : Type 1} → statement M
 line-left-spec =

@@ -5,7 +5,9 @@ use Rattle.laws.proofs.Tests.{tests}
 use native.Mathlib.Omega.{arith}
 
 after-open-requires : tie.Need-after-open-requires
-after-open-requires c κs = (omega (arith, c .before .pre .0 .0), (c .before .pre .0 .2, c .before .pre .1 (c .match .keys1)))
+after-open-requires c κs =
+    let at-entry = c .before in
+    (omega (arith, at-entry .pre .0 .0), (at-entry .pre .0 .2, at-entry .pre .1 (c .match .keys1)))
 
 after-bar-requires : tie.Need-after-bar-requires
 after-bar-requires c κs = search needs

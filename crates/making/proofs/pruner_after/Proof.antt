@@ -17,10 +17,21 @@ settled-requires : tie.Need-settled-requires
 settled-requires c κs = search needs
 
 moved-requires : tie.Need-moved-requires
-moved-requires c κs = let a = c .before .before .before .before .args in let p = c .before .before .before .before .pre in room-after (now (a .areas)) (a .p) (c .settled .result) (a .a) (a .kind) (c .settled .ensures) (p .1)
+moved-requires c κs =
+    let at-entry = c .before .before .before .before in
+    let a = at-entry .args in
+    let p = at-entry .pre in
+    room-after (now (a .areas)) (a .p) (c .settled .result) (a .a) (a .kind) (c .settled .ensures) (p .1)
 
 returns-3 : tie.Need-returns-3
-returns-3 c = let a = c .before .before .before .before .before .args in pruned-by (now (a .areas)) (counted (a .p)) (a .a) (a .kind) (counted (c .before .settled .result)) (counted (c .moved .result)) (c .before .before .before .if1 .left) (c .before .before .if2 .left) (c .moved .ensures) (c .before .settled .ensures)
+returns-3 c =
+    let after-settled = c .before in
+    let at-if2 = after-settled .before in
+    let at-if1 = at-if2 .before in
+    let at-entry = at-if1 .before .before in
+    let a = at-entry .args in
+    pruned-by (now (a .areas)) (counted (a .p)) (a .a) (a .kind) (counted (after-settled .settled .result)) (counted (c .moved .result))
+    (at-if1 .if1 .left) (at-if2 .if2 .left) (c .moved .ensures) (after-settled .settled .ensures)
 
 pub pruner-after-spec : {M : Type 1} → statement M
 pruner-after-spec =

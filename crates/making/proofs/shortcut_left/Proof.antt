@@ -8,10 +8,15 @@ cut-rows-requires : tie.Need-cut-rows-requires
 cut-rows-requires c κs = search needs
 
 returns : tie.Need-returns
-returns c = (rw (c .if1 .taken) refl, c .before .before .cut-rows .ensures)
+returns c =
+    let after-cut-rows = c .before .before in
+    (rw (c .if1 .taken) refl, after-cut-rows .cut-rows .ensures)
 
 returns-2 : tie.Need-returns-2
-returns-2 c = (rw (other-sign _ (c .before .before .before .pre .0) (c .if1 .left)) refl, c .before .before .cut-rows .ensures)
+returns-2 c =
+    let after-cut-rows = c .before .before in
+    let at-entry = after-cut-rows .before in
+    (rw (other-sign _ (at-entry .pre .0) (c .if1 .left)) refl, after-cut-rows .cut-rows .ensures)
 
 pub shortcut-left-spec : {M : Type 1} → statement M
 shortcut-left-spec = tie.close (tie.spec cut-rows-requires returns returns-2)

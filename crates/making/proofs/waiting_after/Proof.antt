@@ -6,7 +6,9 @@ use Rattle.evaluate.proofs.Laws.{small-back}
 use native.Mathlib.Omega.{arith}
 
 named-requires : tie.Need-named-requires
-named-requires c κs = c .before .before .pre .1 (c .if1 .taken)
+named-requires c κs =
+    let at-entry = c .before .before in
+    at-entry .pre .1 (c .if1 .taken)
 
 returns : tie.Need-returns
 returns c = rw (c .before .if1 .taken) (c .named .ensures)
@@ -15,13 +17,19 @@ with-left-requires : tie.Need-with-left-requires
 with-left-requires c κs = search needs
 
 returns-2 : tie.Need-returns-2
-returns-2 c = rw (c .before .before .if2 .taken) (rw (small-back (c .before .before .before .before .before .before .args .l .sign) (omega (arith, c .before .before .before .before .before .before .pre .0 .1))) at (c .with-left .ensures))
+returns-2 c =
+    let at-if2 = c .before .before in
+    let at-entry = at-if2 .before .before .before .before in
+    rw (at-if2 .if2 .taken) (rw (small-back (at-entry .args .l .sign) (omega (arith, at-entry .pre .0 .1))) at (c .with-left .ensures))
 
 with-left-requires-2 : tie.Need-with-left-requires-2
 with-left-requires-2 c κs = search needs
 
 returns-3 : tie.Need-returns-3
-returns-3 c = rw (c .before .before .if3 .taken) (rw (small-back (c .before .before .before .before .before .before .before .before .args .l .sign) (omega (arith, c .before .before .before .before .before .before .before .before .pre .0 .1))) at (c .with-left2 .ensures))
+returns-3 c =
+    let at-if3 = c .before .before in
+    let at-entry = at-if3 .before .before .before .before .before .before in
+    rw (at-if3 .if3 .taken) (rw (small-back (at-entry .args .l .sign) (omega (arith, at-entry .pre .0 .1))) at (c .with-left2 .ensures))
 
 rest-requires : tie.Need-rest-requires
 rest-requires c κs = search needs

@@ -15,10 +15,24 @@ enum-told-2 : tie.Need-enum-told-2
 enum-told-2 c = search needs
 
 add-t5 : tie.Need-add-t5
-add-t5 c = let a = c .before .before .before .before .before .args in let p = c .before .before .before .before .before .pre in fits-as (sum-is (a .a .start) (a .sign) (p .0) (p .1)) (sum-fits (a .a .start) (a .sign) (p .0) (p .1))
+add-t5 c =
+    let at-entry = c .before .before .before .before .before in
+    let a = at-entry .args in
+    let p = at-entry .pre in
+    fits-as (sum-is (a .a .start) (a .sign) (p .0) (p .1)) (sum-fits (a .a .start) (a .sign) (p .0) (p .1))
 
 returns-2 : tie.Need-returns-2
-returns-2 c = let a = c .before .before .before .before .before .args in let p = c .before .before .before .before .before .pre in rw (c .before .before .before .before .if1 .taken, c .before .before .enum-told2 .given .1, reads (sum-is (a .a .start) (a .sign) (p .0) (p .1)) (sum-fits (a .a .start) (a .sign) (p .0) (p .1)))
+returns-2 c =
+    let after-enum-told2 = c .before .before in
+    let at-if1 = after-enum-told2 .before .before in
+    let at-entry = at-if1 .before in
+    let a = at-entry .args in
+    let p = at-entry .pre in
+    rw (
+      at-if1 .if1 .taken,
+      after-enum-told2 .enum-told2 .given .1,
+      reads (sum-is (a .a .start) (a .sign) (p .0) (p .1)) (sum-fits (a .a .start) (a .sign) (p .0) (p .1)),
+    )
 
 enum-told-3 : tie.Need-enum-told-3
 enum-told-3 c = search needs
@@ -30,7 +44,10 @@ grown-requires : tie.Need-grown-requires
 grown-requires c κs = search needs
 
 returns-3 : tie.Need-returns-3
-returns-3 c = rw (c .before .before .before .before .if1 .taken, c .before .before .enum-told3 .given .1) (c .grown .ensures)
+returns-3 c =
+    let after-enum-told3 = c .before .before in
+    let at-if1 = after-enum-told3 .before .before in
+    rw (at-if1 .if1 .taken, after-enum-told3 .enum-told3 .given .1) (c .grown .ensures)
 
 enum-told-4 : tie.Need-enum-told-4
 enum-told-4 c = search needs
@@ -42,7 +59,10 @@ grown-requires-2 : tie.Need-grown-requires-2
 grown-requires-2 c κs = search needs
 
 returns-4 : tie.Need-returns-4
-returns-4 c = rw (c .before .before .before .before .if1 .taken, c .before .before .enum-told4 .given .1) (c .grown2 .ensures)
+returns-4 c =
+    let after-enum-told4 = c .before .before in
+    let at-if1 = after-enum-told4 .before .before in
+    rw (at-if1 .if1 .taken, after-enum-told4 .enum-told4 .given .1) (c .grown2 .ensures)
 
 returns-5 : tie.Need-returns-5
 returns-5 c = search needs
