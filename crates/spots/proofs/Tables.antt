@@ -26,5 +26,12 @@ pub painted : (areas : List ℕ) (n set : ℕ) → atMost 255 areas → length a
 painted areas n set t e h =
     record {
       row = λ k b. omega (arith, has-below n set k h b);
-      bytes = λ k b. let i = has-below n set k h b in record { alpha-byte = at-most 255 areas t (k * 8 + 2) (omega arith); red-byte = at-most 255 areas t (k * 8 + 3) (omega arith); green-byte = at-most 255 areas t (k * 8 + 4) (omega arith); blue-byte = at-most 255 areas t (k * 8 + 5) (omega arith) };
+      bytes = λ k b.
+          let i = has-below n set k h b in
+          record {
+            alpha-byte = at-most 255 areas t (k * 8 + 2) (omega arith);
+            red-byte = at-most 255 areas t (k * 8 + 3) (omega arith);
+            green-byte = at-most 255 areas t (k * 8 + 4) (omega arith);
+            blue-byte = at-most 255 areas t (k * 8 + 5) (omega arith);
+          };
     }

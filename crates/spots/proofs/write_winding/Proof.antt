@@ -17,8 +17,9 @@ slice-aggregate-area-winding-3 c = search needs
 
 area-winding-requires : tie.Need-area-winding-requires
 area-winding-requires c κs =
-    let a = c .before .before .before .args in
-    let h = c .before .before .before .pre in
+    let at-entry = c .before .before .before in
+    let a = at-entry .args in
+    let h = at-entry .pre in
     let l = le-leb (a .w) reach (h .0 .second-x) in
     (corners-in _ _ refl (simp (le-leb (a .p) reach (h .0 .first-x), l) tt) (simp (le-leb (a .q) reach (h .0 .first-y), l) tt), (tt, h .1))
 
