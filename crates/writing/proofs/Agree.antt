@@ -20,7 +20,14 @@ use Rattle.writing.specs.code.Numbers.{putBelow}
 
 -- an entry leaves the others
 put-other : (t : List ℕ) (i j : ℕ) (w : Words) → (i ≡ j → ⊥) → wordsAt (putAt t j w) i ≡ wordsAt t i
-put-other t i j w h = λ d. record { kind = at (i * 4) 0 (omega arith) (omega arith) d; p = at (i * 4 + 1) 1 (omega arith) (omega arith) d; q = at (i * 4 + 2) 2 (omega arith) (omega arith) d; r = at (i * 4 + 3) 3 (omega arith) (omega arith) d }
+put-other t i j w h =
+    λ d.
+    record {
+      kind = at (i * 4) 0 (omega arith) (omega arith) d;
+      p = at (i * 4 + 1) 1 (omega arith) (omega arith) d;
+      q = at (i * 4 + 2) 2 (omega arith) (omega arith) d;
+      r = at (i * 4 + 3) 3 (omega arith) (omega arith) d;
+    }
   where
     differ : (k x y : ℕ) → k ≡ i * 4 + x → x < 4 → y < 4 → k ≡ j * 4 + y → ⊥
     differ k x y e a b f = h (omega arith)
@@ -38,7 +45,8 @@ put-other t i j w h = λ d. record { kind = at (i * 4) 0 (omega arith) (omega ar
     at k x e a =
         getD-set-other t₃ (j * 4 + 3) k (w .r) 0 (λ f. differ k x 3 e a (omega arith) f)
         ∙ (getD-set-other t₂ (j * 4 + 2) k (w .q) 0 (λ f. differ k x 2 e a (omega arith) f)
-        ∙ (getD-set-other t₁ (j * 4 + 1) k (w .p) 0 (λ f. differ k x 1 e a (omega arith) f) ∙ getD-set-other t (j * 4) k (w .kind) 0 (λ f. differ k x 0 e a (omega arith) (f ∙ sym (add-zero (j * 4))))))
+        ∙ (getD-set-other t₁ (j * 4 + 1) k (w .p) 0 (λ f. differ k x 1 e a (omega arith) f)
+        ∙ getD-set-other t (j * 4) k (w .kind) 0 (λ f. differ k x 0 e a (omega arith) (f ∙ sym (add-zero (j * 4))))))
 
 module _ (limit : ℕ) where
   pub below-other : (t : List ℕ) (i at : ℕ) (w : Words) → (i ≡ at → ⊥) → wordsAt (putBelow limit t at w) i ≡ wordsAt t i
@@ -102,9 +110,13 @@ module _ (limit : ℕ) where
   agree-before t at (r ∷ x) p w h a = (λ l. below-other t at p w (λ e. omega arith) ∙ a .0 l, agree-before t (at + 1) x p w (omega arith) (a .1))
 
   -- one row more
-  pub agree-more : (t : List ℕ) (at : ℕ) (x : List Row) (r : Row) → limit * 4 ≤ length t → Agree t at x → Agree (putBelow limit t (at + length x) (wordsOf r)) at (x ++ (r ∷ []))
+  pub agree-more : (t : List ℕ) (at : ℕ) (x : List Row) (r : Row)
+      → limit * 4 ≤ length t
+      → Agree t at x
+      → Agree (putBelow limit t (at + length x) (wordsOf r)) at (x ++ (r ∷ []))
   agree-more t at x r h a =
-      agree-append (putBelow limit t (at + length x) (wordsOf r)) at x (r ∷ []) (agree-behind t at x (at + length x) (wordsOf r) (omega arith) a) (λ l. below-here t (at + length x) (wordsOf r) h l, tt)
+      agree-append (putBelow limit t (at + length x) (wordsOf r)) at x (r ∷ [])
+      (agree-behind t at x (at + length x) (wordsOf r) (omega arith) a) (λ l. below-here t (at + length x) (wordsOf r) h l, tt)
 
   -- rows up to the limit
   pub agree-all : (t : List ℕ) (at : ℕ) (x : List Row) → at + length x ≤ limit → Agree t at x → wordsFrom t at (length x) ≡ map wordsOf x

@@ -45,16 +45,23 @@ module _ (limit : ℕ) where
 
   module _ (areas : List ℕ) (t : List ℕ) (m : Maker) where
     same-segment : (f : Class) (z : ℤ) (w : Words) → Same t (segmentPut limit t m f z w)
-    same-segment f z w = same-if (eqb (m .pruner .skip) 0) t _ t (same-if (m .waiting .waits) t _ t (same-kept f t (placeOf (m .pruner .weight) + placeOf (m .waiting .weight)) z w) (same-refl t)) (same-refl t)
+    same-segment f z w =
+        same-if (eqb (m .pruner .skip) 0) t _ t
+        (same-if (m .waiting .waits) t _ t (same-kept f t (placeOf (m .pruner .weight) + placeOf (m .waiting .weight)) z w) (same-refl t))
+        (same-refl t)
 
     same-class : (k : ℕ) → Same t (classPut limit areas t m k)
     same-class k =
         let named = same-put t (placeOf (m .pruner .weight)) (words 4 (m .waiting .number) (ofZ w32 (m .waiting .start)) 0) in
         same-if (eqb k 0) t t _ (same-refl t)
-        (same-if (eqb k 1) t _ _ (same-if (eqb (getD areas (m .waiting .number * 8) 0) 0) t _ _ named (same-put t (placeOf (m .pruner .base)) (words 7 0 0 0))) named)
+        (same-if (eqb k 1) t _ _
+        (same-if (eqb (getD areas (m .waiting .number * 8) 0) 0) t _ _ named (same-put t (placeOf (m .pruner .base)) (words 7 0 0 0)))
+        named)
 
     pub same-settled : Same t (settledPut limit areas t m)
-    same-settled = same-if (m .waiting .waits) t _ t (same-if (eqb (m .pruner .skip) 0) t _ t (same-class (classN areas (m .waiting))) (same-refl t)) (same-refl t)
+    same-settled =
+        same-if (m .waiting .waits) t _ t (same-if (eqb (m .pruner .skip) 0) t _ t (same-class (classN areas (m .waiting))) (same-refl t))
+        (same-refl t)
 
     same-mark : (u : List ℕ) (c : Count) (n kind : ℕ) → Same u (markOn limit u c n kind)
     same-mark u c n kind =
@@ -64,4 +71,5 @@ module _ (limit : ℕ) where
     pub same-one : (f : Class) (z : ℤ) (w : Words) (n : ℕ) → Same t (onePut limit areas t m f z w n)
     same-one f z w n =
         same-if (eqb (w .kind) 5) t _ _ (same-segment f z w)
-        (same-if (eqb (w .kind) 6) t _ _ (same-segment f z w) (same-then same-settled (same-mark (settledPut limit areas t m) (settledN areas (counted (m .pruner)) (m .waiting)) n (w .kind))))
+        (same-if (eqb (w .kind) 6) t _ _ (same-segment f z w)
+        (same-then same-settled (same-mark (settledPut limit areas t m) (settledN areas (counted (m .pruner)) (m .waiting)) n (w .kind))))

@@ -62,8 +62,8 @@ going-is : (x : Pruning.State Row) → eqb (skipIn (weighed rowSize x)) 0 ≡ is
 going-is (st out b going fs) = refl
 going-is (st out b (shut m) fs) = ne-eqb (suc m) 0 (λ e. omega arith)
 
-module _ (v : Env) (D : Drawing) (c : Cell) (R : Reads v D) (k : ℕ) (mk : Maker) (whole : Making) (limit : ℕ) (t₀ t : List ℕ) (l : k ≤ 4096) (room : limit * 4 ≤ length t) (w : Words) (ws : List Words)
-    (s : Writing v D c k mk (w ∷ ws) whole limit t₀ t) where
+module _ (v : Env) (D : Drawing) (c : Cell) (R : Reads v D) (k : ℕ) (mk : Maker) (whole : Making) (limit : ℕ) (t₀ t : List ℕ) (l : k ≤ 4096)
+    (room : limit * 4 ≤ length t) (w : Words) (ws : List Words) (s : Writing v D c k mk (w ∷ ws) whole limit t₀ t) where
   abbrev rows : Making
   rows = s .standing .rows
 
@@ -96,12 +96,19 @@ module _ (v : Env) (D : Drawing) (c : Cell) (R : Reads v D) (k : ℕ) (mk : Make
   resting : (u : List ℕ) (x : Pruning.State Row) → Agree limit u 0 (outOf x) → Writes limit u (making x nothing)
   resting u x a = record { done = a; behind = λ e. tt }
 
-  marked : (kind n : ℕ) (r : Row) (x : Pruning.State Row) (u : List ℕ) → wordsOf r ≡ words kind 0 0 0 → rowSize r ≡ 1 → Moves (outOf (settle D c rows)) r (outOf x) → n ≡ total rowSize (outOf x)
-      → u ≡ cond (ltb (lengthOf (settledN areas (counted (mk .pruner)) (mk .waiting))) n) (putBelow limit settled (placeOf (lengthOf (settledN areas (counted (mk .pruner)) (mk .waiting)))) (words kind 0 0 0)) settled
+  marked : (kind n : ℕ) (r : Row) (x : Pruning.State Row) (u : List ℕ)
+      → wordsOf r ≡ words kind 0 0 0
+      → rowSize r ≡ 1
+      → Moves (outOf (settle D c rows)) r (outOf x)
+      → n ≡ total rowSize (outOf x)
+      → u
+      ≡ cond (ltb (lengthOf (settledN areas (counted (mk .pruner)) (mk .waiting))) n)
+      (putBelow limit settled (placeOf (lengthOf (settledN areas (counted (mk .pruner)) (mk .waiting)))) (words kind 0 0 0)) settled
       → Writes limit u (making x nothing)
   marked kind n r x u e z m h g = resting u x (rw (g, counts, h) (mark-agrees limit settled (settle D c rows) r kind (outOf x) e z roomy small m stands))
 
-  module _ (u : List ℕ) (n : ℕ) (f : Class) (z : ℤ) (hf : f ≡ leftClass (v .xs) (v .ys) (squareOf c) w) (hz : z ≡ leftSign (v .xs) (v .ys) w) (hu : u ≡ onePut limit areas t mk f z w n) where
+  module _ (u : List ℕ) (n : ℕ) (f : Class) (z : ℤ) (hf : f ≡ leftClass (v .xs) (v .ys) (squareOf c) w)
+      (hz : z ≡ leftSign (v .xs) (v .ys) w) (hu : u ≡ onePut limit areas t mk f z w n) where
     on-open : w .kind ≡ 1 → n ≡ total rowSize (outOf (stateOf (next Entries.opens))) → Writes limit u (next Entries.opens)
     on-open e h = marked 1 n Rows.opens (prune D c (settle D c rows) push) u refl refl (open-moves D c (settle D c rows)) h (rw e at hu)
 
@@ -113,17 +120,38 @@ module _ (v : Env) (D : Drawing) (c : Cell) (R : Reads v D) (k : ℕ) (mk : Make
 
     on-passes : w .kind ≡ 7 → Writes limit u (next Entries.passes)
     on-passes e =
-        let g : u ≡ cond (eqb (skipIn (settledN areas (counted (mk .pruner)) (mk .waiting))) 0) (putBelow limit settled (placeOf (baseOf (settledN areas (counted (mk .pruner)) (mk .waiting)))) (words 7 0 0 0)) settled = rw e at hu in
+        let g : u
+        ≡ cond (eqb (skipIn (settledN areas (counted (mk .pruner)) (mk .waiting))) 0)
+        (putBelow limit settled (placeOf (baseOf (settledN areas (counted (mk .pruner)) (mk .waiting)))) (words 7 0 0 0)) settled =
+        rw e at hu in
         resting u (prune D c (settle D c rows) (item clip always))
-        (rw (g, counts, going-is (settle D c rows)) (bare-agrees limit settled D c (settle D c rows) (settle-fits areas D c (R .agrees) k (mk .pruner) (mk .waiting) rows (s .standing .follows)) roomy small stands))
+        (rw (g, counts, going-is (settle D c rows))
+        (bare-agrees limit settled D c (settle D c rows)
+        (settle-fits areas D c (R .agrees) k (mk .pruner) (mk .waiting) rows (s .standing .follows)) roomy small stands))
 
     on-area : w .kind ≡ 4 → n ≡ total rowSize (outOf (settle D c rows)) → Writes limit u (next (Entries.area (w .p) (w .q)))
     on-area e h =
-        let g : u ≡ cond (ltb (lengthOf (settledN areas (counted (mk .pruner)) (mk .waiting))) n) (putBelow limit settled (placeOf (lengthOf (settledN areas (counted (mk .pruner)) (mk .waiting)))) (words 4 0 0 0)) settled = rw e at hu in
-        record { done = rw (g, counts, h, weight-is (settle D c rows), le-ltb (total rowSize (outOf (settle D c rows))) (total rowSize (outOf (settle D c rows))) (omega arith)) stands; behind = λ q. tt }
+        let g : u
+        ≡ cond (ltb (lengthOf (settledN areas (counted (mk .pruner)) (mk .waiting))) n)
+        (putBelow limit settled (placeOf (lengthOf (settledN areas (counted (mk .pruner)) (mk .waiting)))) (words 4 0 0 0)) settled =
+        rw e at hu in
+        record {
+          done = rw (
+            g,
+            counts,
+            h,
+            weight-is (settle D c rows),
+            le-ltb (total rowSize (outOf (settle D c rows))) (total rowSize (outOf (settle D c rows))) (omega arith),
+          )
+              stands;
+          behind = λ q. tt;
+        }
 
     -- a line or a shortcut
-    on-segment : (g : Segment) → u ≡ segmentPut limit t mk (classIn (D .xs) (D .ys) c g) (signOf (D .xs) (D .ys) g) w → (classIn (D .xs) (D .ys) c g ≡ Kept → wordsOf (Rows.segment g) ≡ words 5 (w .p) (w .q) 0) → Writes limit u (addTo D c g rows)
+    on-segment : (g : Segment)
+        → u ≡ segmentPut limit t mk (classIn (D .xs) (D .ys) c g) (signOf (D .xs) (D .ys) g) w
+        → (classIn (D .xs) (D .ys) c g ≡ Kept → wordsOf (Rows.segment g) ≡ words 5 (w .p) (w .q) 0)
+        → Writes limit u (addTo D c g rows)
     on-segment g e k′ = rw e (segment-writes limit areas D c (R .agrees) k mk rows t g w l room k′ (s .standing .follows) (s .writes))
 
     on-line : w .kind ≡ 5 → Passes v (s .standing .place) (Entries.line (w .p) (w .q)) ws → Writes limit u (next (Entries.line (w .p) (w .q)))
@@ -142,15 +170,23 @@ module _ (v : Env) (D : Drawing) (c : Cell) (R : Reads v D) (k : ℕ) (mk : Make
         let g : u ≡ segmentPut limit t mk f z w = simp (ne-eqb (w .kind) 5 (λ q. omega arith), eq-eqb (w .kind) 6 e) at hu in
         on-segment (Segments.shortcut (toZ w32 (w .p)) (w .q) (w .r)) (rw (← x, ← y) g) (λ q. absurd (never-kept (toZ w32 (w .p)) (w .q) (w .r) q))
 
-    pub writing-next : (nk : Maker) → n ≡ nk .pruner .weight → w .q < 4294967296 → counted (nk .pruner) ≡ prunedN areas (counted (mk .pruner)) (mk .waiting) (w .kind)
-        → nk .waiting ≡ waitingN (mk .waiting) f z w → Writing v D c (k + 1) nk ws whole limit t₀ u
+    pub writing-next : (nk : Maker)
+        → n ≡ nk .pruner .weight
+        → w .q < 4294967296
+        → counted (nk .pruner) ≡ prunedN areas (counted (mk .pruner)) (mk .waiting) (w .kind)
+        → nk .waiting ≡ waitingN (mk .waiting) f z w
+        → Writing v D c (k + 1) nk ws whole limit t₀ u
     writing-next nk hn q hp ha =
         let x = standing-rows v D c R k (mk .pruner) (mk .waiting) whole w ws (s .standing) (nk .pruner) (nk .waiting) hp (rw (← hf, ← hz) ha) q in
-        let m : n ≡ total rowSize (outOf (stateOf (next (decode w)))) =
-        hn ∙ (sym (counted-weight (nk .pruner)) ∙ (ap lengthOf (x .0 .follows .counts) ∙ (weight-is (stateOf (x .0 .rows)) ∙ ap (λ (y : Making). total rowSize (outOf (stateOf y))) (x .1)))) in
-        let y : Writes limit u (next (decode w)) =
-        by-kind w (λ e. Passes v (s .standing .place) e ws → n ≡ total rowSize (outOf (stateOf (next e))) → Writes limit u (next e)) (λ e h a. on-open e a) (λ e h a. on-bar e a) (λ e h a. on-close e a) (λ e h a. on-area e a)
-        (λ e h a. on-line e h) (λ e h a. on-shortcut e) (λ e h a. on-passes e) (λ h a. clash (h .range)) (one-passes v (s .standing .place) w ws (s .standing .rest)) m in
+        let m : n ≡ total rowSize (outOf (stateOf (next (decode w)))) = hn
+        ∙ (sym (counted-weight (nk .pruner))
+        ∙ (ap lengthOf (x .0 .follows .counts)
+        ∙ (weight-is (stateOf (x .0 .rows)) ∙ ap (λ (y : Making). total rowSize (outOf (stateOf y))) (x .1)))) in
+        let y : Writes limit u (next (decode w)) = by-kind w
+        (λ e. Passes v (s .standing .place) e ws → n ≡ total rowSize (outOf (stateOf (next e))) → Writes limit u (next e))
+        (λ e h a. on-open e a) (λ e h a. on-bar e a) (λ e h a. on-close e a) (λ e h a. on-area e a) (λ e h a. on-line e h)
+        (λ e h a. on-shortcut e) (λ e h a. on-passes e) (λ h a. clash (h .range))
+        (one-passes v (s .standing .place) w ws (s .standing .rest)) m in
         record {
           standing = x .0;
           writes = subst (λ (y : Making). Writes limit u y) (sym (x .1)) y;

@@ -49,32 +49,43 @@ words-flat t i zero h = refl
 words-flat t i (suc n) h =
     let e : suc n * 4 ≡ suc (suc (suc (suc (n * 4)))) = omega arith in
     let d : i * 4 + 4 ≡ (i + 1) * 4 = omega arith in
-    rw (e, four t (i * 4) (omega arith), d) (ap (λ (x : List ℕ). getD t (i * 4) 0 ∷ getD t (i * 4 + 1) 0 ∷ getD t (i * 4 + 2) 0 ∷ getD t (i * 4 + 3) 0 ∷ x) (words-flat t (i + 1) n (omega arith)))
+    rw (e, four t (i * 4) (omega arith), d)
+    (ap (λ (x : List ℕ). getD t (i * 4) 0 ∷ getD t (i * 4 + 1) 0 ∷ getD t (i * 4 + 2) 0 ∷ getD t (i * 4 + 3) 0 ∷ x)
+    (words-flat t (i + 1) n (omega arith)))
 
 -- ---- a table whose first entries are ws, and which is as it was behind them
-pub table-is : (t₀ t : List ℕ) (limit : ℕ) (ws : List Words) → limit * 4 ≤ length t → limit ≡ length ws → Same limit t₀ t → wordsFrom t 0 limit ≡ ws → t ≡ flat ws ++ drop (limit * 4) t₀
+pub table-is : (t₀ t : List ℕ) (limit : ℕ) (ws : List Words)
+    → limit * 4 ≤ length t
+    → limit ≡ length ws
+    → Same limit t₀ t
+    → wordsFrom t 0 limit ≡ ws
+    → t ≡ flat ws ++ drop (limit * 4) t₀
 table-is t₀ t limit ws h l s e =
     let d : (0 + limit) * 4 ≤ length t = omega arith in
     sym (take-append-drop (limit * 4) t) ∙ ap₂ (λ (x y : List ℕ). x ++ y) (words-flat t 0 limit d ∙ ap flat e) (s .rest)
 
 -- the end of the table is what was made
-module _ (v : Env) (D : Drawing) (c : Cell) (R : Reads v D) (all : List Words) (accepted : accepts v all ≡ true) (k : ℕ) (mk : Maker) (limit : ℕ) (t₀ t : List ℕ)
-    (l : k ≤ 4096) (room : limit * 4 ≤ length t) (exact : limit ≡ length (rowsMade D c all)) (s : Writing v D c k mk [] (allOf D c all) limit t₀ t) where
+module _ (v : Env) (D : Drawing) (c : Cell) (R : Reads v D) (all : List Words) (accepted : accepts v all ≡ true) (k : ℕ) (mk : Maker)
+    (limit : ℕ) (t₀ t : List ℕ) (l : k ≤ 4096) (room : limit * 4 ≤ length t) (exact : limit ≡ length (rowsMade D c all))
+    (s : Writing v D c k mk [] (allOf D c all) limit t₀ t) where
   rows-end : s .standing .rows ≡ allOf D c all
   unfolding rowsIn
   rows-end = s .standing .ahead
 
   agrees-end : Agree limit (settledPut limit (v .areas) t mk) 0 (rowsMade D c all)
   agrees-end =
-      subst (λ (x : List Row). Agree limit (settledPut limit (v .areas) t mk) 0 x) (ap (λ (m : Making). outOf (settle D c m)) rows-end ∙ rows-all v D c R all accepted)
+      subst (λ (x : List Row). Agree limit (settledPut limit (v .areas) t mk) 0 x)
+      (ap (λ (m : Making). outOf (settle D c m)) rows-end ∙ rows-all v D c R all accepted)
       (settle-agrees limit (v .areas) D c (R .agrees) k mk (s .standing .rows) t l room (s .standing .follows) (s .writes))
 
   pub written-end : settledPut limit (v .areas) t mk ≡ flat (wordsMade D c all) ++ drop (limit * 4) t₀
   unfolding wordsMade
   written-end =
       let a : Same limit t₀ (settledPut limit (v .areas) t mk) = same-then limit (s .same) (same-settled limit (v .areas) t mk) in
-      table-is t₀ (settledPut limit (v .areas) t mk) limit (wordsMade D c all) (omega (arith, room, same-settled limit (v .areas) t mk .size)) (exact ∙ sym (made-length D c all)) a
-      (subst (λ (n : ℕ). wordsFrom (settledPut limit (v .areas) t mk) 0 n ≡ wordsMade D c all) (sym exact) (agree-all limit (settledPut limit (v .areas) t mk) 0 (rowsMade D c all) (omega arith) agrees-end))
+      table-is t₀ (settledPut limit (v .areas) t mk) limit (wordsMade D c all)
+      (omega (arith, room, same-settled limit (v .areas) t mk .size)) (exact ∙ sym (made-length D c all)) a
+      (subst (λ (n : ℕ). wordsFrom (settledPut limit (v .areas) t mk) 0 n ≡ wordsMade D c all) (sym exact)
+      (agree-all limit (settledPut limit (v .areas) t mk) 0 (rowsMade D c all) (omega arith) agrees-end))
 
   pub size-end : length (settledPut limit (v .areas) t mk) ≡ length t
   size-end = same-settled limit (v .areas) t mk .size

@@ -78,19 +78,37 @@ base-at out b l h = place-is (take b out) (omega (arith, length-take-le b out l)
 
 module _ (limit : ℕ) where
   -- a row for each row that is written
-  item-agrees : (t : List ℕ) (out gs : List Row) (r : Row) → limit * 4 ≤ length t → Agree limit t 0 out → Agree limit t (length out + 1) gs → Agree limit (putBelow limit t (length out) (wordsOf r)) 0 (out ++ (r ∷ gs))
+  item-agrees : (t : List ℕ) (out gs : List Row) (r : Row)
+      → limit * 4 ≤ length t
+      → Agree limit t 0 out
+      → Agree limit t (length out + 1) gs
+      → Agree limit (putBelow limit t (length out) (wordsOf r)) 0 (out ++ (r ∷ gs))
   item-agrees t out gs r h a b =
       agree-append limit (putBelow limit t (length out) (wordsOf r)) 0 out (r ∷ gs) (agree-behind limit t 0 out (length out) (wordsOf r) (omega arith) a)
       (subst (λ (n : ℕ). Agree limit (putBelow limit t (length out) (wordsOf r)) n (r ∷ gs)) (sym (zero-add (length out)))
       (λ l. below-here limit t (length out) (wordsOf r) h l, agree-before limit t (length out + 1) gs (length out) (wordsOf r) (omega arith) b))
 
-  back-agrees : (t : List ℕ) (out : List Row) (b : ℕ) (r : Row) → limit * 4 ≤ length t → b ≤ length out → Agree limit t 0 out → Agree limit (putBelow limit t b (wordsOf r)) 0 (take b out ++ (r ∷ []))
+  back-agrees : (t : List ℕ) (out : List Row) (b : ℕ) (r : Row)
+      → limit * 4 ≤ length t
+      → b ≤ length out
+      → Agree limit t 0 out
+      → Agree limit (putBelow limit t b (wordsOf r)) 0 (take b out ++ (r ∷ []))
   back-agrees t out b r h l a =
-      subst (λ (n : ℕ). Agree limit (putBelow limit t n (wordsOf r)) 0 (take b out ++ (r ∷ []))) (zero-add (length (take b out)) ∙ length-take-le b out l) (agree-more limit t 0 (take b out) r h (agree-take limit t 0 b out a))
+      subst (λ (n : ℕ). Agree limit (putBelow limit t n (wordsOf r)) 0 (take b out ++ (r ∷ [])))
+      (zero-add (length (take b out)) ∙ length-take-le b out l) (agree-more limit t 0 (take b out) r h (agree-take limit t 0 b out a))
 
   -- ---- a delimiter
-  pub mark-agrees : (t : List ℕ) (x : Pruning.State Row) (r : Row) (kind : ℕ) (out′ : List Row) → wordsOf r ≡ words kind 0 0 0 → rowSize r ≡ 1 → limit * 4 ≤ length t → length (outOf x) < 65536
-      → Moves (outOf x) r out′ → Agree limit t 0 (outOf x) → Agree limit (cond (ltb (lengthOf (weighed rowSize x)) (total rowSize out′)) (putBelow limit t (placeOf (lengthOf (weighed rowSize x))) (words kind 0 0 0)) t) 0 out′
+  pub mark-agrees : (t : List ℕ) (x : Pruning.State Row) (r : Row) (kind : ℕ) (out′ : List Row)
+      → wordsOf r ≡ words kind 0 0 0
+      → rowSize r ≡ 1
+      → limit * 4 ≤ length t
+      → length (outOf x) < 65536
+      → Moves (outOf x) r out′
+      → Agree limit t 0 (outOf x)
+      → Agree limit
+      (cond (ltb (lengthOf (weighed rowSize x)) (total rowSize out′))
+      (putBelow limit t (placeOf (lengthOf (weighed rowSize x))) (words kind 0 0 0)) t)
+      0 out′
   mark-agrees t (st out b w fs) r kind out′ e s h l (adds m) a =
       let n : total rowSize (out ++ (r ∷ [])) ≡ total rowSize out + 1 = omega (arith, total-append rowSize out (r ∷ [])) in
       rw (m, n, lt-ltb (total rowSize out) (total rowSize out + 1) (omega arith), place-is out l, ← e) (item-agrees t out [] r h a tt)
@@ -98,27 +116,44 @@ module _ (limit : ℕ) where
       rw (m, le-ltb (total rowSize out) (total rowSize (take p out)) (before-most out p)) (agree-take limit t 0 p out a)
 
   -- ---- "passes"
-  pub bare-agrees : (t : List ℕ) (D : Drawing) (c : Cell) (x : Pruning.State Row) → Fit (count (items D) Row entryRows entry-some x) → limit * 4 ≤ length t → length (outOf x) < 65536 → Agree limit t 0 (outOf x)
-      → Agree limit (cond (isGoing x) (putBelow limit t (placeOf (baseOf (weighed rowSize x))) (words 7 0 0 0)) t) 0 (outOf (prune D c x (item clip always)))
+  pub bare-agrees : (t : List ℕ) (D : Drawing) (c : Cell) (x : Pruning.State Row)
+      → Fit (count (items D) Row entryRows entry-some x)
+      → limit * 4 ≤ length t
+      → length (outOf x) < 65536
+      → Agree limit t 0 (outOf x)
+      → Agree limit (cond (isGoing x) (putBelow limit t (placeOf (baseOf (weighed rowSize x))) (words 7 0 0 0)) t) 0
+      (outOf (prune D c x (item clip always)))
   bare-agrees t D c (st out b going fs) f h l a = rw (base-at out b (f .0) l) (back-agrees t out b bare h (f .0) a)
   bare-agrees t D c (st out b (shut m) fs) f h l a = a
 
   -- ---- the area that waits
   module _ (areas : List ℕ) (D : Drawing) (c : Cell) (agrees : (n : ℕ) → n < length (D .fields) → Agrees areas D n) where
-    class-agrees : (t : List ℕ) (out : List Row) (b : ℕ) (fs : List Frame) (n : ℕ) (z : ℤ) (gs : List Segment) → limit * 4 ≤ length t → b ≤ length out → Agree limit t 0 out → Agree limit t (length out + 1) (map segment gs)
+    class-agrees : (t : List ℕ) (out : List Row) (b : ℕ) (fs : List Frame) (n : ℕ) (z : ℤ) (gs : List Segment)
+        → limit * 4 ≤ length t
+        → b ≤ length out
+        → Agree limit t 0 out
+        → Agree limit t (length out + 1) (map segment gs)
         → (x y isPaint : Bool)
-        → Agree limit (cond x t (cond y (cond isPaint (putBelow limit t (length out) (words 4 n (ofZ w32 z) 0)) (putBelow limit t b (words 7 0 0 0))) (putBelow limit t (length out) (words 4 n (ofZ w32 z) 0)))) 0
-        (outOf (addItem (items D) Row entryRows (cond isPaint paint clip) (cond x fails (cond y passes other)) (area n z gs) out b fs))
+        → Agree limit
+        (cond x t
+        (cond y (cond isPaint (putBelow limit t (length out) (words 4 n (ofZ w32 z) 0)) (putBelow limit t b (words 7 0 0 0)))
+        (putBelow limit t (length out) (words 4 n (ofZ w32 z) 0))))
+        0 (outOf (addItem (items D) Row entryRows (cond isPaint paint clip) (cond x fails (cond y passes other)) (area n z gs) out b fs))
     class-agrees t out b fs n z gs h l a g true y isPaint = a
     class-agrees t out b fs n z gs h l a g false true true = item-agrees t out (map segment gs) (named n z) h a g
     class-agrees t out b fs n z gs h l a g false true false = back-agrees t out b bare h l a
     class-agrees t out b fs n z gs h l a g false false true = item-agrees t out (map segment gs) (named n z) h a g
     class-agrees t out b fs n z gs h l a g false false false = item-agrees t out (map segment gs) (named n z) h a g
 
-    pub settle-agrees : (k : ℕ) (mk : Maker) (m : Making) (t : List ℕ) → k ≤ 4096 → limit * 4 ≤ length t → Follows D k (mk .pruner) (mk .waiting) m → Writes limit t m
+    pub settle-agrees : (k : ℕ) (mk : Maker) (m : Making) (t : List ℕ)
+        → k ≤ 4096
+        → limit * 4 ≤ length t
+        → Follows D k (mk .pruner) (mk .waiting) m
+        → Writes limit t m
         → Agree limit (settledPut limit areas t mk) 0 (outOf (settle D c m))
     settle-agrees k mk (making x nothing) t l h f w = rw (f .waits) (w .done)
-    settle-agrees k mk (making (st out b (shut s) fs) (held n z gs)) t l h f w = rw (f .waits, skip-is (mk .pruner) (st out b (shut s) fs) (f .counts)) (w .done)
+    settle-agrees k mk (making (st out b (shut s) fs) (held n z gs)) t l h f w =
+        rw (f .waits, skip-is (mk .pruner) (st out b (shut s) fs) (f .counts)) (w .done)
     settle-agrees k mk (making (st out b going fs) (held n z gs)) t l h f w =
         let small : length out < 65536 = omega (arith, f .short) in
         let i = f .named-in .0 in
@@ -131,15 +166,20 @@ module _ (limit : ℕ) where
           ← class-is areas D c agrees n z gs i,
           ← agrees n i .role,
         )
-        (class-agrees t out b fs n z gs h (f .fit .0) (w .done) (w .behind refl) (eqb (classN areas (waitingFor (held n z gs))) 0) (eqb (classN areas (waitingFor (held n z gs))) 1) (eqb (getD areas (n * 8) 0) 0))
+        (class-agrees t out b fs n z gs h (f .fit .0) (w .done) (w .behind refl) (eqb (classN areas (waitingFor (held n z gs))) 0)
+        (eqb (classN areas (waitingFor (held n z gs))) 1) (eqb (getD areas (n * 8) 0) 0))
 
     -- ---- a line or a shortcut
     segments-more : (gs : List Segment) (g : Segment) → map segment (gs ++ (g ∷ [])) ≡ map segment gs ++ (segment g ∷ [])
     segments-more [] g = refl
     segments-more (h ∷ gs) g = ap (λ (rs : List Row). segment h ∷ rs) (segments-more gs g)
 
-    one-more : (t : List ℕ) (out : List Row) (b : ℕ) (fs : List Frame) (n : ℕ) (z : ℤ) (gs : List Segment) (g : Segment) (at : ℕ) → at ≡ length out + 1 + length gs → limit * 4 ≤ length t
-        → Writes limit t (making (st out b going fs) (held n z gs)) → (z′ : ℤ) → Writes limit (putBelow limit t at (wordsOf (segment g))) (making (st out b going fs) (held n z′ (gs ++ (g ∷ []))))
+    one-more : (t : List ℕ) (out : List Row) (b : ℕ) (fs : List Frame) (n : ℕ) (z : ℤ) (gs : List Segment) (g : Segment) (at : ℕ)
+        → at ≡ length out + 1 + length gs
+        → limit * 4 ≤ length t
+        → Writes limit t (making (st out b going fs) (held n z gs))
+        → (z′ : ℤ)
+        → Writes limit (putBelow limit t at (wordsOf (segment g))) (making (st out b going fs) (held n z′ (gs ++ (g ∷ []))))
     one-more t out b fs n z gs g at e h w z′ =
         let e′ : at ≡ length out + 1 + length (map segment gs) = omega (arith, length-map {B = Row} gs segment) in
         record {
@@ -147,23 +187,37 @@ module _ (limit : ℕ) where
           behind = λ s. rw (segments-more gs g, e′) (agree-more limit t (length out + 1) (map segment gs) (segment g) h (w .behind refl));
         }
 
-    none-more : (t : List ℕ) (x : Pruning.State Row) (n : ℕ) (z z′ : ℤ) (gs : List Segment) → Writes limit t (making x (held n z gs)) → Writes limit t (making x (held n z′ (gs ++ [])))
+    none-more : (t : List ℕ) (x : Pruning.State Row) (n : ℕ) (z z′ : ℤ) (gs : List Segment)
+        → Writes limit t (making x (held n z gs))
+        → Writes limit t (making x (held n z′ (gs ++ [])))
     none-more t x n z z′ gs w = record { done = w .done; behind = λ s. rw (append-nil gs) (w .behind s) }
 
-    kept-writes : (t : List ℕ) (out : List Row) (b : ℕ) (fs : List Frame) (n : ℕ) (z : ℤ) (gs : List Segment) (g : Segment) (wd : Words) (at : ℕ) (f : Class) → at ≡ length out + 1 + length gs → limit * 4 ≤ length t
-        → (f ≡ Kept → wordsOf (segment g) ≡ words 5 (wd .p) (wd .q) 0) → Writes limit t (making (st out b going fs) (held n z gs))
-        → Writes limit (keptPut f limit t at (signOf (D .xs) (D .ys) g) wd) (making (st out b going fs) (held n (startBy (D .xs) (D .ys) f g z) (gs ++ keptBy (D .xs) (D .ys) f g [])))
+    kept-writes : (t : List ℕ) (out : List Row) (b : ℕ) (fs : List Frame) (n : ℕ) (z : ℤ) (gs : List Segment) (g : Segment) (wd : Words)
+        (at : ℕ) (f : Class)
+        → at ≡ length out + 1 + length gs
+        → limit * 4 ≤ length t
+        → (f ≡ Kept → wordsOf (segment g) ≡ words 5 (wd .p) (wd .q) 0)
+        → Writes limit t (making (st out b going fs) (held n z gs))
+        → Writes limit (keptPut f limit t at (signOf (D .xs) (D .ys) g) wd)
+        (making (st out b going fs) (held n (startBy (D .xs) (D .ys) f g z) (gs ++ keptBy (D .xs) (D .ys) f g [])))
     kept-writes t out b fs n z gs g wd at Dropped e h k w = none-more t (st out b going fs) n z z gs w
     kept-writes t out b fs n z gs g wd at Start e h k w = none-more t (st out b going fs) n z (z +ℤ signOf (D .xs) (D .ys) g) gs w
     kept-writes t out b fs n z gs g wd at (Shortcut lo hi) e h k w = one-more t out b fs n z gs (shortcut (signOf (D .xs) (D .ys) g) lo hi) at e h w z
     kept-writes t out b fs n z gs g wd at Kept e h k w = rw (← k refl) (one-more t out b fs n z gs g at e h w z)
 
     -- nothing is written on a side that is skipped
-    shut-writes : (t : List ℕ) (out : List Row) (b s : ℕ) (fs : List Frame) (n : ℕ) (z z′ : ℤ) (gs gs′ : List Segment) → Writes limit t (making (st out b (shut s) fs) (held n z gs)) → Writes limit t (making (st out b (shut s) fs) (held n z′ gs′))
+    shut-writes : (t : List ℕ) (out : List Row) (b s : ℕ) (fs : List Frame) (n : ℕ) (z z′ : ℤ) (gs gs′ : List Segment)
+        → Writes limit t (making (st out b (shut s) fs) (held n z gs))
+        → Writes limit t (making (st out b (shut s) fs) (held n z′ gs′))
     shut-writes t out b s fs n z z′ gs gs′ w = record { done = w .done; behind = λ e. clash e }
 
-    pub segment-writes : (k : ℕ) (mk : Maker) (m : Making) (t : List ℕ) (g : Segment) (wd : Words) → k ≤ 4096 → limit * 4 ≤ length t → (classIn (D .xs) (D .ys) c g ≡ Kept → wordsOf (segment g) ≡ words 5 (wd .p) (wd .q) 0)
-        → Follows D k (mk .pruner) (mk .waiting) m → Writes limit t m → Writes limit (segmentPut limit t mk (classIn (D .xs) (D .ys) c g) (signOf (D .xs) (D .ys) g) wd) (addTo D c g m)
+    pub segment-writes : (k : ℕ) (mk : Maker) (m : Making) (t : List ℕ) (g : Segment) (wd : Words)
+        → k ≤ 4096
+        → limit * 4 ≤ length t
+        → (classIn (D .xs) (D .ys) c g ≡ Kept → wordsOf (segment g) ≡ words 5 (wd .p) (wd .q) 0)
+        → Follows D k (mk .pruner) (mk .waiting) m
+        → Writes limit t m
+        → Writes limit (segmentPut limit t mk (classIn (D .xs) (D .ys) c g) (signOf (D .xs) (D .ys) g) wd) (addTo D c g m)
     segment-writes k mk (making x nothing) t g wd l h e f w = rw (f .waits) (same (eqb (mk .pruner .skip) 0))
       where
         same : (b : Bool) → Writes limit (cond b t t) (making x nothing)
@@ -171,9 +225,16 @@ module _ (limit : ℕ) where
         same false = w
     segment-writes k mk (making (st out b (shut s) fs) (held n z gs)) t g wd l h e f w =
         rw (f .waits, skip-is (mk .pruner) (st out b (shut s) fs) (f .counts))
-        (shut-writes t out b s fs n z (startBy (D .xs) (D .ys) (classIn (D .xs) (D .ys) c g) g z) gs (gs ++ keptBy (D .xs) (D .ys) (classIn (D .xs) (D .ys) c g) g []) w)
+        (shut-writes t out b s fs n z (startBy (D .xs) (D .ys) (classIn (D .xs) (D .ys) c g) g z) gs
+        (gs ++ keptBy (D .xs) (D .ys) (classIn (D .xs) (D .ys) c g) g []) w)
     segment-writes k mk (making (st out b going fs) (held n z gs)) t g wd l h e f w =
         let small : length out < 65536 = omega (arith, f .short) in
         let few : length (itemRows (area n z gs)) < 65536 = omega (arith, f .short, length-map {B = Row} gs segment) in
-        rw (f .waits, skip-is (mk .pruner) (st out b going fs) (f .counts), length-place (mk .pruner) (st out b going fs) (f .counts) small, place-is (itemRows (area n z gs)) few)
-        (kept-writes t out b fs n z gs g wd (length out + length (itemRows (area n z gs))) (classIn (D .xs) (D .ys) c g) (omega (arith, length-map {B = Row} gs segment)) h e w)
+        rw (
+          f .waits,
+          skip-is (mk .pruner) (st out b going fs) (f .counts),
+          length-place (mk .pruner) (st out b going fs) (f .counts) small,
+          place-is (itemRows (area n z gs)) few,
+        )
+        (kept-writes t out b fs n z gs g wd (length out + length (itemRows (area n z gs))) (classIn (D .xs) (D .ys) c g)
+        (omega (arith, length-map {B = Row} gs segment)) h e w)

@@ -12,7 +12,10 @@ same-length : tie.Need-same-length
 same-length c = search needs
 
 returns : tie.Need-returns
-returns c = rw (c .before .before .before .before .place-of .ensures) at (c .before .before .put-below .ensures)
+returns c =
+    let after-put-below = c .before .before in
+    let after-place-of = after-put-below .before .before in
+    rw (after-place-of .place-of .ensures) at (after-put-below .put-below .ensures)
 
 pub put-bare-spec : {M : Type 1} → statement M
 put-bare-spec = tie.close (tie.spec place-of-requires put-below-requires same-length returns)

@@ -14,12 +14,18 @@ same-length c = search needs
 returns : tie.Need-returns
 unfolding putBelow
 returns c =
-    let a = c .before .before .before .before .before .before .args in
-    rw (lt-ltb (a .at) (a .limit) (omega (arith, c .before .before .before .before .if1 .taken))) (c .before .before .put-entry .ensures)
+    let after-put-entry = c .before .before in
+    let at-if1 = after-put-entry .before .before in
+    let at-entry = at-if1 .before .before in
+    let a = at-entry .args in
+    rw (lt-ltb (a .at) (a .limit) (omega (arith, at-if1 .if1 .taken))) (after-put-entry .put-entry .ensures)
 
 returns-2 : tie.Need-returns-2
 unfolding putBelow
-returns-2 c = let a = c .before .before .args in rw (le-ltb (a .at) (a .limit) (omega (arith, c .if1 .left)))
+returns-2 c =
+    let at-entry = c .before .before in
+    let a = at-entry .args in
+    rw (le-ltb (a .at) (a .limit) (omega (arith, c .if1 .left)))
 
 pub put-below-spec : {M : Type 1} → statement M
 put-below-spec = tie.close (tie.spec put-entry-requires same-length returns returns-2)

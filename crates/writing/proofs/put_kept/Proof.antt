@@ -8,7 +8,9 @@ enum-known-k : tie.Need-enum-known-k
 enum-known-k c = search needs
 
 word-of-requires : tie.Need-word-of-requires
-word-of-requires c κs = rw (small-back (c .before .before .before .before .before .args .l .sign) (omega (arith, c .before .before .before .before .before .pre .1))) (omega (arith, c .before .before .before .before .before .pre .1))
+word-of-requires c κs =
+    let at-entry = c .before .before .before .before .before in
+    rw (small-back (at-entry .args .l .sign) (omega (arith, at-entry .pre .1))) (omega (arith, at-entry .pre .1))
 
 put-below-requires : tie.Need-put-below-requires
 put-below-requires c κs = search needs
@@ -29,13 +31,23 @@ same-length : tie.Need-same-length
 same-length c = search needs
 
 returns : tie.Need-returns
-returns c = rw (c .before .before .before .before .before .before .before .k .given .1) (rw (c .before .before .before .before .word-of .ensures, small-back (c .before .before .before .before .before .before .before .before .before .before .args .l .sign) (omega (arith, c .before .before .before .before .before .before .before .before .before .before .pre .1))) at (c .before .before .put-below .ensures))
+returns c =
+    let after-put-below = c .before .before in
+    let after-word-of = after-put-below .before .before in
+    let after-k = after-word-of .before .before .before in
+    let at-entry = after-k .before .before .before in
+    rw (after-k .k .given .1)
+    (rw (after-word-of .word-of .ensures, small-back (at-entry .args .l .sign) (omega (arith, at-entry .pre .1))) at
+    (after-put-below .put-below .ensures))
 
 same-length-2 : tie.Need-same-length-2
 same-length-2 c = search needs
 
 returns-2 : tie.Need-returns-2
-returns-2 c = rw (c .before .before .before .before .enum-told .given .1) (c .before .before .put-below2 .ensures)
+returns-2 c =
+    let after-put-below2 = c .before .before in
+    let after-enum-told = after-put-below2 .before .before in
+    rw (after-enum-told .enum-told .given .1) (after-put-below2 .put-below2 .ensures)
 
 returns-3 : tie.Need-returns-3
 returns-3 c = search needs

@@ -26,7 +26,13 @@ same-length-2 : tie.Need-same-length-2
 same-length-2 c = search needs
 
 returns-3 : tie.Need-returns-3
-returns-3 c = simp (ne-eqb _ 7 (c .before .before .before .before .before .before .before .if1 .left), lt-ltb _ _ (c .before .before .before .before .before .if3 .taken)) (rw (c .before .before .before .before .place-of .ensures) at (c .before .before .put-below .ensures))
+returns-3 c =
+    let after-put-below = c .before .before in
+    let after-place-of = after-put-below .before .before in
+    let at-if3 = after-place-of .before in
+    let at-if1 = at-if3 .before .before in
+    simp (ne-eqb _ 7 (at-if1 .if1 .left), lt-ltb _ _ (at-if3 .if3 .taken))
+    (rw (after-place-of .place-of .ensures) at (after-put-below .put-below .ensures))
 
 returns-4 : tie.Need-returns-4
 returns-4 c = search tests

@@ -16,7 +16,17 @@ same-length : tie.Need-same-length
 same-length c = search needs
 
 returns : tie.Need-returns
-returns c = rw (c .before .before .before .before .before .before .place-of .ensures, c .before .before .before .before .word-of .ensures, small-back (c .before .before .before .before .before .before .before .before .before .before .args .m .waiting .start) (c .before .before .before .before .before .before .before .before .before .before .pre .1)) at (c .before .before .put-below .ensures)
+returns c =
+    let after-put-below = c .before .before in
+    let after-word-of = after-put-below .before .before in
+    let after-place-of = after-word-of .before .before in
+    let at-entry = after-place-of .before .before .before .before in
+    rw (
+      after-place-of .place-of .ensures,
+      after-word-of .word-of .ensures,
+      small-back (at-entry .args .m .waiting .start) (at-entry .pre .1),
+    )
+    at (after-put-below .put-below .ensures)
 
 pub put-named-spec : {M : Type 1} → statement M
 put-named-spec =

@@ -21,7 +21,15 @@ same-length : tie.Need-same-length
 same-length c = search needs
 
 returns : tie.Need-returns
-returns c = let a = c .before .before .before .before .before .before .before .before .before .before .before .before .before .args in (rw (c .before .before .before .before .before .before .put-settled .ensures) at (c .before .before .put-mark .ensures)) ∙ mark-is (a .limit) (settledPut (a .limit) (now (a .areas)) (now (a .out)) (a .m)) (c .before .before .before .before .before .before .before .before .settled .result) (a .weight) (a .kind) (settledN (now (a .areas)) (counted (a .m .pruner)) (a .m .waiting)) (c .before .before .before .before .before .before .before .before .settled .ensures)
+returns c =
+    let after-put-mark = c .before .before in
+    let after-put-settled = after-put-mark .before .before .before .before in
+    let after-settled = after-put-settled .before .before in
+    let at-entry = after-settled .before .before .before .before .before in
+    let a = at-entry .args in
+    (rw (after-put-settled .put-settled .ensures) at (after-put-mark .put-mark .ensures))
+    ∙ mark-is (a .limit) (settledPut (a .limit) (now (a .areas)) (now (a .out)) (a .m)) (after-settled .settled .result) (a .weight)
+    (a .kind) (settledN (now (a .areas)) (counted (a .m .pruner)) (a .m .waiting)) (after-settled .settled .ensures)
 
 pub put-other-spec : {M : Type 1} → statement M
 put-other-spec =

@@ -20,7 +20,14 @@ same-length : tie.Need-same-length
 same-length c = search needs
 
 returns : tie.Need-returns
-returns c = simp (eq-eqb _ 0 (c .before .before .before .before .before .before .before .if1 .taken), c .before .before .before .before .before .before .if2 .taken) (rw (c .before .before .before .before .place-of2 .ensures, c .before .before .before .before .before .place-of .ensures) at (c .before .before .put-kept .ensures))
+returns c =
+    let after-put-kept = c .before .before in
+    let after-place-of2 = after-put-kept .before .before in
+    let after-place-of = after-place-of2 .before in
+    let at-if2 = after-place-of .before in
+    let at-if1 = at-if2 .before in
+    simp (eq-eqb _ 0 (at-if1 .if1 .taken), at-if2 .if2 .taken)
+    (rw (after-place-of2 .place-of2 .ensures, after-place-of .place-of .ensures) at (after-put-kept .put-kept .ensures))
 
 returns-2 : tie.Need-returns-2
 returns-2 c = search (tests, c .if2 .left)
