@@ -43,7 +43,8 @@ module _ (D : Drawing) (c : Cell) where
   settled (making x (held n z gs)) =
       omega (
         arith,
-        front-length (startsOf (outOf (settle D c (making x (held n z gs))))) (withNext D c (making x (held n z gs))) (settle-front D c (making x (held n z gs))),
+        front-length (startsOf (outOf (settle D c (making x (held n z gs))))) (withNext D c (making x (held n z gs)))
+            (settle-front D c (making x (held n z gs))),
         length-append (startsOf (outOf x)) (z ∷ []),
       )
 
@@ -71,7 +72,10 @@ module _ (D : Drawing) (c : Cell) where
 
 -- the areas of a stream that passes: "Limits: ... 64 areas"
 module _ (v : Env) where
-  one-few : (e : Entries.Entry) (p : Place) (ws : List Words) → Passes v p e ws → p .areas ≤ 64 → (after p e .areas ≤ 64 → after p e .areas + length (startsOf (rowsIn ws)) ≤ 64)
+  one-few : (e : Entries.Entry) (p : Place) (ws : List Words)
+      → Passes v p e ws
+      → p .areas ≤ 64
+      → (after p e .areas ≤ 64 → after p e .areas + length (startsOf (rowsIn ws)) ≤ 64)
       → p .areas + length (startsOf (rowFor e (rowsIn ws))) ≤ 64
   one-few Entries.opens p ws h l f = f l
   one-few Entries.bar p ws h l f = f l
@@ -94,4 +98,10 @@ module _ (v : Env) where
 -- at most 64, so that none is lost
 pub few-starts : (v : Env) (D : Drawing) (c : Cell) (R : Reads v D) (ws : List Words) → accepts v ws ≡ true → length (startsOf (rowsMade D c ws)) ≤ 64
 few-starts v D c R ws h =
-    omega (arith, settled D c (allOf D c ws), rows-few D c (rowsIn ws) (begun D c), ap (λ (x : List Row). length (startsOf x)) (rows-all v D c R ws h), entries-few v ws h)
+    omega (
+      arith,
+      settled D c (allOf D c ws),
+      rows-few D c (rowsIn ws) (begun D c),
+      ap (λ (x : List Row). length (startsOf x)) (rows-all v D c R ws h),
+      entries-few v ws h,
+    )

@@ -38,9 +38,11 @@ pub record Filling (v : Env) (D : Drawing) (c : Cell) (t₀ : List ℕ) (first c
   pub to : i ≤ first + count
   pub size : length t ≡ length t₀
   pub kept : take (free * 4) t ≡ take (free * 4) t₀
-  pub writing : Writing v D c (i - first) m (wordsFrom t₀ i (first + count - i)) (allOf D c (wordsFrom t₀ first count)) limit (drop (free * 4) t₀) (drop (free * 4) t)
+  pub writing : Writing v D c (i - first) m (wordsFrom t₀ i (first + count - i)) (allOf D c (wordsFrom t₀ first count)) limit
+      (drop (free * 4) t₀) (drop (free * 4) t)
 
-module _ (v : Env) (D : Drawing) (c : Cell) (R : Reads v D) (t₀ : List ℕ) (first count free limit : ℕ) (P : Passed t₀ first count v) (behind : first + count ≤ free) (room : (free + limit) * 4 ≤ length t₀) where
+module _ (v : Env) (D : Drawing) (c : Cell) (R : Reads v D) (t₀ : List ℕ) (first count free limit : ℕ) (P : Passed t₀ first count v)
+    (behind : first + count ≤ free) (room : (free + limit) * 4 ≤ length t₀) where
   pub fill-begin : (m : Maker) → counted (m .pruner) ≡ ct 0 0 going [] → m .waiting ≡ resting → Filling v D c t₀ first count free limit first m t₀
   fill-begin m e f =
       let a : first - first ≡ 0 = omega arith in
@@ -52,7 +54,12 @@ module _ (v : Env) (D : Drawing) (c : Cell) (R : Reads v D) (t₀ : List ℕ) (f
         to = omega arith;
         size = refl;
         kept = refl;
-        writing = rw (a, b) (record { standing = x .0; writes = subst (λ (y : Making). Writes limit (drop (free * 4) t₀) y) (sym (x .1)) none; same = same-refl limit (drop (free * 4) t₀) });
+        writing = rw (a, b)
+            (record {
+              standing = x .0;
+              writes = subst (λ (y : Making). Writes limit (drop (free * 4) t₀) y) (sym (x .1)) none;
+              same = same-refl limit (drop (free * 4) t₀);
+            });
       }
 
   -- where the table is t
@@ -78,8 +85,14 @@ module _ (v : Env) (D : Drawing) (c : Cell) (R : Reads v D) (t₀ : List ℕ) (f
       pub entry-is : wordsAt t i ≡ wordsAt t₀ i
       entry-is = at-agree t t₀ (free * 4) i (f .kept) (omega arith)
 
-      pub fill-turn : (n : Maker) (w : Words) (q : Square) (g : Class) (z : ℤ) (s : List ℕ) → w ≡ wordsAt t₀ i → w .q < 4294967296 → squareOf c ≡ q → g ≡ leftClass (v .xs) (v .ys) q w → z ≡ leftSign (v .xs) (v .ys) w
-          → counted (n .pruner) ≡ prunedN (v .areas) (counted (m .pruner)) (m .waiting) (w .kind) → n .waiting ≡ waitingN (m .waiting) g z w
+      pub fill-turn : (n : Maker) (w : Words) (q : Square) (g : Class) (z : ℤ) (s : List ℕ)
+          → w ≡ wordsAt t₀ i
+          → w .q < 4294967296
+          → squareOf c ≡ q
+          → g ≡ leftClass (v .xs) (v .ys) q w
+          → z ≡ leftSign (v .xs) (v .ys) w
+          → counted (n .pruner) ≡ prunedN (v .areas) (counted (m .pruner)) (m .waiting) (w .kind)
+          → n .waiting ≡ waitingN (m .waiting) g z w
           → s ≡ onePut limit (v .areas) (take (length t - free * 4) (drop (free * 4) t)) m g z w (n .pruner .weight)
           → Filling v D c t₀ first count free limit (i + 1) n (putMid (free * 4) (length t - free * 4) t s)
       fill-turn n w q g z s e b r x y hp ha hs =
@@ -87,19 +100,22 @@ module _ (v : Env) (D : Drawing) (c : Cell) (R : Reads v D) (t₀ : List ℕ) (f
           let s₁ : s ≡ onePut limit (v .areas) (drop (free * 4) t) m g z w (n .pruner .weight) = rw (tail-is t (free * 4)) at hs in
           let len : length s ≡ length (drop (free * 4) t) = rw s₁ (same-one limit (v .areas) (drop (free * 4) t) m g z w (n .pruner .weight) .size) in
           let ws : List Words = wordsFrom t₀ (i + 1) (first + count - (i + 1)) in
-          let now : Writing v D c (i - first) m (w ∷ ws) (allOf D c (wordsFrom t₀ first count)) limit (drop (free * 4) t₀) (drop (free * 4) t) =
-          subst (λ (u : List Words). Writing v D c (i - first) m u (allOf D c (wordsFrom t₀ first count)) limit (drop (free * 4) t₀) (drop (free * 4) t))
+          let now : Writing v D c (i - first) m (w ∷ ws) (allOf D c (wordsFrom t₀ first count)) limit (drop (free * 4) t₀)
+          (drop (free * 4) t) = subst
+          (λ (u : List Words).
+          Writing v D c (i - first) m u (allOf D c (wordsFrom t₀ first count)) limit (drop (free * 4) t₀) (drop (free * 4) t))
           (words-step t₀ i (first + count) h ∙ ap (λ (u : Words). u ∷ ws) (sym e)) (f .writing) in
-          let next : Writing v D c (i - first + 1) n ws (allOf D c (wordsFrom t₀ first count)) limit (drop (free * 4) t₀) s =
-          writing-next v D c R (i - first) m (allOf D c (wordsFrom t₀ first count)) limit (drop (free * 4) t₀) (drop (free * 4) t) few tail-room w ws now s (n .pruner .weight) g z
-          (x ∙ ap (λ (a : Square). leftClass (v .xs) (v .ys) a w) (sym r)) y s₁ n refl b hp ha in
+          let next : Writing v D c (i - first + 1) n ws (allOf D c (wordsFrom t₀ first count)) limit (drop (free * 4) t₀) s = writing-next v
+          D c R (i - first) m (allOf D c (wordsFrom t₀ first count)) limit (drop (free * 4) t₀) (drop (free * 4) t) few tail-room w ws now s
+          (n .pruner .weight) g z (x ∙ ap (λ (a : Square). leftClass (v .xs) (v .ys) a w) (sym r)) y s₁ n refl b hp ha in
           rw (put-tail t s (free * 4) long)
           (record {
             from = omega (arith, f .from);
             to = omega arith;
             size = put-size t s (free * 4) long len ∙ f .size;
             kept = put-front t s (free * 4) long ∙ f .kept;
-            writing = rw (put-back t s (free * 4) long) (subst (λ (j : ℕ). Writing v D c j n ws (allOf D c (wordsFrom t₀ first count)) limit (drop (free * 4) t₀) s) k next);
+            writing = rw (put-back t s (free * 4) long)
+                (subst (λ (j : ℕ). Writing v D c j n ws (allOf D c (wordsFrom t₀ first count)) limit (drop (free * 4) t₀) s) k next);
           })
 
     -- where no entry is left
@@ -112,9 +128,16 @@ module _ (v : Env) (D : Drawing) (c : Cell) (R : Reads v D) (t₀ : List ℕ) (f
       fill-end s hs =
           let s₁ : s ≡ settledPut limit (v .areas) (drop (free * 4) t) m = rw (tail-is t (free * 4)) at hs in
           let last : Writing v D c (i - first) m [] (allOf D c (wordsFrom t₀ first count)) limit (drop (free * 4) t₀) (drop (free * 4) t) =
-          subst (λ (u : List Words). Writing v D c (i - first) m u (allOf D c (wordsFrom t₀ first count)) limit (drop (free * 4) t₀) (drop (free * 4) t)) (words-none t₀ i (first + count) h) (f .writing) in
+          subst
+          (λ (u : List Words).
+          Writing v D c (i - first) m u (allOf D c (wordsFrom t₀ first count)) limit (drop (free * 4) t₀) (drop (free * 4) t))
+          (words-none t₀ i (first + count) h) (f .writing) in
           put-tail t s (free * 4) long
           ∙ (ap (λ (x : List ℕ). x ++ s) (f .kept)
-          ∙ (ap (λ (x : List ℕ). take (free * 4) t₀ ++ x) (s₁ ∙ written-end v D c R (wordsFrom t₀ first count) (P .grammar) (i - first) m limit (drop (free * 4) t₀) (drop (free * 4) t) few tail-room exact last)
-          ∙ (ap (λ (n : ℕ). take (free * 4) t₀ ++ (flat (wordsMade D c (wordsFrom t₀ first count)) ++ drop (n * 4) (drop (free * 4) t₀))) (sym length-made)
+          ∙ (ap (λ (x : List ℕ). take (free * 4) t₀ ++ x)
+          (s₁
+          ∙ written-end v D c R (wordsFrom t₀ first count) (P .grammar) (i - first) m limit (drop (free * 4) t₀) (drop (free * 4) t) few
+          tail-room exact last)
+          ∙ (ap (λ (n : ℕ). take (free * 4) t₀ ++ (flat (wordsMade D c (wordsFrom t₀ first count)) ++ drop (n * 4) (drop (free * 4) t₀)))
+          (sym length-made)
           ∙ tail-written t₀ free (wordsMade D c (wordsFrom t₀ first count)) (omega (arith, length-made, room)))))

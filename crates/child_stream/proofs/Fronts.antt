@@ -62,7 +62,9 @@ front-take p out = record { rest = startsOf (drop p out); is = ap startsOf (sym 
 
 -- a row that is no area behind them
 front-mark : (r : Row) (x out : List Row) → startsOf (r ∷ []) ≡ [] → Front (startsOf x) (startsOf out) → Front (startsOf (x ++ (r ∷ []))) (startsOf out)
-front-mark r x out e f = subst (λ (l : List ℤ). Front l (startsOf out)) (sym (starts-append x (r ∷ []) ∙ (ap (λ (l : List ℤ). startsOf x ++ l) e ∙ append-nil (startsOf x)))) f
+front-mark r x out e f =
+    subst (λ (l : List ℤ). Front l (startsOf out))
+    (sym (starts-append x (r ∷ []) ∙ (ap (λ (l : List ℤ). startsOf x ++ l) e ∙ append-nil (startsOf x)))) f
 
 front-same : (out : List Row) → Front (startsOf out) (startsOf out)
 front-same out = record { rest = []; is = sym (append-nil (startsOf out)) }
@@ -82,7 +84,8 @@ module _ (D : Drawing) (c : Cell) where
     where
       kept : Front (startsOf (out ++ (named n z ∷ map segment gs))) (startsOf out ++ (z ∷ []))
       kept =
-          let e : startsOf (out ++ (named n z ∷ map segment gs)) ≡ startsOf out ++ (z ∷ []) = starts-append out (named n z ∷ map segment gs) ∙ ap (λ (l : List ℤ). startsOf out ++ (z ∷ l)) (starts-segments gs) in
+          let e : startsOf (out ++ (named n z ∷ map segment gs)) ≡ startsOf out ++ (z ∷ []) =
+          starts-append out (named n z ∷ map segment gs) ∙ ap (λ (l : List ℤ). startsOf out ++ (z ∷ l)) (starts-segments gs) in
           record { rest = []; is = sym e ∙ sym (append-nil (startsOf (out ++ (named n z ∷ map segment gs)))) }
 
       go : (k : Kind) (f : Items.Class) → Front (startsOf (outOf (addItem (items D) Row entryRows k f (area n z gs) out b fs))) (startsOf out ++ (z ∷ []))
@@ -153,7 +156,8 @@ total-is [] = (refl, omega arith)
 total-is (r ∷ rs) =
     let a = one-is r in
     let b = total-is rs in
-    let e : length (startsOf (r ∷ rs)) ≡ length (startsOf (r ∷ [])) + length (startsOf rs) = ap length (starts-append (r ∷ []) rs) ∙ length-append (startsOf (r ∷ [])) (startsOf rs) in
+    let e : length (startsOf (r ∷ rs)) ≡ length (startsOf (r ∷ [])) + length (startsOf rs) =
+    ap length (starts-append (r ∷ []) rs) ∙ length-append (startsOf (r ∷ [])) (startsOf rs) in
     (omega (arith, a .0, b .0, e), omega (arith, a .1, b .1))
 
 pub areas-is : (rs : List Row) → length rs ≤ 8192 → total rowSize rs / 4294967296 ≡ length (startsOf rs)

@@ -37,51 +37,84 @@ module _ (v : Env) (D : Drawing) (c : Cell) (R : Reads v D) (t : List ℕ) (firs
   loop-begin m e f =
       let a : first - first ≡ 0 = omega arith in
       let b : first + count - first ≡ count = omega arith in
-      record { from = omega arith; to = omega arith; standing = rw (a, b) (standing-begin v D c R (wordsFrom t first count) (P .grammar) (m .pruner) (m .waiting) e f) }
+      record {
+        from = omega arith;
+        to = omega arith;
+        standing = rw (a, b) (standing-begin v D c R (wordsFrom t first count) (P .grammar) (m .pruner) (m .waiting) e f);
+      }
 
   -- where entry i is to come
   module _ (i : ℕ) (m : Maker) (l : Looping v D c t first count i m) (h : i < first + count) where
-    here : Standing v D c (i - first) (m .pruner) (m .waiting) (wordsAt t i ∷ wordsFrom t (i + 1) (first + count - (i + 1))) (allOf D c (wordsFrom t first count))
-    here = subst (λ (ws : List Words). Standing v D c (i - first) (m .pruner) (m .waiting) ws (allOf D c (wordsFrom t first count))) (words-step t i (first + count) h) (l .standing)
+    here : Standing v D c (i - first) (m .pruner) (m .waiting) (wordsAt t i ∷ wordsFrom t (i + 1) (first + count - (i + 1)))
+        (allOf D c (wordsFrom t first count))
+    here =
+        subst (λ (ws : List Words). Standing v D c (i - first) (m .pruner) (m .waiting) ws (allOf D c (wordsFrom t first count)))
+        (words-step t i (first + count) h) (l .standing)
 
     few : i - first ≤ 4096
     few = omega (arith, P .few, l .from)
 
     pub loop-left : leftRange (v .xs) (v .ys) (v .used .corners) (wordsAt t i) ≡ true
-    loop-left = standing-left v D c R (i - first) (m .pruner) (m .waiting) (allOf D c (wordsFrom t first count)) (wordsAt t i) (wordsFrom t (i + 1) (first + count - (i + 1))) here
+    loop-left =
+        standing-left v D c R (i - first) (m .pruner) (m .waiting) (allOf D c (wordsFrom t first count)) (wordsAt t i)
+        (wordsFrom t (i + 1) (first + count - (i + 1))) here
 
     pub loop-sign : natAbs (leftSign (v .xs) (v .ys) (wordsAt t i)) ≤ 1
-    loop-sign = standing-sign v D c R (i - first) (m .pruner) (m .waiting) (allOf D c (wordsFrom t first count)) (wordsAt t i) (wordsFrom t (i + 1) (first + count - (i + 1))) here
+    loop-sign =
+        standing-sign v D c R (i - first) (m .pruner) (m .waiting) (allOf D c (wordsFrom t first count)) (wordsAt t i)
+        (wordsFrom t (i + 1) (first + count - (i + 1))) here
 
     pub loop-asks : Asks (length (v .areas)) (m .pruner) (m .waiting) (wordsAt t i)
     loop-asks =
         record {
-          inside = standing-inside v D c R (i - first) (m .pruner) (m .waiting) (allOf D c (wordsFrom t first count)) (wordsAt t i ∷ wordsFrom t (i + 1) (first + count - (i + 1))) few (P .ready .areas) here;
-          room = standing-room v D c R (i - first) (m .pruner) (m .waiting) (allOf D c (wordsFrom t first count)) (wordsAt t i) (wordsFrom t (i + 1) (first + count - (i + 1))) here few;
-          start = standing-start v D c R (i - first) (m .pruner) (m .waiting) (allOf D c (wordsFrom t first count)) (wordsAt t i) (wordsFrom t (i + 1) (first + count - (i + 1))) here;
+          inside = standing-inside v D c R (i - first) (m .pruner) (m .waiting) (allOf D c (wordsFrom t first count))
+              (wordsAt t i ∷ wordsFrom t (i + 1) (first + count - (i + 1))) few (P .ready .areas) here;
+          room = standing-room v D c R (i - first) (m .pruner) (m .waiting) (allOf D c (wordsFrom t first count)) (wordsAt t i)
+              (wordsFrom t (i + 1) (first + count - (i + 1))) here few;
+          start = standing-start v D c R (i - first) (m .pruner) (m .waiting) (allOf D c (wordsFrom t first count)) (wordsAt t i)
+              (wordsFrom t (i + 1) (first + count - (i + 1))) here;
         }
 
-    pub loop-turn : (n : Maker) (w : Words) (q : Square) (f : Class) (z : ℤ) → w ≡ wordsAt t i → w .q < 4294967296 → squareOf c ≡ q → f ≡ leftClass (v .xs) (v .ys) q w → z ≡ leftSign (v .xs) (v .ys) w
-        → counted (n .pruner) ≡ prunedN (v .areas) (counted (m .pruner)) (m .waiting) (w .kind) → n .waiting ≡ waitingN (m .waiting) f z w → Looping v D c t first count (i + 1) n
+    pub loop-turn : (n : Maker) (w : Words) (q : Square) (f : Class) (z : ℤ)
+        → w ≡ wordsAt t i
+        → w .q < 4294967296
+        → squareOf c ≡ q
+        → f ≡ leftClass (v .xs) (v .ys) q w
+        → z ≡ leftSign (v .xs) (v .ys) w
+        → counted (n .pruner) ≡ prunedN (v .areas) (counted (m .pruner)) (m .waiting) (w .kind)
+        → n .waiting ≡ waitingN (m .waiting) f z w
+        → Looping v D c t first count (i + 1) n
     loop-turn n w q f z e b g x y hp ha =
         let k : i - first + 1 ≡ i + 1 - first = omega (arith, l .from) in
-        let s : Standing v D c (i - first) (m .pruner) (m .waiting) (w ∷ wordsFrom t (i + 1) (first + count - (i + 1))) (allOf D c (wordsFrom t first count)) = rw e here in
+        let s : Standing v D c (i - first) (m .pruner) (m .waiting) (w ∷ wordsFrom t (i + 1) (first + count - (i + 1)))
+        (allOf D c (wordsFrom t first count)) = rw e here in
         record {
           from = omega (arith, l .from);
           to = omega arith;
-          standing =
-              subst (λ (j : ℕ). Standing v D c j (n .pruner) (n .waiting) (wordsFrom t (i + 1) (first + count - (i + 1))) (allOf D c (wordsFrom t first count))) k
-              (standing-next v D c R (i - first) (m .pruner) (m .waiting) (allOf D c (wordsFrom t first count)) w (wordsFrom t (i + 1) (first + count - (i + 1))) s (n .pruner) (n .waiting) hp
-              (ha ∙ (ap (λ (d : Class). waitingN (m .waiting) d z w) (x ∙ ap (λ (r : Square). leftClass (v .xs) (v .ys) r w) (sym g)) ∙ ap (λ (y : ℤ). waitingN (m .waiting) (leftClass (v .xs) (v .ys) (squareOf c) w) y w) y)) b);
+          standing = subst
+              (λ (j : ℕ).
+              Standing v D c j (n .pruner) (n .waiting) (wordsFrom t (i + 1) (first + count - (i + 1)))
+              (allOf D c (wordsFrom t first count)))
+              k
+              (standing-next v D c R (i - first) (m .pruner) (m .waiting) (allOf D c (wordsFrom t first count)) w
+              (wordsFrom t (i + 1) (first + count - (i + 1))) s (n .pruner) (n .waiting) hp
+              (ha
+              ∙ (ap (λ (d : Class). waitingN (m .waiting) d z w) (x ∙ ap (λ (r : Square). leftClass (v .xs) (v .ys) r w) (sym g))
+              ∙ ap (λ (y : ℤ). waitingN (m .waiting) (leftClass (v .xs) (v .ys) (squareOf c) w) y w) y))
+              b);
         }
 
   -- where none is left
   module _ (i : ℕ) (m : Maker) (l : Looping v D c t first count i m) (h : first + count ≤ i) where
     none : Standing v D c (i - first) (m .pruner) (m .waiting) [] (allOf D c (wordsFrom t first count))
-    none = subst (λ (ws : List Words). Standing v D c (i - first) (m .pruner) (m .waiting) ws (allOf D c (wordsFrom t first count))) (words-none t i (first + count) h) (l .standing)
+    none =
+        subst (λ (ws : List Words). Standing v D c (i - first) (m .pruner) (m .waiting) ws (allOf D c (wordsFrom t first count)))
+        (words-none t i (first + count) h) (l .standing)
 
     pub end-inside : Inside (length (v .areas)) (m .waiting)
-    end-inside = standing-inside v D c R (i - first) (m .pruner) (m .waiting) (allOf D c (wordsFrom t first count)) [] (omega (arith, P .few, l .to, l .from)) (P .ready .areas) none
+    end-inside =
+        standing-inside v D c R (i - first) (m .pruner) (m .waiting) (allOf D c (wordsFrom t first count)) []
+        (omega (arith, P .few, l .to, l .from)) (P .ready .areas) none
 
     pub end-room : (m .pruner .weight + m .waiting .weight < 2 ^ 60) × (m .pruner .base < 2 ^ 60)
     end-room = (

@@ -44,7 +44,10 @@ pub record Noting (v : Env) (D : Drawing) (c : Cell) (k : ℕ) (mk : Maker) (ws 
   pub stands : Stands zs (startsOf (outOf (stateOf (standing .rows))))
 
 -- the start number of the area that waits, behind them
-noted-stands : (v : Env) (D : Drawing) (c : Cell) (k : ℕ) (mk : Maker) (ws : List Words) (whole : Making) (zs : List ℤ) → k ≤ 4096 → length zs ≡ 64 → (s : Noting v D c k mk ws whole zs)
+noted-stands : (v : Env) (D : Drawing) (c : Cell) (k : ℕ) (mk : Maker) (ws : List Words) (whole : Making) (zs : List ℤ)
+    → k ≤ 4096
+    → length zs ≡ 64
+    → (s : Noting v D c k mk ws whole zs)
     → Stands (putStart zs (areasIn (mk .pruner .weight)) (mk .waiting .start)) (withNext D c (s .standing .rows))
 noted-stands v D c k mk ws whole zs l e s =
     let f = s .standing .follows in
@@ -66,7 +69,11 @@ module _ (v : Env) (D : Drawing) (c : Cell) (R : Reads v D) (t : List ℕ) (firs
   abbrev whole : Making
   whole = allOf D c (wordsFrom t first count)
 
-  pub counting-begin : (m : Maker) (zs : List ℤ) → counted (m .pruner) ≡ ct 0 0 going [] → m .waiting ≡ resting → length zs ≡ 64 → Counting v D c t first count first m zs
+  pub counting-begin : (m : Maker) (zs : List ℤ)
+      → counted (m .pruner) ≡ ct 0 0 going []
+      → m .waiting ≡ resting
+      → length zs ≡ 64
+      → Counting v D c t first count first m zs
   counting-begin m zs e f n =
       let a : first - first ≡ 0 = omega arith in
       let b : first + count - first ≡ count = omega arith in
@@ -90,18 +97,30 @@ module _ (v : Env) (D : Drawing) (c : Cell) (R : Reads v D) (t : List ℕ) (firs
     abbrev next : List ℤ
     next = putStart zs (areasIn (m .pruner .weight)) (m .waiting .start)
 
-    pub counting-turn : i < first + count → (n : Maker) (w : Words) (q : Square) (f : Class) (z : ℤ) → w ≡ wordsAt t i → w .q < 4294967296 → squareOf c ≡ q → f ≡ leftClass (v .xs) (v .ys) q w → z ≡ leftSign (v .xs) (v .ys) w
-        → counted (n .pruner) ≡ prunedN (v .areas) (counted (m .pruner)) (m .waiting) (w .kind) → n .waiting ≡ waitingN (m .waiting) f z w → (zs′ : List ℤ) → zs′ ≡ next → Counting v D c t first count (i + 1) n zs′
+    pub counting-turn : i < first + count
+        → (n : Maker) (w : Words) (q : Square) (f : Class) (z : ℤ)
+        → w ≡ wordsAt t i
+        → w .q < 4294967296
+        → squareOf c ≡ q
+        → f ≡ leftClass (v .xs) (v .ys) q w
+        → z ≡ leftSign (v .xs) (v .ys) w
+        → counted (n .pruner) ≡ prunedN (v .areas) (counted (m .pruner)) (m .waiting) (w .kind)
+        → n .waiting ≡ waitingN (m .waiting) f z w
+        → (zs′ : List ℤ)
+        → zs′ ≡ next
+        → Counting v D c t first count (i + 1) n zs′
     counting-turn h n w q f z e b g x y hp ha zs′ hz =
         let k : i - first + 1 ≡ i + 1 - first = omega (arith, l .from) in
         let ws : List Words = wordsFrom t (i + 1) (first + count - (i + 1)) in
-        let now : Noting v D c (i - first) m (w ∷ ws) whole zs =
-        subst (λ (u : List Words). Noting v D c (i - first) m u whole zs) (words-step t i (first + count) h ∙ ap (λ (u : Words). u ∷ ws) (sym e)) (l .noting) in
+        let now : Noting v D c (i - first) m (w ∷ ws) whole zs = subst (λ (u : List Words). Noting v D c (i - first) m u whole zs)
+        (words-step t i (first + count) h ∙ ap (λ (u : Words). u ∷ ws) (sym e)) (l .noting) in
         let s = standing-rows v D c R (i - first) (m .pruner) (m .waiting) whole w ws (now .standing) (n .pruner) (n .waiting) hp
-        (ha ∙ ap₂ (λ (d : Class) (y : ℤ). waitingN (m .waiting) d y w) (x ∙ ap (λ (r : Square). leftClass (v .xs) (v .ys) r w) (sym g)) y) b in
-        let done : Stands next (startsOf (outOf (stateOf (s .0 .rows)))) =
-        subst (λ (y : Making). Stands next (startsOf (outOf (stateOf y)))) (sym (s .1))
-        (stands-front next _ (withNext D c (now .standing .rows)) (turn-front D c (decode w) (now .standing .rows)) (noted-stands v D c (i - first) m (w ∷ ws) whole zs few (l .size) now)) in
+        (ha ∙ ap₂ (λ (d : Class) (y : ℤ). waitingN (m .waiting) d y w) (x ∙ ap (λ (r : Square). leftClass (v .xs) (v .ys) r w) (sym g)) y)
+        b in
+        let done : Stands next (startsOf (outOf (stateOf (s .0 .rows)))) = subst
+        (λ (y : Making). Stands next (startsOf (outOf (stateOf y)))) (sym (s .1))
+        (stands-front next _ (withNext D c (now .standing .rows)) (turn-front D c (decode w) (now .standing .rows))
+        (noted-stands v D c (i - first) m (w ∷ ws) whole zs few (l .size) now)) in
         rw hz
         (record {
           from = omega (arith, l .from);
@@ -123,17 +142,26 @@ module _ (v : Env) (D : Drawing) (c : Cell) (R : Reads v D) (t : List ℕ) (firs
       made-is = ap (λ (y : Making). outOf (settle D c y)) rows-end ∙ rows-all v D c R (wordsFrom t first count) (P .grammar)
 
       made-short : length (rowsMade D c (wordsFrom t first count)) ≤ 8192
-      made-short = omega (arith, settle-short (v .areas) D c (R .agrees) (i - first) (m .pruner) (m .waiting) (last .standing .rows) (last .standing .follows), ap length made-is, few)
+      made-short =
+          omega (
+            arith,
+            settle-short (v .areas) D c (R .agrees) (i - first) (m .pruner) (m .waiting) (last .standing .rows) (last .standing .follows),
+            ap length made-is,
+            few,
+          )
 
       made-stands : Stands next (startsOf (rowsMade D c (wordsFrom t first count)))
       made-stands =
           subst (λ (y : List Row). Stands next (startsOf y)) made-is
-          (stands-front next _ (withNext D c (last .standing .rows)) (settle-front D c (last .standing .rows)) (noted-stands v D c (i - first) m [] whole zs few (l .size) last))
+          (stands-front next _ (withNext D c (last .standing .rows)) (settle-front D c (last .standing .rows))
+          (noted-stands v D c (i - first) m [] whole zs few (l .size) last))
 
       pub counting-end : (zs′ : List ℤ) → zs′ ≡ next → (n : ℕ) → n ≡ total rowSize (rowsMade D c (wordsFrom t first count))
           → starts (areasIn n) (firstOf (areasIn n) zs′) ≡ startsIn (rowsMade D c (wordsFrom t first count))
       counting-end zs′ hz n e =
-          let k : areasIn n ≡ length (startsOf (rowsMade D c (wordsFrom t first count))) = ap areasIn e ∙ areas-is (rowsMade D c (wordsFrom t first count)) made-short in
+          let k : areasIn n ≡ length (startsOf (rowsMade D c (wordsFrom t first count))) =
+          ap areasIn e ∙ areas-is (rowsMade D c (wordsFrom t first count)) made-short in
           rw (hz, k)
           (ap (starts (length (startsOf (rowsMade D c (wordsFrom t first count)))))
-          (first-filled next (startsOf (rowsMade D c (wordsFrom t first count))) (put-length zs (areasIn (m .pruner .weight)) (m .waiting .start) ∙ l .size) made-stands))
+          (first-filled next (startsOf (rowsMade D c (wordsFrom t first count)))
+          (put-length zs (areasIn (m .pruner .weight)) (m .waiting .start) ∙ l .size) made-stands))

@@ -30,7 +30,9 @@ pub put-size : (t s : List ℕ) (b : ℕ) → b ≤ length t → length s ≡ le
 put-size t s b h e = omega (arith, length-append (take b t) s, length-take-le b t h, e, length-drop b t)
 
 -- entries that are written from the tail's first on are written from entry `free` on
-pub tail-written : (t : List ℕ) (free : ℕ) (ws : List Words) → (free + length ws) * 4 ≤ length t → take (free * 4) t ++ (flat ws ++ drop (length ws * 4) (drop (free * 4) t)) ≡ written t free ws
+pub tail-written : (t : List ℕ) (free : ℕ) (ws : List Words)
+    → (free + length ws) * 4 ≤ length t
+    → take (free * 4) t ++ (flat ws ++ drop (length ws * 4) (drop (free * 4) t)) ≡ written t free ws
 tail-written t free ws h =
     let e : free * 4 + length ws * 4 ≡ (free + length ws) * 4 = omega arith in
     sym (written-eq t free ws h ∙ (append-assoc (take (free * 4) t) (flat ws) (drop ((free + length ws) * 4) t)

@@ -28,10 +28,21 @@ loop-less : tie.Need-loop-less Inv-loop μ-loop
 loop-less c = search needs
 
 loop-again : tie.Need-loop-again Inv-loop μ-loop
-loop-again c = let a = c .before .before .args in clear-turn (a .zs) (c .before .before .good .0 .1 .0 .1) (a .count) (c .before .loop .i) (c .before .loop .at) (c .before .loop .inv) (c .loop-test .taken)
+loop-again c =
+    let at-loop = c .before in
+    let at-entry = at-loop .before in
+    let a = at-entry .args in
+    clear-turn (a .zs) (at-entry .good .0 .1 .0 .1) (a .count) (at-loop .loop .i) (at-loop .loop .at) (at-loop .loop .inv)
+    (c .loop-test .taken)
 
 returns : tie.Need-returns Inv-loop μ-loop
-returns c = let a = c .before .before .args in ap (starts (a .count)) (clear-end (a .zs) (c .before .before .good .0 .1 .0 .1) (a .count) (c .before .loop .i) (c .before .loop .at) (c .before .loop .inv) (c .loop-test .left))
+returns c =
+    let at-loop = c .before in
+    let at-entry = at-loop .before in
+    let a = at-entry .args in
+    ap (starts (a .count))
+    (clear-end (a .zs) (at-entry .good .0 .1 .0 .1) (a .count) (at-loop .loop .i) (at-loop .loop .at) (at-loop .loop .inv)
+    (c .loop-test .left))
 
 pub ended-spec : {M : Type 1} → statement M
 ended-spec = tie.close (tie.spec Inv-loop μ-loop loop-holds mul-at array-set-of-at add-i loop-less loop-again returns)

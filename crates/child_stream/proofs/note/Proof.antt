@@ -10,18 +10,26 @@ mul-z : tie.Need-mul-z
 mul-z c = search needs
 
 slice-set-from-z : tie.Need-slice-set-from-z
-slice-set-from-z c = search (needs, c .before .before .before .pre .0)
+slice-set-from-z c =
+    let at-entry = c .before .before .before in
+    search (needs, at-entry .pre .0)
 
 same-length : tie.Need-same-length
 same-length c = search needs
 
 returns : tie.Need-returns
 unfolding putStart
-returns c = let a = c .before .before .before .args in rw (lt-ltb (a .p .weight / 4294967296) 64 (c .if1 .taken), small-back (a .a .start) (c .before .before .before .pre .1))
+returns c =
+    let at-entry = c .before .before .before in
+    let a = at-entry .args in
+    rw (lt-ltb (a .p .weight / 4294967296) 64 (c .if1 .taken), small-back (a .a .start) (at-entry .pre .1))
 
 returns-2 : tie.Need-returns-2
 unfolding putStart
-returns-2 c = let a = c .before .before .before .args in rw (le-ltb (a .p .weight / 4294967296) 64 (c .if1 .left))
+returns-2 c =
+    let at-entry = c .before .before .before in
+    let a = at-entry .args in
+    rw (le-ltb (a .p .weight / 4294967296) 64 (c .if1 .left))
 
 pub note-spec : {M : Type 1} → statement M
 note-spec = tie.close (tie.spec mul-z slice-set-from-z same-length returns returns-2)
