@@ -46,20 +46,38 @@ module _ (plan : List ℕ) (records : ℕ) where
   edge-end i c f (Close ∷ rs) h e = rw (lt-ltb (i + 1) records (omega arith), kind-here (i + 4) Close rs h)
 
   -- the records behind record i
-  behind : (i : ℕ) (r : Record) (rs : List Record) (s : Source) → Has plan (i + 3) (spread kindW (r ∷ rs)) → i + length (r ∷ rs) ≡ records → s .area + areasIn rs ≤ 64 → s .corner + cornersIn rs ≤ 2048
+  behind : (i : ℕ) (r : Record) (rs : List Record) (s : Source)
+      → Has plan (i + 3) (spread kindW (r ∷ rs))
+      → i + length (r ∷ rs) ≡ records
+      → s .area + areasIn rs ≤ 64
+      → s .corner + cornersIn rs ≤ 2048
       → Ahead (i + 1) s (map wordsOf (sourceFrom (s .area) (s .corner) (s .first) rs))
-  behind i r rs s h e m n = record { rest = rs; kinds = kinds-behind (i + 3) (i + 1 + 3) r rs (omega arith) h; whole = omega arith; few-areas = m; few-corners = n; words = refl }
+  behind i r rs s h e m n =
+      record {
+        rest = rs;
+        kinds = kinds-behind (i + 3) (i + 1 + 3) r rs (omega arith) h;
+        whole = omega arith;
+        few-areas = m;
+        few-corners = n;
+        words = refl;
+      }
 
   -- entry i, then the others
   abbrev pub Goes : (i : ℕ) → Source → List Words → Type 0
   Goes i s ws = (ws′ : List Words) × (ws ≡ entryN plan i records s ∷ ws′) × Ahead (i + 1) (afterN s (getD plan (i + 3) 0)) ws′
 
-  goes : (i a c f : ℕ) (rs : List Record) → Has plan (i + 3) (spread kindW rs) → i + length rs ≡ records → a + areasIn rs ≤ 64 → c + cornersIn rs ≤ 2048 → i < records
+  goes : (i a c f : ℕ) (rs : List Record)
+      → Has plan (i + 3) (spread kindW rs)
+      → i + length rs ≡ records
+      → a + areasIn rs ≤ 64
+      → c + cornersIn rs ≤ 2048
+      → i < records
       → Goes i (sourceAt a c f) (map wordsOf (sourceFrom a c f rs))
   goes i a c f [] h e m n l = absurd (omega arith)
   goes i a c f (Area g ∷ rs) h e m n l =
       let z : a + 1 ≡ suc a = omega arith in
-      rw (kind-here (i + 3) (Area g) rs h, z) (map wordsOf (sourceFrom (suc a) c f rs), refl, behind i (Area g) rs (sourceAt (suc a) c f) h e (omega arith) (omega arith))
+      rw (kind-here (i + 3) (Area g) rs h, z)
+      (map wordsOf (sourceFrom (suc a) c f rs), refl, behind i (Area g) rs (sourceAt (suc a) c f) h e (omega arith) (omega arith))
   goes i a c f (First x y ∷ rs) h e m n l =
       let b : Has plan (i + 4) (spread kindW rs) = kinds-behind (i + 3) (i + 4) (First x y) rs (omega arith) h in
       let z : c + 1 ≡ suc c = omega arith in
@@ -70,9 +88,15 @@ module _ (plan : List ℕ) (records : ℕ) where
       let z : c + 1 ≡ suc c = omega arith in
       rw (kind-here (i + 3) (Next x y) rs h, edge-end i c f rs b (omega arith), z)
       (map wordsOf (sourceFrom a (suc c) f rs), refl, behind i (Next x y) rs (sourceAt a (suc c) f) h e (omega arith) (omega arith))
-  goes i a c f (Open ∷ rs) h e m n l = rw (kind-here (i + 3) Open rs h) (map wordsOf (sourceFrom a c f rs), refl, behind i Open rs (sourceAt a c f) h e (omega arith) (omega arith))
-  goes i a c f (Bar ∷ rs) h e m n l = rw (kind-here (i + 3) Bar rs h) (map wordsOf (sourceFrom a c f rs), refl, behind i Bar rs (sourceAt a c f) h e (omega arith) (omega arith))
-  goes i a c f (Close ∷ rs) h e m n l = rw (kind-here (i + 3) Close rs h) (map wordsOf (sourceFrom a c f rs), refl, behind i Close rs (sourceAt a c f) h e (omega arith) (omega arith))
+  goes i a c f (Open ∷ rs) h e m n l =
+      rw (kind-here (i + 3) Open rs h)
+      (map wordsOf (sourceFrom a c f rs), refl, behind i Open rs (sourceAt a c f) h e (omega arith) (omega arith))
+  goes i a c f (Bar ∷ rs) h e m n l =
+      rw (kind-here (i + 3) Bar rs h)
+      (map wordsOf (sourceFrom a c f rs), refl, behind i Bar rs (sourceAt a c f) h e (omega arith) (omega arith))
+  goes i a c f (Close ∷ rs) h e m n l =
+      rw (kind-here (i + 3) Close rs h)
+      (map wordsOf (sourceFrom a c f rs), refl, behind i Close rs (sourceAt a c f) h e (omega arith) (omega arith))
 
   pub ahead-next : (i : ℕ) (s : Source) (ws : List Words) → Ahead i s ws → i < records → Goes i s ws
   ahead-next i s ws a l =

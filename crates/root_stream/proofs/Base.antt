@@ -54,7 +54,9 @@ module _ (t : Tables) (records : ℕ) (b : Bounds) (o : Opened t records b) wher
   valid = accepted-valid (drawnIn t) (o .used) (o .accepted)
 
   pub held : Held (t .areas) (t .xs) (t .ys) b (drawingIn t)
-  held = accepted-held t (drawnIn t) (o .used) (o .accepted) (o .holding) b (ap (λ (x : Bounds). x .areas) (o .bounds-used)) (ap (λ (x : Bounds). x .corners) (o .bounds-used))
+  held =
+      accepted-held t (drawnIn t) (o .used) (o .accepted) (o .holding) b (ap (λ (x : Bounds). x .areas) (o .bounds-used))
+      (ap (λ (x : Bounds). x .corners) (o .bounds-used))
 
   kinds : Has (t .plan) 3 (spread kindW (drawnIn t))
   kinds =
@@ -63,8 +65,10 @@ module _ (t : Tables) (records : ℕ) (b : Bounds) (o : Opened t records b) wher
 
   passes : accepts (env (t .areas) (t .xs) (t .ys) b) (wordsIn t) ≡ true
   passes =
-      subst (λ (x : List Row). accepts (env (t .areas) (t .xs) (t .ys) b) (map wordsOf x) ≡ true) (source-rows (drawnIn t) (o .used) (o .accepted))
-      (source-passes (drawingIn t) (t .areas) (t .xs) (t .ys) b held valid (ap (λ (x : Bounds). x .low) (o .bounds-used)) (ap (λ (x : Bounds). x .side) (o .bounds-used)))
+      subst (λ (x : List Row). accepts (env (t .areas) (t .xs) (t .ys) b) (map wordsOf x) ≡ true)
+      (source-rows (drawnIn t) (o .used) (o .accepted))
+      (source-passes (drawingIn t) (t .areas) (t .xs) (t .ys) b held valid (ap (λ (x : Bounds). x .low) (o .bounds-used))
+      (ap (λ (x : Bounds). x .side) (o .bounds-used)))
 
   pub base : Base (env (t .areas) (t .xs) (t .ys) b) (drawingIn t) (t .plan) records (wordsIn t)
   base =
@@ -75,8 +79,14 @@ module _ (t : Tables) (records : ℕ) (b : Bounds) (o : Opened t records b) wher
         ready = held .ready;
         few = omega (arith, records-are, o .accepted .below);
         long = omega (arith, records-are, kinds .room, kinds-length (drawnIn t));
-        begin =
-            record { rest = drawnIn t; kinds = kinds; whole = omega (arith, records-are); few-areas = omega (arith, c .few-areas); few-corners = omega (arith, c .few-corners); words = refl };
+        begin = record {
+          rest = drawnIn t;
+          kinds = kinds;
+          whole = omega (arith, records-are);
+          few-areas = omega (arith, c .few-areas);
+          few-corners = omega (arith, c .few-corners);
+          words = refl;
+        };
       }
 
   pub base-made : rowsMade (drawingIn t) root (wordsIn t) ≡ rowsOpened t

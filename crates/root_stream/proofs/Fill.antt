@@ -37,13 +37,19 @@ use Rattle.root_stream.proofs.Base.{Base}
 use Rattle.root_stream.proofs.Loop.{Looping}
 
 -- the table t was t₀: what is made so far, and the rest as it was
-pub record Filling (v : Env) (D : Drawing) (plan : List ℕ) (records : ℕ) (all : List Words) (limit : ℕ) (t₀ : List ℕ) (i : ℕ) (s : Source) (m : Maker) (t : List ℕ) : Type 0 where
+pub record Filling (v : Env) (D : Drawing) (plan : List ℕ) (records : ℕ) (all : List Words) (limit : ℕ) (t₀ : List ℕ) (i : ℕ) (s : Source)
+    (m : Maker) (t : List ℕ) : Type 0 where
   pub ws : List Words
   pub ahead : Ahead plan records i s ws
   pub writing : Writing v D root i m ws (allOf D root all) limit t₀ t
 
-module _ (v : Env) (D : Drawing) (plan : List ℕ) (records : ℕ) (all : List Words) (B : Base v D plan records all) (limit : ℕ) (t₀ : List ℕ) (room : limit * 4 ≤ length t₀) where
-  pub fill-begin : (s : Source) (m : Maker) → s ≡ sourceAt 0 0 0 → counted (m .pruner) ≡ ct 0 0 going [] → m .waiting ≡ resting → Filling v D plan records all limit t₀ 0 s m t₀
+module _ (v : Env) (D : Drawing) (plan : List ℕ) (records : ℕ) (all : List Words) (B : Base v D plan records all) (limit : ℕ) (t₀ : List ℕ)
+    (room : limit * 4 ≤ length t₀) where
+  pub fill-begin : (s : Source) (m : Maker)
+      → s ≡ sourceAt 0 0 0
+      → counted (m .pruner) ≡ ct 0 0 going []
+      → m .waiting ≡ resting
+      → Filling v D plan records all limit t₀ 0 s m t₀
   fill-begin s m y e f =
       let x = standing-start v D root (B .reads) all (B .grammar) (m .pruner) (m .waiting) e f in
       let none : Writes limit t₀ (begun D root) = record { done = tt; behind = λ q. tt } in
@@ -64,9 +70,18 @@ module _ (v : Env) (D : Drawing) (plan : List ℕ) (records : ℕ) (all : List W
     few : i ≤ 4096
     few = omega (arith, B .few, f .ahead .whole)
 
-    pub fill-turn : i < records → (n : Maker) (w : Words) (q : Square) (g : Class) (z : ℤ) (s′ : Source) (u : List ℕ) → w ≡ entryN plan i records s → w .q < 4294967296 → q ≡ squareOf root → g ≡ leftClass (v .xs) (v .ys) q w → z ≡ leftSign (v .xs) (v .ys) w
-        → counted (n .pruner) ≡ prunedN (v .areas) (counted (m .pruner)) (m .waiting) (w .kind) → n .waiting ≡ waitingN (m .waiting) g z w
-        → u ≡ onePut limit (v .areas) t m g z w (n .pruner .weight) → s′ ≡ afterN s (getD plan (i + 3) 0) → Filling v D plan records all limit t₀ (i + 1) s′ n u
+    pub fill-turn : i < records
+        → (n : Maker) (w : Words) (q : Square) (g : Class) (z : ℤ) (s′ : Source) (u : List ℕ)
+        → w ≡ entryN plan i records s
+        → w .q < 4294967296
+        → q ≡ squareOf root
+        → g ≡ leftClass (v .xs) (v .ys) q w
+        → z ≡ leftSign (v .xs) (v .ys) w
+        → counted (n .pruner) ≡ prunedN (v .areas) (counted (m .pruner)) (m .waiting) (w .kind)
+        → n .waiting ≡ waitingN (m .waiting) g z w
+        → u ≡ onePut limit (v .areas) t m g z w (n .pruner .weight)
+        → s′ ≡ afterN s (getD plan (i + 3) 0)
+        → Filling v D plan records all limit t₀ (i + 1) s′ n u
     fill-turn h n w q g z s′ u e b r x y hp ha hu hs =
         let next = ahead-next plan records i s (f .ws) (f .ahead) h in
         let now : Writing v D root i m (w ∷ next .0) (allOf D root all) limit t₀ t =
@@ -86,11 +101,14 @@ module _ (v : Env) (D : Drawing) (plan : List ℕ) (records : ℕ) (all : List W
 
       pub fill-end : (u : List ℕ) → u ≡ settledPut limit (v .areas) t m → u ≡ written t₀ 0 (wordsMade D root all)
       fill-end u hu =
-          let last : Writing v D root i m [] (allOf D root all) limit t₀ t =
-          subst (λ (ws : List Words). Writing v D root i m ws (allOf D root all) limit t₀ t) (ahead-none plan records i s (f .ws) (f .ahead) h) (f .writing) in
+          let last : Writing v D root i m [] (allOf D root all) limit t₀ t = subst
+          (λ (ws : List Words). Writing v D root i m ws (allOf D root all) limit t₀ t) (ahead-none plan records i s (f .ws) (f .ahead) h)
+          (f .writing) in
           let size : 0 + length (wordsMade D root all) ≡ limit = omega (arith, length-made) in
-          hu ∙ (written-end v D root (B .reads) all (B .grammar) i m limit t₀ t few room-now exact last
-          ∙ (ap (λ (n : ℕ). flat (wordsMade D root all) ++ drop (n * 4) t₀) (sym size) ∙ sym (written-eq t₀ 0 (wordsMade D root all) (omega (arith, length-made)))))
+          hu
+          ∙ (written-end v D root (B .reads) all (B .grammar) i m limit t₀ t few room-now exact last
+          ∙ (ap (λ (n : ℕ). flat (wordsMade D root all) ++ drop (n * 4) t₀) (sym size)
+          ∙ sym (written-eq t₀ 0 (wordsMade D root all) (omega (arith, length-made)))))
 
 -- the words of the same rows
 pub words-opened : (t : Tables) (D : Drawing) (all : List Words) → rowsMade D root all ≡ rowsOpened t → wordsMade D root all ≡ wordsOpened t

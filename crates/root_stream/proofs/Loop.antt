@@ -44,8 +44,17 @@ pub source-few : (plan : List ℕ) (records i : ℕ) (s : Source) (ws : List Wor
 source-few plan records i s ws a = (omega (arith, a .few-areas), omega (arith, a .few-corners))
 
 module _ (v : Env) (D : Drawing) (plan : List ℕ) (records : ℕ) (all : List Words) (B : Base v D plan records all) where
-  pub loop-begin : (s : Source) (m : Maker) → s ≡ sourceAt 0 0 0 → counted (m .pruner) ≡ ct 0 0 going [] → m .waiting ≡ resting → Looping v D plan records all 0 s m
-  loop-begin s m x e f = record { ws = all; ahead = rw x (B .begin); standing = standing-begin v D root (B .reads) all (B .grammar) (m .pruner) (m .waiting) e f }
+  pub loop-begin : (s : Source) (m : Maker)
+      → s ≡ sourceAt 0 0 0
+      → counted (m .pruner) ≡ ct 0 0 going []
+      → m .waiting ≡ resting
+      → Looping v D plan records all 0 s m
+  loop-begin s m x e f =
+      record {
+        ws = all;
+        ahead = rw x (B .begin);
+        standing = standing-begin v D root (B .reads) all (B .grammar) (m .pruner) (m .waiting) e f;
+      }
 
   -- where record i is to come
   module _ (i : ℕ) (s : Source) (m : Maker) (l : Looping v D plan records all i s m) (h : i < records) where
@@ -67,27 +76,42 @@ module _ (v : Env) (D : Drawing) (plan : List ℕ) (records : ℕ) (all : List W
     pub loop-asks : Asks (length (v .areas)) (m .pruner) (m .waiting) (entryN plan i records s)
     loop-asks =
         record {
-          inside = standing-inside v D root (B .reads) i (m .pruner) (m .waiting) (allOf D root all) (entryN plan i records s ∷ next .0) few (B .ready .areas) here;
-          room = standing-room v D root (B .reads) i (m .pruner) (m .waiting) (allOf D root all) (entryN plan i records s) (next .0) here few;
+          inside = standing-inside v D root (B .reads) i (m .pruner) (m .waiting) (allOf D root all) (entryN plan i records s ∷ next .0) few
+              (B .ready .areas) here;
+          room = standing-room v D root (B .reads) i (m .pruner) (m .waiting) (allOf D root all) (entryN plan i records s) (next .0) here
+              few;
           start = standing-start v D root (B .reads) i (m .pruner) (m .waiting) (allOf D root all) (entryN plan i records s) (next .0) here;
         }
 
-    pub loop-turn : (n : Maker) (w : Words) (q : Square) (f : Class) (z : ℤ) (s′ : Source) → w ≡ entryN plan i records s → w .q < 4294967296 → q ≡ squareOf root → f ≡ leftClass (v .xs) (v .ys) q w → z ≡ leftSign (v .xs) (v .ys) w
-        → counted (n .pruner) ≡ prunedN (v .areas) (counted (m .pruner)) (m .waiting) (w .kind) → n .waiting ≡ waitingN (m .waiting) f z w → s′ ≡ afterN s (getD plan (i + 3) 0) → Looping v D plan records all (i + 1) s′ n
+    pub loop-turn : (n : Maker) (w : Words) (q : Square) (f : Class) (z : ℤ) (s′ : Source)
+        → w ≡ entryN plan i records s
+        → w .q < 4294967296
+        → q ≡ squareOf root
+        → f ≡ leftClass (v .xs) (v .ys) q w
+        → z ≡ leftSign (v .xs) (v .ys) w
+        → counted (n .pruner) ≡ prunedN (v .areas) (counted (m .pruner)) (m .waiting) (w .kind)
+        → n .waiting ≡ waitingN (m .waiting) f z w
+        → s′ ≡ afterN s (getD plan (i + 3) 0)
+        → Looping v D plan records all (i + 1) s′ n
     loop-turn n w q f z s′ e b g x y hp ha hs =
         let now : Standing v D root i (m .pruner) (m .waiting) (w ∷ next .0) (allOf D root all) = rw e here in
         record {
           ws = next .0;
           ahead = rw hs (next .2);
-          standing =
-              standing-next v D root (B .reads) i (m .pruner) (m .waiting) (allOf D root all) w (next .0) now (n .pruner) (n .waiting) hp
-              (ha ∙ (ap (λ (d : Class). waitingN (m .waiting) d z w) (x ∙ ap (λ (r : Square). leftClass (v .xs) (v .ys) r w) g) ∙ ap (λ (y : ℤ). waitingN (m .waiting) (leftClass (v .xs) (v .ys) (squareOf root) w) y w) y)) b;
+          standing = standing-next v D root (B .reads) i (m .pruner) (m .waiting) (allOf D root all) w (next .0) now (n .pruner)
+              (n .waiting) hp
+              (ha
+              ∙ (ap (λ (d : Class). waitingN (m .waiting) d z w) (x ∙ ap (λ (r : Square). leftClass (v .xs) (v .ys) r w) g)
+              ∙ ap (λ (y : ℤ). waitingN (m .waiting) (leftClass (v .xs) (v .ys) (squareOf root) w) y w) y))
+              b;
         }
 
   -- where none is left
   module _ (i : ℕ) (s : Source) (m : Maker) (l : Looping v D plan records all i s m) (h : records ≤ i) where
     none : Standing v D root i (m .pruner) (m .waiting) [] (allOf D root all)
-    none = subst (λ (ws : List Words). Standing v D root i (m .pruner) (m .waiting) ws (allOf D root all)) (ahead-none plan records i s (l .ws) (l .ahead) h) (l .standing)
+    none =
+        subst (λ (ws : List Words). Standing v D root i (m .pruner) (m .waiting) ws (allOf D root all))
+        (ahead-none plan records i s (l .ws) (l .ahead) h) (l .standing)
 
     few-end : i ≤ 4096
     few-end = omega (arith, B .few, l .ahead .whole)

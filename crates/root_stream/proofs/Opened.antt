@@ -47,17 +47,21 @@ module _ (t : Tables) (records : ℕ) (b : Bounds) (o : Opened t records b) wher
   opened-grammar : accepts (env (t .areas) (t .xs) (t .ys) b) (wordsOpened t) ≡ true
   unfolding rowsOpened wordsOpened
   opened-grammar =
-      made-passes (drawingIn t) (valid t records b o) (t .areas) (t .xs) (t .ys) b (held t records b o) root (ap (λ (x : Bounds). x .low) (o .bounds-used)) (ap (λ (x : Bounds). x .side) (o .bounds-used))
+      made-passes (drawingIn t) (valid t records b o) (t .areas) (t .xs) (t .ys) b (held t records b o) root
+      (ap (λ (x : Bounds). x .low) (o .bounds-used)) (ap (λ (x : Bounds). x .side) (o .bounds-used))
 
   opened-length : length (wordsOpened t) ≡ length (rowsOpened t)
   unfolding wordsOpened
   opened-length = length-map {B = Words} (rowsOpened t) wordsOf
 
   -- the table, once written, has a stream that passes
-  pub opened-passed : (entries : List ℕ) → length (rowsOpened t) * 4 ≤ length entries → Passed (written entries 0 (wordsOpened t)) 0 (length (rowsOpened t)) (env (t .areas) (t .xs) (t .ys) b)
+  pub opened-passed : (entries : List ℕ)
+      → length (rowsOpened t) * 4 ≤ length entries
+      → Passed (written entries 0 (wordsOpened t)) 0 (length (rowsOpened t)) (env (t .areas) (t .xs) (t .ys) b)
   opened-passed entries h =
-      let same : wordsFrom (written entries 0 (wordsOpened t)) 0 (length (rowsOpened t)) ≡ wordsOpened t =
-      subst (λ (n : ℕ). wordsFrom (written entries 0 (wordsOpened t)) 0 n ≡ wordsOpened t) opened-length (written-read entries 0 (wordsOpened t) (omega (arith, opened-length))) in
+      let same : wordsFrom (written entries 0 (wordsOpened t)) 0 (length (rowsOpened t)) ≡ wordsOpened t = subst
+      (λ (n : ℕ). wordsFrom (written entries 0 (wordsOpened t)) 0 n ≡ wordsOpened t) opened-length
+      (written-read entries 0 (wordsOpened t) (omega (arith, opened-length))) in
       record {
         within = omega (arith, length-written entries 0 (wordsOpened t));
         few = opened-short;

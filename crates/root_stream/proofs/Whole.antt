@@ -44,7 +44,11 @@ use Rattle.plans.specs.code.Source.{sourceFrom, sourceOf}
 use Rattle.plans.proofs.Source.{source-rows}
 
 -- what holds of each item holds of what it is mapped to
-on-mapped : {A B : Type 0} (Q : Kind → A → Type 0) (P : Kind → B → Type 0) (f : A → B) → ((k : Kind) (a : A) → Q k a → P k (f a)) → (k : Kind) (s : Side A) → On Q k s → On P k (mapSide f s)
+on-mapped : {A B : Type 0} (Q : Kind → A → Type 0) (P : Kind → B → Type 0) (f : A → B)
+    → ((k : Kind) (a : A) → Q k a → P k (f a))
+    → (k : Kind) (s : Side A)
+    → On Q k s
+    → On P k (mapSide f s)
 on-mapped Q P f h k end o = tt
 on-mapped Q P f h k (leaf a t) o = (h k a (o .0), on-mapped Q P f h k t (o .1))
 on-mapped Q P f h k (group l r t) o = (on-mapped Q P f h clip l (o .0), on-mapped Q P f h k r (o .1), on-mapped Q P f h k t (o .2))
@@ -102,13 +106,21 @@ module _ (D : Drawing) (areas xs ys : List ℕ) (b : Bounds) (H : Held areas xs 
     few-areas = omega (arith, weigh-map (whole D) oneArea (λ n. 1) 0 (λ n. omega arith) (D .plan), ok .few-areas)
 
     few-lines : weigh segments 0 (source D) ≤ 2048
-    few-lines = omega (arith, weigh-map (whole D) segments (λ n. length (lines D n)) 0 (λ n. omega (arith, length-map {B = Segment} (lines D n) drawn)) (D .plan), ok .few-lines)
+    few-lines =
+        omega (
+          arith,
+          weigh-map (whole D) segments (λ n. length (lines D n)) 0 (λ n. omega (arith, length-map {B = Segment} (lines D n) drawn))
+              (D .plan),
+          ok .few-lines,
+        )
 
     -- the words of what cell 0's stream is made from pass the check of streams
     pub source-passes : accepts (env areas xs ys b) (map wordsOf (rowsOf (flat paint (source D)))) ≡ true
     unfolding accepts
     source-passes =
-        ap isWhole (side-passes (env areas xs ys b) paint (source D) [] false 0 0 refl source-in (omega (arith, depth-map (whole D) (D .plan), ok .few-groups)) (omega (arith, few-areas)) (omega (arith, few-lines)))
+        ap isWhole
+        (side-passes (env areas xs ys b) paint (source D) [] false 0 0 refl source-in
+        (omega (arith, depth-map (whole D) (D .plan), ok .few-groups)) (omega (arith, few-areas)) (omega (arith, few-lines)))
 
 -- ---- what the words say
 

@@ -15,10 +15,23 @@ use Rattle.making.specs.code.Numbers.{maker}
 use Rattle.making.proofs.Stays.{stays-pruned}
 use Rattle.root_stream.specs.Opened.{drawingIn}
 use Rattle.root_stream.proofs.Base.{wordsIn, base, base-made}
-use Rattle.root_stream.proofs.Loop.{root-in, Looping, source-few, loop-begin, loop-left, loop-sign, loop-asks, loop-turn, end-inside, end-room, end-weight}
+use Rattle.root_stream.proofs.Loop.{
+  root-in,
+  Looping,
+  source-few,
+  loop-begin,
+  loop-left,
+  loop-sign,
+  loop-asks,
+  loop-turn,
+  end-inside,
+  end-room,
+  end-weight,
+}
 
 abbrev Inv-loop : tie.InvT-loop
-Inv-loop plan areas xs ys records b s p₀ a₀ c₀ i₀ p a c i = Looping (env areas xs ys b) (drawingIn (tables plan areas xs ys)) plan records (wordsIn (tables plan areas xs ys)) i c (maker p a)
+Inv-loop plan areas xs ys records b s p₀ a₀ c₀ i₀ p a c i =
+    Looping (env areas xs ys b) (drawingIn (tables plan areas xs ys)) plan records (wordsIn (tables plan areas xs ys)) i c (maker p a)
 
 abbrev μ-loop : tie.MeasureT-loop
 μ-loop plan areas xs ys records b s p₀ a₀ c₀ i₀ p a c i = records - i
@@ -36,49 +49,199 @@ source-begin-requires : tie.Need-source-begin-requires Inv-loop μ-loop
 source-begin-requires c κs = search needs
 
 loop-holds : tie.Need-loop-holds Inv-loop μ-loop
-loop-holds c = let a = c .before .before .before .before .before .before .before .before .args in let t = tables (now (a .plan)) (now (a .areas)) (now (a .xs)) (now (a .ys)) in let v = env (t .areas) (t .xs) (t .ys) (a .b) in let B = base t (a .records) (a .b) (c .before .before .before .before .before .before .before .before .pre) in loop-begin v (drawingIn t) (t .plan) (a .records) (wordsIn t) B (c .source-begin .result) (maker (c .before .before .begun .result) (c .before .rest .result)) (c .source-begin .ensures) (c .before .before .begun .ensures) (c .before .rest .ensures)
+loop-holds c =
+    let after-rest = c .before in
+    let after-begun = after-rest .before in
+    let at-entry = after-begun .before .before .before .before .before .before in
+    let a = at-entry .args in
+    let t = tables (now (a .plan)) (now (a .areas)) (now (a .xs)) (now (a .ys)) in
+    let v = env (t .areas) (t .xs) (t .ys) (a .b) in
+    let B = base t (a .records) (a .b) (at-entry .pre) in
+    loop-begin v (drawingIn t) (t .plan) (a .records) (wordsIn t) B (c .source-begin .result)
+    (maker (after-begun .begun .result) (after-rest .rest .result)) (c .source-begin .ensures) (after-begun .begun .ensures)
+    (after-rest .rest .ensures)
 
 source-entry-requires : tie.Need-source-entry-requires Inv-loop μ-loop
-source-entry-requires c κs = let a = c .before .before .before .before .before .before .before .before .before .before .args in let t = tables (now (a .plan)) (now (a .areas)) (now (a .xs)) (now (a .ys)) in let v = env (t .areas) (t .xs) (t .ys) (a .b) in let B = base t (a .records) (a .b) (c .before .before .before .before .before .before .before .before .before .before .pre) in (B .long, c .loop-test .taken, source-few (t .plan) (a .records) (c .before .loop .i) (c .before .loop .c) (c .before .loop .inv .ws) (c .before .loop .inv .ahead) .1)
+source-entry-requires c κs =
+    let at-loop = c .before in
+    let at-entry = at-loop .before .before .before .before .before .before .before .before .before in
+    let a = at-entry .args in
+    let t = tables (now (a .plan)) (now (a .areas)) (now (a .xs)) (now (a .ys)) in
+    let v = env (t .areas) (t .xs) (t .ys) (a .b) in
+    let B = base t (a .records) (a .b) (at-entry .pre) in (
+      B .long,
+      c .loop-test .taken,
+      source-few (t .plan) (a .records) (at-loop .loop .i) (at-loop .loop .c) (at-loop .loop .inv .ws) (at-loop .loop .inv .ahead) .1,
+    )
 
 left-of-requires : tie.Need-left-of-requires Inv-loop μ-loop
-left-of-requires c κs = let a = c .before .before .before .before .before .before .before .before .before .before .before .args in let t = tables (now (a .plan)) (now (a .areas)) (now (a .xs)) (now (a .ys)) in let v = env (t .areas) (t .xs) (t .ys) (a .b) in let B = base t (a .records) (a .b) (c .before .before .before .before .before .before .before .before .before .before .before .pre) in ((B .ready .xs, B .ready .ys), (rw (c .source-entry .ensures) (loop-left v (drawingIn t) (t .plan) (a .records) (wordsIn t) B (c .before .before .loop .i) (c .before .before .loop .c) (maker (c .before .before .loop .p) (c .before .before .loop .a)) (c .before .before .loop .inv) (c .before .loop-test .taken)), rw (c .before .before .before .before .before .before .root-square .ensures) root-in))
+left-of-requires c κs =
+    let at-loop-test = c .before in
+    let at-loop = at-loop-test .before in
+    let after-root-square = at-loop .before .before .before .before in
+    let at-entry = after-root-square .before .before .before .before .before in
+    let a = at-entry .args in
+    let t = tables (now (a .plan)) (now (a .areas)) (now (a .xs)) (now (a .ys)) in
+    let v = env (t .areas) (t .xs) (t .ys) (a .b) in
+    let B = base t (a .records) (a .b) (at-entry .pre) in (
+      (B .ready .xs, B .ready .ys),
+      (
+        rw (c .source-entry .ensures)
+            (loop-left v (drawingIn t) (t .plan) (a .records) (wordsIn t) B (at-loop .loop .i) (at-loop .loop .c)
+            (maker (at-loop .loop .p) (at-loop .loop .a)) (at-loop .loop .inv) (at-loop-test .loop-test .taken)),
+        rw (after-root-square .root-square .ensures) root-in,
+      ),
+    )
 
 prunes-requires : tie.Need-prunes-requires Inv-loop μ-loop
 prunes-requires c κs = search needs
 
 pruner-after-requires : tie.Need-pruner-after-requires Inv-loop μ-loop
-pruner-after-requires c κs = let a = c .before .before .before .before .before .before .before .before .before .before .before .before .before .before .args in let t = tables (now (a .plan)) (now (a .areas)) (now (a .xs)) (now (a .ys)) in let v = env (t .areas) (t .xs) (t .ys) (a .b) in let B = base t (a .records) (a .b) (c .before .before .before .before .before .before .before .before .before .before .before .before .before .before .pre) in let h = loop-asks v (drawingIn t) (t .plan) (a .records) (wordsIn t) B (c .before .before .before .before .before .loop .i) (c .before .before .before .before .before .loop .c) (maker (c .before .before .before .before .before .loop .p) (c .before .before .before .before .before .loop .a)) (c .before .before .before .before .before .loop .inv) (c .before .before .before .before .loop-test .taken) in rw (c .before .before .before .source-entry .ensures) (h .inside, h .room)
+pruner-after-requires c κs =
+    let after-source-entry = c .before .before .before in
+    let at-loop-test = after-source-entry .before in
+    let at-loop = at-loop-test .before in
+    let at-entry = at-loop .before .before .before .before .before .before .before .before .before in
+    let a = at-entry .args in
+    let t = tables (now (a .plan)) (now (a .areas)) (now (a .xs)) (now (a .ys)) in
+    let v = env (t .areas) (t .xs) (t .ys) (a .b) in
+    let B = base t (a .records) (a .b) (at-entry .pre) in
+    let h = loop-asks v (drawingIn t) (t .plan) (a .records) (wordsIn t) B (at-loop .loop .i) (at-loop .loop .c)
+    (maker (at-loop .loop .p) (at-loop .loop .a)) (at-loop .loop .inv) (at-loop-test .loop-test .taken) in
+    rw (after-source-entry .source-entry .ensures) (h .inside, h .room)
 
 waiting-after-requires : tie.Need-waiting-after-requires Inv-loop μ-loop
-waiting-after-requires c κs = let a = c .before .before .before .before .before .before .before .before .before .before .before .before .before .before .args in let t = tables (now (a .plan)) (now (a .areas)) (now (a .xs)) (now (a .ys)) in let v = env (t .areas) (t .xs) (t .ys) (a .b) in let B = base t (a .records) (a .b) (c .before .before .before .before .before .before .before .before .before .before .before .before .before .before .pre) in let h = loop-asks v (drawingIn t) (t .plan) (a .records) (wordsIn t) B (c .before .before .before .before .before .loop .i) (c .before .before .before .before .before .loop .c) (maker (c .before .before .before .before .before .loop .p) (c .before .before .before .before .before .loop .a)) (c .before .before .before .before .before .loop .inv) (c .before .before .before .before .loop-test .taken) in rw (c .before .before .left-of .ensures .0, c .before .before .before .source-entry .ensures) ((h .inside .small, loop-sign v (drawingIn t) (t .plan) (a .records) (wordsIn t) B (c .before .before .before .before .before .loop .i) (c .before .before .before .before .before .loop .c) (maker (c .before .before .before .before .before .loop .p) (c .before .before .before .before .before .loop .a)) (c .before .before .before .before .before .loop .inv) (c .before .before .before .before .loop-test .taken), omega (arith, h .room .weight)), h .start)
+waiting-after-requires c κs =
+    let after-left-of = c .before .before in
+    let after-source-entry = after-left-of .before in
+    let at-loop-test = after-source-entry .before in
+    let at-loop = at-loop-test .before in
+    let at-entry = at-loop .before .before .before .before .before .before .before .before .before in
+    let a = at-entry .args in
+    let t = tables (now (a .plan)) (now (a .areas)) (now (a .xs)) (now (a .ys)) in
+    let v = env (t .areas) (t .xs) (t .ys) (a .b) in
+    let B = base t (a .records) (a .b) (at-entry .pre) in
+    let h = loop-asks v (drawingIn t) (t .plan) (a .records) (wordsIn t) B (at-loop .loop .i) (at-loop .loop .c)
+    (maker (at-loop .loop .p) (at-loop .loop .a)) (at-loop .loop .inv) (at-loop-test .loop-test .taken) in
+    rw (after-left-of .left-of .ensures .0, after-source-entry .source-entry .ensures) (
+      (
+        h .inside .small,
+        loop-sign v (drawingIn t) (t .plan) (a .records) (wordsIn t) B (at-loop .loop .i) (at-loop .loop .c)
+            (maker (at-loop .loop .p) (at-loop .loop .a)) (at-loop .loop .inv) (at-loop-test .loop-test .taken),
+        omega (arith, h .room .weight),
+      ),
+      h .start,
+    )
 
 add-source-after : tie.Need-add-source-after Inv-loop μ-loop
-add-source-after c = let a = c .before .before .before .before .before .before .before .before .before .before .before .before .before .before .before .args in let t = tables (now (a .plan)) (now (a .areas)) (now (a .xs)) (now (a .ys)) in let v = env (t .areas) (t .xs) (t .ys) (a .b) in let B = base t (a .records) (a .b) (c .before .before .before .before .before .before .before .before .before .before .before .before .before .before .before .pre) in record { fits = omega (arith, B .few, c .before .before .before .before .before .loop-test .taken) }
+add-source-after c =
+    let at-loop-test = c .before .before .before .before .before in
+    let at-entry = at-loop-test .before .before .before .before .before .before .before .before .before .before in
+    let a = at-entry .args in
+    let t = tables (now (a .plan)) (now (a .areas)) (now (a .xs)) (now (a .ys)) in
+    let v = env (t .areas) (t .xs) (t .ys) (a .b) in
+    let B = base t (a .records) (a .b) (at-entry .pre) in
+    record { fits = omega (arith, B .few, at-loop-test .loop-test .taken) }
 
 mul-source-after : tie.Need-mul-source-after Inv-loop μ-loop
-mul-source-after c = let a = c .before .before .before .before .before .before .before .before .before .before .before .before .before .before .before .args in let t = tables (now (a .plan)) (now (a .areas)) (now (a .xs)) (now (a .ys)) in let v = env (t .areas) (t .xs) (t .ys) (a .b) in let B = base t (a .records) (a .b) (c .before .before .before .before .before .before .before .before .before .before .before .before .before .before .before .pre) in record { fits = omega (arith, B .few, c .before .before .before .before .before .loop-test .taken) }
+mul-source-after c =
+    let at-loop-test = c .before .before .before .before .before in
+    let at-entry = at-loop-test .before .before .before .before .before .before .before .before .before .before in
+    let a = at-entry .args in
+    let t = tables (now (a .plan)) (now (a .areas)) (now (a .xs)) (now (a .ys)) in
+    let v = env (t .areas) (t .xs) (t .ys) (a .b) in
+    let B = base t (a .records) (a .b) (at-entry .pre) in
+    record { fits = omega (arith, B .few, at-loop-test .loop-test .taken) }
 
 shared-slice-read-source-after : tie.Need-shared-slice-read-source-after Inv-loop μ-loop
-shared-slice-read-source-after c = let a = c .before .before .before .before .before .before .before .before .before .before .before .before .before .before .before .before .args in let t = tables (now (a .plan)) (now (a .areas)) (now (a .xs)) (now (a .ys)) in let v = env (t .areas) (t .xs) (t .ys) (a .b) in let B = base t (a .records) (a .b) (c .before .before .before .before .before .before .before .before .before .before .before .before .before .before .before .before .pre) in omega (arith, B .long, c .before .before .before .before .before .before .loop-test .taken)
+shared-slice-read-source-after c =
+    let at-loop-test = c .before .before .before .before .before .before in
+    let at-entry = at-loop-test .before .before .before .before .before .before .before .before .before .before in
+    let a = at-entry .args in
+    let t = tables (now (a .plan)) (now (a .areas)) (now (a .xs)) (now (a .ys)) in
+    let v = env (t .areas) (t .xs) (t .ys) (a .b) in
+    let B = base t (a .records) (a .b) (at-entry .pre) in
+    omega (arith, B .long, at-loop-test .loop-test .taken)
 
 source-after-requires : tie.Need-source-after-requires Inv-loop μ-loop
-source-after-requires c κs = let a = c .before .before .before .before .before .before .before .before .before .before .before .before .before .before .before .before .args in let t = tables (now (a .plan)) (now (a .areas)) (now (a .xs)) (now (a .ys)) in let v = env (t .areas) (t .xs) (t .ys) (a .b) in let B = base t (a .records) (a .b) (c .before .before .before .before .before .before .before .before .before .before .before .before .before .before .before .before .pre) in source-few (t .plan) (a .records) (c .before .before .before .before .before .before .before .loop .i) (c .before .before .before .before .before .before .before .loop .c) (c .before .before .before .before .before .before .before .loop .inv .ws) (c .before .before .before .before .before .before .before .loop .inv .ahead)
+source-after-requires c κs =
+    let at-loop = c .before .before .before .before .before .before .before in
+    let at-entry = at-loop .before .before .before .before .before .before .before .before .before in
+    let a = at-entry .args in
+    let t = tables (now (a .plan)) (now (a .areas)) (now (a .xs)) (now (a .ys)) in
+    let v = env (t .areas) (t .xs) (t .ys) (a .b) in
+    let B = base t (a .records) (a .b) (at-entry .pre) in
+    source-few (t .plan) (a .records) (at-loop .loop .i) (at-loop .loop .c) (at-loop .loop .inv .ws) (at-loop .loop .inv .ahead)
 
 add-i : tie.Need-add-i Inv-loop μ-loop
-add-i c = let a = c .before .before .before .before .before .before .before .before .before .before .before .before .before .before .before .before .before .args in let t = tables (now (a .plan)) (now (a .areas)) (now (a .xs)) (now (a .ys)) in let v = env (t .areas) (t .xs) (t .ys) (a .b) in let B = base t (a .records) (a .b) (c .before .before .before .before .before .before .before .before .before .before .before .before .before .before .before .before .before .pre) in record { fits = omega (arith, B .few, c .before .before .before .before .before .before .before .loop-test .taken) }
+add-i c =
+    let at-loop-test = c .before .before .before .before .before .before .before in
+    let at-entry = at-loop-test .before .before .before .before .before .before .before .before .before .before in
+    let a = at-entry .args in
+    let t = tables (now (a .plan)) (now (a .areas)) (now (a .xs)) (now (a .ys)) in
+    let v = env (t .areas) (t .xs) (t .ys) (a .b) in
+    let B = base t (a .records) (a .b) (at-entry .pre) in
+    record { fits = omega (arith, B .few, at-loop-test .loop-test .taken) }
 
 loop-less : tie.Need-loop-less Inv-loop μ-loop
 loop-less c = search needs
 
 loop-again : tie.Need-loop-again Inv-loop μ-loop
-loop-again c = let a = c .before .before .before .before .before .before .before .before .before .before .before .before .before .before .before .before .before .args in let t = tables (now (a .plan)) (now (a .areas)) (now (a .xs)) (now (a .ys)) in let v = env (t .areas) (t .xs) (t .ys) (a .b) in let B = base t (a .records) (a .b) (c .before .before .before .before .before .before .before .before .before .before .before .before .before .before .before .before .before .pre) in loop-turn v (drawingIn t) (t .plan) (a .records) (wordsIn t) B (c .before .before .before .before .before .before .before .before .loop .i) (c .before .before .before .before .before .before .before .before .loop .c) (maker (c .before .before .before .before .before .before .before .before .loop .p) (c .before .before .before .before .before .before .before .before .loop .a)) (c .before .before .before .before .before .before .before .before .loop .inv) (c .before .before .before .before .before .before .before .loop-test .taken) (maker (c .before .before .before .if1 .p) (c .before .before .waiting-after .result)) (c .before .before .before .before .before .before .source-entry .result) (c .before .before .before .before .before .before .before .before .before .before .before .before .root-square .result) (c .before .before .before .before .before .left-of .result .class) (c .before .before .before .before .before .left-of .result .sign) (c .source-after .result) (c .before .before .before .before .before .before .source-entry .ensures) (c .before .before .before .before .before .before .source-entry .ok .1 .1 .1 .1 .0 .1) (c .before .before .before .before .before .before .before .before .before .before .before .before .root-square .ensures) (c .before .before .before .before .before .left-of .ensures .1) (c .before .before .before .before .before .left-of .ensures .0) (⊎-elim (λ w. ap counted (w .2) ∙ w .1 .ensures) (λ w. ap counted (w .1) ∙ stays-pruned (now (a .areas)) (counted (c .before .before .before .before .before .before .before .before .loop .p)) (c .before .before .before .before .before .before .before .before .loop .a) (c .before .before .before .before .before .before .source-entry .result .kind) (sym (w .0 .left) ∙ c .before .before .before .before .prunes .ensures)) (c .before .before .before .if1 .came)) (c .before .before .waiting-after .ensures) (c .source-after .ensures)
+loop-again c =
+    let after-waiting-after = c .before .before in
+    let at-if1 = after-waiting-after .before in
+    let after-prunes = at-if1 .before in
+    let after-left-of = after-prunes .before in
+    let after-source-entry = after-left-of .before in
+    let at-loop-test = after-source-entry .before in
+    let at-loop = at-loop-test .before in
+    let after-root-square = at-loop .before .before .before .before in
+    let at-entry = after-root-square .before .before .before .before .before in
+    let a = at-entry .args in
+    let t = tables (now (a .plan)) (now (a .areas)) (now (a .xs)) (now (a .ys)) in
+    let v = env (t .areas) (t .xs) (t .ys) (a .b) in
+    let B = base t (a .records) (a .b) (at-entry .pre) in
+    loop-turn v (drawingIn t) (t .plan) (a .records) (wordsIn t) B (at-loop .loop .i) (at-loop .loop .c)
+    (maker (at-loop .loop .p) (at-loop .loop .a)) (at-loop .loop .inv) (at-loop-test .loop-test .taken)
+    (maker (at-if1 .if1 .p) (after-waiting-after .waiting-after .result)) (after-source-entry .source-entry .result)
+    (after-root-square .root-square .result) (after-left-of .left-of .result .class) (after-left-of .left-of .result .sign)
+    (c .source-after .result) (after-source-entry .source-entry .ensures) (after-source-entry .source-entry .ok .1 .1 .1 .1 .0 .1)
+    (after-root-square .root-square .ensures) (after-left-of .left-of .ensures .1) (after-left-of .left-of .ensures .0)
+    (⊎-elim (λ w. ap counted (w .2) ∙ w .1 .ensures)
+    (λ w.
+    ap counted (w .1)
+    ∙ stays-pruned (now (a .areas)) (counted (at-loop .loop .p)) (at-loop .loop .a) (after-source-entry .source-entry .result .kind)
+    (sym (w .0 .left) ∙ after-prunes .prunes .ensures))
+    (at-if1 .if1 .came))
+    (after-waiting-after .waiting-after .ensures) (c .source-after .ensures)
 
 made-weight-requires : tie.Need-made-weight-requires Inv-loop μ-loop
-made-weight-requires c κs = let a = c .before .before .before .before .before .before .before .before .before .before .args in let t = tables (now (a .plan)) (now (a .areas)) (now (a .xs)) (now (a .ys)) in let v = env (t .areas) (t .xs) (t .ys) (a .b) in let B = base t (a .records) (a .b) (c .before .before .before .before .before .before .before .before .before .before .pre) in (end-inside v (drawingIn t) (t .plan) (a .records) (wordsIn t) B (c .before .loop .i) (c .before .loop .c) (maker (c .before .loop .p) (c .before .loop .a)) (c .before .loop .inv) (c .loop-test .left), end-room v (drawingIn t) (t .plan) (a .records) (wordsIn t) B (c .before .loop .i) (c .before .loop .c) (maker (c .before .loop .p) (c .before .loop .a)) (c .before .loop .inv) (c .loop-test .left))
+made-weight-requires c κs =
+    let at-loop = c .before in
+    let at-entry = at-loop .before .before .before .before .before .before .before .before .before in
+    let a = at-entry .args in
+    let t = tables (now (a .plan)) (now (a .areas)) (now (a .xs)) (now (a .ys)) in
+    let v = env (t .areas) (t .xs) (t .ys) (a .b) in
+    let B = base t (a .records) (a .b) (at-entry .pre) in (
+      end-inside v (drawingIn t) (t .plan) (a .records) (wordsIn t) B (at-loop .loop .i) (at-loop .loop .c)
+          (maker (at-loop .loop .p) (at-loop .loop .a)) (at-loop .loop .inv) (c .loop-test .left),
+      end-room v (drawingIn t) (t .plan) (a .records) (wordsIn t) B (at-loop .loop .i) (at-loop .loop .c)
+          (maker (at-loop .loop .p) (at-loop .loop .a)) (at-loop .loop .inv) (c .loop-test .left),
+    )
 
 returns : tie.Need-returns Inv-loop μ-loop
-returns c = let a = c .before .before .before .before .before .before .before .before .before .before .before .args in let t = tables (now (a .plan)) (now (a .areas)) (now (a .xs)) (now (a .ys)) in let v = env (t .areas) (t .xs) (t .ys) (a .b) in let B = base t (a .records) (a .b) (c .before .before .before .before .before .before .before .before .before .before .before .pre) in c .made-weight .ensures ∙ (end-weight v (drawingIn t) (t .plan) (a .records) (wordsIn t) B (c .before .before .loop .i) (c .before .before .loop .c) (maker (c .before .before .loop .p) (c .before .before .loop .a)) (c .before .before .loop .inv) (c .before .loop-test .left) ∙ ap (total rowSize) (base-made t (a .records) (a .b) (c .before .before .before .before .before .before .before .before .before .before .before .pre)))
+returns c =
+    let at-loop-test = c .before in
+    let at-loop = at-loop-test .before in
+    let at-entry = at-loop .before .before .before .before .before .before .before .before .before in
+    let a = at-entry .args in
+    let t = tables (now (a .plan)) (now (a .areas)) (now (a .xs)) (now (a .ys)) in
+    let v = env (t .areas) (t .xs) (t .ys) (a .b) in
+    let B = base t (a .records) (a .b) (at-entry .pre) in
+    c .made-weight .ensures
+    ∙ (end-weight v (drawingIn t) (t .plan) (a .records) (wordsIn t) B (at-loop .loop .i) (at-loop .loop .c)
+    (maker (at-loop .loop .p) (at-loop .loop .a)) (at-loop .loop .inv) (at-loop-test .loop-test .left)
+    ∙ ap (total rowSize) (base-made t (a .records) (a .b) (at-entry .pre)))
 
 pub count-open-spec : {M : Type 1} → statement M
 count-open-spec =

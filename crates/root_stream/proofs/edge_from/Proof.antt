@@ -9,7 +9,9 @@ edge-end-requires : tie.Need-edge-end-requires
 edge-end-requires c κs = search needs
 
 returns : tie.Need-returns
-returns c = ap (λ (q : ℕ). words 5 (c .before .before .args .corner) q 0) (c .edge-end .ensures)
+returns c =
+    let at-entry = c .before .before in
+    ap (λ (q : ℕ). words 5 (at-entry .args .corner) q 0) (c .edge-end .ensures)
 
 pub edge-from-spec : {M : Type 1} → statement M
 edge-from-spec = tie.close (tie.spec edge-end-requires returns)
