@@ -22,19 +22,26 @@ pub length-child : (D : Drawing) (c : Cell) (ws : List Words) (q : ℕ) → leng
 length-child D c ws q = made-length D (cellOfChild D c ws q) ws
 
 -- a child more is so many entries more
-pub streams-more : (D : Drawing) (c : Cell) (ws : List Words) (n : ℕ) → length (streamsTo D c ws (suc n)) ≡ length (streamsTo D c ws n) + entriesOfChild D c ws n
+pub streams-more : (D : Drawing) (c : Cell) (ws : List Words) (n : ℕ)
+    → length (streamsTo D c ws (suc n)) ≡ length (streamsTo D c ws n) + entriesOfChild D c ws n
 unfolding streamsTo
 streams-more D c ws n = length-append (streamsTo D c ws n) (wordsOfChild D c ws n) ∙ ap (λ (k : ℕ). length (streamsTo D c ws n) + k) (length-child D c ws n)
 
 -- the tally of child q
-tally-at : (D : Drawing) (c : Cell) (ws : List Words) (ts : List Tally) (q : ℕ) → q < 4 → ts ≡ fourTallies D c ws → getD ts q noTally ≡ tally (rowsOfChild D c ws q)
+tally-at : (D : Drawing) (c : Cell) (ws : List Words) (ts : List Tally) (q : ℕ)
+    → q < 4
+    → ts ≡ fourTallies D c ws
+    → getD ts q noTally ≡ tally (rowsOfChild D c ws q)
 tally-at D c ws ts zero h e = rw e
 tally-at D c ws ts (suc zero) h e = rw e
 tally-at D c ws ts (suc (suc zero)) h e = rw e
 tally-at D c ws ts (suc (suc (suc zero))) h e = rw e
 tally-at D c ws ts (suc (suc (suc (suc q)))) h e = absurd (omega arith)
 
-pub entries-at : (D : Drawing) (c : Cell) (ws : List Words) (ts : List Tally) (q : ℕ) → q < 4 → ts ≡ fourTallies D c ws → getD ts q noTally .entries ≡ entriesOfChild D c ws q
+pub entries-at : (D : Drawing) (c : Cell) (ws : List Words) (ts : List Tally) (q : ℕ)
+    → q < 4
+    → ts ≡ fourTallies D c ws
+    → getD ts q noTally .entries ≡ entriesOfChild D c ws q
 entries-at D c ws ts q h e = ap (λ (x : Tally). x .entries) (tally-at D c ws ts q h e)
 
 -- after q children, with the next at entry `at`
@@ -64,7 +71,9 @@ module _ (v : Env) (D : Drawing) (c : Cell) (t₀ : List ℕ) (first count free 
   module _ (q at : ℕ) (t : List ℕ) (f : Filled D c t₀ first count free q at t) where
     pub words-same : wordsFrom t first count ≡ ws
     words-same =
-        rw (f .table) (from-agree (written t₀ free (streamsTo D c ws q)) t₀ ((first + count) * 4) first count (written-keeps t₀ ((first + count) * 4) free (streamsTo D c ws q) (omega arith)) (omega arith))
+        rw (f .table)
+        (from-agree (written t₀ free (streamsTo D c ws q)) t₀ ((first + count) * 4) first count
+        (written-keeps t₀ ((first + count) * 4) free (streamsTo D c ws q) (omega arith)) (omega arith))
 
     pub still-passed : Passed t first count v
     still-passed =
@@ -91,7 +100,9 @@ module _ (v : Env) (D : Drawing) (c : Cell) (t₀ : List ℕ) (first count free 
       pub child-room : (at + entriesOfChild D c ws q) * 4 ≤ length t
       child-room = omega (arith, f .next, f .size, room, fits-four, streams-more D c ws q)
 
-      pub filled-turn : (t′ : List ℕ) → t′ ≡ written t at (wordsOfChild D c (wordsFrom t first count) q) → Filled D c t₀ first count free (q + 1) (at + entriesOfChild D c ws q) t′
+      pub filled-turn : (t′ : List ℕ)
+          → t′ ≡ written t at (wordsOfChild D c (wordsFrom t first count) q)
+          → Filled D c t₀ first count free (q + 1) (at + entriesOfChild D c ws q) t′
       unfolding streamsTo
       filled-turn t′ e =
           let e₁ : t′ ≡ written t at (wordsOfChild D c ws q) = e ∙ ap (λ (u : List Words). written t at (wordsOfChild D c u q)) words-same in
@@ -100,7 +111,10 @@ module _ (v : Env) (D : Drawing) (c : Cell) (t₀ : List ℕ) (first count free 
             low = omega arith;
             size = ap length e₁ ∙ (length-written t at (wordsOfChild D c ws q) ∙ f .size);
             next = omega (arith, f .next, streams-more D c ws q);
-            table = e₁ ∙ (ap (λ (u : List ℕ). written u at (wordsOfChild D c ws q)) (f .table) ∙ (ap (λ (n : ℕ). written (written t₀ free (streamsTo D c ws q)) n (wordsOfChild D c ws q)) (f .next) ∙ written-append t₀ free (streamsTo D c ws q) (wordsOfChild D c ws q)));
+            table = e₁
+                ∙ (ap (λ (u : List ℕ). written u at (wordsOfChild D c ws q)) (f .table)
+                ∙ (ap (λ (n : ℕ). written (written t₀ free (streamsTo D c ws q)) n (wordsOfChild D c ws q)) (f .next)
+                ∙ written-append t₀ free (streamsTo D c ws q) (wordsOfChild D c ws q)));
           })
 
     pub filled-end : 4 ≤ q → t ≡ written t₀ free (streamsTo D c ws 4)

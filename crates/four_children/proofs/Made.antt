@@ -13,6 +13,13 @@ use Rattle.making.specs.Made.{rowsMade}
 use Rattle.making.proofs.Lent.{lent-reads}
 use Rattle.making.proofs.Shorter.{made-shorter}
 
-pub few-rows : (t areas xs ys : List ℕ) (b : Bounds) (first count : ℕ) (c : Cell) → Passed t first count (env areas xs ys b) → length (rowsMade (lent areas xs ys b) c (wordsFrom t first count)) ≤ 4096
+pub few-rows : (t areas xs ys : List ℕ) (b : Bounds) (first count : ℕ) (c : Cell)
+    → Passed t first count (env areas xs ys b)
+    → length (rowsMade (lent areas xs ys b) c (wordsFrom t first count)) ≤ 4096
 few-rows t areas xs ys b first count c p =
-    omega (arith, made-shorter (env areas xs ys b) (lent areas xs ys b) c (lent-reads areas xs ys b) (wordsFrom t first count) (p .grammar), words-length t first count, p .few)
+    omega (
+      arith,
+      made-shorter (env areas xs ys b) (lent areas xs ys b) c (lent-reads areas xs ys b) (wordsFrom t first count) (p .grammar),
+      words-length t first count,
+      p .few,
+    )

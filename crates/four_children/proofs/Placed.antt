@@ -31,7 +31,10 @@ module _ (c : Cell) (ts : List Tally) (t₀ : List ℕ) (used free : ℕ) (few :
   placed-begin = record { low = omega arith; small = omega arith; size = refl; next = refl; table = refl }
 
   module _ (q at : ℕ) (t : List ℕ) (p : Placed c ts t₀ used free q at t) where
-    pub placed-turn : q < 4 → (w : CellWords) (t′ : List ℕ) → w ≡ wordsWith (child c (quarterAt q)) at (getD ts q noTally .entries) → t′ ≡ putCellAt t (used + q) w
+    pub placed-turn : q < 4
+        → (w : CellWords) (t′ : List ℕ)
+        → w ≡ wordsWith (child c (quarterAt q)) at (getD ts q noTally .entries)
+        → t′ ≡ putCellAt t (used + q) w
         → Placed c ts t₀ used free (q + 1) (at + getD ts q noTally .entries) t′
     unfolding cellsBy
     placed-turn h w t′ e f =
@@ -41,8 +44,10 @@ module _ (c : Cell) (ts : List Tally) (t₀ : List ℕ) (used free : ℕ) (few :
           small = omega (arith, p .small, few .few q h);
           size = ap length f ∙ (length-put-cell t (used + q) w ∙ p .size);
           next = ap (λ (n : ℕ). n + getD ts q noTally .entries) (p .next);
-          table = f ∙ (ap (λ (u : List ℕ). putCellAt u (used + q) w) (p .table)
-              ∙ ap (putCellAt (cellsBy c ts t₀ used free q) (used + q)) (e ∙ ap (λ (n : ℕ). wordsWith (child c (quarterAt q)) n (getD ts q noTally .entries)) (p .next)));
+          table = f
+              ∙ (ap (λ (u : List ℕ). putCellAt u (used + q) w) (p .table)
+              ∙ ap (putCellAt (cellsBy c ts t₀ used free q) (used + q))
+              (e ∙ ap (λ (n : ℕ). wordsWith (child c (quarterAt q)) n (getD ts q noTally .entries)) (p .next)));
         })
 
     pub placed-end : 4 ≤ q → t ≡ cellsBy c ts t₀ used free 4
@@ -58,7 +63,10 @@ module _ (D : Drawing) (c : Cell) (ws : List Words) (t : List ℕ) (used free : 
   by-is-to : (n : ℕ) → n ≤ 4 → cellsBy c (fourTallies D c ws) t used free n ≡ cellsTo D c ws t used free n
   unfolding cellsBy cellsTo
   by-is-to zero h = refl
-  by-is-to (suc n) h = λ d. putCellAt (by-is-to n (omega arith) d) (used + n) (wordsWith (cellOfChild D c ws n) (first-is n (omega arith) d) (entries-at D c ws (fourTallies D c ws) n (omega arith) refl d))
+  by-is-to (suc n) h =
+      λ d.
+      putCellAt (by-is-to n (omega arith) d) (used + n)
+      (wordsWith (cellOfChild D c ws n) (first-is n (omega arith) d) (entries-at D c ws (fourTallies D c ws) n (omega arith) refl d))
 
   pub cells-by-four : (ts : List Tally) → ts ≡ fourTallies D c ws → cellsBy c ts t used free 4 ≡ cellsTo D c ws t used free 4
   cells-by-four ts e = ap (λ (x : List Tally). cellsBy c x t used free 4) e ∙ by-is-to 4 (omega arith)

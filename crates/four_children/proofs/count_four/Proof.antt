@@ -15,7 +15,16 @@ count-one-requires-4 : tie.Need-count-one-requires-4
 count-one-requires-4 c κs = search needs
 
 returns : tie.Need-returns
-returns c = rw (c .count-one4 .ensures, c .before .count-one3 .ensures, c .before .before .count-one2 .ensures, c .before .before .before .count-one .ensures)
+returns c =
+    let after-count-one3 = c .before in
+    let after-count-one2 = after-count-one3 .before in
+    let after-count-one = after-count-one2 .before in
+    rw (
+      c .count-one4 .ensures,
+      after-count-one3 .count-one3 .ensures,
+      after-count-one2 .count-one2 .ensures,
+      after-count-one .count-one .ensures,
+    )
 
 pub count-four-spec : {M : Type 1} → statement M
 count-four-spec =

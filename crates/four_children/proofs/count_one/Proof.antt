@@ -20,13 +20,38 @@ quarter-of-requires : tie.Need-quarter-of-requires
 quarter-of-requires c κs = search needs
 
 count-child-requires : tie.Need-count-child-requires
-count-child-requires c κs = let a = c .before .before .before .before .before .args in let p = c .before .before .before .before .before .pre in (p .0, (kid-square (a .w) (p .1 .0) (a .q) (c .quarter-of .result) (c .quarter-of .ensures), kid-back (a .w) (p .1 .0) (a .q) (c .quarter-of .result) (c .quarter-of .ensures)))
+count-child-requires c κs =
+    let at-entry = c .before .before .before .before .before in
+    let a = at-entry .args in
+    let p = at-entry .pre in (
+      p .0,
+      (
+        kid-square (a .w) (p .1 .0) (a .q) (c .quarter-of .result) (c .quarter-of .ensures),
+        kid-back (a .w) (p .1 .0) (a .q) (c .quarter-of .result) (c .quarter-of .ensures),
+      ),
+    )
 
 tally-of-requires : tie.Need-tally-of-requires
 tally-of-requires c κs = search needs
 
 returns : tie.Need-returns
-returns c = let a = c .before .before .before .before .before .before .before .args in let p = c .before .before .before .before .before .before .before .pre in let D = lent (now (a .areas)) (now (a .xs)) (now (a .ys)) (a .b) in let ws = wordsFrom (now (a .entries)) (a .first) (a .count) in c .tally-of .ensures ∙ tally-is (rowsOfChild D (cellOf (a .w)) ws (a .q)) (c .before .count-child .result) (few-rows (now (a .entries)) (now (a .areas)) (now (a .xs)) (now (a .ys)) (a .b) (a .first) (a .count) _ (p .0)) (c .before .count-child .ensures .0 ∙ ap (λ (k : Cell). total rowSize (rowsMade D k ws)) (kid-in (a .w) (p .1 .0) (a .q) (c .before .before .quarter-of .result) (c .before .before .quarter-of .ensures))) (c .before .count-child .ensures .1 ∙ ap (λ (k : Cell). startsIn (rowsMade D k ws)) (kid-in (a .w) (p .1 .0) (a .q) (c .before .before .quarter-of .result) (c .before .before .quarter-of .ensures)))
+returns c =
+    let after-count-child = c .before in
+    let after-quarter-of = after-count-child .before in
+    let at-entry = after-quarter-of .before .before .before .before .before in
+    let a = at-entry .args in
+    let p = at-entry .pre in
+    let D = lent (now (a .areas)) (now (a .xs)) (now (a .ys)) (a .b) in
+    let ws = wordsFrom (now (a .entries)) (a .first) (a .count) in
+    c .tally-of .ensures
+    ∙ tally-is (rowsOfChild D (cellOf (a .w)) ws (a .q)) (after-count-child .count-child .result)
+    (few-rows (now (a .entries)) (now (a .areas)) (now (a .xs)) (now (a .ys)) (a .b) (a .first) (a .count) _ (p .0))
+    (after-count-child .count-child .ensures .0
+    ∙ ap (λ (k : Cell). total rowSize (rowsMade D k ws))
+    (kid-in (a .w) (p .1 .0) (a .q) (after-quarter-of .quarter-of .result) (after-quarter-of .quarter-of .ensures)))
+    (after-count-child .count-child .ensures .1
+    ∙ ap (λ (k : Cell). startsIn (rowsMade D k ws))
+    (kid-in (a .w) (p .1 .0) (a .q) (after-quarter-of .quarter-of .result) (after-quarter-of .quarter-of .ensures)))
 
 pub count-one-spec : {M : Type 1} → statement M
 count-one-spec =

@@ -14,7 +14,11 @@ abbrev μ-loop : tie.MeasureT-loop
 μ-loop cells₀ used free w ts at₀ n₀ cells at n = 4 - n
 
 loop-holds : tie.Need-loop-holds Inv-loop μ-loop
-loop-holds c = let a = c .before .args in let p = c .before .pre in placed-begin (cellOf (a .w)) (a .t5) (now (a .cells)) (a .used) (a .free) (p .1 .1 .1 .1)
+loop-holds c =
+    let at-entry = c .before in
+    let a = at-entry .args in
+    let p = at-entry .pre in
+    placed-begin (cellOf (a .w)) (a .t5) (now (a .cells)) (a .used) (a .free) (p .1 .1 .1 .1)
 
 cast-k : tie.Need-cast-k Inv-loop μ-loop
 cast-k c = search needs
@@ -26,22 +30,53 @@ array-copy-out-t : tie.Need-array-copy-out-t Inv-loop μ-loop
 array-copy-out-t c = search needs
 
 child-words-requires : tie.Need-child-words-requires Inv-loop μ-loop
-child-words-requires c κs = let a = c .before .before .before .before .args in let p = c .before .before .before .before .pre in (p .0, (p .1 .0, p .1 .1 .1 .1 .few (c .before .before .loop .n) (omega (arith, c .before .loop-test .taken))))
+child-words-requires c κs =
+    let at-loop-test = c .before in
+    let at-loop = at-loop-test .before in
+    let at-entry = at-loop .before .before in
+    let a = at-entry .args in
+    let p = at-entry .pre in
+    (p .0, (p .1 .0, p .1 .1 .1 .1 .few (at-loop .loop .n) (omega (arith, at-loop-test .loop-test .taken))))
 
 add-i : tie.Need-add-i Inv-loop μ-loop
-add-i c = record { fits = omega (arith, c .before .before .before .before .before .pre .1 .1 .1 .0 .0, c .before .before .loop-test .taken) }
+add-i c =
+    let at-loop-test = c .before .before in
+    let at-entry = at-loop-test .before .before .before in
+    record { fits = omega (arith, at-entry .pre .1 .1 .1 .0 .0, at-loop-test .loop-test .taken) }
 
 cast-i : tie.Need-cast-i Inv-loop μ-loop
 cast-i c = search needs
 
 put-cell-requires : tie.Need-put-cell-requires Inv-loop μ-loop
-put-cell-requires c κs = let a = c .before .before .before .before .before .before .args in let p = c .before .before .before .before .before .before .pre in omega (arith, p .1 .1 .0, c .before .before .before .before .loop .inv .size, c .before .before .before .loop-test .taken)
+put-cell-requires c κs =
+    let at-loop-test = c .before .before .before in
+    let at-loop = at-loop-test .before in
+    let at-entry = at-loop .before .before in
+    let a = at-entry .args in
+    let p = at-entry .pre in
+    omega (arith, p .1 .1 .0, at-loop .loop .inv .size, at-loop-test .loop-test .taken)
 
 cast-at : tie.Need-cast-at Inv-loop μ-loop
-cast-at c = record { fits = omega (arith, c .before .before .before .before .before .before .before .before .before .before .pre .1 .1 .1 .1 .few (c .before .before .before .before .before .before .before .before .loop .n) (omega (arith, c .before .before .before .before .before .before .before .loop-test .taken))) }
+cast-at c =
+    let at-loop-test = c .before .before .before .before .before .before .before in
+    let at-loop = at-loop-test .before in
+    let at-entry = at-loop .before .before in
+    record { fits = omega (arith, at-entry .pre .1 .1 .1 .1 .few (at-loop .loop .n) (omega (arith, at-loop-test .loop-test .taken))) }
 
 add-at : tie.Need-add-at Inv-loop μ-loop
-add-at c = record { fits = omega (arith, c .before .before .before .before .before .before .before .before .before .before .pre .1 .1 .1 .1 .few (c .before .before .before .before .before .before .before .before .loop .n) (omega (arith, c .before .before .before .before .before .before .before .loop-test .taken)), c .before .before .before .before .before .before .before .before .loop .inv .small, c .before .before .before .before .before .before .before .before .loop .inv .low, c .before .before .before .before .before .before .before .before .before .before .pre .1 .1 .1 .0 .1) }
+add-at c =
+    let at-loop-test = c .before .before .before .before .before .before .before in
+    let at-loop = at-loop-test .before in
+    let at-entry = at-loop .before .before in
+    record {
+      fits = omega (
+        arith,
+        at-entry .pre .1 .1 .1 .1 .few (at-loop .loop .n) (omega (arith, at-loop-test .loop-test .taken)),
+        at-loop .loop .inv .small,
+        at-loop .loop .inv .low,
+        at-entry .pre .1 .1 .1 .0 .1,
+      );
+    }
 
 add-n : tie.Need-add-n Inv-loop μ-loop
 add-n c = search needs
@@ -50,13 +85,29 @@ loop-less : tie.Need-loop-less Inv-loop μ-loop
 loop-less c = search needs
 
 loop-again : tie.Need-loop-again Inv-loop μ-loop
-loop-again c = let a = c .before .before .before .before .before .before .before .before .before .before .args in let p = c .before .before .before .before .before .before .before .before .before .before .pre in placed-turn (cellOf (a .w)) (a .t5) (now (a .cells)) (a .used) (a .free) (p .1 .1 .1 .1) (c .before .before .before .before .before .before .before .before .loop .n) (c .before .before .before .before .before .before .before .before .loop .at) (c .before .before .before .before .before .before .before .before .loop .cells) (c .before .before .before .before .before .before .before .before .loop .inv) (omega (arith, c .before .before .before .before .before .before .before .loop-test .taken)) (c .before .before .before .before .before .child-words .result) _ (c .before .before .before .before .before .child-words .ensures) (c .before .before .before .put-cell .ensures)
+loop-again c =
+    let after-put-cell = c .before .before .before in
+    let after-child-words = after-put-cell .before .before in
+    let at-loop-test = after-child-words .before .before in
+    let at-loop = at-loop-test .before in
+    let at-entry = at-loop .before .before in
+    let a = at-entry .args in
+    let p = at-entry .pre in
+    placed-turn (cellOf (a .w)) (a .t5) (now (a .cells)) (a .used) (a .free) (p .1 .1 .1 .1) (at-loop .loop .n) (at-loop .loop .at)
+    (at-loop .loop .cells) (at-loop .loop .inv) (omega (arith, at-loop-test .loop-test .taken)) (after-child-words .child-words .result) _
+    (after-child-words .child-words .ensures) (after-put-cell .put-cell .ensures)
 
 same-length : tie.Need-same-length Inv-loop μ-loop
 same-length c = c .before .loop .inv .size
 
 returns : tie.Need-returns Inv-loop μ-loop
-returns c = let a = c .before .before .before .args in let p = c .before .before .before .pre in placed-end (cellOf (a .w)) (a .t5) (now (a .cells)) (a .used) (a .free) (p .1 .1 .1 .1) (c .before .loop .n) (c .before .loop .at) (c .before .loop .cells) (c .before .loop .inv) (c .loop-test .left)
+returns c =
+    let at-loop = c .before in
+    let at-entry = at-loop .before .before in
+    let a = at-entry .args in
+    let p = at-entry .pre in
+    placed-end (cellOf (a .w)) (a .t5) (now (a .cells)) (a .used) (a .free) (p .1 .1 .1 .1) (at-loop .loop .n) (at-loop .loop .at)
+    (at-loop .loop .cells) (at-loop .loop .inv) (c .loop-test .left)
 
 pub put-four-spec : {M : Type 1} → statement M
 put-four-spec =

@@ -15,13 +15,47 @@ quarter-of-requires : tie.Need-quarter-of-requires
 quarter-of-requires c κs = search needs
 
 write-child-requires : tie.Need-write-child-requires
-write-child-requires c κs = let a = c .before .before .before .before .before .before .args in let p = c .before .before .before .before .before .before .pre in let D = lent (now (a .areas)) (now (a .xs)) (now (a .ys)) (a .b) in let ws = wordsFrom (now (a .entries)) (a .first) (a .count) in let s = c .before .quarter-of .result in let e = c .before .quarter-of .ensures in (p .0, (kid-square (a .w) (p .1 .0) (a .q) s e, (kid-back (a .w) (p .1 .0) (a .q) s e, (p .1 .1 .1 .0, (p .1 .1 .1 .1 .0, p .1 .1 .1 .1 .1 ∙ ap (λ (k : Cell). length (rowsMade D k ws)) (sym (kid-in (a .w) (p .1 .0) (a .q) s e)))))))
+write-child-requires c κs =
+    let after-quarter-of = c .before in
+    let at-entry = after-quarter-of .before .before .before .before .before in
+    let a = at-entry .args in
+    let p = at-entry .pre in
+    let D = lent (now (a .areas)) (now (a .xs)) (now (a .ys)) (a .b) in
+    let ws = wordsFrom (now (a .entries)) (a .first) (a .count) in
+    let s = after-quarter-of .quarter-of .result in
+    let e = after-quarter-of .quarter-of .ensures in (
+      p .0,
+      (
+        kid-square (a .w) (p .1 .0) (a .q) s e,
+        (
+          kid-back (a .w) (p .1 .0) (a .q) s e,
+          (
+            p .1 .1 .1 .0,
+            (
+              p .1 .1 .1 .1 .0,
+              p .1 .1 .1 .1 .1 ∙ ap (λ (k : Cell). length (rowsMade D k ws)) (sym (kid-in (a .w) (p .1 .0) (a .q) s e)),
+            ),
+          ),
+        ),
+      ),
+    )
 
 same-length : tie.Need-same-length
 same-length c = search needs
 
 returns : tie.Need-returns
-returns c = let a = c .before .before .before .before .before .before .before .before .before .args in let p = c .before .before .before .before .before .before .before .before .before .pre in let D = lent (now (a .areas)) (now (a .xs)) (now (a .ys)) (a .b) in let ws = wordsFrom (now (a .entries)) (a .first) (a .count) in let s = c .before .before .before .before .quarter-of .result in let e = c .before .before .before .before .quarter-of .ensures in c .before .before .write-child .ensures ∙ ap (λ (k : Cell). written (now (a .entries)) (a .free) (wordsMade D k ws)) (kid-in (a .w) (p .1 .0) (a .q) s e)
+returns c =
+    let after-write-child = c .before .before in
+    let after-quarter-of = after-write-child .before .before in
+    let at-entry = after-quarter-of .before .before .before .before .before in
+    let a = at-entry .args in
+    let p = at-entry .pre in
+    let D = lent (now (a .areas)) (now (a .xs)) (now (a .ys)) (a .b) in
+    let ws = wordsFrom (now (a .entries)) (a .first) (a .count) in
+    let s = after-quarter-of .quarter-of .result in
+    let e = after-quarter-of .quarter-of .ensures in
+    after-write-child .write-child .ensures
+    ∙ ap (λ (k : Cell). written (now (a .entries)) (a .free) (wordsMade D k ws)) (kid-in (a .w) (p .1 .0) (a .q) s e)
 
 pub write-child-spec : {M : Type 1} → statement M
 write-child-spec =
