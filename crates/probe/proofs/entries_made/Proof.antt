@@ -5,13 +5,19 @@ use Rattle.probe.proofs.entries_made.Statement.{statement}
 use Rattle.probe.proofs.entries_made.Tie as tie
 
 count-child-requires : tie.Need-count-child-requires
-count-child-requires c κs = let p = c .before .before .before .before .pre in (p .0, (square-in _ (p .1), square-cell _ (p .1)))
+count-child-requires c κs =
+    let at-entry = c .before .before .before .before in
+    let p = at-entry .pre in
+    (p .0, (square-in _ (p .1), square-cell _ (p .1)))
 
 returns : tie.Need-returns
 returns c =
-    let a = c .before .before .before .before .before .before .args in
-    let p = c .before .before .before .before .before .before .pre in (
-      made-count (now (a .entries)) (a .first) (a .count) (now (a .areas)) (now (a .xs)) (now (a .ys)) (a .b) (a .s) (c .before .count-child .result .weight) (p .0) (c .before .count-child .ensures .0),
+    let after-count-child = c .before in
+    let at-entry = after-count-child .before .before .before .before .before in
+    let a = at-entry .args in
+    let p = at-entry .pre in (
+      made-count (now (a .entries)) (a .first) (a .count) (now (a .areas)) (now (a .xs)) (now (a .ys)) (a .b) (a .s)
+          (after-count-child .count-child .result .weight) (p .0) (after-count-child .count-child .ensures .0),
       omega arith,
     )
 

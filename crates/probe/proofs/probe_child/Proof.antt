@@ -10,19 +10,41 @@ square-fits-requires : tie.Need-square-fits-requires
 square-fits-requires c κs = search needs
 
 write-if-room-requires : tie.Need-write-if-room-requires
-write-if-room-requires c κs = (sym (c .before .before .before .before .check-stream .ensures) ∙ c .before .before .before .if1 .taken, sym (c .before .before .square-fits .ensures) ∙ c .before .if2 .taken)
+write-if-room-requires c κs =
+    let at-if2 = c .before in
+    let after-square-fits = at-if2 .before in
+    let at-if1 = after-square-fits .before in
+    let after-check-stream = at-if1 .before in (
+      sym (after-check-stream .check-stream .ensures) ∙ at-if1 .if1 .taken,
+      sym (after-square-fits .square-fits .ensures) ∙ at-if2 .if2 .taken,
+    )
 
 same-length : tie.Need-same-length
 same-length c = search needs
 
 returns : tie.Need-returns
-returns c = rw (sym (c .before .before .before .before .before .before .before .check-stream .ensures) ∙ c .before .before .before .before .before .before .if1 .taken, sym (c .before .before .before .before .before .square-fits .ensures) ∙ c .before .before .before .before .if2 .taken) (c .before .before .write-if-room .ensures)
+returns c =
+    let after-write-if-room = c .before .before in
+    let at-if2 = after-write-if-room .before .before in
+    let after-square-fits = at-if2 .before in
+    let at-if1 = after-square-fits .before in
+    let after-check-stream = at-if1 .before in
+    rw (
+      sym (after-check-stream .check-stream .ensures) ∙ at-if1 .if1 .taken,
+      sym (after-square-fits .square-fits .ensures) ∙ at-if2 .if2 .taken,
+    )
+    (after-write-if-room .write-if-room .ensures)
 
 same-length-2 : tie.Need-same-length-2
 same-length-2 c = search needs
 
 returns-2 : tie.Need-returns-2
-returns-2 c = rw (sym (c .before .before .before .check-stream .ensures) ∙ c .before .before .if1 .taken, sym (c .before .square-fits .ensures) ∙ c .if2 .left) (refl, refl)
+returns-2 c =
+    let after-square-fits = c .before in
+    let at-if1 = after-square-fits .before in
+    let after-check-stream = at-if1 .before in
+    rw (sym (after-check-stream .check-stream .ensures) ∙ at-if1 .if1 .taken, sym (after-square-fits .square-fits .ensures) ∙ c .if2 .left)
+    (refl, refl)
 
 same-length-3 : tie.Need-same-length-3
 same-length-3 c = search needs

@@ -9,13 +9,23 @@ check-stream-requires : tie.Need-check-stream-requires
 check-stream-requires c κs = search needs
 
 read-stream-requires : tie.Need-read-stream-requires
-read-stream-requires c κs = (passed _ _ _ _ _ (sym (c .before .before .check-stream .ensures) ∙ c .before .if1 .taken), position-in _ _ (c .if2 .taken))
+read-stream-requires c κs =
+    let at-if1 = c .before in
+    let after-check-stream = at-if1 .before in
+    (passed _ _ _ _ _ (sym (after-check-stream .check-stream .ensures) ∙ at-if1 .if1 .taken), position-in _ _ (c .if2 .taken))
 
 returns : tie.Need-returns
-returns c = rw (sym (c .before .before .before .check-stream .ensures) ∙ c .before .before .if1 .taken, c .before .if2 .taken) (c .read-stream .ensures)
+returns c =
+    let at-if2 = c .before in
+    let at-if1 = at-if2 .before in
+    let after-check-stream = at-if1 .before in
+    rw (sym (after-check-stream .check-stream .ensures) ∙ at-if1 .if1 .taken, at-if2 .if2 .taken) (c .read-stream .ensures)
 
 returns-2 : tie.Need-returns-2
-returns-2 c = rw (sym (c .before .before .check-stream .ensures) ∙ c .before .if1 .taken, c .if2 .left)
+returns-2 c =
+    let at-if1 = c .before in
+    let after-check-stream = at-if1 .before in
+    rw (sym (after-check-stream .check-stream .ensures) ∙ at-if1 .if1 .taken, c .if2 .left)
 
 returns-3 : tie.Need-returns-3
 returns-3 c = rw (sym (c .before .check-stream .ensures) ∙ c .if1 .left)

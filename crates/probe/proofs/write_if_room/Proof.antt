@@ -10,20 +10,32 @@ use Rattle.probe.proofs.write_if_room.Statement.{statement}
 use Rattle.probe.proofs.write_if_room.Tie as tie
 
 entries-made-requires : tie.Need-entries-made-requires
-entries-made-requires c κs = let p = c .before .before .before .before .before .pre in (passed _ _ _ _ _ (p .0), p .1)
+entries-made-requires c κs =
+    let at-entry = c .before .before .before .before .before in
+    let p = at-entry .pre in
+    (passed _ _ _ _ _ (p .0), p .1)
 
 add-if1 : tie.Need-add-if1
 add-if1 c =
-    let a = c .before .before .before .before .before .before .args in
-    let u = check-used (now (a .entries)) (a .first) (a .count) (a .used) (env (now (a .areas)) (now (a .xs)) (now (a .ys)) (a .b)) (c .before .before .before .before .before .before .pre .0) in
-    record { fits = omega (arith, u .0, c .entries-made .ensures .1, c .before .before .before .before .before .before .good .0 .1) }
+    let at-entry = c .before .before .before .before .before .before in
+    let a = at-entry .args in
+    let u = check-used (now (a .entries)) (a .first) (a .count) (a .used) (env (now (a .areas)) (now (a .xs)) (now (a .ys)) (a .b)) (at-entry .pre .0) in
+    record { fits = omega (arith, u .0, c .entries-made .ensures .1, at-entry .good .0 .1) }
 
 write-child-requires : tie.Need-write-child-requires
 write-child-requires c κs =
-    let a = c .before .before .before .before .before .before .before .before .args in
-    let p = c .before .before .before .before .before .before .before .before .pre in
-    let u = check-used (now (a .entries)) (a .first) (a .count) (a .used) (env (now (a .areas)) (now (a .xs)) (now (a .ys)) (a .b)) (p .0) in
-    (passed _ _ _ _ _ (p .0), (square-in _ (p .1), (square-cell _ (p .1), (u .1, (omega (arith, c .before .if1 .taken), c .before .before .entries-made .ensures .0)))))
+    let at-if1 = c .before in
+    let after-entries-made = at-if1 .before in
+    let at-entry = after-entries-made .before .before .before .before .before .before in
+    let a = at-entry .args in
+    let p = at-entry .pre in
+    let u = check-used (now (a .entries)) (a .first) (a .count) (a .used) (env (now (a .areas)) (now (a .xs)) (now (a .ys)) (a .b)) (p .0) in (
+      passed _ _ _ _ _ (p .0),
+      (
+        square-in _ (p .1),
+        (square-cell _ (p .1), (u .1, (omega (arith, at-if1 .if1 .taken), after-entries-made .entries-made .ensures .0))),
+      ),
+    )
 
 add-result : tie.Need-add-result
 add-result c = search needs
@@ -33,8 +45,11 @@ same-length c = search needs
 
 returns : tie.Need-returns
 returns c =
-    let e = c .before .before .before .before .before .entries-made .ensures .0 in
-    rw (room-left _ _ _ _ e (c .before .before .before .before .if1 .taken)) (ap (λ (n : ℕ). n + 1) e, c .before .before .write-child .ensures)
+    let after-write-child = c .before .before in
+    let at-if1 = after-write-child .before .before in
+    let after-entries-made = at-if1 .before in
+    let e = after-entries-made .entries-made .ensures .0 in
+    rw (room-left _ _ _ _ e (at-if1 .if1 .taken)) (ap (λ (n : ℕ). n + 1) e, after-write-child .write-child .ensures)
 
 same-length-2 : tie.Need-same-length-2
 same-length-2 c = search needs
