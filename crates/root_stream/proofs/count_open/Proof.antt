@@ -67,7 +67,6 @@ source-entry-requires c κs =
     let at-entry = at-loop .before .before .before .before .before .before .before .before .before in
     let a = at-entry .args in
     let t = tables (now (a .plan)) (now (a .areas)) (now (a .xs)) (now (a .ys)) in
-    let v = env (t .areas) (t .xs) (t .ys) (a .b) in
     let B = base t (a .records) (a .b) (at-entry .pre) in (
       B .long,
       c .loop-test .taken,
@@ -139,7 +138,6 @@ add-source-after c =
     let at-entry = at-loop-test .before .before .before .before .before .before .before .before .before .before in
     let a = at-entry .args in
     let t = tables (now (a .plan)) (now (a .areas)) (now (a .xs)) (now (a .ys)) in
-    let v = env (t .areas) (t .xs) (t .ys) (a .b) in
     let B = base t (a .records) (a .b) (at-entry .pre) in
     record { fits = omega (arith, B .few, at-loop-test .loop-test .taken) }
 
@@ -149,7 +147,6 @@ mul-source-after c =
     let at-entry = at-loop-test .before .before .before .before .before .before .before .before .before .before in
     let a = at-entry .args in
     let t = tables (now (a .plan)) (now (a .areas)) (now (a .xs)) (now (a .ys)) in
-    let v = env (t .areas) (t .xs) (t .ys) (a .b) in
     let B = base t (a .records) (a .b) (at-entry .pre) in
     record { fits = omega (arith, B .few, at-loop-test .loop-test .taken) }
 
@@ -159,7 +156,6 @@ shared-slice-read-source-after c =
     let at-entry = at-loop-test .before .before .before .before .before .before .before .before .before .before in
     let a = at-entry .args in
     let t = tables (now (a .plan)) (now (a .areas)) (now (a .xs)) (now (a .ys)) in
-    let v = env (t .areas) (t .xs) (t .ys) (a .b) in
     let B = base t (a .records) (a .b) (at-entry .pre) in
     omega (arith, B .long, at-loop-test .loop-test .taken)
 
@@ -169,8 +165,6 @@ source-after-requires c κs =
     let at-entry = at-loop .before .before .before .before .before .before .before .before .before in
     let a = at-entry .args in
     let t = tables (now (a .plan)) (now (a .areas)) (now (a .xs)) (now (a .ys)) in
-    let v = env (t .areas) (t .xs) (t .ys) (a .b) in
-    let B = base t (a .records) (a .b) (at-entry .pre) in
     source-few (t .plan) (a .records) (at-loop .loop .i) (at-loop .loop .c) (at-loop .loop .inv .ws) (at-loop .loop .inv .ahead)
 
 add-i : tie.Need-add-i Inv-loop μ-loop
@@ -179,7 +173,6 @@ add-i c =
     let at-entry = at-loop-test .before .before .before .before .before .before .before .before .before .before in
     let a = at-entry .args in
     let t = tables (now (a .plan)) (now (a .areas)) (now (a .xs)) (now (a .ys)) in
-    let v = env (t .areas) (t .xs) (t .ys) (a .b) in
     let B = base t (a .records) (a .b) (at-entry .pre) in
     record { fits = omega (arith, B .few, at-loop-test .loop-test .taken) }
 
