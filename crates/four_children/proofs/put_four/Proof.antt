@@ -34,7 +34,6 @@ child-words-requires c κs =
     let at-loop-test = c .before in
     let at-loop = at-loop-test .before in
     let at-entry = at-loop .before .before in
-    let a = at-entry .args in
     let p = at-entry .pre in
     (p .0, (p .1 .0, p .1 .1 .1 .1 .few (at-loop .loop .n) (omega (arith, at-loop-test .loop-test .taken))))
 
@@ -52,7 +51,6 @@ put-cell-requires c κs =
     let at-loop-test = c .before .before .before in
     let at-loop = at-loop-test .before in
     let at-entry = at-loop .before .before in
-    let a = at-entry .args in
     let p = at-entry .pre in
     omega (arith, p .1 .1 .0, at-loop .loop .inv .size, at-loop-test .loop-test .taken)
 

@@ -23,7 +23,6 @@ loop-holds c =
     let p = at-entry .pre in
     let v = env (now (a .areas)) (now (a .xs)) (now (a .ys)) (a .b) in
     let D = lent (now (a .areas)) (now (a .xs)) (now (a .ys)) (a .b) in
-    let ws = wordsFrom (now (a .entries)) (a .first) (a .count) in
     filled-begin v D (cellOf (a .w)) (now (a .entries)) (a .first) (a .count) (a .free) (p .0) (p .1 .1 .1 .0) (p .1 .1 .1 .1 .1)
 
 cast-k : tie.Need-cast-k Inv-loop μ-loop
@@ -126,7 +125,6 @@ returns c =
     let p = at-entry .pre in
     let v = env (now (a .areas)) (now (a .xs)) (now (a .ys)) (a .b) in
     let D = lent (now (a .areas)) (now (a .xs)) (now (a .ys)) (a .b) in
-    let ws = wordsFrom (now (a .entries)) (a .first) (a .count) in
     filled-end v D (cellOf (a .w)) (now (a .entries)) (a .first) (a .count) (a .free) (p .0) (p .1 .1 .1 .0) (p .1 .1 .1 .1 .1)
     (at-loop .loop .q) (at-loop .loop .at) (at-loop .loop .entries) (at-loop .loop .inv) (c .loop-test .left)
 
