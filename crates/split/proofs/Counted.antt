@@ -16,7 +16,8 @@ use Rattle.split.specs.Tables.{Tree, cellsUsed, entriesUsed, boundsOf}
 use Rattle.split.specs.Split.{words, cellAnswer, madeBy, headBy, cellsOf, entriesBy, cellSplit, drawingSplit, headAfter, cellsAfter, entriesAfter}
 use Rattle.split.proofs.Choices.{pick-true, pick-false}
 
-module _ (t : Tree) (i used free : ℕ) (w : CellWords) (b : Bounds) (ew : w ≡ words t i) (eb : b ≡ boundsOf (t .plan) w) (eu : used ≡ cellsUsed (t .head)) (ef : free ≡ entriesUsed (t .head)) where
+module _ (t : Tree) (i used free : ℕ) (w : CellWords) (b : Bounds) (ew : w ≡ words t i) (eb : b ≡ boundsOf (t .plan) w)
+    (eu : used ≡ cellsUsed (t .head)) (ef : free ≡ entriesUsed (t .head)) where
   abbrev test : Bool
   test = usedRange (length (t .entries)) (entriesUsed (t .head)) (length (t .areas)) (length (t .xs)) (length (t .ys)) (boundsOf (t .plan) (words t i))
 
@@ -34,7 +35,9 @@ module _ (t : Tree) (i used free : ℕ) (w : CellWords) (b : Bounds) (ew : w ≡
     pub counted-head : (x : List ℕ) → x ≡ headBy r (t .head) used free (madeBy (t .areas) (t .xs) (t .ys) b w (t .entries)) → x ≡ headAfter t i r
     counted-head x e = rw (eb, ew, eu, ef) at e
 
-    pub counted-cells : (x : List ℕ) → x ≡ cellsOf r (lent (t .areas) (t .xs) (t .ys) b) w (wordsFrom (t .entries) (w .first) (w .count)) (t .cells) i used free → x ≡ cellsAfter t i r
+    pub counted-cells : (x : List ℕ)
+        → x ≡ cellsOf r (lent (t .areas) (t .xs) (t .ys) b) w (wordsFrom (t .entries) (w .first) (w .count)) (t .cells) i used free
+        → x ≡ cellsAfter t i r
     counted-cells x e = rw (eb, ew, eu, ef) at e
 
     pub counted-entries : (x : List ℕ) → x ≡ entriesBy r (t .entries) free (madeBy (t .areas) (t .xs) (t .ys) b w (t .entries)) → x ≡ entriesAfter t i r

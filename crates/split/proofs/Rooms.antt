@@ -25,11 +25,22 @@ use Rattle.four_children.specs.code.Numbers.{noTally, fourTallies, FewEach}
 use Rattle.four_children.proofs.Filled.{length-child, entries-at}
 use Rattle.four_children.proofs.Made.{few-rows}
 
-pub few-each : (t areas xs ys : List ℕ) (b : Bounds) (first count : ℕ) (c : Cell) (ts : List Tally) → Passed t first count (env areas xs ys b) → ts ≡ fourTallies (lent areas xs ys b) c (wordsFrom t first count) → FewEach ts
+pub few-each : (t areas xs ys : List ℕ) (b : Bounds) (first count : ℕ) (c : Cell) (ts : List Tally)
+    → Passed t first count (env areas xs ys b)
+    → ts ≡ fourTallies (lent areas xs ys b) c (wordsFrom t first count)
+    → FewEach ts
 few-each t areas xs ys b first count c ts p e =
-    record { few = λ n h. omega (arith, entries-at (lent areas xs ys b) c (wordsFrom t first count) ts n h e, few-rows t areas xs ys b first count (cellOfChild (lent areas xs ys b) c (wordsFrom t first count) n) p) }
+    record {
+      few = λ n h.
+          omega (
+            arith,
+            entries-at (lent areas xs ys b) c (wordsFrom t first count) ts n h e,
+            few-rows t areas xs ys b first count (cellOfChild (lent areas xs ys b) c (wordsFrom t first count) n) p,
+          );
+    }
 
-sum-four : (D : Drawing) (c : Cell) (ws : List Words) → length (streamsTo D c ws 4) ≡ entriesOfChild D c ws 0 + entriesOfChild D c ws 1 + entriesOfChild D c ws 2 + entriesOfChild D c ws 3
+sum-four : (D : Drawing) (c : Cell) (ws : List Words)
+    → length (streamsTo D c ws 4) ≡ entriesOfChild D c ws 0 + entriesOfChild D c ws 1 + entriesOfChild D c ws 2 + entriesOfChild D c ws 3
 unfolding streamsTo
 sum-four D c ws =
     omega (
@@ -68,10 +79,18 @@ entries-room n len h =
     (omega (arith, leb-true n (len / 4) (q .0)), leb-true n 65536 (q .1))
 
 -- ---- the answer
-pub has-room : (C E used free n : ℕ) (made : List Words) → cellsHeld (used + 4) C ≡ true → entriesHeld (free + n) E ≡ true → n ≡ length made → Split used ≡ roomAnswer C E used free made
+pub has-room : (C E used free n : ℕ) (made : List Words)
+    → cellsHeld (used + 4) C ≡ true
+    → entriesHeld (free + n) E ≡ true
+    → n ≡ length made
+    → Split used ≡ roomAnswer C E used free made
 has-room C E used free n made a b e = let b′ : entriesHeld (free + length made) E ≡ true = rw e at b in rw (a, b′)
 
-pub no-entries : (C E used free n : ℕ) (made : List Words) → cellsHeld (used + 4) C ≡ true → entriesHeld (free + n) E ≡ false → n ≡ length made → Not Room ≡ roomAnswer C E used free made
+pub no-entries : (C E used free n : ℕ) (made : List Words)
+    → cellsHeld (used + 4) C ≡ true
+    → entriesHeld (free + n) E ≡ false
+    → n ≡ length made
+    → Not Room ≡ roomAnswer C E used free made
 no-entries C E used free n made a b e = let b′ : entriesHeld (free + length made) E ≡ false = rw e at b in rw (a, b′)
 
 pub no-cells : (C E used free : ℕ) (made : List Words) → cellsHeld (used + 4) C ≡ false → Not Room ≡ roomAnswer C E used free made

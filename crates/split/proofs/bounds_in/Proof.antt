@@ -15,7 +15,9 @@ wide-requires-2 : tie.Need-wide-requires-2
 wide-requires-2 c κs = search needs
 
 returns : tie.Need-returns
-returns c = rw (c .wide2 .ensures, c .before .before .wide .ensures)
+returns c =
+    let after-wide = c .before .before in
+    rw (c .wide2 .ensures, after-wide .wide .ensures)
 
 pub bounds-in-spec : {M : Type 1} → statement M
 bounds-in-spec =

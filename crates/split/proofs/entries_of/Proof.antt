@@ -16,13 +16,43 @@ array-copy-out-d : tie.Need-array-copy-out-d
 array-copy-out-d c = search needs
 
 add-result : tie.Need-add-result
-add-result c = record { fits = omega (arith, c .before .before .before .before .before .before .pre .few 0 (omega arith), c .before .before .before .before .before .before .pre .few 1 (omega arith), c .before .before .before .before .before .before .pre .few 2 (omega arith), c .before .before .before .before .before .before .pre .few 3 (omega arith)) }
+add-result c =
+    let at-entry = c .before .before .before .before .before .before in
+    record {
+      fits = omega (
+        arith,
+        at-entry .pre .few 0 (omega arith),
+        at-entry .pre .few 1 (omega arith),
+        at-entry .pre .few 2 (omega arith),
+        at-entry .pre .few 3 (omega arith),
+      );
+    }
 
 add-result-2 : tie.Need-add-result-2
-add-result-2 c = record { fits = omega (arith, c .before .before .before .before .before .before .before .pre .few 0 (omega arith), c .before .before .before .before .before .before .before .pre .few 1 (omega arith), c .before .before .before .before .before .before .before .pre .few 2 (omega arith), c .before .before .before .before .before .before .before .pre .few 3 (omega arith)) }
+add-result-2 c =
+    let at-entry = c .before .before .before .before .before .before .before in
+    record {
+      fits = omega (
+        arith,
+        at-entry .pre .few 0 (omega arith),
+        at-entry .pre .few 1 (omega arith),
+        at-entry .pre .few 2 (omega arith),
+        at-entry .pre .few 3 (omega arith),
+      );
+    }
 
 add-result-3 : tie.Need-add-result-3
-add-result-3 c = record { fits = omega (arith, c .before .before .before .before .before .before .before .before .pre .few 0 (omega arith), c .before .before .before .before .before .before .before .before .pre .few 1 (omega arith), c .before .before .before .before .before .before .before .before .pre .few 2 (omega arith), c .before .before .before .before .before .before .before .before .pre .few 3 (omega arith)) }
+add-result-3 c =
+    let at-entry = c .before .before .before .before .before .before .before .before in
+    record {
+      fits = omega (
+        arith,
+        at-entry .pre .few 0 (omega arith),
+        at-entry .pre .few 1 (omega arith),
+        at-entry .pre .few 2 (omega arith),
+        at-entry .pre .few 3 (omega arith),
+      );
+    }
 
 returns : tie.Need-returns
 returns c = search needs

@@ -10,19 +10,42 @@ cast-count : tie.Need-cast-count
 cast-count c = search needs
 
 write-four-requires : tie.Need-write-four-requires
-write-four-requires c κs = let p = c .before .before .before .before .before .before .before .before .before .pre in (p .0, (p .1 .0, (p .1 .1 .0, (p .1 .1 .1 .0, (p .1 .1 .1 .1 .0, p .1 .1 .1 .1 .1 .0)))))
+write-four-requires c κs =
+    let at-entry = c .before .before .before .before .before .before .before .before .before in
+    let p = at-entry .pre in
+    (p .0, (p .1 .0, (p .1 .1 .0, (p .1 .1 .1 .0, (p .1 .1 .1 .1 .0, p .1 .1 .1 .1 .1 .0)))))
 
 put-cells-requires : tie.Need-put-cells-requires
-put-cells-requires c κs = let p = c .before .before .before .before .before .before .before .before .before .before .before .before .before .pre in (p .1 .0, (p .1 .1 .0, (p .1 .1 .1 .1 .1 .1 .1 .0, ((p .1 .1 .1 .1 .1 .1 .1 .1 .0 .0, p .1 .1 .1 .1 .1 .1 .1 .1 .0 .1), (p .1 .1 .1 .1 .1 .1 .0, p .1 .1 .1 .1 .1 .1 .1 .1 .1 .0)))))
+put-cells-requires c κs =
+    let at-entry = c .before .before .before .before .before .before .before .before .before .before .before .before .before in
+    let p = at-entry .pre in (
+      p .1 .0,
+      (
+        p .1 .1 .0,
+        (
+          p .1 .1 .1 .1 .1 .1 .1 .0,
+          (
+            (p .1 .1 .1 .1 .1 .1 .1 .1 .0 .0, p .1 .1 .1 .1 .1 .1 .1 .1 .0 .1),
+            (p .1 .1 .1 .1 .1 .1 .0, p .1 .1 .1 .1 .1 .1 .1 .1 .1 .0),
+          ),
+        ),
+      ),
+    )
 
 add-put-head : tie.Need-add-put-head
-add-put-head c = record { fits = omega (arith, c .before .before .before .before .before .before .before .before .before .before .before .before .before .before .before .before .before .pre .1 .1 .1 .1 .1 .1 .1 .1 .0 .0) }
+add-put-head c =
+    let at-entry = c .before .before .before .before .before .before .before .before .before .before .before .before .before .before .before .before .before in
+    record { fits = omega (arith, at-entry .pre .1 .1 .1 .1 .1 .1 .1 .1 .0 .0) }
 
 add-put-head-2 : tie.Need-add-put-head-2
-add-put-head-2 c = record { fits = omega (arith, c .before .before .before .before .before .before .before .before .before .before .before .before .before .before .before .before .before .pre .1 .1 .1 .1 .1 .1 .1 .1 .0 .1, c .before .before .before .before .before .before .before .before .before .before .before .before .before .before .before .before .before .pre .1 .1 .1 .1 .1 .1 .1 .1 .0 .2) }
+add-put-head-2 c =
+    let at-entry = c .before .before .before .before .before .before .before .before .before .before .before .before .before .before .before .before .before in
+    record { fits = omega (arith, at-entry .pre .1 .1 .1 .1 .1 .1 .1 .1 .0 .1, at-entry .pre .1 .1 .1 .1 .1 .1 .1 .1 .0 .2) }
 
 put-head-requires : tie.Need-put-head-requires
-put-head-requires c κs = c .before .before .before .before .before .before .before .before .before .before .before .before .before .before .before .before .before .pre .1 .1 .1 .1 .1 .1 .1 .1 .1 .1
+put-head-requires c κs =
+    let at-entry = c .before .before .before .before .before .before .before .before .before .before .before .before .before .before .before .before .before in
+    at-entry .pre .1 .1 .1 .1 .1 .1 .1 .1 .1 .1
 
 same-length : tie.Need-same-length
 same-length c = search needs
@@ -34,7 +57,11 @@ same-length-3 : tie.Need-same-length-3
 same-length-3 c = search needs
 
 returns : tie.Need-returns
-returns c = (c .before .before .put-head .ensures, (c .before .before .before .before .before .before .put-cells .ensures, c .before .before .before .before .before .before .before .before .before .before .write-four .ensures))
+returns c =
+    let after-put-head = c .before .before in
+    let after-put-cells = after-put-head .before .before .before .before in
+    let after-write-four = after-put-cells .before .before .before .before in
+    (after-put-head .put-head .ensures, (after-put-cells .put-cells .ensures, after-write-four .write-four .ensures))
 
 pub put-split-spec : {M : Type 1} → statement M
 put-split-spec =

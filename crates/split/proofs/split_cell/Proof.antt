@@ -18,7 +18,14 @@ cell-fits-requires : tie.Need-cell-fits-requires
 cell-fits-requires c κs = search needs
 
 split-leaf-requires : tie.Need-split-leaf-requires
-split-leaf-requires c κs = let a = c .before .before .before .before .before .before .before .before .before .before .before .before .before .args in let p = c .before .before .before .before .before .before .before .before .before .before .before .before .before .pre in let h = sym (c .before .before .before .before .before .before .cell-fits .ensures) ∙ c .before .before .before .before .before .if1 .taken in (passes-range (a .w) (a .i) (a .used) (a .free) h, (passes-entries (a .w) (a .i) (a .used) (a .free) h, (p .0, p .1)))
+split-leaf-requires c κs =
+    let at-if1 = c .before .before .before .before .before in
+    let after-cell-fits = at-if1 .before in
+    let at-entry = after-cell-fits .before .before .before .before .before .before .before in
+    let a = at-entry .args in
+    let p = at-entry .pre in
+    let h = sym (after-cell-fits .cell-fits .ensures) ∙ at-if1 .if1 .taken in
+    (passes-range (a .w) (a .i) (a .used) (a .free) h, (passes-entries (a .w) (a .i) (a .used) (a .free) h, (p .0, p .1)))
 
 same-length : tie.Need-same-length
 same-length c = search needs
@@ -30,13 +37,48 @@ same-length-3 : tie.Need-same-length-3
 same-length-3 c = search needs
 
 returns : tie.Need-returns
-returns c = let a = c .before .before .before .before .before .before .before .before .before .before .before .before .before .before .before .before .before .before .before .before .args in let p = c .before .before .before .before .before .before .before .before .before .before .before .before .before .before .before .before .before .before .before .before .pre in let e = c .before .before .before .before .before .before .split-leaf .ensures in (e .0 ∙ (pick-true (eqb (a .w .child) 0) (leafAnswer (now (a .areas)) (now (a .xs)) (now (a .ys)) (a .b) (a .w) (now (a .entries)) (length (now (a .cells))) (a .used) (a .free)) (Not AlreadySplit) (eq-eqb (a .w .child) 0 (c .before .before .before .before .before .before .before .before .before .before .if2 .taken)) ∙ pick-true (cellRange (a .w) (a .i) (a .used) (a .free)) (cond (eqb (a .w .child) 0) (leafAnswer (now (a .areas)) (now (a .xs)) (now (a .ys)) (a .b) (a .w) (now (a .entries)) (length (now (a .cells))) (a .used) (a .free)) (Not AlreadySplit)) (Not Broken) (sym (c .before .before .before .before .before .before .before .before .before .before .before .before .before .cell-fits .ensures) ∙ c .before .before .before .before .before .before .before .before .before .before .before .before .if1 .taken)), e .1)
+returns c =
+    let after-split-leaf = c .before .before .before .before .before .before in
+    let at-if2 = after-split-leaf .before .before .before .before in
+    let at-if1 = at-if2 .before .before in
+    let after-cell-fits = at-if1 .before in
+    let at-entry = after-cell-fits .before .before .before .before .before .before .before in
+    let a = at-entry .args in
+    let leaf = leafAnswer (now (a .areas)) (now (a .xs)) (now (a .ys)) (a .b) (a .w) (now (a .entries)) (length (now (a .cells))) (a .used) (a .free) in
+    let e = after-split-leaf .split-leaf .ensures in (
+      e .0
+          ∙ (pick-true (eqb (a .w .child) 0) leaf (Not AlreadySplit) (eq-eqb (a .w .child) 0 (at-if2 .if2 .taken))
+          ∙ pick-true (cellRange (a .w) (a .i) (a .used) (a .free)) (cond (eqb (a .w .child) 0) leaf (Not AlreadySplit)) (Not Broken)
+          (sym (after-cell-fits .cell-fits .ensures) ∙ at-if1 .if1 .taken)),
+      e .1,
+    )
 
 returns-2 : tie.Need-returns-2
-returns-2 c = let a = c .before .before .before .before .before .before .before .before .before .before .args in let p = c .before .before .before .before .before .before .before .before .before .before .pre in (pick-false (eqb (a .w .child) 0) (leafAnswer (now (a .areas)) (now (a .xs)) (now (a .ys)) (a .b) (a .w) (now (a .entries)) (length (now (a .cells))) (a .used) (a .free)) (Not AlreadySplit) (ne-eqb (a .w .child) 0 (c .if2 .left)) ∙ pick-true (cellRange (a .w) (a .i) (a .used) (a .free)) (cond (eqb (a .w .child) 0) (leafAnswer (now (a .areas)) (now (a .xs)) (now (a .ys)) (a .b) (a .w) (now (a .entries)) (length (now (a .cells))) (a .used) (a .free)) (Not AlreadySplit)) (Not Broken) (sym (c .before .before .before .cell-fits .ensures) ∙ c .before .before .if1 .taken), (refl, (refl, refl)))
+returns-2 c =
+    let at-if1 = c .before .before in
+    let after-cell-fits = at-if1 .before in
+    let at-entry = after-cell-fits .before .before .before .before .before .before .before in
+    let a = at-entry .args in
+    let leaf = leafAnswer (now (a .areas)) (now (a .xs)) (now (a .ys)) (a .b) (a .w) (now (a .entries)) (length (now (a .cells))) (a .used) (a .free) in (
+      pick-false (eqb (a .w .child) 0) leaf (Not AlreadySplit) (ne-eqb (a .w .child) 0 (c .if2 .left))
+          ∙ pick-true (cellRange (a .w) (a .i) (a .used) (a .free)) (cond (eqb (a .w .child) 0) leaf (Not AlreadySplit)) (Not Broken)
+          (sym (after-cell-fits .cell-fits .ensures) ∙ at-if1 .if1 .taken),
+      (refl, (refl, refl)),
+    )
 
 returns-3 : tie.Need-returns-3
-returns-3 c = let a = c .before .before .before .before .before .before .before .before .args in let p = c .before .before .before .before .before .before .before .before .pre in (pick-false (cellRange (a .w) (a .i) (a .used) (a .free)) (cond (eqb (a .w .child) 0) (leafAnswer (now (a .areas)) (now (a .xs)) (now (a .ys)) (a .b) (a .w) (now (a .entries)) (length (now (a .cells))) (a .used) (a .free)) (Not AlreadySplit)) (Not Broken) (sym (c .before .cell-fits .ensures) ∙ c .if1 .left), (refl, (refl, refl)))
+returns-3 c =
+    let after-cell-fits = c .before in
+    let at-entry = after-cell-fits .before .before .before .before .before .before .before in
+    let a = at-entry .args in (
+      pick-false (cellRange (a .w) (a .i) (a .used) (a .free))
+          (cond (eqb (a .w .child) 0)
+          (leafAnswer (now (a .areas)) (now (a .xs)) (now (a .ys)) (a .b) (a .w) (now (a .entries)) (length (now (a .cells))) (a .used)
+          (a .free))
+          (Not AlreadySplit))
+          (Not Broken) (sym (after-cell-fits .cell-fits .ensures) ∙ c .if1 .left),
+      (refl, (refl, refl)),
+    )
 
 pub split-cell-spec : {M : Type 1} → statement M
 split-cell-spec =

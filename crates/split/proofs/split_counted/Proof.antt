@@ -28,13 +28,54 @@ same-length-3 : tie.Need-same-length-3
 same-length-3 c = search needs
 
 returns : tie.Need-returns
-returns c = let a = c .before .before .before .before .before .before .before .before .before .before .before .before .before .before .before .before .before .before .before .before .before .before .args in let p = c .before .before .before .before .before .before .before .before .before .before .before .before .before .before .before .before .before .before .before .before .before .before .pre in let T = tree (now (a .plan)) (now (a .areas)) (now (a .xs)) (now (a .ys)) (now (a .head)) (now (a .cells)) (now (a .entries)) in let w = c .before .before .before .before .before .before .before .before .before .before .before .before .before .read-cell .result in let B = c .before .before .before .before .before .before .before .before .before .before .before .before .bounds-in .result in let eb : B ≡ boundsOf (now (a .plan)) w = c .before .before .before .before .before .before .before .before .before .before .before .before .bounds-in .ensures in let e = c .before .before .before .before .before .before .split-cell .ensures in let r = c .before .before .before .before .before .before .split-cell .result in (counted-yes T (a .i) (a .used) (a .free) w B (c .before .before .before .before .before .before .before .before .before .before .before .before .before .read-cell .ensures) eb (p .1 .1 .1 .0) (p .1 .1 .1 .1) r (sym (c .before .before .before .before .before .before .before .before .before .before .before .used-range .ensures) ∙ c .before .before .before .before .before .before .before .before .before .before .if1 .taken) (e .0), (counted-head T (a .i) (a .used) (a .free) w B (c .before .before .before .before .before .before .before .before .before .before .before .before .before .read-cell .ensures) eb (p .1 .1 .1 .0) (p .1 .1 .1 .1) r _ (e .1 .0), (counted-cells T (a .i) (a .used) (a .free) w B (c .before .before .before .before .before .before .before .before .before .before .before .before .before .read-cell .ensures) eb (p .1 .1 .1 .0) (p .1 .1 .1 .1) r _ (e .1 .1 .0), counted-entries T (a .i) (a .used) (a .free) w B (c .before .before .before .before .before .before .before .before .before .before .before .before .before .read-cell .ensures) eb (p .1 .1 .1 .0) (p .1 .1 .1 .1) r _ (e .1 .1 .1))))
+returns c =
+    let after-split-cell = c .before .before .before .before .before .before in
+    let at-if1 = after-split-cell .before .before .before .before in
+    let after-used-range = at-if1 .before in
+    let after-bounds-in = after-used-range .before in
+    let after-read-cell = after-bounds-in .before in
+    let at-entry = after-read-cell .before .before .before .before .before .before .before .before .before in
+    let a = at-entry .args in
+    let p = at-entry .pre in
+    let T = tree (now (a .plan)) (now (a .areas)) (now (a .xs)) (now (a .ys)) (now (a .head)) (now (a .cells)) (now (a .entries)) in
+    let w = after-read-cell .read-cell .result in
+    let B = after-bounds-in .bounds-in .result in
+    let eb : B ≡ boundsOf (now (a .plan)) w = after-bounds-in .bounds-in .ensures in
+    let e = after-split-cell .split-cell .ensures in
+    let r = after-split-cell .split-cell .result in (
+      counted-yes T (a .i) (a .used) (a .free) w B (after-read-cell .read-cell .ensures) eb (p .1 .1 .1 .0) (p .1 .1 .1 .1) r
+          (sym (after-used-range .used-range .ensures) ∙ at-if1 .if1 .taken) (e .0),
+      (
+        counted-head T (a .i) (a .used) (a .free) w B (after-read-cell .read-cell .ensures) eb (p .1 .1 .1 .0) (p .1 .1 .1 .1) r _
+            (e .1 .0),
+        (
+          counted-cells T (a .i) (a .used) (a .free) w B (after-read-cell .read-cell .ensures) eb (p .1 .1 .1 .0) (p .1 .1 .1 .1) r
+              _ (e .1 .1 .0),
+          counted-entries T (a .i) (a .used) (a .free) w B (after-read-cell .read-cell .ensures) eb (p .1 .1 .1 .0) (p .1 .1 .1 .1)
+              r _ (e .1 .1 .1),
+        ),
+      ),
+    )
 
 same-length-4 : tie.Need-same-length-4
 same-length-4 c = search needs
 
 returns-2 : tie.Need-returns-2
-returns-2 c = let a = c .before .before .before .before .before .before .before .before .before .before .before .before .args in let p = c .before .before .before .before .before .before .before .before .before .before .before .before .pre in let T = tree (now (a .plan)) (now (a .areas)) (now (a .xs)) (now (a .ys)) (now (a .head)) (now (a .cells)) (now (a .entries)) in let w = c .before .before .before .read-cell .result in let B = c .before .before .bounds-in .result in let eb : B ≡ boundsOf (now (a .plan)) w = c .before .before .bounds-in .ensures in (counted-no T (a .i) (a .used) (a .free) w B (c .before .before .before .read-cell .ensures) eb (p .1 .1 .1 .0) (p .1 .1 .1 .1) (sym (c .before .used-range .ensures) ∙ c .if1 .left), (refl, (refl, refl)))
+returns-2 c =
+    let after-used-range = c .before in
+    let after-bounds-in = after-used-range .before in
+    let after-read-cell = after-bounds-in .before in
+    let at-entry = after-read-cell .before .before .before .before .before .before .before .before .before in
+    let a = at-entry .args in
+    let p = at-entry .pre in
+    let T = tree (now (a .plan)) (now (a .areas)) (now (a .xs)) (now (a .ys)) (now (a .head)) (now (a .cells)) (now (a .entries)) in
+    let w = after-read-cell .read-cell .result in
+    let B = after-bounds-in .bounds-in .result in
+    let eb : B ≡ boundsOf (now (a .plan)) w = after-bounds-in .bounds-in .ensures in (
+      counted-no T (a .i) (a .used) (a .free) w B (after-read-cell .read-cell .ensures) eb (p .1 .1 .1 .0) (p .1 .1 .1 .1)
+          (sym (after-used-range .used-range .ensures) ∙ c .if1 .left),
+      (refl, (refl, refl)),
+    )
 
 pub split-counted-spec : {M : Type 1} → statement M
 split-counted-spec =

@@ -29,10 +29,33 @@ same-length : tie.Need-same-length
 same-length c = search needs
 
 returns : tie.Need-returns
-returns c = let a = c .before .before .before .before .before .before .before .before .before .before .before .before .before .args in let p = c .before .before .before .before .before .before .before .before .before .before .before .before .before .pre in (pick-true (eqb (a .w .side) 1) (Not Smallest) (roomAnswer (length (now (a .cells))) (length (now (a .entries))) (a .used) (a .free) (madeBy (now (a .areas)) (now (a .xs)) (now (a .ys)) (a .b) (a .w) (now (a .entries)))) (eq-eqb (a .w .side) 1 (c .if2 .taken)) ∙ pick-true (checkStream (now (a .entries)) (a .w .first) (a .w .count) (a .free) (env (now (a .areas)) (now (a .xs)) (now (a .ys)) (a .b))) (cond (eqb (a .w .side) 1) (Not Smallest) (roomAnswer (length (now (a .cells))) (length (now (a .entries))) (a .used) (a .free) (madeBy (now (a .areas)) (now (a .xs)) (now (a .ys)) (a .b) (a .w) (now (a .entries))))) (Not Broken) (sym (c .before .before .before .check-stream .ensures) ∙ c .before .before .if1 .taken), (refl, (refl, refl)))
+returns c =
+    let at-if1 = c .before .before in
+    let after-check-stream = at-if1 .before in
+    let at-entry = after-check-stream .before .before .before .before .before .before .before .before .before .before in
+    let a = at-entry .args in
+    let room = roomAnswer (length (now (a .cells))) (length (now (a .entries))) (a .used) (a .free)
+    (madeBy (now (a .areas)) (now (a .xs)) (now (a .ys)) (a .b) (a .w) (now (a .entries))) in (
+      pick-true (eqb (a .w .side) 1) (Not Smallest) room (eq-eqb (a .w .side) 1 (c .if2 .taken))
+          ∙ pick-true
+          (checkStream (now (a .entries)) (a .w .first) (a .w .count) (a .free) (env (now (a .areas)) (now (a .xs)) (now (a .ys)) (a .b)))
+          (cond (eqb (a .w .side) 1) (Not Smallest) room) (Not Broken)
+          (sym (after-check-stream .check-stream .ensures) ∙ at-if1 .if1 .taken),
+      (refl, (refl, refl)),
+    )
 
 split-in-room-requires : tie.Need-split-in-room-requires
-split-in-room-requires c κs = let a = c .before .before .before .before .before .before .before .before .before .before .before .before .before .before .before .before .args in let p = c .before .before .before .before .before .before .before .before .before .before .before .before .before .before .before .before .pre in (passed (now (a .entries)) (a .w .first) (a .w .count) (a .free) (env (now (a .areas)) (now (a .xs)) (now (a .ys)) (a .b)) (sym (c .before .before .before .before .before .before .check-stream .ensures) ∙ c .before .before .before .before .before .if1 .taken), (p .0, (omega (arith, square-fits (a .w) (p .0) .some-side, c .before .before .before .if2 .left), (p .1 .0, (p .1 .1 .0, p .1 .1 .1)))))
+split-in-room-requires c κs =
+    let at-if2 = c .before .before .before in
+    let at-if1 = at-if2 .before .before in
+    let after-check-stream = at-if1 .before in
+    let at-entry = after-check-stream .before .before .before .before .before .before .before .before .before .before in
+    let a = at-entry .args in
+    let p = at-entry .pre in (
+      passed (now (a .entries)) (a .w .first) (a .w .count) (a .free) (env (now (a .areas)) (now (a .xs)) (now (a .ys)) (a .b))
+          (sym (after-check-stream .check-stream .ensures) ∙ at-if1 .if1 .taken),
+      (p .0, (omega (arith, square-fits (a .w) (p .0) .some-side, at-if2 .if2 .left), (p .1 .0, (p .1 .1 .0, p .1 .1 .1)))),
+    )
 
 same-length-2 : tie.Need-same-length-2
 same-length-2 c = search needs
@@ -44,13 +67,41 @@ same-length-4 : tie.Need-same-length-4
 same-length-4 c = search needs
 
 returns-2 : tie.Need-returns-2
-returns-2 c = let a = c .before .before .before .before .before .before .before .before .before .before .before .before .before .before .before .before .before .before .before .before .before .before .before .args in let p = c .before .before .before .before .before .before .before .before .before .before .before .before .before .before .before .before .before .before .before .before .before .before .before .pre in let e = c .before .before .before .before .before .before .split-in-room .ensures in (e .0 ∙ (pick-false (eqb (a .w .side) 1) (Not Smallest) (roomAnswer (length (now (a .cells))) (length (now (a .entries))) (a .used) (a .free) (madeBy (now (a .areas)) (now (a .xs)) (now (a .ys)) (a .b) (a .w) (now (a .entries)))) (ne-eqb (a .w .side) 1 (c .before .before .before .before .before .before .before .before .before .before .if2 .left)) ∙ pick-true (checkStream (now (a .entries)) (a .w .first) (a .w .count) (a .free) (env (now (a .areas)) (now (a .xs)) (now (a .ys)) (a .b))) (cond (eqb (a .w .side) 1) (Not Smallest) (roomAnswer (length (now (a .cells))) (length (now (a .entries))) (a .used) (a .free) (madeBy (now (a .areas)) (now (a .xs)) (now (a .ys)) (a .b) (a .w) (now (a .entries))))) (Not Broken) (sym (c .before .before .before .before .before .before .before .before .before .before .before .before .before .check-stream .ensures) ∙ c .before .before .before .before .before .before .before .before .before .before .before .before .if1 .taken)), e .1)
+returns-2 c =
+    let after-split-in-room = c .before .before .before .before .before .before in
+    let at-if2 = after-split-in-room .before .before .before .before in
+    let at-if1 = at-if2 .before .before in
+    let after-check-stream = at-if1 .before in
+    let at-entry = after-check-stream .before .before .before .before .before .before .before .before .before .before in
+    let a = at-entry .args in
+    let room = roomAnswer (length (now (a .cells))) (length (now (a .entries))) (a .used) (a .free)
+    (madeBy (now (a .areas)) (now (a .xs)) (now (a .ys)) (a .b) (a .w) (now (a .entries))) in
+    let e = after-split-in-room .split-in-room .ensures in (
+      e .0
+          ∙ (pick-false (eqb (a .w .side) 1) (Not Smallest) room (ne-eqb (a .w .side) 1 (at-if2 .if2 .left))
+          ∙ pick-true
+          (checkStream (now (a .entries)) (a .w .first) (a .w .count) (a .free) (env (now (a .areas)) (now (a .xs)) (now (a .ys)) (a .b)))
+          (cond (eqb (a .w .side) 1) (Not Smallest) room) (Not Broken)
+          (sym (after-check-stream .check-stream .ensures) ∙ at-if1 .if1 .taken)),
+      e .1,
+    )
 
 same-length-5 : tie.Need-same-length-5
 same-length-5 c = search needs
 
 returns-3 : tie.Need-returns-3
-returns-3 c = let a = c .before .before .before .before .before .before .before .before .before .before .before .args in let p = c .before .before .before .before .before .before .before .before .before .before .before .pre in (pick-false (checkStream (now (a .entries)) (a .w .first) (a .w .count) (a .free) (env (now (a .areas)) (now (a .xs)) (now (a .ys)) (a .b))) (cond (eqb (a .w .side) 1) (Not Smallest) (roomAnswer (length (now (a .cells))) (length (now (a .entries))) (a .used) (a .free) (madeBy (now (a .areas)) (now (a .xs)) (now (a .ys)) (a .b) (a .w) (now (a .entries))))) (Not Broken) (sym (c .before .check-stream .ensures) ∙ c .if1 .left), (refl, (refl, refl)))
+returns-3 c =
+    let after-check-stream = c .before in
+    let at-entry = after-check-stream .before .before .before .before .before .before .before .before .before .before in
+    let a = at-entry .args in (
+      pick-false
+          (checkStream (now (a .entries)) (a .w .first) (a .w .count) (a .free) (env (now (a .areas)) (now (a .xs)) (now (a .ys)) (a .b)))
+          (cond (eqb (a .w .side) 1) (Not Smallest)
+          (roomAnswer (length (now (a .cells))) (length (now (a .entries))) (a .used) (a .free)
+          (madeBy (now (a .areas)) (now (a .xs)) (now (a .ys)) (a .b) (a .w) (now (a .entries)))))
+          (Not Broken) (sym (after-check-stream .check-stream .ensures) ∙ c .if1 .left),
+      (refl, (refl, refl)),
+    )
 
 pub split-leaf-spec : {M : Type 1} → statement M
 split-leaf-spec =
