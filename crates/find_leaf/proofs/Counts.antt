@@ -18,13 +18,20 @@ module _ (t : Tree) where
   headFits = headRange (t .head) (length (t .cells)) (length (t .entries))
 
   abbrev drawn : Bool
-  drawn = usedRange (length (t .entries)) (entriesUsed (t .head)) (length (t .areas)) (length (t .xs)) (length (t .ys)) (bounds (getD (t .plan) 1 0) (getD (t .plan) 2 0) 0 0)
+  drawn =
+      usedRange (length (t .entries)) (entriesUsed (t .head)) (length (t .areas)) (length (t .xs)) (length (t .ys))
+      (bounds (getD (t .plan) 1 0) (getD (t .plan) 2 0) 0 0)
 
   abbrev planned : Bool
   planned = cond (leb 3 (length (t .plan))) drawn false
 
-  pub counts-yes : (r : Bool) (free : ℕ) (b : Bounds) → headFits ≡ true → 3 ≤ length (t .plan) → free ≡ getD (t .head) 1 0 → b ≡ bounds (getD (t .plan) 1 0) (getD (t .plan) 2 0) 0 0
-      → r ≡ usedRange (length (t .entries)) free (length (t .areas)) (length (t .xs)) (length (t .ys)) b → r ≡ countsIn t
+  pub counts-yes : (r : Bool) (free : ℕ) (b : Bounds)
+      → headFits ≡ true
+      → 3 ≤ length (t .plan)
+      → free ≡ getD (t .head) 1 0
+      → b ≡ bounds (getD (t .plan) 1 0) (getD (t .plan) 2 0) 0 0
+      → r ≡ usedRange (length (t .entries)) free (length (t .areas)) (length (t .xs)) (length (t .ys)) b
+      → r ≡ countsIn t
   unfolding countsIn
   counts-yes r free b h l ef eb e =
       let e₁ : r ≡ drawn = rw (ef, eb) at e in

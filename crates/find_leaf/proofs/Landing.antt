@@ -100,7 +100,8 @@ module _ (t : Tree) where
         subst (λ (k : Leaf). (k .x + k .side ≤ 65536) × (k .y + k .side ≤ 65536)) (sym (m .words)) (passes-east w r, passes-north w r)
 
     -- ---- with the numbers in use as the code reads them
-    module _ (used free : ℕ) (f : Found) (h : countsIn t ≡ true) (eu : used ≡ getD (t .head) 0 0) (ef : free ≡ getD (t .head) 1 0) (w : f ≡ descendIn (t .cells) used free x y) where
+    module _ (used free : ℕ) (f : Found) (h : countsIn t ≡ true) (eu : used ≡ getD (t .head) 0 0) (ef : free ≡ getD (t .head) 1 0)
+        (w : f ≡ descendIn (t .cells) used free x y) where
       way-is : f ≡ wayIn x y
       way-is =
           let u : used ≡ cellsUsed (t .head) = eu ∙ counts-fit t h .cells-are in
@@ -109,7 +110,8 @@ module _ (t : Tree) where
       pub read-astray : f ≡ Broken → Broken ≡ leafIn t x y
       read-astray e = leaf-astray h (sym e ∙ way-is)
 
-      module _ (l : Leaf) (p : Bool) (e : f ≡ At l) (q : p ≡ checkStream (t .entries) (l .first) (l .count) free (env (t .areas) (t .xs) (t .ys) (leafBounds t l))) where
+      module _ (l : Leaf) (p : Bool) (e : f ≡ At l)
+          (q : p ≡ checkStream (t .entries) (l .first) (l .count) free (env (t .areas) (t .xs) (t .ys) (leafBounds t l))) where
         passes-is : p ≡ passesIn l
         passes-is = rw ef at q
 

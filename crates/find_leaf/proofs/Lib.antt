@@ -1,4 +1,5 @@
--- Laws of finding a leaf: the count of its lines; the numbers in use; what the leaf that is found says; that it is found from each of its positions; the answer; examples.
+-- Laws of finding a leaf: the count of its lines; the numbers in use; what the leaf that is found says; that it is
+-- found from each of its positions; the answer; examples.
 pub mod Lines
 pub mod Counts
 pub mod Landing

@@ -99,7 +99,10 @@ module _ (t : List ℕ) (used entries : ℕ) (p p′ : Position) (l : Leaf) (h :
       go true false z next q = q
       go false b z next q = q
 
-pub descend-same : (t : List ℕ) (used entries x y x′ y′ : ℕ) (l : Leaf) → LeafHolds l (at x′ y′) → descendIn t used entries x y ≡ At l → descendIn t used entries x′ y′ ≡ At l
+pub descend-same : (t : List ℕ) (used entries x y x′ y′ : ℕ) (l : Leaf)
+    → LeafHolds l (at x′ y′)
+    → descendIn t used entries x y ≡ At l
+    → descendIn t used entries x′ y′ ≡ At l
 unfolding descendIn
 descend-same t used entries x y x′ y′ l h e = same-down t used entries (at x y) (at x′ y′) l h 17 0 0 root e
 

@@ -9,13 +9,28 @@ find-within-requires : tie.Need-find-within-requires
 find-within-requires c κs = search needs
 
 returns : tie.Need-returns
-returns c = let a = c .before .before .before .before .before .before .before .before .before .before .args in let T = tree (now (a .plan)) (now (a .areas)) (now (a .xs)) (now (a .ys)) (now (a .head)) (now (a .cells)) (now (a .entries)) in find-within T (a .x) (a .y) (c .find-within .result) (c .before .before .if1 .taken) (c .before .if2 .taken) (c .find-within .ensures)
+returns c =
+    let at-if2 = c .before in
+    let at-if1 = at-if2 .before in
+    let at-entry = at-if1 .before .before .before .before .before .before .before .before in
+    let a = at-entry .args in
+    let T = tree (now (a .plan)) (now (a .areas)) (now (a .xs)) (now (a .ys)) (now (a .head)) (now (a .cells)) (now (a .entries)) in
+    find-within T (a .x) (a .y) (c .find-within .result) (at-if1 .if1 .taken) (at-if2 .if2 .taken) (c .find-within .ensures)
 
 returns-2 : tie.Need-returns-2
-returns-2 c = let a = c .before .before .before .before .before .before .before .before .before .args in let T = tree (now (a .plan)) (now (a .areas)) (now (a .xs)) (now (a .ys)) (now (a .head)) (now (a .cells)) (now (a .entries)) in find-outside T (a .x) (a .y) (c .before .if1 .taken) (c .if2 .left)
+returns-2 c =
+    let at-if1 = c .before in
+    let at-entry = at-if1 .before .before .before .before .before .before .before .before in
+    let a = at-entry .args in
+    let T = tree (now (a .plan)) (now (a .areas)) (now (a .xs)) (now (a .ys)) (now (a .head)) (now (a .cells)) (now (a .entries)) in
+    find-outside T (a .x) (a .y) (at-if1 .if1 .taken) (c .if2 .left)
 
 returns-3 : tie.Need-returns-3
-returns-3 c = let a = c .before .before .before .before .before .before .before .before .args in let T = tree (now (a .plan)) (now (a .areas)) (now (a .xs)) (now (a .ys)) (now (a .head)) (now (a .cells)) (now (a .entries)) in find-uneven T (a .x) (a .y) (c .if1 .left)
+returns-3 c =
+    let at-entry = c .before .before .before .before .before .before .before .before in
+    let a = at-entry .args in
+    let T = tree (now (a .plan)) (now (a .areas)) (now (a .xs)) (now (a .ys)) (now (a .head)) (now (a .cells)) (now (a .entries)) in
+    find-uneven T (a .x) (a .y) (c .if1 .left)
 
 pub find-leaf-spec : {M : Type 1} → statement M
 find-leaf-spec = tie.close (tie.spec find-within-requires returns returns-2 returns-3)

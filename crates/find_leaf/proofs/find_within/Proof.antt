@@ -12,16 +12,34 @@ enum-known-f : tie.Need-enum-known-f
 enum-known-f c = search needs
 
 report-requires : tie.Need-report-requires
-report-requires c κs = let a = c .before .before .before .before .before .before .before .before .before .before .before .args in let T = tree (now (a .plan)) (now (a .areas)) (now (a .xs)) (now (a .ys)) (now (a .head)) (now (a .cells)) (now (a .entries)) in found-passed T (a .x) (a .y) (c .before .before .before .leaf-at .result) (c .before .before .before .leaf-at .ensures) _ (c .before .f .given .1)
+report-requires c κs =
+    let after-f = c .before in
+    let after-leaf-at = after-f .before .before in
+    let at-entry = after-leaf-at .before .before .before .before .before .before .before .before in
+    let a = at-entry .args in
+    let T = tree (now (a .plan)) (now (a .areas)) (now (a .xs)) (now (a .ys)) (now (a .head)) (now (a .cells)) (now (a .entries)) in
+    found-passed T (a .x) (a .y) (after-leaf-at .leaf-at .result) (after-leaf-at .leaf-at .ensures) _ (after-f .f .given .1)
 
 returns : tie.Need-returns
-returns c = let a = c .before .before .before .before .before .before .before .before .before .before .before .before .args in let T = tree (now (a .plan)) (now (a .areas)) (now (a .xs)) (now (a .ys)) (now (a .head)) (now (a .cells)) (now (a .entries)) in found-yes T (a .x) (a .y) (c .before .before .before .before .leaf-at .result) (c .before .before .before .before .leaf-at .ensures) _ (c .report .result) (c .before .before .f .given .1) (c .report .ensures)
+returns c =
+    let after-f = c .before .before in
+    let after-leaf-at = after-f .before .before in
+    let at-entry = after-leaf-at .before .before .before .before .before .before .before .before in
+    let a = at-entry .args in
+    let T = tree (now (a .plan)) (now (a .areas)) (now (a .xs)) (now (a .ys)) (now (a .head)) (now (a .cells)) (now (a .entries)) in
+    found-yes T (a .x) (a .y) (after-leaf-at .leaf-at .result) (after-leaf-at .leaf-at .ensures) _ (c .report .result)
+    (after-f .f .given .1) (c .report .ensures)
 
 enum-told : tie.Need-enum-told
 enum-told c = search needs
 
 returns-2 : tie.Need-returns-2
-returns-2 c = let a = c .before .before .before .before .before .before .before .before .before .before .args in let T = tree (now (a .plan)) (now (a .areas)) (now (a .xs)) (now (a .ys)) (now (a .head)) (now (a .cells)) (now (a .entries)) in found-no T (a .x) (a .y) (c .before .before .leaf-at .result) (c .before .before .leaf-at .ensures) (c .enum-told .given .1)
+returns-2 c =
+    let after-leaf-at = c .before .before in
+    let at-entry = after-leaf-at .before .before .before .before .before .before .before .before in
+    let a = at-entry .args in
+    let T = tree (now (a .plan)) (now (a .areas)) (now (a .xs)) (now (a .ys)) (now (a .head)) (now (a .cells)) (now (a .entries)) in
+    found-no T (a .x) (a .y) (after-leaf-at .leaf-at .result) (after-leaf-at .leaf-at .ensures) (c .enum-told .given .1)
 
 pub find-within-spec : {M : Type 1} → statement M
 find-within-spec =

@@ -12,40 +12,114 @@ counts-fit-requires : tie.Need-counts-fit-requires
 counts-fit-requires c κs = search needs
 
 shared-slice-read-wide : tie.Need-shared-slice-read-wide
-shared-slice-read-wide c = let a = c .before .before .before .before .before .before .before .before .before .before .args in let T = tree (now (a .plan)) (now (a .areas)) (now (a .xs)) (now (a .ys)) (now (a .head)) (now (a .cells)) (now (a .entries)) in let h = told (c .before .before .counts-fit .result) (countsIn T) true (c .before .before .counts-fit .ensures) (c .before .if1 .taken) in omega (arith, counts-fit T h .head-long)
+shared-slice-read-wide c =
+    let at-if1 = c .before in
+    let after-counts-fit = at-if1 .before in
+    let at-entry = after-counts-fit .before .before .before .before .before .before .before .before in
+    let a = at-entry .args in
+    let T = tree (now (a .plan)) (now (a .areas)) (now (a .xs)) (now (a .ys)) (now (a .head)) (now (a .cells)) (now (a .entries)) in
+    let h = told (after-counts-fit .counts-fit .result) (countsIn T) true (after-counts-fit .counts-fit .ensures) (at-if1 .if1 .taken) in
+    omega (arith, counts-fit T h .head-long)
 
 wide-requires : tie.Need-wide-requires
 wide-requires c κs = search needs
 
 shared-slice-read-wide-2 : tie.Need-shared-slice-read-wide-2
-shared-slice-read-wide-2 c = let a = c .before .before .before .before .before .before .before .before .before .before .before .before .args in let T = tree (now (a .plan)) (now (a .areas)) (now (a .xs)) (now (a .ys)) (now (a .head)) (now (a .cells)) (now (a .entries)) in let h = told (c .before .before .before .before .counts-fit .result) (countsIn T) true (c .before .before .before .before .counts-fit .ensures) (c .before .before .before .if1 .taken) in counts-fit T h .head-long
+shared-slice-read-wide-2 c =
+    let at-if1 = c .before .before .before in
+    let after-counts-fit = at-if1 .before in
+    let at-entry = after-counts-fit .before .before .before .before .before .before .before .before in
+    let a = at-entry .args in
+    let T = tree (now (a .plan)) (now (a .areas)) (now (a .xs)) (now (a .ys)) (now (a .head)) (now (a .cells)) (now (a .entries)) in
+    let h = told (after-counts-fit .counts-fit .result) (countsIn T) true (after-counts-fit .counts-fit .ensures) (at-if1 .if1 .taken) in
+    counts-fit T h .head-long
 
 wide-requires-2 : tie.Need-wide-requires-2
 wide-requires-2 c κs = search needs
 
 descend-requires : tie.Need-descend-requires
-descend-requires c κs = let a = c .before .before .before .before .before .before .before .before .before .before .before .before .before .args in let T = tree (now (a .plan)) (now (a .areas)) (now (a .xs)) (now (a .ys)) (now (a .head)) (now (a .cells)) (now (a .entries)) in let h = told (c .before .before .before .before .before .counts-fit .result) (countsIn T) true (c .before .before .before .before .before .counts-fit .ensures) (c .before .before .before .before .if1 .taken) in counts-cells T (c .before .before .wide .result) h (c .before .before .wide .ensures)
+descend-requires c κs =
+    let after-wide = c .before .before in
+    let at-if1 = after-wide .before .before in
+    let after-counts-fit = at-if1 .before in
+    let at-entry = after-counts-fit .before .before .before .before .before .before .before .before in
+    let a = at-entry .args in
+    let T = tree (now (a .plan)) (now (a .areas)) (now (a .xs)) (now (a .ys)) (now (a .head)) (now (a .cells)) (now (a .entries)) in
+    let h = told (after-counts-fit .counts-fit .result) (countsIn T) true (after-counts-fit .counts-fit .ensures) (at-if1 .if1 .taken) in
+    counts-cells T (after-wide .wide .result) h (after-wide .wide .ensures)
 
 enum-known-f : tie.Need-enum-known-f
 enum-known-f c = search needs
 
 leaf-passes-requires : tie.Need-leaf-passes-requires
-leaf-passes-requires c κs = let a = c .before .before .before .before .before .before .before .before .before .before .before .before .before .before .before .before .before .args in let T = tree (now (a .plan)) (now (a .areas)) (now (a .xs)) (now (a .ys)) (now (a .head)) (now (a .cells)) (now (a .entries)) in let h = told (c .before .before .before .before .before .before .before .before .before .counts-fit .result) (countsIn T) true (c .before .before .before .before .before .before .before .before .before .counts-fit .ensures) (c .before .before .before .before .before .before .before .before .if1 .taken) in counts-fit T h .plan-long
+leaf-passes-requires c κs =
+    let at-if1 = c .before .before .before .before .before .before .before .before in
+    let after-counts-fit = at-if1 .before in
+    let at-entry = after-counts-fit .before .before .before .before .before .before .before .before in
+    let a = at-entry .args in
+    let T = tree (now (a .plan)) (now (a .areas)) (now (a .xs)) (now (a .ys)) (now (a .head)) (now (a .cells)) (now (a .entries)) in
+    let h = told (after-counts-fit .counts-fit .result) (countsIn T) true (after-counts-fit .counts-fit .ensures) (at-if1 .if1 .taken) in
+    counts-fit T h .plan-long
 
 returns : tie.Need-returns
-returns c = let a = c .before .before .before .before .before .before .before .before .before .before .before .before .before .before .before .before .before .before .before .args in let T = tree (now (a .plan)) (now (a .areas)) (now (a .xs)) (now (a .ys)) (now (a .head)) (now (a .cells)) (now (a .entries)) in let h = told (c .before .before .before .before .before .before .before .before .before .before .before .counts-fit .result) (countsIn T) true (c .before .before .before .before .before .before .before .before .before .before .before .counts-fit .ensures) (c .before .before .before .before .before .before .before .before .before .before .if1 .taken) in read-met T (a .x) (a .y) (c .before .before .before .before .before .before .before .before .wide .result) (c .before .before .before .before .before .before .wide2 .result) (c .before .before .before .before .before .descend .result) h (c .before .before .before .before .before .before .before .before .wide .ensures) (c .before .before .before .before .before .before .wide2 .ensures) (c .before .before .before .before .before .descend .ensures) _ (c .before .leaf-passes .result) (c .before .before .before .f .given .1) (c .before .leaf-passes .ensures) (c .if2 .taken)
+returns c =
+    let after-leaf-passes = c .before in
+    let after-f = after-leaf-passes .before .before in
+    let after-descend = after-f .before .before in
+    let after-wide2 = after-descend .before in
+    let after-wide = after-wide2 .before .before in
+    let at-if1 = after-wide .before .before in
+    let after-counts-fit = at-if1 .before in
+    let at-entry = after-counts-fit .before .before .before .before .before .before .before .before in
+    let a = at-entry .args in
+    let T = tree (now (a .plan)) (now (a .areas)) (now (a .xs)) (now (a .ys)) (now (a .head)) (now (a .cells)) (now (a .entries)) in
+    let h = told (after-counts-fit .counts-fit .result) (countsIn T) true (after-counts-fit .counts-fit .ensures) (at-if1 .if1 .taken) in
+    read-met T (a .x) (a .y) (after-wide .wide .result) (after-wide2 .wide2 .result) (after-descend .descend .result) h
+    (after-wide .wide .ensures) (after-wide2 .wide2 .ensures) (after-descend .descend .ensures) _ (after-leaf-passes .leaf-passes .result)
+    (after-f .f .given .1) (after-leaf-passes .leaf-passes .ensures) (c .if2 .taken)
 
 returns-2 : tie.Need-returns-2
-returns-2 c = let a = c .before .before .before .before .before .before .before .before .before .before .before .before .before .before .before .before .before .before .before .args in let T = tree (now (a .plan)) (now (a .areas)) (now (a .xs)) (now (a .ys)) (now (a .head)) (now (a .cells)) (now (a .entries)) in let h = told (c .before .before .before .before .before .before .before .before .before .before .before .counts-fit .result) (countsIn T) true (c .before .before .before .before .before .before .before .before .before .before .before .counts-fit .ensures) (c .before .before .before .before .before .before .before .before .before .before .if1 .taken) in read-unfit T (a .x) (a .y) (c .before .before .before .before .before .before .before .before .wide .result) (c .before .before .before .before .before .before .wide2 .result) (c .before .before .before .before .before .descend .result) h (c .before .before .before .before .before .before .before .before .wide .ensures) (c .before .before .before .before .before .before .wide2 .ensures) (c .before .before .before .before .before .descend .ensures) _ (c .before .leaf-passes .result) (c .before .before .before .f .given .1) (c .before .leaf-passes .ensures) (c .if2 .left)
+returns-2 c =
+    let after-leaf-passes = c .before in
+    let after-f = after-leaf-passes .before .before in
+    let after-descend = after-f .before .before in
+    let after-wide2 = after-descend .before in
+    let after-wide = after-wide2 .before .before in
+    let at-if1 = after-wide .before .before in
+    let after-counts-fit = at-if1 .before in
+    let at-entry = after-counts-fit .before .before .before .before .before .before .before .before in
+    let a = at-entry .args in
+    let T = tree (now (a .plan)) (now (a .areas)) (now (a .xs)) (now (a .ys)) (now (a .head)) (now (a .cells)) (now (a .entries)) in
+    let h = told (after-counts-fit .counts-fit .result) (countsIn T) true (after-counts-fit .counts-fit .ensures) (at-if1 .if1 .taken) in
+    read-unfit T (a .x) (a .y) (after-wide .wide .result) (after-wide2 .wide2 .result) (after-descend .descend .result) h
+    (after-wide .wide .ensures) (after-wide2 .wide2 .ensures) (after-descend .descend .ensures) _ (after-leaf-passes .leaf-passes .result)
+    (after-f .f .given .1) (after-leaf-passes .leaf-passes .ensures) (c .if2 .left)
 
 enum-told : tie.Need-enum-told
 enum-told c = search needs
 
 returns-3 : tie.Need-returns-3
-returns-3 c = let a = c .before .before .before .before .before .before .before .before .before .before .before .before .before .before .before .before .args in let T = tree (now (a .plan)) (now (a .areas)) (now (a .xs)) (now (a .ys)) (now (a .head)) (now (a .cells)) (now (a .entries)) in let h = told (c .before .before .before .before .before .before .before .before .counts-fit .result) (countsIn T) true (c .before .before .before .before .before .before .before .before .counts-fit .ensures) (c .before .before .before .before .before .before .before .if1 .taken) in read-astray T (a .x) (a .y) (c .before .before .before .before .before .wide .result) (c .before .before .before .wide2 .result) (c .before .before .descend .result) h (c .before .before .before .before .before .wide .ensures) (c .before .before .before .wide2 .ensures) (c .before .before .descend .ensures) (c .enum-told .given .1)
+returns-3 c =
+    let after-descend = c .before .before in
+    let after-wide2 = after-descend .before in
+    let after-wide = after-wide2 .before .before in
+    let at-if1 = after-wide .before .before in
+    let after-counts-fit = at-if1 .before in
+    let at-entry = after-counts-fit .before .before .before .before .before .before .before .before in
+    let a = at-entry .args in
+    let T = tree (now (a .plan)) (now (a .areas)) (now (a .xs)) (now (a .ys)) (now (a .head)) (now (a .cells)) (now (a .entries)) in
+    let h = told (after-counts-fit .counts-fit .result) (countsIn T) true (after-counts-fit .counts-fit .ensures) (at-if1 .if1 .taken) in
+    read-astray T (a .x) (a .y) (after-wide .wide .result) (after-wide2 .wide2 .result) (after-descend .descend .result) h
+    (after-wide .wide .ensures) (after-wide2 .wide2 .ensures) (after-descend .descend .ensures) (c .enum-told .given .1)
 
 returns-4 : tie.Need-returns-4
-returns-4 c = let a = c .before .before .before .before .before .before .before .before .before .args in let T = tree (now (a .plan)) (now (a .areas)) (now (a .xs)) (now (a .ys)) (now (a .head)) (now (a .cells)) (now (a .entries)) in leaf-uncounted T (a .x) (a .y) (told (c .before .counts-fit .result) (countsIn T) false (c .before .counts-fit .ensures) (c .if1 .left))
+returns-4 c =
+    let after-counts-fit = c .before in
+    let at-entry = after-counts-fit .before .before .before .before .before .before .before .before in
+    let a = at-entry .args in
+    let T = tree (now (a .plan)) (now (a .areas)) (now (a .xs)) (now (a .ys)) (now (a .head)) (now (a .cells)) (now (a .entries)) in
+    leaf-uncounted T (a .x) (a .y)
+    (told (after-counts-fit .counts-fit .result) (countsIn T) false (after-counts-fit .counts-fit .ensures) (c .if1 .left))
 
 pub leaf-at-spec : {M : Type 1} → statement M
 leaf-at-spec =
