@@ -68,11 +68,14 @@ module _ (t : Tree) (i : ℕ) where
   drawn = usedRange (length (t .entries)) free (length (t .areas)) (length (t .xs)) (length (t .ys)) (boundsOf (t .plan) (words t i))
 
   -- all but 11 is settled
-  pub able-answer : Splittable t i → splitAnswer t i ≡ roomAnswer (length (t .cells)) (length (t .entries)) (cellsUsed (t .head)) (entriesUsed (t .head)) (made t i)
+  pub able-answer : Splittable t i
+      → splitAnswer t i ≡ roomAnswer (length (t .cells)) (length (t .entries)) (cellsUsed (t .head)) (entriesUsed (t .head)) (made t i)
   able-answer s =
-      chosen (eqb (length (t .xs)) (length (t .ys))) (cond (ltb i used) (countsSplit t i) (Not NoCell)) (Not Argument) (eq-eqb (length (t .xs)) (length (t .ys)) (s .pair))
+      chosen (eqb (length (t .xs)) (length (t .ys))) (cond (ltb i used) (countsSplit t i) (Not NoCell)) (Not Argument)
+      (eq-eqb (length (t .xs)) (length (t .ys)) (s .pair))
       ∙ (chosen (ltb i used) (countsSplit t i) (Not NoCell) (lt-ltb i used (s .in-use))
-      ∙ (chosen (headRange (t .head) (length (t .cells)) (length (t .entries))) (cond (leb 3 (length (t .plan))) (drawingSplit t i) (Not Broken)) (Not Broken) (counts-head t (s .counts))
+      ∙ (chosen (headRange (t .head) (length (t .cells)) (length (t .entries)))
+      (cond (leb 3 (length (t .plan))) (drawingSplit t i) (Not Broken)) (Not Broken) (counts-head t (s .counts))
       ∙ (chosen (leb 3 (length (t .plan))) (drawingSplit t i) (Not Broken) (counts-plan t (s .counts))
       ∙ (chosen drawn (cellSplit t i) (Not Broken) (counts-used t (s .counts) i)
       ∙ (chosen (cellRange (words t i) i used free) (cond (eqb (words t i .child) 0) leafed (Not AlreadySplit)) (Not Broken) (s .cell)
@@ -99,7 +102,9 @@ module _ (t : Tree) (i : ℕ) where
     e2 = taken (ltb i used) (countsSplit t i) NoCell n (e1 .1)
 
     e3 : (headRange (t .head) (length (t .cells)) (length (t .entries)) ≡ true) × (cond (leb 3 (length (t .plan))) (drawingSplit t i) (Not Broken) ≡ Split n)
-    e3 = taken (headRange (t .head) (length (t .cells)) (length (t .entries))) (cond (leb 3 (length (t .plan))) (drawingSplit t i) (Not Broken)) Broken n (e2 .1)
+    e3 =
+        taken (headRange (t .head) (length (t .cells)) (length (t .entries)))
+        (cond (leb 3 (length (t .plan))) (drawingSplit t i) (Not Broken)) Broken n (e2 .1)
 
     e4 : (leb 3 (length (t .plan)) ≡ true) × (drawingSplit t i ≡ Split n)
     e4 = taken (leb 3 (length (t .plan))) (drawingSplit t i) Broken n (e3 .1)

@@ -24,7 +24,9 @@ module _ (t : Tree) where
   inPlan = leb 3 (length (t .plan))
 
   abbrev inDrawing : Bool
-  inDrawing = usedRange (length (t .entries)) (entriesUsed (t .head)) (length (t .areas)) (length (t .xs)) (length (t .ys)) (bounds (getD (t .plan) 1 0) (getD (t .plan) 2 0) 0 0)
+  inDrawing =
+      usedRange (length (t .entries)) (entriesUsed (t .head)) (length (t .areas)) (length (t .xs)) (length (t .ys))
+      (bounds (getD (t .plan) 1 0) (getD (t .plan) 2 0) 0 0)
 
   module _ (h : countsIn t ≡ true) where
     parts : cond inHead (cond inPlan inDrawing false) false ≡ true
@@ -41,7 +43,10 @@ module _ (t : Tree) where
     counts-drawing = cond-right inPlan inDrawing (cond-right inHead (cond inPlan inDrawing false) parts)
 
     -- the rows of a cell do not matter
-    pub counts-used : (i : ℕ) → usedRange (length (t .entries)) (entriesUsed (t .head)) (length (t .areas)) (length (t .xs)) (length (t .ys)) (boundsOf (t .plan) (words t i)) ≡ true
+    pub counts-used : (i : ℕ)
+        → usedRange (length (t .entries)) (entriesUsed (t .head)) (length (t .areas)) (length (t .xs)) (length (t .ys))
+        (boundsOf (t .plan) (words t i))
+        ≡ true
     unfolding usedRange
     counts-used i = counts-drawing
 
@@ -63,8 +68,13 @@ module _ (t : Tree) where
     pub free-within : entriesUsed (t .head) * 4 ≤ length (t .entries)
     free-within = head-entries (t .head) (t .cells) (length (t .entries)) counts-head .1
 
-  pub counts-of : headRange (t .head) (length (t .cells)) (length (t .entries)) ≡ true → leb 3 (length (t .plan)) ≡ true
-      → (i : ℕ) → usedRange (length (t .entries)) (entriesUsed (t .head)) (length (t .areas)) (length (t .xs)) (length (t .ys)) (boundsOf (t .plan) (words t i)) ≡ true → countsIn t ≡ true
+  pub counts-of : headRange (t .head) (length (t .cells)) (length (t .entries)) ≡ true
+      → leb 3 (length (t .plan)) ≡ true
+      → (i : ℕ)
+      → usedRange (length (t .entries)) (entriesUsed (t .head)) (length (t .areas)) (length (t .xs)) (length (t .ys))
+      (boundsOf (t .plan) (words t i))
+      ≡ true
+      → countsIn t ≡ true
   unfolding countsIn usedRange
   counts-of a b i d = rw (a, b) d
 
@@ -79,8 +89,21 @@ used-more n used used′ a x y b h k e =
     others : Bool
     others = (leb (b .areas) (a / 8) && leb (b .areas) 64) && (leb (b .corners) x && (leb (b .corners) y && leb (b .corners) 2048))
 
-pub head-fits : (head : List ℕ) (cells entries : ℕ) → 2 ≤ length head → 1 ≤ getD head 0 0 → getD head 0 0 * 8 ≤ cells → getD head 0 0 ≤ 4096 → getD head 1 0 * 4 ≤ entries → getD head 1 0 ≤ 65536
+pub head-fits : (head : List ℕ) (cells entries : ℕ)
+    → 2 ≤ length head
+    → 1 ≤ getD head 0 0
+    → getD head 0 0 * 8 ≤ cells
+    → getD head 0 0 ≤ 4096
+    → getD head 1 0 * 4 ≤ entries
+    → getD head 1 0 ≤ 65536
     → headRange head cells entries ≡ true
 unfolding headRange
 head-fits head cells entries a b d e f g =
-    rw (le-leb 2 (length head) a, le-leb 1 (getD head 0 0) b, le-leb (getD head 0 0) (cells / 8) (omega arith), le-leb (getD head 0 0) 4096 e, le-leb (getD head 1 0) (entries / 4) (omega arith), le-leb (getD head 1 0) 65536 g)
+    rw (
+      le-leb 2 (length head) a,
+      le-leb 1 (getD head 0 0) b,
+      le-leb (getD head 0 0) (cells / 8) (omega arith),
+      le-leb (getD head 0 0) 4096 e,
+      le-leb (getD head 1 0) (entries / 4) (omega arith),
+      le-leb (getD head 1 0) 65536 g,
+    )

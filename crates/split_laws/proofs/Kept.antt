@@ -69,23 +69,36 @@ module _ (t : Tree) (i n : ℕ) (e : splitAnswer t i ≡ Split n) where
   -- that one has its first child, and nothing else is changed
   pub split-cell : cellAt (cellsAfter t i (Split n)) i ≡ withChild (words t i) (cellsUsed (t .head))
   split-cell =
-      put-child-same rows i used (omega (arith, length-cells-to (drawing t i) (cellOf (words t i)) (stream t i) (t .cells) used free 4, A .cells, A .able .in-use))
-      ∙ ap (λ (w : CellWords). withChild w used) (cells-to-keeps (drawing t i) (cellOf (words t i)) (stream t i) (t .cells) used free 4 i (A .able .in-use))
+      put-child-same rows i used
+      (omega (arith, length-cells-to (drawing t i) (cellOf (words t i)) (stream t i) (t .cells) used free 4, A .cells, A .able .in-use))
+      ∙ ap (λ (w : CellWords). withChild w used)
+      (cells-to-keeps (drawing t i) (cellOf (words t i)) (stream t i) (t .cells) used free 4 i (A .able .in-use))
 
   -- child q
-  pub split-child : (q : ℕ) → q < 4 → cellAt (cellsAfter t i (Split n)) (cellsUsed (t .head) + q)
-      ≡ wordsWith (child (cellOf (words t i)) (quarterAt q)) (entriesUsed (t .head) + length (streamsTo (drawing t i) (cellOf (words t i)) (stream t i) q)) (entriesOfChild (drawing t i) (cellOf (words t i)) (stream t i) q)
+  pub split-child : (q : ℕ)
+      → q < 4
+      → cellAt (cellsAfter t i (Split n)) (cellsUsed (t .head) + q)
+      ≡ wordsWith (child (cellOf (words t i)) (quarterAt q))
+      (entriesUsed (t .head) + length (streamsTo (drawing t i) (cellOf (words t i)) (stream t i) q))
+      (entriesOfChild (drawing t i) (cellOf (words t i)) (stream t i) q)
   split-child q h =
       put-child-other rows i (used + q) used (λ d. omega (arith, A .able .in-use))
       ∙ cells-to-child (drawing t i) (cellOf (words t i)) (stream t i) (t .cells) used free 4 q h (A .cells)
 
   -- ---- the streams
   -- those in the entries that were in use are as they were
-  pub split-stream : (first count : ℕ) → first + count ≤ entriesUsed (t .head) → wordsFrom (entriesAfter t i (Split n)) first count ≡ wordsFrom (t .entries) first count
-  split-stream first count h = from-agree (entriesAfter t i (Split n)) (t .entries) (free * 4) first count (written-keeps (t .entries) (free * 4) free (made t i) (omega arith)) (omega arith)
+  pub split-stream : (first count : ℕ)
+      → first + count ≤ entriesUsed (t .head)
+      → wordsFrom (entriesAfter t i (Split n)) first count ≡ wordsFrom (t .entries) first count
+  split-stream first count h =
+      from-agree (entriesAfter t i (Split n)) (t .entries) (free * 4) first count
+      (written-keeps (t .entries) (free * 4) free (made t i) (omega arith)) (omega arith)
 
   -- and that of child q is the one of document 01
-  pub split-child-stream : (q : ℕ) → q < 4
-      → wordsFrom (entriesAfter t i (Split n)) (entriesUsed (t .head) + length (streamsTo (drawing t i) (cellOf (words t i)) (stream t i) q)) (entriesOfChild (drawing t i) (cellOf (words t i)) (stream t i) q)
+  pub split-child-stream : (q : ℕ)
+      → q < 4
+      → wordsFrom (entriesAfter t i (Split n))
+      (entriesUsed (t .head) + length (streamsTo (drawing t i) (cellOf (words t i)) (stream t i) q))
+      (entriesOfChild (drawing t i) (cellOf (words t i)) (stream t i) q)
       ≡ wordsOfChild (drawing t i) (cellOf (words t i)) (stream t i) q
   split-child-stream q h = streams-read (drawing t i) (cellOf (words t i)) (stream t i) (t .entries) free 4 q h (A .entries)

@@ -24,38 +24,56 @@ use Rattle.split_laws.proofs.Accepted.{split-accepted}
 use Rattle.split_laws.proofs.Trees.{tree-used, tree-free, tree-length-entries, tree-keeps-cell, tree-cell, tree-stream}
 
 -- a cell in range, with its first child among the cells in use, and as many entries in use or more
-pub child-range : (w : CellWords) (i used free child used′ free′ : ℕ) → child + 3 < used′ → free ≤ free′ → cellRange w i used free ≡ true → cellRange (withChild w child) i used′ free′ ≡ true
+pub child-range : (w : CellWords) (i used free child used′ free′ : ℕ)
+    → child + 3 < used′
+    → free ≤ free′
+    → cellRange w i used free ≡ true
+    → cellRange (withChild w child) i used′ free′ ≡ true
 unfolding cellRange
 child-range w i used free child used′ free′ c f h =
-    and-both (squareRange w) (numbersRange (withChild w child) used′ free′ && rootRange w i) (and-left (squareRange w) (numbersRange w used free && rootRange w i) h)
+    and-both (squareRange w) (numbersRange (withChild w child) used′ free′ && rootRange w i)
+    (and-left (squareRange w) (numbersRange w used free && rootRange w i) h)
     (and-both (numbersRange (withChild w child) used′ free′) (rootRange w i)
-    (and-both (childRange child used′) (entryRange (w .first) (w .count) free′) (or-right (eqb child 0) (ltb (child + 3) used′) (lt-ltb (child + 3) used′ c)) (le-leb (w .first + w .count) free′ (omega (arith, old))))
+    (and-both (childRange child used′) (entryRange (w .first) (w .count) free′)
+    (or-right (eqb child 0) (ltb (child + 3) used′) (lt-ltb (child + 3) used′ c)) (le-leb (w .first + w .count) free′ (omega (arith, old))))
     (and-right (numbersRange w used free) (rootRange w i) rest))
   where
     rest : (numbersRange w used free && rootRange w i) ≡ true
     rest = and-right (squareRange w) (numbersRange w used free && rootRange w i) h
 
     old : w .first + w .count ≤ free
-    old = leb-true (w .first + w .count) free (and-right (childRange (w .child) used) (entryRange (w .first) (w .count) free) (and-left (numbersRange w used free) (rootRange w i) rest))
+    old =
+        leb-true (w .first + w .count) free
+        (and-right (childRange (w .child) used) (entryRange (w .first) (w .count) free)
+        (and-left (numbersRange w used free) (rootRange w i) rest))
 
 -- a run of entries in use, with more in use
 run-more : (first count used used′ : ℕ) → used ≤ used′ → runRange first count used ≡ true → runRange first count used′ ≡ true
 run-more first count used used′ h e =
     let a : count ≤ used = leb-true count used (cond-left (leb count used) (cond (leb first (used - count)) (leb count 4096) false) e) in
-    let r : cond (leb first (used - count)) (leb count 4096) false ≡ true = cond-right (leb count used) (cond (leb first (used - count)) (leb count 4096) false) e in
+    let r : cond (leb first (used - count)) (leb count 4096) false ≡ true =
+    cond-right (leb count used) (cond (leb first (used - count)) (leb count 4096) false) e in
     let b : first ≤ used - count = leb-true first (used - count) (cond-left (leb first (used - count)) (leb count 4096) r) in
-    rw (le-leb count used′ (omega arith), le-leb first (used′ - count) (omega arith)) (cond-right (leb first (used - count)) (leb count 4096) r)
+    rw (le-leb count used′ (omega arith), le-leb first (used′ - count) (omega arith))
+    (cond-right (leb first (used - count)) (leb count 4096) r)
 
 run-end : (first count used : ℕ) → runRange first count used ≡ true → first + count ≤ used
 run-end first count used e =
     let a : count ≤ used = leb-true count used (cond-left (leb count used) (cond (leb first (used - count)) (leb count 4096) false) e) in
-    let r : cond (leb first (used - count)) (leb count 4096) false ≡ true = cond-right (leb count used) (cond (leb first (used - count)) (leb count 4096) false) e in
+    let r : cond (leb first (used - count)) (leb count 4096) false ≡ true =
+    cond-right (leb count used) (cond (leb first (used - count)) (leb count 4096) false) e in
     let b : first ≤ used - count = leb-true first (used - count) (cond-left (leb first (used - count)) (leb count 4096) r) in
     omega arith
 
 -- a stream that passes still does, in a table with as many words that has the same entries there, with more in use
-pub check-more : (t t′ : List ℕ) (first count used used′ : ℕ) (v : Env) → length t′ ≡ length t → used ≤ used′ → used′ * 4 ≤ length t → used′ ≤ 65536
-    → (first + count ≤ used → wordsFrom t′ first count ≡ wordsFrom t first count) → checkStream t first count used v ≡ true → checkStream t′ first count used′ v ≡ true
+pub check-more : (t t′ : List ℕ) (first count used used′ : ℕ) (v : Env)
+    → length t′ ≡ length t
+    → used ≤ used′
+    → used′ * 4 ≤ length t
+    → used′ ≤ 65536
+    → (first + count ≤ used → wordsFrom t′ first count ≡ wordsFrom t first count)
+    → checkStream t first count used v ≡ true
+    → checkStream t′ first count used′ v ≡ true
 check-more t t′ first count used used′ v l h k m same e =
     let U : Bool = usedRange (length t) used (length (v .areas)) (length (v .xs)) (length (v .ys)) (v .used) in
     let R : Bool = cond (runRange first count used) (accepts v (wordsFrom t first count)) false in
@@ -63,10 +81,11 @@ check-more t t′ first count used used′ v l h k m same e =
     let b : R ≡ true = cond-right U R e in
     let run : runRange first count used ≡ true = cond-left (runRange first count used) (accepts v (wordsFrom t first count)) b in
     let ok : accepts v (wordsFrom t first count) ≡ true = cond-right (runRange first count used) (accepts v (wordsFrom t first count)) b in
-    both-true (usedRange (length t′) used′ (length (v .areas)) (length (v .xs)) (length (v .ys)) (v .used)) (cond (runRange first count used′) (accepts v (wordsFrom t′ first count)) false)
-    (subst (λ (n : ℕ). usedRange n used′ (length (v .areas)) (length (v .xs)) (length (v .ys)) (v .used) ≡ true) (sym l) (used-more (length t) used used′ (length (v .areas)) (length (v .xs)) (length (v .ys)) (v .used) k m a))
-    (both-true (runRange first count used′) (accepts v (wordsFrom t′ first count))
-    (run-more first count used used′ h run)
+    both-true (usedRange (length t′) used′ (length (v .areas)) (length (v .xs)) (length (v .ys)) (v .used))
+    (cond (runRange first count used′) (accepts v (wordsFrom t′ first count)) false)
+    (subst (λ (n : ℕ). usedRange n used′ (length (v .areas)) (length (v .xs)) (length (v .ys)) (v .used) ≡ true) (sym l)
+    (used-more (length t) used used′ (length (v .areas)) (length (v .xs)) (length (v .ys)) (v .used) k m a))
+    (both-true (runRange first count used′) (accepts v (wordsFrom t′ first count)) (run-more first count used used′ h run)
     (ap (accepts v) (same (run-end first count used run)) ∙ ok))
   where
     both-true : (a b : Bool) → a ≡ true → b ≡ true → cond a b false ≡ true
@@ -82,19 +101,25 @@ module _ (t : Tree) (i n : ℕ) (e : splitAnswer t i ≡ Split n) where
   tree-range j h f r =
       let u = tree-used t i n e in
       let g = tree-free t i n e in
-      subst (λ (w : CellWords). cellRange w j (cellsUsed (splitTree t i .head)) (entriesUsed (splitTree t i .head)) ≡ true) (sym (tree-keeps-cell t i n e j h f))
-      (range-more (words t j) j (cellsUsed (t .head)) (entriesUsed (t .head)) (cellsUsed (splitTree t i .head)) (entriesUsed (splitTree t i .head)) (omega arith) (omega arith) r)
+      subst (λ (w : CellWords). cellRange w j (cellsUsed (splitTree t i .head)) (entriesUsed (splitTree t i .head)) ≡ true)
+      (sym (tree-keeps-cell t i n e j h f))
+      (range-more (words t j) j (cellsUsed (t .head)) (entriesUsed (t .head)) (cellsUsed (splitTree t i .head))
+      (entriesUsed (splitTree t i .head)) (omega arith) (omega arith) r)
 
   -- and that one, which has children now
   pub tree-range-split : cellRange (words (splitTree t i) i) i (cellsUsed (splitTree t i .head)) (entriesUsed (splitTree t i .head)) ≡ true
   tree-range-split =
       let u = tree-used t i n e in
       let g = tree-free t i n e in
-      subst (λ (w : CellWords). cellRange w i (cellsUsed (splitTree t i .head)) (entriesUsed (splitTree t i .head)) ≡ true) (sym (tree-cell t i n e))
-      (child-range (words t i) i (cellsUsed (t .head)) (entriesUsed (t .head)) (cellsUsed (t .head)) (cellsUsed (splitTree t i .head)) (entriesUsed (splitTree t i .head)) (omega arith) (omega arith) (A .able .cell))
+      subst (λ (w : CellWords). cellRange w i (cellsUsed (splitTree t i .head)) (entriesUsed (splitTree t i .head)) ≡ true)
+      (sym (tree-cell t i n e))
+      (child-range (words t i) i (cellsUsed (t .head)) (entriesUsed (t .head)) (cellsUsed (t .head)) (cellsUsed (splitTree t i .head))
+      (entriesUsed (splitTree t i .head)) (omega arith) (omega arith) (A .able .cell))
 
   -- every stream, read against anything
-  pub tree-check : (first count : ℕ) (v : Env) → checkStream (t .entries) first count (entriesUsed (t .head)) v ≡ true → checkStream (splitTree t i .entries) first count (entriesUsed (splitTree t i .head)) v ≡ true
+  pub tree-check : (first count : ℕ) (v : Env)
+      → checkStream (t .entries) first count (entriesUsed (t .head)) v ≡ true
+      → checkStream (splitTree t i .entries) first count (entriesUsed (splitTree t i .head)) v ≡ true
   tree-check first count v r =
       let g = tree-free t i n e in
       check-more (t .entries) (splitTree t i .entries) first count (entriesUsed (t .head)) (entriesUsed (splitTree t i .head)) v (tree-length-entries t i n e)

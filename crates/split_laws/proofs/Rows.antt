@@ -38,7 +38,9 @@ module _ (D : Drawing) (c : Cell) (ws : List Words) (t : List ℕ) (used free : 
   cells-to-child zero q h r = absurd (omega arith)
   cells-to-child (suc n) q h r = go (ℕ-discrete q n) (λ l. cells-to-child n q l (omega arith))
     where
-      go : Dec (q ≡ n) → (q < n → cellAt (cellsTo D c ws t used free n) (used + q) ≡ wordsAt q) → cellAt (cellsTo D c ws t used free (suc n)) (used + q) ≡ wordsAt q
+      go : Dec (q ≡ n)
+          → (q < n → cellAt (cellsTo D c ws t used free n) (used + q) ≡ wordsAt q)
+          → cellAt (cellsTo D c ws t used free (suc n)) (used + q) ≡ wordsAt q
       go (yes e) f = rw e (put-cell-same (cellsTo D c ws t used free n) (used + n) (wordsAt n) (omega (arith, length-cells-to n)))
       go (no e) f = put-cell-other (cellsTo D c ws t used free n) (used + n) (used + q) (wordsAt n) (λ d. e (omega arith)) ∙ f (omega arith)
 
@@ -48,7 +50,9 @@ module _ (D : Drawing) (c : Cell) (ws : List Words) where
   streams-up q zero h = let e : q ≡ 0 = omega arith in rw e (omega arith)
   streams-up q (suc n) h = go (ℕ-discrete q (suc n)) (λ l. streams-up q n l)
     where
-      go : Dec (q ≡ suc n) → (q ≤ n → length (streamsTo D c ws q) ≤ length (streamsTo D c ws n)) → length (streamsTo D c ws q) ≤ length (streamsTo D c ws (suc n))
+      go : Dec (q ≡ suc n)
+          → (q ≤ n → length (streamsTo D c ws q) ≤ length (streamsTo D c ws n))
+          → length (streamsTo D c ws q) ≤ length (streamsTo D c ws (suc n))
       go (yes e) f = rw e (omega arith)
       go (no e) f = omega (arith, f (omega arith), streams-more D c ws n)
 
@@ -82,5 +86,6 @@ module _ (D : Drawing) (c : Cell) (ws : List Words) where
       go (yes e) f = rw (e, two) (subst (λ (k : ℕ). wordsFrom (written u at W) at k ≡ W) (length-child D c ws n) last)
       go (no e) f =
           ap (λ (x : List ℕ). wordsFrom x (free + length (streamsTo D c ws q)) (entriesOfChild D c ws q)) two
-          ∙ (from-agree (written u at W) u (at * 4) (free + length (streamsTo D c ws q)) (entriesOfChild D c ws q) (written-keeps u (at * 4) at W (omega arith)) (omega (arith, streams-more D c ws q, streams-up (suc q) n (omega arith)))
+          ∙ (from-agree (written u at W) u (at * 4) (free + length (streamsTo D c ws q)) (entriesOfChild D c ws q)
+          (written-keeps u (at * 4) at W (omega arith)) (omega (arith, streams-more D c ws q, streams-up (suc q) n (omega arith)))
           ∙ f (omega arith))

@@ -22,7 +22,18 @@ use Rattle.split_laws.specs.After.{splitTree}
 use Rattle.split_laws.specs.code.Accepted.{Accepted}
 use Rattle.split_laws.proofs.Counts.{counts-plan, counts-used, counts-long, counts-of, used-more, head-fits}
 use Rattle.split_laws.proofs.Accepted.{split-accepted}
-use Rattle.split_laws.proofs.Kept.{split-length-head, split-length-cells, split-length-entries, split-used, split-free, split-keeps-cell, split-cell, split-child, split-stream, split-child-stream}
+use Rattle.split_laws.proofs.Kept.{
+  split-length-head,
+  split-length-cells,
+  split-length-entries,
+  split-used,
+  split-free,
+  split-keeps-cell,
+  split-cell,
+  split-child,
+  split-stream,
+  split-child-stream,
+}
 
 -- a refused split changes nothing
 pub tree-refused : (t : Tree) (i : ℕ) (r : Refusal) → splitAnswer t i ≡ Not r → splitTree t i ≡ t
@@ -89,19 +100,24 @@ module _ (t : Tree) (i n : ℕ) (e : splitAnswer t i ≡ Split n) where
       let f = tree-free in
       let lc = tree-length-cells in
       let le = tree-length-entries in
-      head-fits (splitTree t i .head) (length (splitTree t i .cells)) (length (splitTree t i .entries)) long (omega arith) (omega (arith, A .cells)) (omega (arith, A .few-cells)) (omega (arith, A .entries)) (omega (arith, A .few-entries))
+      head-fits (splitTree t i .head) (length (splitTree t i .cells)) (length (splitTree t i .entries)) long (omega arith)
+      (omega (arith, A .cells)) (omega (arith, A .few-cells)) (omega (arith, A .entries)) (omega (arith, A .few-entries))
 
-  drawn : usedRange (length (splitTree t i .entries)) (entriesUsed (splitTree t i .head)) (length (t .areas)) (length (t .xs)) (length (t .ys)) (boundsOf (t .plan) (words t i)) ≡ true
+  drawn : usedRange (length (splitTree t i .entries)) (entriesUsed (splitTree t i .head)) (length (t .areas)) (length (t .xs))
+      (length (t .ys)) (boundsOf (t .plan) (words t i))
+      ≡ true
   drawn =
       let f = tree-free in
       let le = tree-length-entries in
       rw le
-      (used-more (length (t .entries)) (entriesUsed (t .head)) (entriesUsed (splitTree t i .head)) (length (t .areas)) (length (t .xs)) (length (t .ys)) (boundsOf (t .plan) (words t i))
-      (omega (arith, A .entries))
-      (omega (arith, A .few-entries))
+      (used-more (length (t .entries)) (entriesUsed (t .head)) (entriesUsed (splitTree t i .head)) (length (t .areas)) (length (t .xs))
+      (length (t .ys)) (boundsOf (t .plan) (words t i)) (omega (arith, A .entries)) (omega (arith, A .few-entries))
       (counts-used t (A .able .counts) i))
 
-  drawn-any : (j : ℕ) → usedRange (length (splitTree t i .entries)) (entriesUsed (splitTree t i .head)) (length (splitTree t i .areas)) (length (splitTree t i .xs)) (length (splitTree t i .ys)) (boundsOf (splitTree t i .plan) (words (splitTree t i) j)) ≡ true
+  drawn-any : (j : ℕ)
+      → usedRange (length (splitTree t i .entries)) (entriesUsed (splitTree t i .head)) (length (splitTree t i .areas))
+      (length (splitTree t i .xs)) (length (splitTree t i .ys)) (boundsOf (splitTree t i .plan) (words (splitTree t i) j))
+      ≡ true
   unfolding splitTree usedRange
   drawn-any j = drawn
 
@@ -119,17 +135,29 @@ module _ (t : Tree) (i n : ℕ) (e : splitAnswer t i ≡ Split n) where
   pub tree-cell : words (splitTree t i) i ≡ withChild (words t i) (cellsUsed (t .head))
   tree-cell = ap (λ (x : List ℕ). cellAt x i) tree-cells ∙ split-cell t i n e
 
-  pub tree-child : (q : ℕ) → q < 4 → words (splitTree t i) (cellsUsed (t .head) + q)
-      ≡ wordsWith (child (cellOf (words t i)) (quarterAt q)) (entriesUsed (t .head) + length (streamsTo (drawing t i) (cellOf (words t i)) (stream t i) q)) (entriesOfChild (drawing t i) (cellOf (words t i)) (stream t i) q)
+  pub tree-child : (q : ℕ)
+      → q < 4
+      → words (splitTree t i) (cellsUsed (t .head) + q)
+      ≡ wordsWith (child (cellOf (words t i)) (quarterAt q))
+      (entriesUsed (t .head) + length (streamsTo (drawing t i) (cellOf (words t i)) (stream t i) q))
+      (entriesOfChild (drawing t i) (cellOf (words t i)) (stream t i) q)
   tree-child q h = ap (λ (x : List ℕ). cellAt x (cellsUsed (t .head) + q)) tree-cells ∙ split-child t i n e q h
 
   -- ---- the streams
-  pub tree-stream : (first count : ℕ) → first + count ≤ entriesUsed (t .head) → wordsFrom (splitTree t i .entries) first count ≡ wordsFrom (t .entries) first count
+  pub tree-stream : (first count : ℕ)
+      → first + count ≤ entriesUsed (t .head)
+      → wordsFrom (splitTree t i .entries) first count ≡ wordsFrom (t .entries) first count
   tree-stream first count h = ap (λ (x : List ℕ). wordsFrom x first count) tree-entries ∙ split-stream t i n e first count h
 
-  pub tree-child-stream : (q : ℕ) → q < 4
-      → wordsFrom (splitTree t i .entries) (entriesUsed (t .head) + length (streamsTo (drawing t i) (cellOf (words t i)) (stream t i) q)) (entriesOfChild (drawing t i) (cellOf (words t i)) (stream t i) q)
+  pub tree-child-stream : (q : ℕ)
+      → q < 4
+      → wordsFrom (splitTree t i .entries) (entriesUsed (t .head) + length (streamsTo (drawing t i) (cellOf (words t i)) (stream t i) q))
+      (entriesOfChild (drawing t i) (cellOf (words t i)) (stream t i) q)
       ≡ wordsOfChild (drawing t i) (cellOf (words t i)) (stream t i) q
   tree-child-stream q h =
-      ap (λ (x : List ℕ). wordsFrom x (entriesUsed (t .head) + length (streamsTo (drawing t i) (cellOf (words t i)) (stream t i) q)) (entriesOfChild (drawing t i) (cellOf (words t i)) (stream t i) q)) tree-entries
+      ap
+      (λ (x : List ℕ).
+      wordsFrom x (entriesUsed (t .head) + length (streamsTo (drawing t i) (cellOf (words t i)) (stream t i) q))
+      (entriesOfChild (drawing t i) (cellOf (words t i)) (stream t i) q))
+      tree-entries
       ∙ split-child-stream t i n e q h
