@@ -38,12 +38,19 @@ module _ (t : Tree) where
     pub entries-room : n * 4 ≤ length (t .entries)
 
   pub open-accepts : (n : ℕ) → openAnswer t ≡ Opened n → Accepts n
-  open-accepts n e₀ = go (eqb (length (t .xs)) (length (t .ys))) (drawingOf (drawingTables t)) (roomFor (length (t .head)) (length (t .cells)) (length (t .entries)) (length (streamOpened t))) refl refl refl e₀
+  open-accepts n e₀ =
+      go (eqb (length (t .xs)) (length (t .ys))) (drawingOf (drawingTables t))
+      (roomFor (length (t .head)) (length (t .cells)) (length (t .entries)) (length (streamOpened t))) refl refl refl e₀
     where
       is : (m : ℕ) → Opened m ≡ Opened n → m ≡ n
       is m x = cc
 
-      taken : (k : Counts) → length (t .xs) ≡ length (t .ys) → drawingOf (drawingTables t) ≡ Accepted k → roomFor (length (t .head)) (length (t .cells)) (length (t .entries)) (length (streamOpened t)) ≡ true → length (streamOpened t) ≡ n → Accepts n
+      taken : (k : Counts)
+          → length (t .xs) ≡ length (t .ys)
+          → drawingOf (drawingTables t) ≡ Accepted k
+          → roomFor (length (t .head)) (length (t .cells)) (length (t .entries)) (length (streamOpened t)) ≡ true
+          → length (streamOpened t) ≡ n
+          → Accepts n
       taken k p d q m =
           let r = room-says (length (t .head)) (length (t .cells)) (length (t .entries)) (length (streamOpened t)) q in
           record {
@@ -57,9 +64,15 @@ module _ (t : Tree) where
             entries-room = omega (arith, m, r .2);
           }
 
-      go : (a : Bool) (v : Verdict) (b : Bool) → eqb (length (t .xs)) (length (t .ys)) ≡ a → drawingOf (drawingTables t) ≡ v → roomFor (length (t .head)) (length (t .cells)) (length (t .entries)) (length (streamOpened t)) ≡ b
-          → cond a (drawingAnswer t v) (Not Argument) ≡ Opened n → Accepts n
+      go : (a : Bool) (v : Verdict) (b : Bool)
+          → eqb (length (t .xs)) (length (t .ys)) ≡ a
+          → drawingOf (drawingTables t) ≡ v
+          → roomFor (length (t .head)) (length (t .cells)) (length (t .entries)) (length (streamOpened t)) ≡ b
+          → cond a (drawingAnswer t v) (Not Argument) ≡ Opened n
+          → Accepts n
       go false v b p d q x = not-opened Argument n x
       go true (Refused r i) b p d q x = not-opened Broken n x
       go true (Accepted k) false p d q x = not-opened Room n (ap (λ (y : Bool). cond y (Opened (length (streamOpened t))) (Not Room)) (sym q) ∙ x)
-      go true (Accepted k) true p d q x = taken k (eqb-true (length (t .xs)) (length (t .ys)) p) d q (is (length (streamOpened t)) (ap (λ (y : Bool). cond y (Opened (length (streamOpened t))) (Not Room)) (sym q) ∙ x))
+      go true (Accepted k) true p d q x =
+          taken k (eqb-true (length (t .xs)) (length (t .ys)) p) d q
+          (is (length (streamOpened t)) (ap (λ (y : Bool). cond y (Opened (length (streamOpened t))) (Not Room)) (sym q) ∙ x))

@@ -87,7 +87,8 @@ module _ (t : Tree) (n : ℕ) (a : Accepts t n) where
   stream-passes =
       let b : Bounds = bounds (a .counts .areas) (a .counts .corners) 0 65536 in
       let m : length (rowsOpened (drawingTables t)) ≡ n = sym (rows-words (drawingTables t)) ∙ sym (a .entries) in
-      let p : Passed entries′ 0 (length (rowsOpened (drawingTables t))) (env (t .areas) (t .xs) (t .ys) b) =
-      opened-passed (drawingTables t) (a .counts .records) b (accepted-opened (drawingTables t) (a .counts) (a .drawing)) (t .entries) (omega (arith, m, a .entries-room)) in
+      let p : Passed entries′ 0 (length (rowsOpened (drawingTables t))) (env (t .areas) (t .xs) (t .ys) b) = opened-passed (drawingTables t)
+      (a .counts .records) b (accepted-opened (drawingTables t) (a .counts) (a .drawing)) (t .entries)
+      (omega (arith, m, a .entries-room)) in
       subst (λ (x : Bounds). Passed entries′ 0 n (env (t .areas) (t .xs) (t .ys) x)) bounds-are
       (subst (λ (x : ℕ). Passed entries′ 0 x (env (t .areas) (t .xs) (t .ys) b)) m p)

@@ -13,7 +13,10 @@ enum-known-v : tie.Need-enum-known-v
 enum-known-v c = search needs
 
 open-accepted-requires : tie.Need-open-accepted-requires
-open-accepted-requires c κs = sym (c .before .before .before .before .before .before .check-drawing .ensures) ∙ c .before .before .before .before .v .given .1
+open-accepted-requires c κs =
+    let after-v = c .before .before .before .before in
+    let after-check-drawing = after-v .before .before in
+    sym (after-check-drawing .check-drawing .ensures) ∙ after-v .v .given .1
 
 same-length : tie.Need-same-length
 same-length c = search needs
@@ -25,16 +28,35 @@ same-length-3 : tie.Need-same-length-3
 same-length-3 c = search needs
 
 returns : tie.Need-returns
-returns c = let a = c .before .before .before .before .before .before .before .before .before .before .before .before .before .before .before .before .before .before .before .before .before .before .args in let p = c .before .before .before .before .before .before .before .before .before .before .before .before .before .before .before .before .before .before .before .before .before .before .pre in let T = tree (now (a .plan)) (now (a .areas)) (now (a .xs)) (now (a .ys)) (now (a .head)) (now (a .cells)) (now (a .entries)) in let e = c .before .before .before .before .before .before .open-accepted .ensures in (e .0 ∙ passed T _ (c .before .before .before .before .before .before .before .before .before .before .before .before .before .before .if1 .taken) (sym (c .before .before .before .before .before .before .before .before .before .before .before .before .before .check-drawing .ensures) ∙ c .before .before .before .before .before .before .before .before .before .before .before .v .given .1), e .1)
+returns c =
+    let after-open-accepted = c .before .before .before .before .before .before in
+    let after-v = after-open-accepted .before .before .before .before .before in
+    let after-check-drawing = after-v .before .before in
+    let at-if1 = after-check-drawing .before in
+    let at-entry = at-if1 .before .before .before .before .before .before .before .before in
+    let a = at-entry .args in
+    let T = tree (now (a .plan)) (now (a .areas)) (now (a .xs)) (now (a .ys)) (now (a .head)) (now (a .cells)) (now (a .entries)) in
+    let e = after-open-accepted .open-accepted .ensures in
+    (e .0 ∙ passed T _ (at-if1 .if1 .taken) (sym (after-check-drawing .check-drawing .ensures) ∙ after-v .v .given .1), e .1)
 
 enum-told : tie.Need-enum-told
 enum-told c = search needs
 
 returns-2 : tie.Need-returns-2
-returns-2 c = let a = c .before .before .before .before .before .before .before .before .before .before .before .args in let p = c .before .before .before .before .before .before .before .before .before .before .before .pre in let T = tree (now (a .plan)) (now (a .areas)) (now (a .xs)) (now (a .ys)) (now (a .head)) (now (a .cells)) (now (a .entries)) in (broken T _ _ (c .before .before .before .if1 .taken) (sym (c .before .before .check-drawing .ensures) ∙ c .enum-told .given .1), (refl, (refl, refl)))
+returns-2 c =
+    let after-check-drawing = c .before .before in
+    let at-if1 = after-check-drawing .before in
+    let at-entry = at-if1 .before .before .before .before .before .before .before .before in
+    let a = at-entry .args in
+    let T = tree (now (a .plan)) (now (a .areas)) (now (a .xs)) (now (a .ys)) (now (a .head)) (now (a .cells)) (now (a .entries)) in
+    (broken T _ _ (at-if1 .if1 .taken) (sym (after-check-drawing .check-drawing .ensures) ∙ c .enum-told .given .1), (refl, (refl, refl)))
 
 returns-3 : tie.Need-returns-3
-returns-3 c = let a = c .before .before .before .before .before .before .before .before .args in let p = c .before .before .before .before .before .before .before .before .pre in let T = tree (now (a .plan)) (now (a .areas)) (now (a .xs)) (now (a .ys)) (now (a .head)) (now (a .cells)) (now (a .entries)) in (unequal T (c .if1 .left), (refl, (refl, refl)))
+returns-3 c =
+    let at-entry = c .before .before .before .before .before .before .before .before in
+    let a = at-entry .args in
+    let T = tree (now (a .plan)) (now (a .areas)) (now (a .xs)) (now (a .ys)) (now (a .head)) (now (a .cells)) (now (a .entries)) in
+    (unequal T (c .if1 .left), (refl, (refl, refl)))
 
 pub open-spec : {M : Type 1} → statement M
 open-spec =

@@ -10,7 +10,12 @@ use Rattle.split.specs.Tables.{tree}
 use Rattle.open.proofs.Rooms.{room-says, count-rows, count-words, has-room, no-room}
 
 count-open-requires : tie.Need-count-open-requires
-count-open-requires c κs = let a = c .before .before .before .before .before .before .before .args in let p = c .before .before .before .before .before .before .before .pre in let D = tables (now (a .plan)) (now (a .areas)) (now (a .xs)) (now (a .ys)) in accepted-opened D (a .k) p
+count-open-requires c κs =
+    let at-entry = c .before .before .before .before .before .before .before in
+    let a = at-entry .args in
+    let p = at-entry .pre in
+    let D = tables (now (a .plan)) (now (a .areas)) (now (a .xs)) (now (a .ys)) in
+    accepted-opened D (a .k) p
 
 entries-in-requires : tie.Need-entries-in-requires
 entries-in-requires c κs = search needs
@@ -22,7 +27,24 @@ cast-m : tie.Need-cast-m
 cast-m c = search needs
 
 put-opened-requires : tie.Need-put-opened-requires
-put-opened-requires c κs = let a = c .before .before .before .before .before .before .before .before .before .before .before .before .before .before .args in let p = c .before .before .before .before .before .before .before .before .before .before .before .before .before .before .pre in let D = tables (now (a .plan)) (now (a .areas)) (now (a .xs)) (now (a .ys)) in let r = room-says (length (now (a .head))) (length (now (a .cells))) (length (now (a .entries))) (c .before .before .before .before .before .entries-in .result) (sym (c .before .before .before .before .has-room .ensures) ∙ c .before .before .before .if1 .taken) in (accepted-opened D (a .k) p, (count-rows D (a .k) p (c .before .before .before .before .before .before .count-open .result) (c .before .before .before .before .before .entries-in .result) (c .before .before .before .before .before .before .count-open .ensures) (c .before .before .before .before .before .entries-in .ensures), (r .2, (r .0, r .1))))
+put-opened-requires c κs =
+    let at-if1 = c .before .before .before in
+    let after-has-room = at-if1 .before in
+    let after-entries-in = after-has-room .before in
+    let after-count-open = after-entries-in .before in
+    let at-entry = after-count-open .before .before .before .before .before .before .before .before in
+    let a = at-entry .args in
+    let p = at-entry .pre in
+    let D = tables (now (a .plan)) (now (a .areas)) (now (a .xs)) (now (a .ys)) in
+    let r = room-says (length (now (a .head))) (length (now (a .cells))) (length (now (a .entries))) (after-entries-in .entries-in .result)
+    (sym (after-has-room .has-room .ensures) ∙ at-if1 .if1 .taken) in (
+      accepted-opened D (a .k) p,
+      (
+        count-rows D (a .k) p (after-count-open .count-open .result) (after-entries-in .entries-in .result)
+            (after-count-open .count-open .ensures) (after-entries-in .entries-in .ensures),
+        (r .2, (r .0, r .1)),
+      ),
+    )
 
 same-length : tie.Need-same-length
 same-length c = search needs
@@ -34,10 +56,41 @@ same-length-3 : tie.Need-same-length-3
 same-length-3 c = search needs
 
 returns : tie.Need-returns
-returns c = let a = c .before .before .before .before .before .before .before .before .before .before .before .before .before .before .before .before .before .before .before .before .before .args in let p = c .before .before .before .before .before .before .before .before .before .before .before .before .before .before .before .before .before .before .before .before .before .pre in let D = tables (now (a .plan)) (now (a .areas)) (now (a .xs)) (now (a .ys)) in let T = tree (now (a .plan)) (now (a .areas)) (now (a .xs)) (now (a .ys)) (now (a .head)) (now (a .cells)) (now (a .entries)) in let s = c .before .before .before .before .before .before .put-opened .ensures in (has-room T (c .before .before .before .before .before .before .before .before .before .before .before .before .entries-in .result) (count-words D (a .k) p (c .before .before .before .before .before .before .before .before .before .before .before .before .before .count-open .result) (c .before .before .before .before .before .before .before .before .before .before .before .before .entries-in .result) (c .before .before .before .before .before .before .before .before .before .before .before .before .before .count-open .ensures) (c .before .before .before .before .before .before .before .before .before .before .before .before .entries-in .ensures)) (sym (c .before .before .before .before .before .before .before .before .before .before .before .has-room .ensures) ∙ c .before .before .before .before .before .before .before .before .before .before .if1 .taken), s)
+returns c =
+    let after-put-opened = c .before .before .before .before .before .before in
+    let at-if1 = after-put-opened .before .before .before .before in
+    let after-has-room = at-if1 .before in
+    let after-entries-in = after-has-room .before in
+    let after-count-open = after-entries-in .before in
+    let at-entry = after-count-open .before .before .before .before .before .before .before .before in
+    let a = at-entry .args in
+    let p = at-entry .pre in
+    let D = tables (now (a .plan)) (now (a .areas)) (now (a .xs)) (now (a .ys)) in
+    let T = tree (now (a .plan)) (now (a .areas)) (now (a .xs)) (now (a .ys)) (now (a .head)) (now (a .cells)) (now (a .entries)) in
+    let s = after-put-opened .put-opened .ensures in (
+      has-room T (after-entries-in .entries-in .result)
+          (count-words D (a .k) p (after-count-open .count-open .result) (after-entries-in .entries-in .result)
+          (after-count-open .count-open .ensures) (after-entries-in .entries-in .ensures))
+          (sym (after-has-room .has-room .ensures) ∙ at-if1 .if1 .taken),
+      s,
+    )
 
 returns-2 : tie.Need-returns-2
-returns-2 c = let a = c .before .before .before .before .before .before .before .before .before .before .before .args in let p = c .before .before .before .before .before .before .before .before .before .before .before .pre in let D = tables (now (a .plan)) (now (a .areas)) (now (a .xs)) (now (a .ys)) in let T = tree (now (a .plan)) (now (a .areas)) (now (a .xs)) (now (a .ys)) (now (a .head)) (now (a .cells)) (now (a .entries)) in (no-room T (c .before .before .entries-in .result) (count-words D (a .k) p (c .before .before .before .count-open .result) (c .before .before .entries-in .result) (c .before .before .before .count-open .ensures) (c .before .before .entries-in .ensures)) (sym (c .before .has-room .ensures) ∙ c .if1 .left), (refl, (refl, refl)))
+returns-2 c =
+    let after-has-room = c .before in
+    let after-entries-in = after-has-room .before in
+    let after-count-open = after-entries-in .before in
+    let at-entry = after-count-open .before .before .before .before .before .before .before .before in
+    let a = at-entry .args in
+    let p = at-entry .pre in
+    let D = tables (now (a .plan)) (now (a .areas)) (now (a .xs)) (now (a .ys)) in
+    let T = tree (now (a .plan)) (now (a .areas)) (now (a .xs)) (now (a .ys)) (now (a .head)) (now (a .cells)) (now (a .entries)) in (
+      no-room T (after-entries-in .entries-in .result)
+          (count-words D (a .k) p (after-count-open .count-open .result) (after-entries-in .entries-in .result)
+          (after-count-open .count-open .ensures) (after-entries-in .entries-in .ensures))
+          (sym (after-has-room .has-room .ensures) ∙ c .if1 .left),
+      (refl, (refl, refl)),
+    )
 
 pub open-accepted-spec : {M : Type 1} → statement M
 open-accepted-spec =

@@ -21,7 +21,11 @@ same-length-3 : tie.Need-same-length-3
 same-length-3 c = search needs
 
 returns : tie.Need-returns
-returns c = (c .before .before .put-head .ensures, (c .before .before .before .before .before .before .put-root .ensures, c .before .before .before .before .before .before .before .before .before .before .write-open .ensures))
+returns c =
+    let after-put-head = c .before .before in
+    let after-put-root = after-put-head .before .before .before .before in
+    let after-write-open = after-put-root .before .before .before .before in
+    (after-put-head .put-head .ensures, (after-put-root .put-root .ensures, after-write-open .write-open .ensures))
 
 pub put-opened-spec : {M : Type 1} → statement M
 put-opened-spec =

@@ -9,7 +9,9 @@ same-length : tie.Need-same-length
 same-length c = search needs
 
 returns : tie.Need-returns
-returns c = c .before .before .put-cell .ensures
+returns c =
+    let after-put-cell = c .before .before in
+    after-put-cell .put-cell .ensures
 
 pub put-root-spec : {M : Type 1} → statement M
 put-root-spec = tie.close (tie.spec put-cell-requires same-length returns)
