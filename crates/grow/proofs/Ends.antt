@@ -20,7 +20,31 @@ use Rattle.split_laws.proofs.Accepted.{split-accepted}
 use Rattle.split_laws.proofs.Trees.{tree-used}
 use Rattle.grow.specs.declared.Tried.{Tried}
 use Rattle.grow.specs.declared.Tried.the-variants.{Bad, Past, Wanted}
-use Rattle.grow.specs.Grow.{tried, Lowest, none, bad, at, orNext, lowestFrom, Round, splits, done, full, broken, roundAt, roundBy, round, Ending, none-left, no-room, not-passed, Grown, goOn, growing, grown}
+use Rattle.grow.specs.Grow.{
+  tried,
+  Lowest,
+  none,
+  bad,
+  at,
+  orNext,
+  lowestFrom,
+  Round,
+  splits,
+  done,
+  full,
+  broken,
+  roundAt,
+  roundBy,
+  round,
+  Ending,
+  none-left,
+  no-room,
+  not-passed,
+  Grown,
+  goOn,
+  growing,
+  grown,
+}
 use Rattle.grow.proofs.Fuel.{round-split}
 
 -- ---- what each accepted split keeps
@@ -42,7 +66,10 @@ module _ (n l : ℕ) where
     grown-keeps t p = growing-keeps 4096 t p
 
   -- ---- four cells for each split
-  round-used : (f : Tree → Grown) → ((u : Tree) → cellsUsed (f u .after .head) ≡ cellsUsed (u .head) + 4 * length (f u .cells)) → (t : Tree) (r : Round) → round n l t ≡ r
+  round-used : (f : Tree → Grown)
+      → ((u : Tree) → cellsUsed (f u .after .head) ≡ cellsUsed (u .head) + 4 * length (f u .cells))
+      → (t : Tree) (r : Round)
+      → round n l t ≡ r
       → cellsUsed (goOn r t f .after .head) ≡ cellsUsed (t .head) + 4 * length (goOn r t f .cells)
   round-used f g t (splits i) e = omega (arith, g (splitTree t i), tree-used t i (cellsUsed (t .head)) (round-split n l t i e))
   round-used f g t done e = omega arith
@@ -64,8 +91,13 @@ module _ (n l : ℕ) where
   lastRound no-room = full
   lastRound not-passed = broken
 
-  round-ends : (k : ℕ) → ((u : Tree) → 4096 - cellsUsed (u .head) < 4 * k → round n l (growing k n l u .after) ≡ lastRound (growing k n l u .ending)) → (t : Tree) → 4096 - cellsUsed (t .head) < 4 * suc k
-      → (r : Round) → round n l t ≡ r → round n l (goOn r t (growing k n l) .after) ≡ lastRound (goOn r t (growing k n l) .ending)
+  round-ends : (k : ℕ)
+      → ((u : Tree) → 4096 - cellsUsed (u .head) < 4 * k → round n l (growing k n l u .after) ≡ lastRound (growing k n l u .ending))
+      → (t : Tree)
+      → 4096 - cellsUsed (t .head) < 4 * suc k
+      → (r : Round)
+      → round n l t ≡ r
+      → round n l (goOn r t (growing k n l) .after) ≡ lastRound (goOn r t (growing k n l) .ending)
   round-ends k g t h (splits i) e =
       let a = round-split n l t i e in
       let b = split-accepted t i (cellsUsed (t .head)) a .few-cells in
@@ -141,7 +173,9 @@ module _ (n l : ℕ) (t : Tree) where
   unfolding round
   done-means e i h = all-past (cellsUsed (t .head)) 0 (none-by (lowestFrom t n l 0 (cellsUsed (t .head))) (by (countsIn t) e)) i (omega arith) (omega arith)
     where
-      by : (b : Bool) → cond b (roundBy t (lowestFrom t n l 0 (cellsUsed (t .head)))) broken ≡ done → roundBy t (lowestFrom t n l 0 (cellsUsed (t .head))) ≡ done
+      by : (b : Bool)
+          → cond b (roundBy t (lowestFrom t n l 0 (cellsUsed (t .head)))) broken ≡ done
+          → roundBy t (lowestFrom t n l 0 (cellsUsed (t .head))) ≡ done
       by true q = q
       by false q = clash (ap isDone q)
 
@@ -190,7 +224,11 @@ module _ (n l : ℕ) (t : Tree) where
   found-at zero i k e = clash (ap isAt e)
   found-at (suc m) i k e = by (tried t n l i) refl e (λ q. found-at m (i + 1) k q)
     where
-      by : (x : Tried) → tried t n l i ≡ x → orNext x i (lowestFrom t n l (i + 1) m) ≡ at k → (lowestFrom t n l (i + 1) m ≡ at k → FoundAt (i + 1) m k) → FoundAt i (suc m) k
+      by : (x : Tried)
+          → tried t n l i ≡ x
+          → orNext x i (lowestFrom t n l (i + 1) m) ≡ at k
+          → (lowestFrom t n l (i + 1) m ≡ at k → FoundAt (i + 1) m k)
+          → FoundAt i (suc m) k
       by Bad a q f = clash (ap isAt q)
       by Past a q f =
           let g = f q in
@@ -216,13 +254,21 @@ module _ (n l : ℕ) (t : Tree) where
   full-by bad a e = clash (ap isFull e)
   full-by (at i) a e =
       let g = found-at (cellsUsed (t .head)) 0 i a in
-      record { cell = i; in-use = omega (arith, g .to); wanted = g .wanted; lowest = λ j h. g .lower j (omega arith) h; refused = full-answer i (splitAnswer t i) e }
+      record {
+        cell = i;
+        in-use = omega (arith, g .to);
+        wanted = g .wanted;
+        lowest = λ j h. g .lower j (omega arith) h;
+        refused = full-answer i (splitAnswer t i) e;
+      }
 
   -- ""full" when that split would be refused with 11"
   pub full-means : round n l t ≡ full → NoRoomAt n l t
   unfolding round
   full-means e = full-by (lowestFrom t n l 0 (cellsUsed (t .head))) refl (by (countsIn t) e)
     where
-      by : (b : Bool) → cond b (roundBy t (lowestFrom t n l 0 (cellsUsed (t .head)))) broken ≡ full → roundBy t (lowestFrom t n l 0 (cellsUsed (t .head))) ≡ full
+      by : (b : Bool)
+          → cond b (roundBy t (lowestFrom t n l 0 (cellsUsed (t .head)))) broken ≡ full
+          → roundBy t (lowestFrom t n l 0 (cellsUsed (t .head))) ≡ full
       by true q = q
       by false q = clash (ap isFull q)

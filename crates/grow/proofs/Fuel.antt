@@ -14,7 +14,25 @@ use Rattle.split.specs.Split.{splitAnswer}
 use Rattle.split_laws.specs.After.{splitTree}
 use Rattle.split_laws.proofs.Accepted.{split-accepted, split-number}
 use Rattle.split_laws.proofs.Trees.{tree-used}
-use Rattle.grow.specs.Grow.{Lowest, none, bad, at, lowestFrom, Round, splits, done, full, broken, roundAt, roundBy, round, alsoSplit, goOn, growing, grown}
+use Rattle.grow.specs.Grow.{
+  Lowest,
+  none,
+  bad,
+  at,
+  lowestFrom,
+  Round,
+  splits,
+  done,
+  full,
+  broken,
+  roundAt,
+  roundBy,
+  round,
+  alsoSplit,
+  goOn,
+  growing,
+  grown,
+}
 
 -- ---- a round that splits has its split accepted
 abbrev isSplits : Round → Bool
@@ -52,8 +70,12 @@ module _ (n l : ℕ) (t : Tree) (i : ℕ) where
   round-split e = by-counts (countsIn t) e
 
 -- ---- one round more changes nothing
-more-by : (k n l : ℕ) (t : Tree) → 4096 - cellsUsed (t .head) < 4 * suc k → ((u : Tree) → 4096 - cellsUsed (u .head) < 4 * k → growing (suc k) n l u ≡ growing k n l u)
-    → (r : Round) → round n l t ≡ r → goOn r t (growing (suc k) n l) ≡ goOn r t (growing k n l)
+more-by : (k n l : ℕ) (t : Tree)
+    → 4096 - cellsUsed (t .head) < 4 * suc k
+    → ((u : Tree) → 4096 - cellsUsed (u .head) < 4 * k → growing (suc k) n l u ≡ growing k n l u)
+    → (r : Round)
+    → round n l t ≡ r
+    → goOn r t (growing (suc k) n l) ≡ goOn r t (growing k n l)
 more-by k n l t h f (splits i) e =
     let a = round-split n l t i e in
     let b = split-accepted t i (cellsUsed (t .head)) a .few-cells in

@@ -20,7 +20,9 @@ module _ (n l : ℕ) (t : Tree) where
   skip zero j i a b p = let e : j ≡ i = omega arith in let f : j + 0 - i ≡ 0 = omega arith in rw (f, e)
   skip (suc m) j i a b p = go (ℕ-discrete j i) (λ c. skip m (j + 1) i c (omega arith) p)
     where
-      go : Dec (j ≡ i) → (j + 1 ≤ i → lowestFrom t n l (j + 1) m ≡ lowestFrom t n l i (j + 1 + m - i)) → lowestFrom t n l j (suc m) ≡ lowestFrom t n l i (j + suc m - i)
+      go : Dec (j ≡ i)
+          → (j + 1 ≤ i → lowestFrom t n l (j + 1) m ≡ lowestFrom t n l i (j + 1 + m - i))
+          → lowestFrom t n l j (suc m) ≡ lowestFrom t n l i (j + suc m - i)
       go (yes e) f = let q : j + suc m - i ≡ suc m = omega arith in rw (q, e)
       go (no e) f =
           let q : j + 1 + m - i ≡ j + suc m - i = omega arith in

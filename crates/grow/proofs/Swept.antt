@@ -22,7 +22,27 @@ use Rattle.grow.specs.declared.Tried.the-variants.{Bad, Past, Wanted}
 use Rattle.grow.specs.declared.Sweep.{Sweep}
 use Rattle.grow.specs.declared.Turn.{Turn}
 use Rattle.grow.specs.declared.Turn.the-variants.{Further, NoRoom, Stopped}
-use Rattle.grow.specs.Grow.{tried, Round, splits, done, full, broken, roundAt, round, Ending, none-left, no-room, not-passed, Grown, ended, alsoSplit, goOn, grown, answerBy, answerOf}
+use Rattle.grow.specs.Grow.{
+  tried,
+  Round,
+  splits,
+  done,
+  full,
+  broken,
+  roundAt,
+  round,
+  Ending,
+  none-left,
+  no-room,
+  not-passed,
+  Grown,
+  ended,
+  alsoSplit,
+  goOn,
+  grown,
+  answerBy,
+  answerOf,
+}
 use Rattle.grow.specs.code.Numbers.{pastN, splitN, byRoom, turnBy, treeBy}
 use Rattle.grow.proofs.Tries.{past-keeps, past-split, wanted-answer}
 use Rattle.grow.proofs.Fuel.{grown-step}
@@ -48,7 +68,10 @@ pub record Sweeping (n l : ℕ) (t₀ t : Tree) (s : Sweep) : Type 0 where
 abbrev startN : (used free : ℕ) → Sweep
 startN used free = record { cell = 0; used = used; free = free; splits = 0 }
 
-pub sweeping-begin : (n l : ℕ) (t : Tree) → length (t .xs) ≡ length (t .ys) → countsIn t ≡ true → Sweeping n l t t (startN (getD (t .head) 0 0) (getD (t .head) 1 0))
+pub sweeping-begin : (n l : ℕ) (t : Tree)
+    → length (t .xs) ≡ length (t .ys)
+    → countsIn t ≡ true
+    → Sweeping n l t t (startN (getD (t .head) 0 0) (getD (t .head) 1 0))
 sweeping-begin n l t p c =
     record {
       pair = p;
@@ -117,7 +140,8 @@ module _ (n l : ℕ) (few : l ≤ 16) (t₀ t : Tree) (s : Sweep) (S : Sweeping 
               free = refl;
               low = omega arith;
               fewer = omega (arith, S .fewer);
-              past = past-more (splitTree t i) (λ j g. past-keeps n l t i k a j (omega (arith, in-use)) (λ q. omega arith) (S .past j g)) (past-split n l t i k a);
+              past = past-more (splitTree t i) (λ j g. past-keeps n l t i k a j (omega (arith, in-use)) (λ q. omega arith) (S .past j g))
+                  (past-split n l t i k a);
               after = S .after ∙ ap (λ (g : Grown). g .after) grown-split;
               ending = S .ending ∙ ap (λ (g : Grown). g .ending) grown-split;
               count = S .count ∙ (ap (λ (g : Grown). s .splits + length (g .cells)) grown-split ∙ omega arith);
@@ -133,14 +157,19 @@ module _ (n l : ℕ) (few : l ≤ 16) (t₀ t : Tree) (s : Sweep) (S : Sweeping 
       let b : length (grown n l t₀ .cells) ≡ s .splits = S .count ∙ (ap (λ (g : Grown). s .splits + length (g .cells)) e ∙ omega arith) in
       (sym (λ d. answerBy (a d) (b d)), sym (S .after ∙ ap (λ (g : Grown). g .after) e))
 
-  by-round : (r : Round) (x : Ending) → round n l t ≡ r → goOn r t (grown n l) ≡ ended t x → (answerBy x (s .splits) ≡ answerOf (grown n l t₀)) × (t ≡ grown n l t₀ .after)
+  by-round : (r : Round) (x : Ending)
+      → round n l t ≡ r
+      → goOn r t (grown n l) ≡ ended t x
+      → (answerBy x (s .splits) ≡ answerOf (grown n l t₀)) × (t ≡ grown n l t₀ .after)
   by-round r x e f = closes x (grown-step n l t ∙ (ap (λ (q : Round). goOn q t (grown n l)) e ∙ f))
 
   pub sweep-done : s .used ≤ s .cell → (Done (s .splits) ≡ answerOf (grown n l t₀)) × (t ≡ grown n l t₀ .after)
   sweep-done h = by-round done none-left (round-done n l t i (S .past) (S .counts) (omega (arith, S .used)) (omega (arith, S .used, S .low))) refl
 
   module _ (h : s .cell < s .used) where
-    sweep-full : tried t n l (s .cell) ≡ Wanted → splitAnswer t (s .cell) ≡ split.Not Room → (Full (s .splits) ≡ answerOf (grown n l t₀)) × (t ≡ grown n l t₀ .after)
+    sweep-full : tried t n l (s .cell) ≡ Wanted
+        → splitAnswer t (s .cell) ≡ split.Not Room
+        → (Full (s .splits) ≡ answerOf (grown n l t₀)) × (t ≡ grown n l t₀ .after)
     sweep-full e a = by-round full no-room (rounded h e ∙ ap (roundAt i) a) refl
 
     sweep-bad : tried t n l (s .cell) ≡ Bad → (Not Broken ≡ answerOf (grown n l t₀)) × (t ≡ grown n l t₀ .after)
@@ -167,7 +196,11 @@ module _ (n l : ℕ) (few : l ≤ 16) (t₀ t : Tree) (s : Sweep) (S : Sweeping 
     sweepIn NoRoom = s
     sweepIn Stopped = s
 
-    by-split : (x : Splitting.Answer) (s′ : Sweep) → tried t n l i ≡ Wanted → splitAnswer t i ≡ x → byRoom x s (splitTree t i .head) ≡ Further s′ → Sweeping n l t₀ (splitTree t i) s′
+    by-split : (x : Splitting.Answer) (s′ : Sweep)
+        → tried t n l i ≡ Wanted
+        → splitAnswer t i ≡ x
+        → byRoom x s (splitTree t i .head) ≡ Further s′
+        → Sweeping n l t₀ (splitTree t i) s′
     by-split (split.Split k) s′ e a f = subst (Sweeping n l t₀ (splitTree t i)) (ap sweepIn f) (sweeping-split h e k a)
     by-split (split.Not r) s′ e a f = clash (ap isFurther f)
 
@@ -176,12 +209,17 @@ module _ (n l : ℕ) (few : l ≤ 16) (t₀ t : Tree) (s : Sweep) (S : Sweeping 
     turn-further Past s′ e f = subst (Sweeping n l t₀ t) (ap sweepIn f) (sweeping-past h e)
     turn-further Wanted s′ e f = by-split (splitAnswer t i) s′ e refl f
 
-    room-by : tried t n l i ≡ Wanted → byRoom (splitAnswer t i) s (splitTree t i .head) ≡ NoRoom → (splitAnswer t i ≡ split.Split (cellsUsed (t .head))) ⊎ (splitAnswer t i ≡ split.Not Room)
+    room-by : tried t n l i ≡ Wanted
+        → byRoom (splitAnswer t i) s (splitTree t i .head) ≡ NoRoom
+        → (splitAnswer t i ≡ split.Split (cellsUsed (t .head))) ⊎ (splitAnswer t i ≡ split.Not Room)
         → (Full (s .splits) ≡ answerOf (grown n l t₀)) × (splitTree t i ≡ grown n l t₀ .after)
     room-by e f (inl a) = clash (ap isNoRoom (ap (λ (x : Splitting.Answer). byRoom x s (splitTree t i .head)) (sym a) ∙ f))
     room-by e f (inr a) = let p = sweep-full e a in (p .0, tree-refused t i Room a ∙ p .1)
 
-    pub turn-full : (x : Tried) → tried t n l (s .cell) ≡ x → turnBy x t s ≡ NoRoom → (Full (s .splits) ≡ answerOf (grown n l t₀)) × (treeBy x t (s .cell) ≡ grown n l t₀ .after)
+    pub turn-full : (x : Tried)
+        → tried t n l (s .cell) ≡ x
+        → turnBy x t s ≡ NoRoom
+        → (Full (s .splits) ≡ answerOf (grown n l t₀)) × (treeBy x t (s .cell) ≡ grown n l t₀ .after)
     turn-full Bad e f = clash (sym (ap isStopped f))
     turn-full Past e f = clash (ap isNoRoom f)
     turn-full Wanted e f = room-by e f (wanted-answer n l few t i (S .pair) (S .counts) (in-use h) e)
@@ -190,7 +228,10 @@ module _ (n l : ℕ) (few : l ≤ 16) (t₀ t : Tree) (s : Sweep) (S : Sweeping 
     not-stopped (split.Split k) f = clash (ap isStopped f)
     not-stopped (split.Not r) f = clash (ap isStopped f)
 
-    pub turn-stopped : (x : Tried) → tried t n l (s .cell) ≡ x → turnBy x t s ≡ Stopped → (Not Broken ≡ answerOf (grown n l t₀)) × (treeBy x t (s .cell) ≡ grown n l t₀ .after)
+    pub turn-stopped : (x : Tried)
+        → tried t n l (s .cell) ≡ x
+        → turnBy x t s ≡ Stopped
+        → (Not Broken ≡ answerOf (grown n l t₀)) × (treeBy x t (s .cell) ≡ grown n l t₀ .after)
     turn-stopped Bad e f = sweep-bad e
     turn-stopped Past e f = clash (ap isStopped f)
     turn-stopped Wanted e f = absurd (not-stopped (splitAnswer t i) f)

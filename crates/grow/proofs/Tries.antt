@@ -74,7 +74,9 @@ module _ (n l : ℕ) (t : Tree) (i k : ℕ) (e : splitAnswer t i ≡ Split k) wh
   free′ = entriesUsed (t′ .head)
 
   -- the tables of the drawing stay
-  tried-is : (j : ℕ) → tried t′ n l j ≡ triedCell n l (t′ .entries) j used′ free′ (env (t .areas) (t .xs) (t .ys) (boundsOf (t .plan) (words t′ j))) (words t′ j)
+  tried-is : (j : ℕ)
+      → tried t′ n l j
+      ≡ triedCell n l (t′ .entries) j used′ free′ (env (t .areas) (t .xs) (t .ys) (boundsOf (t .plan) (words t′ j))) (words t′ j)
   unfolding tried splitTree
   tried-is j = refl
 
@@ -83,7 +85,9 @@ module _ (n l : ℕ) (t : Tree) (i k : ℕ) (e : splitAnswer t i ≡ Split k) wh
   unfolding tried
   past-keeps j h f p =
       tried-is j
-      ∙ subst (λ (w : CellWords). triedCell n l (t′ .entries) j used′ free′ (env (t .areas) (t .xs) (t .ys) (boundsOf (t .plan) w)) w ≡ Past) (sym (tree-keeps-cell t i k e j h f)) here
+      ∙ subst
+      (λ (w : CellWords). triedCell n l (t′ .entries) j used′ free′ (env (t .areas) (t .xs) (t .ys) (boundsOf (t .plan) w)) w ≡ Past)
+      (sym (tree-keeps-cell t i k e j h f)) here
     where
       w : CellWords
       w = words t j
@@ -108,8 +112,11 @@ module _ (n l : ℕ) (t : Tree) (i k : ℕ) (e : splitAnswer t i ≡ Split k) wh
 
       here : triedCell n l (t′ .entries) j used′ free′ (against t j) w ≡ Past
       here =
-          ap (tests (cellRange w j used′ free′) (eqb (w .child) 0) (checkStream (t′ .entries) (w .first) (w .count) free′ (against t j))) same
-          ∙ past-more R (eqb (w .child) 0) C W (cellRange w j used′ free′) (checkStream (t′ .entries) (w .first) (w .count) free′ (against t j)) ranged′ (tree-check t i k e (w .first) (w .count) (against t j)) p
+          ap (tests (cellRange w j used′ free′) (eqb (w .child) 0) (checkStream (t′ .entries) (w .first) (w .count) free′ (against t j)))
+          same
+          ∙ past-more R (eqb (w .child) 0) C W (cellRange w j used′ free′)
+          (checkStream (t′ .entries) (w .first) (w .count) free′ (against t j)) ranged′
+          (tree-check t i k e (w .first) (w .count) (against t j)) p
 
   -- and so is the cell that was split
   pub past-split : tried (splitTree t i) n l i ≡ Past
@@ -122,7 +129,9 @@ module _ (n l : ℕ) (t : Tree) (i k : ℕ) (e : splitAnswer t i ≡ Split k) wh
       v = env (t .areas) (t .xs) (t .ys) (boundsOf (t .plan) (words t′ i))
 
       leafed : Tried
-      leafed = cond (checkStream (t′ .entries) (words t′ i .first) (words t′ i .count) free′ v) (cond (isWanted n l (words t′ i) (wordsFrom (t′ .entries) (words t′ i .first) (words t′ i .count))) Wanted Past) Bad
+      leafed =
+          cond (checkStream (t′ .entries) (words t′ i .first) (words t′ i .count) free′ v)
+          (cond (isWanted n l (words t′ i) (wordsFrom (t′ .entries) (words t′ i .first) (words t′ i .count))) Wanted Past) Bad
 
       child-is : words t′ i .child ≡ cellsUsed (t .head)
       child-is = ap (λ (w : CellWords). w .child) (tree-cell t i k e)
@@ -136,24 +145,42 @@ room-two true true u = inl refl
 room-two true false u = inr refl
 room-two false b u = inr refl
 
-module _ (n l : ℕ) (few : l ≤ 16) (t : Tree) (i : ℕ) (pair : length (t .xs) ≡ length (t .ys)) (counts : countsIn t ≡ true) (h : i < cellsUsed (t .head)) (e : tried t n l i ≡ Wanted) where
-  all : (cellRange (words t i) i (cellsUsed (t .head)) (entriesUsed (t .head)) ≡ true) × (eqb (words t i .child) 0 ≡ true) × (checkStream (t .entries) (words t i .first) (words t i .count) (entriesUsed (t .head)) (against t i) ≡ true) × (isWanted n l (words t i) (wordsFrom (t .entries) (words t i .first) (words t i .count)) ≡ true)
+module _ (n l : ℕ) (few : l ≤ 16) (t : Tree) (i : ℕ) (pair : length (t .xs) ≡ length (t .ys)) (counts : countsIn t ≡ true)
+    (h : i < cellsUsed (t .head)) (e : tried t n l i ≡ Wanted) where
+  all : (cellRange (words t i) i (cellsUsed (t .head)) (entriesUsed (t .head)) ≡ true)
+      × (eqb (words t i .child) 0 ≡ true)
+      × (checkStream (t .entries) (words t i .first) (words t i .count) (entriesUsed (t .head)) (against t i) ≡ true)
+      × (isWanted n l (words t i) (wordsFrom (t .entries) (words t i .first) (words t i .count)) ≡ true)
   unfolding tried
   all =
-      wanted-all (cellRange (words t i) i (cellsUsed (t .head)) (entriesUsed (t .head))) (eqb (words t i .child) 0) (checkStream (t .entries) (words t i .first) (words t i .count) (entriesUsed (t .head)) (against t i)) (isWanted n l (words t i) (wordsFrom (t .entries) (words t i .first) (words t i .count))) e
+      wanted-all (cellRange (words t i) i (cellsUsed (t .head)) (entriesUsed (t .head))) (eqb (words t i .child) 0)
+      (checkStream (t .entries) (words t i .first) (words t i .count) (entriesUsed (t .head)) (against t i))
+      (isWanted n l (words t i) (wordsFrom (t .entries) (words t i .first) (words t i .count))) e
 
   halves : 1 < words t i .side
   halves =
-      let d : depthAt (words t i .side) < l = ltb-true (depthAt (words t i .side)) l (and-right (ltb n (linesIn (wordsFrom (t .entries) (words t i .first) (words t i .count)))) (ltb (depthAt (words t i .side)) l) (all .3)) in
+      let d : depthAt (words t i .side) < l = ltb-true (depthAt (words t i .side)) l
+      (and-right (ltb n (linesIn (wordsFrom (t .entries) (words t i .first) (words t i .count)))) (ltb (depthAt (words t i .side)) l)
+      (all .3)) in
       let q : 1 ≤ levelOf (words t i .side) = omega arith in
       let p : 2 ≤ 2 ^ levelOf (words t i .side) = pow-le-pow-right {n = 2} (omega arith) {i = 1} {j = levelOf (words t i .side)} q in
       omega (arith, p, square-fits (words t i) (passes-range (words t i) i (cellsUsed (t .head)) (entriesUsed (t .head)) (all .0)) .power)
 
   pub wanted-able : Splittable t i
-  wanted-able = record { pair = pair; counts = counts; in-use = h; cell = all .0; leaf = eqb-true (words t i .child) 0 (all .1); passes = all .2; halves = halves }
+  wanted-able =
+      record {
+        pair = pair;
+        counts = counts;
+        in-use = h;
+        cell = all .0;
+        leaf = eqb-true (words t i .child) 0 (all .1);
+        passes = all .2;
+        halves = halves;
+      }
 
   -- the split is accepted, or refused with 11
   pub wanted-answer : (splitAnswer t i ≡ Split (cellsUsed (t .head))) ⊎ (splitAnswer t i ≡ Not Room)
   wanted-answer =
       subst (λ (x : Splitting.Answer). (x ≡ Split (cellsUsed (t .head))) ⊎ (x ≡ Not Room)) (sym (able-answer t i wanted-able))
-      (room-two (cellsHeld (cellsUsed (t .head) + 4) (length (t .cells))) (entriesHeld (entriesUsed (t .head) + length (made t i)) (length (t .entries))) (cellsUsed (t .head)))
+      (room-two (cellsHeld (cellsUsed (t .head) + 4) (length (t .cells)))
+      (entriesHeld (entriesUsed (t .head) + length (made t i)) (length (t .entries))) (cellsUsed (t .head)))

@@ -62,13 +62,15 @@ pub cell-past : (a b : Bool) (y : Tried) → a ≡ true → b ≡ false → Past
 cell-past a b y p q = rw (p, q)
 
 -- ---- what is met at the cell
-module _ (n l : ℕ) (t : Tree) (s : Sweep) (w : CellWords) (b : Bounds) (ew : w ≡ words t (s .cell)) (eb : b ≡ boundsOf (t .plan) w) (eu : s .used ≡ cellsUsed (t .head)) (ef : s .free ≡ entriesUsed (t .head)) where
+module _ (n l : ℕ) (t : Tree) (s : Sweep) (w : CellWords) (b : Bounds) (ew : w ≡ words t (s .cell)) (eb : b ≡ boundsOf (t .plan) w)
+    (eu : s .used ≡ cellsUsed (t .head)) (ef : s .free ≡ entriesUsed (t .head)) where
   pub tried-here : (x : Tried) → x ≡ triedCell n l (t .entries) (s .cell) (s .used) (s .free) (env (t .areas) (t .xs) (t .ys) b) w → tried t n l (s .cell) ≡ x
   unfolding tried
   tried-here x e = sym (rw (eb, ew, eu, ef) at e)
 
   -- a leaf to split
-  module _ (few : l ≤ 16) (counts : countsIn t ≡ true) (pair : length (t .xs) ≡ length (t .ys)) (h : s .cell < s .used) (e : tried t n l (s .cell) ≡ Wanted) where
+  module _ (few : l ≤ 16) (counts : countsIn t ≡ true) (pair : length (t .xs) ≡ length (t .ys)) (h : s .cell < s .used)
+      (e : tried t n l (s .cell) ≡ Wanted) where
     able : Splittable t (s .cell)
     able = wanted-able n l few t (s .cell) pair counts (omega (arith, eu)) e
 
@@ -90,15 +92,23 @@ module _ (n l : ℕ) (t : Tree) (s : Sweep) (w : CellWords) (b : Bounds) (ew : w
     answer-is : R ≡ splitAnswer t (s .cell)
     answer-is = rw (eb, ew, eu, ef) (sym (able-answer t (s .cell) able))
 
-    pub head-is : (h′ : List ℕ) → h′ ≡ headBy R (t .head) (s .used) (s .free) (madeBy (t .areas) (t .xs) (t .ys) b w (t .entries)) → h′ ≡ splitTree t (s .cell) .head
+    pub head-is : (h′ : List ℕ)
+        → h′ ≡ headBy R (t .head) (s .used) (s .free) (madeBy (t .areas) (t .xs) (t .ys) b w (t .entries))
+        → h′ ≡ splitTree t (s .cell) .head
     unfolding splitTree
     head-is h′ q = let p : h′ ≡ headAfter t (s .cell) (splitAnswer t (s .cell)) = rw (answer-is, eb, ew, eu, ef) at q in p
 
-    pub cells-is : (c′ : List ℕ) → c′ ≡ cellsOf R (lent (t .areas) (t .xs) (t .ys) b) w (wordsFrom (t .entries) (w .first) (w .count)) (t .cells) (s .cell) (s .used) (s .free) → c′ ≡ splitTree t (s .cell) .cells
+    pub cells-is : (c′ : List ℕ)
+        → c′
+        ≡ cellsOf R (lent (t .areas) (t .xs) (t .ys) b) w (wordsFrom (t .entries) (w .first) (w .count)) (t .cells) (s .cell) (s .used)
+        (s .free)
+        → c′ ≡ splitTree t (s .cell) .cells
     unfolding splitTree
     cells-is c′ q = let p : c′ ≡ cellsAfter t (s .cell) (splitAnswer t (s .cell)) = rw (answer-is, eb, ew, eu, ef) at q in p
 
-    pub entries-is : (e′ : List ℕ) → e′ ≡ entriesBy R (t .entries) (s .free) (madeBy (t .areas) (t .xs) (t .ys) b w (t .entries)) → e′ ≡ splitTree t (s .cell) .entries
+    pub entries-is : (e′ : List ℕ)
+        → e′ ≡ entriesBy R (t .entries) (s .free) (madeBy (t .areas) (t .xs) (t .ys) b w (t .entries))
+        → e′ ≡ splitTree t (s .cell) .entries
     unfolding splitTree
     entries-is e′ q = let p : e′ ≡ entriesAfter t (s .cell) (splitAnswer t (s .cell)) = rw (answer-is, eb, ew, ef) at q in p
 
@@ -106,7 +116,10 @@ module _ (n l : ℕ) (t : Tree) (s : Sweep) (w : CellWords) (b : Bounds) (ew : w
     turn-is r h′ q p = q ∙ (λ d. byRoom (answer-is d) s (p d))
 
 -- the tables after a turn, together
-pub tree-is : (p a x y h c e h′ c′ e′ : List ℕ) (i : ℕ) (q : Tried) → h′ ≡ treeBy q (tree p a x y h c e) i .head → c′ ≡ treeBy q (tree p a x y h c e) i .cells → e′ ≡ treeBy q (tree p a x y h c e) i .entries
+pub tree-is : (p a x y h c e h′ c′ e′ : List ℕ) (i : ℕ) (q : Tried)
+    → h′ ≡ treeBy q (tree p a x y h c e) i .head
+    → c′ ≡ treeBy q (tree p a x y h c e) i .cells
+    → e′ ≡ treeBy q (tree p a x y h c e) i .entries
     → tree p a x y h′ c′ e′ ≡ treeBy q (tree p a x y h c e) i
 unfolding splitTree
 tree-is p a x y h c e h′ c′ e′ i Bad eh ec ee = λ d. tree p a x y (eh d) (ec d) (ee d)

@@ -21,7 +21,10 @@ add-d : tie.Need-add-d Inv-loop μ-loop
 add-d c = search needs
 
 loop-less : tie.Need-loop-less Inv-loop μ-loop
-loop-less c = omega (arith, doubled-more (c .before .before .args .side) (c .before .loop .s) (c .before .loop .d) (c .before .loop .inv) (c .loop-test .taken))
+loop-less c =
+    let at-loop = c .before in
+    let at-entry = at-loop .before in
+    omega (arith, doubled-more (at-entry .args .side) (at-loop .loop .s) (at-loop .loop .d) (at-loop .loop .inv) (c .loop-test .taken))
 
 loop-again : tie.Need-loop-again Inv-loop μ-loop
 loop-again c = search doubled-turn

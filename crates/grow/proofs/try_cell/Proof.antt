@@ -19,13 +19,30 @@ cell-fits-requires : tie.Need-cell-fits-requires
 cell-fits-requires c κs = search needs
 
 try-leaf-requires : tie.Need-try-leaf-requires
-try-leaf-requires c κs = let a = c .before .before .before .before .before .before .before .before .before .before .before .args in passes-range (a .w) (a .s .cell) (a .s .used) (a .s .free) (sym (c .before .before .before .cell-fits .ensures) ∙ c .before .before .if1 .taken)
+try-leaf-requires c κs =
+    let at-if1 = c .before .before in
+    let after-cell-fits = at-if1 .before in
+    let at-entry = after-cell-fits .before .before .before .before .before .before .before .before in
+    let a = at-entry .args in
+    passes-range (a .w) (a .s .cell) (a .s .used) (a .s .free) (sym (after-cell-fits .cell-fits .ensures) ∙ at-if1 .if1 .taken)
 
 returns : tie.Need-returns
-returns c = let a = c .before .before .before .before .before .before .before .before .before .before .before .before .args in cell-leaf _ _ _ _ (sym (c .before .before .before .before .cell-fits .ensures) ∙ c .before .before .before .if1 .taken) (eq-eqb (a .w .child) 0 (c .before .if2 .taken)) (c .try-leaf .ensures)
+returns c =
+    let at-if2 = c .before in
+    let at-if1 = at-if2 .before .before in
+    let after-cell-fits = at-if1 .before in
+    let at-entry = after-cell-fits .before .before .before .before .before .before .before .before in
+    let a = at-entry .args in
+    cell-leaf _ _ _ _ (sym (after-cell-fits .cell-fits .ensures) ∙ at-if1 .if1 .taken) (eq-eqb (a .w .child) 0 (at-if2 .if2 .taken))
+    (c .try-leaf .ensures)
 
 returns-2 : tie.Need-returns-2
-returns-2 c = let a = c .before .before .before .before .before .before .before .before .before .before .before .args in cell-past _ _ _ (sym (c .before .before .before .cell-fits .ensures) ∙ c .before .before .if1 .taken) (ne-eqb (a .w .child) 0 (c .if2 .left))
+returns-2 c =
+    let at-if1 = c .before .before in
+    let after-cell-fits = at-if1 .before in
+    let at-entry = after-cell-fits .before .before .before .before .before .before .before .before in
+    let a = at-entry .args in
+    cell-past _ _ _ (sym (after-cell-fits .cell-fits .ensures) ∙ at-if1 .if1 .taken) (ne-eqb (a .w .child) 0 (c .if2 .left))
 
 returns-3 : tie.Need-returns-3
 returns-3 c = leaf-bad _ _ (sym (c .before .cell-fits .ensures) ∙ c .if1 .left)

@@ -17,13 +17,30 @@ check-stream-requires : tie.Need-check-stream-requires
 check-stream-requires c κs = search needs
 
 is-wanted-requires : tie.Need-is-wanted-requires
-is-wanted-requires c κs = let a = c .before .before .before .before .before .before .before .before .args in let p = c .before .before .before .before .before .before .before .before .pre in let P = passed (now (a .entries)) (a .w .first) (a .w .count) (a .free) (env (now (a .areas)) (now (a .xs)) (now (a .ys)) (a .b)) (sym (c .before .check-stream .ensures) ∙ c .if1 .taken) in (P .within, (P .few, side-passes (a .w) p))
+is-wanted-requires c κs =
+    let after-check-stream = c .before in
+    let at-entry = after-check-stream .before .before .before .before .before .before .before in
+    let a = at-entry .args in
+    let p = at-entry .pre in
+    let P = passed (now (a .entries)) (a .w .first) (a .w .count) (a .free) (env (now (a .areas)) (now (a .xs)) (now (a .ys)) (a .b))
+    (sym (after-check-stream .check-stream .ensures) ∙ c .if1 .taken) in
+    (P .within, (P .few, side-passes (a .w) p))
 
 returns : tie.Need-returns
-returns c = leaf-wanted _ _ (sym (c .before .before .before .check-stream .ensures) ∙ c .before .before .if1 .taken) (sym (c .before .is-wanted .ensures) ∙ c .if2 .taken)
+returns c =
+    let after-is-wanted = c .before in
+    let at-if1 = after-is-wanted .before in
+    let after-check-stream = at-if1 .before in
+    leaf-wanted _ _ (sym (after-check-stream .check-stream .ensures) ∙ at-if1 .if1 .taken)
+    (sym (after-is-wanted .is-wanted .ensures) ∙ c .if2 .taken)
 
 returns-2 : tie.Need-returns-2
-returns-2 c = leaf-past _ _ (sym (c .before .before .before .check-stream .ensures) ∙ c .before .before .if1 .taken) (sym (c .before .is-wanted .ensures) ∙ c .if2 .left)
+returns-2 c =
+    let after-is-wanted = c .before in
+    let at-if1 = after-is-wanted .before in
+    let after-check-stream = at-if1 .before in
+    leaf-past _ _ (sym (after-check-stream .check-stream .ensures) ∙ at-if1 .if1 .taken)
+    (sym (after-is-wanted .is-wanted .ensures) ∙ c .if2 .left)
 
 returns-3 : tie.Need-returns-3
 returns-3 c = leaf-bad _ _ (sym (c .before .check-stream .ensures) ∙ c .if1 .left)
