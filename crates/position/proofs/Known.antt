@@ -44,7 +44,10 @@ inside-holds : (l : Leaf) (x y : ℕ) → inSquare l x y ≡ true → LeafHolds 
 inside-holds l x y h = go (between (l .x) (l .side) x) (between (l .y) (l .side) y) refl refl h
   where
     go : (a b : Bool) → between (l .x) (l .side) x ≡ a → between (l .y) (l .side) y ≡ b → cond a b false ≡ true → LeafHolds l (at x y)
-    go true true p q t = let m = is-in (l .x) (l .side) x p in let n = is-in (l .y) (l .side) y q in record { west = m .0; east = m .1; south = n .0; north = n .1 }
+    go true true p q t =
+        let m = is-in (l .x) (l .side) x p in
+        let n = is-in (l .y) (l .side) y q in
+        record { west = m .0; east = m .1; south = n .0; north = n .1 }
     go true false p q t = clash t
     go false b p q t = clash t
 
@@ -130,10 +133,16 @@ module _ (t : Tree) where
         go Broken e = none-painted (t .areas)
 
     -- a position in range where 12 is not met
-    pub position-accepted : (s : ℕ) → length (t .xs) ≡ length (t .ys) → positionRange x y ≡ true → known t x y ≡ true → setIn t x y ≡ s → positionAnswer t x y ≡ Answers.At (spotOf (t .areas) s)
+    pub position-accepted : (s : ℕ)
+        → length (t .xs) ≡ length (t .ys)
+        → positionRange x y ≡ true
+        → known t x y ≡ true
+        → setIn t x y ≡ s
+        → positionAnswer t x y ≡ Answers.At (spotOf (t .areas) s)
     position-accepted s e r k z =
         let no = Answers.Not Refusals.Argument in
         let a₁ = pick-true (known t x y) (Answers.At (spotOf (t .areas) (setIn t x y))) (Answers.Not Refusals.Broken) k in
         let a₂ = pick-true (positionRange x y) (spotIn t x y) no r in
-        let a₃ = pick-true (eqb (length (t .xs)) (length (t .ys))) (cond (positionRange x y) (spotIn t x y) no) no (eq-eqb (length (t .xs)) (length (t .ys)) e) in
+        let a₃ = pick-true (eqb (length (t .xs)) (length (t .ys))) (cond (positionRange x y) (spotIn t x y) no) no
+        (eq-eqb (length (t .xs)) (length (t .ys)) e) in
         sym (a₁ ∙ (a₂ ∙ a₃)) ∙ ap (λ (v : ℕ). Answers.At (spotOf (t .areas) v)) z

@@ -43,7 +43,8 @@ fields-in f h = go (leb (f .rule) 1) (eqb (f .role) 0) (eqb (f .role) 1) h
   where
     paint-in : paintRange f ≡ true → (f .alpha ≤ 255) × (f .red ≤ 255) × (f .green ≤ 255) × (f .blue ≤ 255)
     paint-in h =
-        let a = both (leb (f .alpha) 255) (leb (f .red) 255 && (leb (f .green) 255 && (leb (f .blue) 255 && (leb 1 (f .material) && leb (f .material) 65535)))) h in
+        let a = both (leb (f .alpha) 255)
+        (leb (f .red) 255 && (leb (f .green) 255 && (leb (f .blue) 255 && (leb 1 (f .material) && leb (f .material) 65535)))) h in
         let b = both (leb (f .red) 255) (leb (f .green) 255 && (leb (f .blue) 255 && (leb 1 (f .material) && leb (f .material) 65535))) (a .1) in
         let c = both (leb (f .green) 255) (leb (f .blue) 255 && (leb 1 (f .material) && leb (f .material) 65535)) (b .1) in
         let d = both (leb (f .blue) 255) (leb 1 (f .material) && leb (f .material) 65535) (c .1) in
@@ -57,7 +58,9 @@ fields-in f h = go (leb (f .rule) 1) (eqb (f .role) 0) (eqb (f .role) 1) h
         let d = both (eqb (f .blue) 0) (eqb (f .material) 0) (c .1) in
         (zero-is (f .alpha) (a .0), zero-is (f .red) (b .0), zero-is (f .green) (c .0), zero-is (f .blue) (d .0))
 
-    go : (r p c : Bool) → cond r (cond p (paintRange f) (cond c (clipRange f) false)) false ≡ true → (f .alpha ≤ 255) × (f .red ≤ 255) × (f .green ≤ 255) × (f .blue ≤ 255)
+    go : (r p c : Bool)
+        → cond r (cond p (paintRange f) (cond c (clipRange f) false)) false ≡ true
+        → (f .alpha ≤ 255) × (f .red ≤ 255) × (f .green ≤ 255) × (f .blue ≤ 255)
     go true true c h = paint-in h
     go true false true h = clip-in h
     go true false false h = clash h
@@ -154,10 +157,18 @@ module _ (areas : List ℕ) (used : ℕ) where
 
     rows-known : (ws : List Row) (st : State) → EachKnown ws → StateKnown st → StateKnown (onRows role pass opaque adds ws st)
     rows-known [] st e h = h
-    rows-known (opens ∷ ws) st e h = rows-known ws (onRow role pass opaque adds opens st) e (subst AllKnown (sym (push-out (settle role pass opaque adds st))) (settle-known st h))
-    rows-known (bar ∷ ws) st e h = rows-known ws (onRow role pass opaque adds bar st) e (subst AllKnown (sym (activate-out (settle role pass opaque adds st))) (settle-known st h))
-    rows-known (closes ∷ ws) st e h = rows-known ws (onRow role pass opaque adds closes st) e (subst AllKnown (sym (pop-out (settle role pass opaque adds st))) (settle-known st h))
-    rows-known (bare ∷ ws) st e h = rows-known ws (onRow role pass opaque adds bare st) e (subst AllKnown (sym (bare-out (settle role pass opaque adds st))) (settle-known st h))
+    rows-known (opens ∷ ws) st e h =
+        rows-known ws (onRow role pass opaque adds opens st) e
+        (subst AllKnown (sym (push-out (settle role pass opaque adds st))) (settle-known st h))
+    rows-known (bar ∷ ws) st e h =
+        rows-known ws (onRow role pass opaque adds bar st) e
+        (subst AllKnown (sym (activate-out (settle role pass opaque adds st))) (settle-known st h))
+    rows-known (closes ∷ ws) st e h =
+        rows-known ws (onRow role pass opaque adds closes st) e
+        (subst AllKnown (sym (pop-out (settle role pass opaque adds st))) (settle-known st h))
+    rows-known (bare ∷ ws) st e h =
+        rows-known ws (onRow role pass opaque adds bare st) e
+        (subst AllKnown (sym (bare-out (settle role pass opaque adds st))) (settle-known st h))
     rows-known (named n z ∷ ws) st e h = rows-known ws (onRow role pass opaque adds (named n z) st) (e .1) (settle-known st h, e .0)
     rows-known (segment g ∷ ws) st e h = rows-known ws (onRow role pass opaque adds (segment g) st) e (add-known g st h)
 
@@ -180,18 +191,23 @@ module _ (v : Env) where
   one-known Entry.passes ws h k = k
   one-known Entry.bad ws h k = k
 
-  words-known : (t : List ℕ) (i n : ℕ) → ((k : ℕ) → k < n → inRange v (decode (wordsAt t (i + k))) ≡ true) → EachKnown (v .areas) (v .used .areas) (rowsIn (wordsFrom t i n))
+  words-known : (t : List ℕ) (i n : ℕ)
+      → ((k : ℕ) → k < n → inRange v (decode (wordsAt t (i + k))) ≡ true)
+      → EachKnown (v .areas) (v .used .areas) (rowsIn (wordsFrom t i n))
   unfolding wordsFrom rowsIn
   words-known t i zero h = tt
   words-known t i (suc n) h =
-      one-known (decode (wordsAt t i)) (rowsIn (wordsFrom t (i + 1) n)) (subst (λ (j : ℕ). inRange v (decode (wordsAt t j)) ≡ true) (add-zero i) (h 0 (omega arith)))
+      one-known (decode (wordsAt t i)) (rowsIn (wordsFrom t (i + 1) n))
+      (subst (λ (j : ℕ). inRange v (decode (wordsAt t j)) ≡ true) (add-zero i) (h 0 (omega arith)))
       (words-known t (i + 1) n (λ k l. subst (λ (j : ℕ). inRange v (decode (wordsAt t j)) ≡ true) (next i k) (h (suc k) (omega arith))))
     where
       next : (i k : ℕ) → i + suc k ≡ i + 1 + k
       next i k = omega arith
 
 -- the set at (x, y) of a stream that passes
-pub set-painted : (t : List ℕ) (first count : ℕ) (v : Env) (x y : ℕ) → Passed t first count v → Painted (v .areas) (setAt (v .areas) (v .xs) (v .ys) x y (wordsFrom t first count))
+pub set-painted : (t : List ℕ) (first count : ℕ) (v : Env) (x y : ℕ)
+    → Passed t first count v
+    → Painted (v .areas) (setAt (v .areas) (v .xs) (v .ys) x y (wordsFrom t first count))
 unfolding setAt
 set-painted t first count v x y p =
     record {
@@ -201,10 +217,16 @@ set-painted t first count v x y p =
   where
     known : AllKnown (v .areas) (v .used .areas) (setAt (v .areas) (v .xs) (v .ys) x y (wordsFrom t first count))
     known =
-        read-known (v .areas) (v .used .areas) (roleAt (v .areas)) (passAt (v .areas)) (opaqueAt (v .areas)) (addsAt (v .xs) (v .ys) (at x y)) (rowsIn (wordsFrom t first count))
+        read-known (v .areas) (v .used .areas) (roleAt (v .areas)) (passAt (v .areas)) (opaqueAt (v .areas))
+        (addsAt (v .xs) (v .ys) (at x y)) (rowsIn (wordsFrom t first count))
         (words-known v t first count (λ k l. in-range v t first count k (p .grammar) l))
 
-    painted : (n : ℕ) → (fieldsAt (v .areas) n .alpha ≤ 255) × (fieldsAt (v .areas) n .red ≤ 255) × (fieldsAt (v .areas) n .green ≤ 255) × (fieldsAt (v .areas) n .blue ≤ 255) → PaintIn (paintAt (v .areas) n)
+    painted : (n : ℕ)
+        → (fieldsAt (v .areas) n .alpha ≤ 255)
+        × (fieldsAt (v .areas) n .red ≤ 255)
+        × (fieldsAt (v .areas) n .green ≤ 255)
+        × (fieldsAt (v .areas) n .blue ≤ 255)
+        → PaintIn (paintAt (v .areas) n)
     painted n f = record { alpha-byte = f .0; red-byte = f .1; green-byte = f .2; blue-byte = f .3 }
 
 -- the empty set

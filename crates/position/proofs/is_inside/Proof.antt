@@ -11,7 +11,10 @@ is-between-requires-2 : tie.Need-is-between-requires-2
 is-between-requires-2 c κs = search needs
 
 returns : tie.Need-returns
-returns c = c .is-between2 .ensures ∙ pick-true _ _ _ (sym (c .before .before .is-between .ensures) ∙ c .before .if1 .taken)
+returns c =
+    let at-if1 = c .before in
+    let after-is-between = at-if1 .before in
+    c .is-between2 .ensures ∙ pick-true _ _ _ (sym (after-is-between .is-between .ensures) ∙ at-if1 .if1 .taken)
 
 returns-2 : tie.Need-returns-2
 returns-2 c = pick-false _ _ _ (sym (c .before .is-between .ensures) ∙ c .if1 .left)

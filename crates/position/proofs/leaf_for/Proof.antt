@@ -15,7 +15,16 @@ is-inside-requires : tie.Need-is-inside-requires
 is-inside-requires c κs = search needs
 
 returns : tie.Need-returns
-returns c = let a = c .before .before .before .before .before .before .before .before .before .before .before .before .args in let p = c .before .before .before .before .before .before .before .before .before .before .before .before .pre in let T = tree (now (a .plan)) (now (a .areas)) (now (a .xs)) (now (a .ys)) (now (a .head)) (now (a .cells)) (now (a .entries)) in let l = c .before .before .before .last .given .0 .0 in leaf-again T l (a .x) (a .y) (subst (λ (f : Found). LastIn T f) (c .before .before .before .last .given .1) p) (sym (c .before .is-inside .ensures) ∙ c .if1 .taken)
+returns c =
+    let after-is-inside = c .before in
+    let after-last = after-is-inside .before .before in
+    let at-entry = after-last .before .before .before .before .before .before .before .before .before in
+    let a = at-entry .args in
+    let p = at-entry .pre in
+    let T = tree (now (a .plan)) (now (a .areas)) (now (a .xs)) (now (a .ys)) (now (a .head)) (now (a .cells)) (now (a .entries)) in
+    let l = after-last .last .given .0 .0 in
+    leaf-again T l (a .x) (a .y) (subst (λ (f : Found). LastIn T f) (after-last .last .given .1) p)
+    (sym (after-is-inside .is-inside .ensures) ∙ c .if1 .taken)
 
 leaf-at-requires : tie.Need-leaf-at-requires
 leaf-at-requires c κs = search needs

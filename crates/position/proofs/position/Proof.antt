@@ -14,16 +14,44 @@ use Rattle.position.proofs.position.Statement.{statement}
 use Rattle.position.proofs.position.Tie as tie
 
 spot-at-requires : tie.Need-spot-at-requires
-spot-at-requires c κs = let a = c .before .before .before .before .before .before .before .before .before .args in let b = both (ltb (a .x) 65536) (ltb (a .y) 65536) (c .if2 .taken) in (ltb-true (a .x) 65536 (b .0), ltb-true (a .y) 65536 (b .1))
+spot-at-requires c κs =
+    let at-entry = c .before .before .before .before .before .before .before .before .before in
+    let a = at-entry .args in
+    let b = both (ltb (a .x) 65536) (ltb (a .y) 65536) (c .if2 .taken) in
+    (ltb-true (a .x) 65536 (b .0), ltb-true (a .y) 65536 (b .1))
 
 returns : tie.Need-returns
-returns c = let a = c .before .before .before .before .before .before .before .before .before .before .args in let p = c .before .before .before .before .before .before .before .before .before .before .pre in let T = tree (now (a .plan)) (now (a .areas)) (now (a .xs)) (now (a .ys)) (now (a .head)) (now (a .cells)) (now (a .entries)) in c .spot-at .ensures ∙ (pick-true (ltb (a .x) 65536 && ltb (a .y) 65536) (spotIn T (a .x) (a .y)) (Not Argument) (c .before .if2 .taken) ∙ pick-true (eqb (length (now (a .xs))) (length (now (a .ys)))) (cond (ltb (a .x) 65536 && ltb (a .y) 65536) (spotIn T (a .x) (a .y)) (Not Argument)) (Not Argument) (eq-eqb (length (now (a .xs))) (length (now (a .ys))) (c .before .before .if1 .taken)))
+returns c =
+    let at-if2 = c .before in
+    let at-if1 = at-if2 .before in
+    let at-entry = at-if1 .before .before .before .before .before .before .before .before in
+    let a = at-entry .args in
+    let T = tree (now (a .plan)) (now (a .areas)) (now (a .xs)) (now (a .ys)) (now (a .head)) (now (a .cells)) (now (a .entries)) in
+    c .spot-at .ensures
+    ∙ (pick-true (ltb (a .x) 65536 && ltb (a .y) 65536) (spotIn T (a .x) (a .y)) (Not Argument) (at-if2 .if2 .taken)
+    ∙ pick-true (eqb (length (now (a .xs))) (length (now (a .ys))))
+    (cond (ltb (a .x) 65536 && ltb (a .y) 65536) (spotIn T (a .x) (a .y)) (Not Argument)) (Not Argument)
+    (eq-eqb (length (now (a .xs))) (length (now (a .ys))) (at-if1 .if1 .taken)))
 
 returns-2 : tie.Need-returns-2
-returns-2 c = let a = c .before .before .before .before .before .before .before .before .before .args in let p = c .before .before .before .before .before .before .before .before .before .pre in let T = tree (now (a .plan)) (now (a .areas)) (now (a .xs)) (now (a .ys)) (now (a .head)) (now (a .cells)) (now (a .entries)) in pick-false (ltb (a .x) 65536 && ltb (a .y) 65536) (spotIn T (a .x) (a .y)) (Not Argument) (c .if2 .left) ∙ pick-true (eqb (length (now (a .xs))) (length (now (a .ys)))) (cond (ltb (a .x) 65536 && ltb (a .y) 65536) (spotIn T (a .x) (a .y)) (Not Argument)) (Not Argument) (eq-eqb (length (now (a .xs))) (length (now (a .ys))) (c .before .if1 .taken))
+returns-2 c =
+    let at-if1 = c .before in
+    let at-entry = at-if1 .before .before .before .before .before .before .before .before in
+    let a = at-entry .args in
+    let T = tree (now (a .plan)) (now (a .areas)) (now (a .xs)) (now (a .ys)) (now (a .head)) (now (a .cells)) (now (a .entries)) in
+    pick-false (ltb (a .x) 65536 && ltb (a .y) 65536) (spotIn T (a .x) (a .y)) (Not Argument) (c .if2 .left)
+    ∙ pick-true (eqb (length (now (a .xs))) (length (now (a .ys))))
+    (cond (ltb (a .x) 65536 && ltb (a .y) 65536) (spotIn T (a .x) (a .y)) (Not Argument)) (Not Argument)
+    (eq-eqb (length (now (a .xs))) (length (now (a .ys))) (at-if1 .if1 .taken))
 
 returns-3 : tie.Need-returns-3
-returns-3 c = let a = c .before .before .before .before .before .before .before .before .args in let p = c .before .before .before .before .before .before .before .before .pre in let T = tree (now (a .plan)) (now (a .areas)) (now (a .xs)) (now (a .ys)) (now (a .head)) (now (a .cells)) (now (a .entries)) in pick-false (eqb (length (now (a .xs))) (length (now (a .ys)))) (cond (ltb (a .x) 65536 && ltb (a .y) 65536) (spotIn T (a .x) (a .y)) (Not Argument)) (Not Argument) (ne-eqb (length (now (a .xs))) (length (now (a .ys))) (c .if1 .left))
+returns-3 c =
+    let at-entry = c .before .before .before .before .before .before .before .before in
+    let a = at-entry .args in
+    let T = tree (now (a .plan)) (now (a .areas)) (now (a .xs)) (now (a .ys)) (now (a .head)) (now (a .cells)) (now (a .entries)) in
+    pick-false (eqb (length (now (a .xs))) (length (now (a .ys))))
+    (cond (ltb (a .x) 65536 && ltb (a .y) 65536) (spotIn T (a .x) (a .y)) (Not Argument)) (Not Argument)
+    (ne-eqb (length (now (a .xs))) (length (now (a .ys))) (c .if1 .left))
 
 pub position-spec : {M : Type 1} → statement M
 position-spec = tie.close (tie.spec spot-at-requires returns returns-2 returns-3)

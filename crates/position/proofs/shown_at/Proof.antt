@@ -13,16 +13,38 @@ enum-known-f : tie.Need-enum-known-f
 enum-known-f c = search needs
 
 set-in-requires : tie.Need-set-in-requires
-set-in-requires c κs = let a = c .before .before .before .before .before .before .before .before .before .before .before .args in let p = c .before .before .before .before .before .before .before .before .before .before .before .pre in let T = tree (now (a .plan)) (now (a .areas)) (now (a .xs)) (now (a .ys)) (now (a .head)) (now (a .cells)) (now (a .entries)) in let l = c .before .f .given .0 .0 in let e = sym (c .before .before .before .leaf-for .ensures) ∙ c .before .f .given .1 in (leaf-plan T (a .x) (a .y) l e, (leaf-stream T (a .x) (a .y) l e, p .1))
+set-in-requires c κs =
+    let after-f = c .before in
+    let after-leaf-for = after-f .before .before in
+    let at-entry = after-leaf-for .before .before .before .before .before .before .before .before in
+    let a = at-entry .args in
+    let p = at-entry .pre in
+    let T = tree (now (a .plan)) (now (a .areas)) (now (a .xs)) (now (a .ys)) (now (a .head)) (now (a .cells)) (now (a .entries)) in
+    let l = after-f .f .given .0 .0 in
+    let e = sym (after-leaf-for .leaf-for .ensures) ∙ after-f .f .given .1 in
+    (leaf-plan T (a .x) (a .y) l e, (leaf-stream T (a .x) (a .y) l e, p .1))
 
 enum-told : tie.Need-enum-told
 enum-told c = search needs
 
 returns : tie.Need-returns
-returns c = let a = c .before .before .before .before .before .before .before .before .before .before .before .before .args in let p = c .before .before .before .before .before .before .before .before .before .before .before .before .pre in let T = tree (now (a .plan)) (now (a .areas)) (now (a .xs)) (now (a .ys)) (now (a .head)) (now (a .cells)) (now (a .entries)) in let l = c .before .before .f .given .0 .0 in let e = sym (c .before .before .before .before .leaf-for .ensures) ∙ c .before .before .f .given .1 in shown-known T (a .x) (a .y) l (c .set-in .result) e (c .set-in .ensures .0)
+returns c =
+    let after-f = c .before .before in
+    let after-leaf-for = after-f .before .before in
+    let at-entry = after-leaf-for .before .before .before .before .before .before .before .before in
+    let a = at-entry .args in
+    let T = tree (now (a .plan)) (now (a .areas)) (now (a .xs)) (now (a .ys)) (now (a .head)) (now (a .cells)) (now (a .entries)) in
+    let l = after-f .f .given .0 .0 in
+    let e = sym (after-leaf-for .leaf-for .ensures) ∙ after-f .f .given .1 in
+    shown-known T (a .x) (a .y) l (c .set-in .result) e (c .set-in .ensures .0)
 
 returns-2 : tie.Need-returns-2
-returns-2 c = let a = c .before .before .before .before .before .before .before .before .before .before .args in let p = c .before .before .before .before .before .before .before .before .before .before .pre in let T = tree (now (a .plan)) (now (a .areas)) (now (a .xs)) (now (a .ys)) (now (a .head)) (now (a .cells)) (now (a .entries)) in shown-broken T (a .x) (a .y) (sym (c .before .before .leaf-for .ensures) ∙ c .enum-told .given .1)
+returns-2 c =
+    let after-leaf-for = c .before .before in
+    let at-entry = after-leaf-for .before .before .before .before .before .before .before .before in
+    let a = at-entry .args in
+    let T = tree (now (a .plan)) (now (a .areas)) (now (a .xs)) (now (a .ys)) (now (a .head)) (now (a .cells)) (now (a .entries)) in
+    shown-broken T (a .x) (a .y) (sym (after-leaf-for .leaf-for .ensures) ∙ c .enum-told .given .1)
 
 pub shown-at-spec : {M : Type 1} → statement M
 shown-at-spec =
