@@ -189,7 +189,8 @@ every-leaf t x y f e h = go (behind t x y f e)
         let c = low-corner t x y f l b s in
         let p : f .x ≡ l .x = sym (ap (λ (m : FoundLeaf). m .x) (b .reported)) in
         let q : f .y ≡ l .y = sym (ap (λ (m : FoundLeaf). m .y) (b .reported)) in
-        lines-hold t 256 0 (keyOf (l .x / 4096) (l .y / 4096)) (lineOf f) (at-corner t (l .x) (l .y) _ f c (answer-low t x y f l b) p q) (omega arith) (omega (arith, c .below))
+        lines-hold t 256 0 (keyOf (l .x / 4096) (l .y / 4096)) (lineOf f) (at-corner t (l .x) (l .y) _ f c (answer-low t x y f l b) p q)
+        (omega arith) (omega (arith, c .below))
 
 -- its cell, and what its depth says of the side
 pub record FoundCell (t : Tree) (f : FoundLeaf) : Type 0 where

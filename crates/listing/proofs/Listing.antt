@@ -93,7 +93,13 @@ pub record Listing (t : Tree) (r₀ r : List ℕ) (k n : ℕ) : Type 0 where
 pub list-begin : (t : Tree) (r : List ℕ) → Listing t r r 0 0
 list-begin t r = record { size = refl; few = omega arith; low = omega arith; count = omega arith; rest = refl }
 
-pub list-turn : (t : Tree) (r₀ r r′ : List ℕ) (k n n′ : ℕ) (p : Corner) → k < 256 → p ≡ cornerAt t k → n′ ≡ n + length (withCorner p []) → r′ ≡ written r n (withCorner p []) → Listing t r₀ r k n → Listing t r₀ r′ (k + 1) n′
+pub list-turn : (t : Tree) (r₀ r r′ : List ℕ) (k n n′ : ℕ) (p : Corner)
+    → k < 256
+    → p ≡ cornerAt t k
+    → n′ ≡ n + length (withCorner p [])
+    → r′ ≡ written r n (withCorner p [])
+    → Listing t r₀ r k n
+    → Listing t r₀ r′ (k + 1) n′
 list-turn t r₀ r r′ k n n′ p h e f g c =
     let ls : List Line = linesFrom t (k + 1) (256 - (k + 1)) in
     let s : linesFrom t k (256 - k) ≡ withCorner p ls = lines-step t k h ∙ rw (← e) in
@@ -114,7 +120,15 @@ list-done t r₀ r k n h c = rw (lines-none t k h, written-nil r n) at (c .rest)
 
 -- ---- the lines that are written can be read back, and are those that were written
 at-agree : (t t′ : List ℕ) (m i : ℕ) → take m t ≡ take m t′ → i * 5 + 5 ≤ m → lineAt t i ≡ lineAt t′ i
-at-agree t t′ m i e h = λ d. record { cell = at (i * 5) (omega arith) d; key = at (i * 5 + 1) (omega arith) d; side = at (i * 5 + 2) (omega arith) d; entries = at (i * 5 + 3) (omega arith) d; lines = at (i * 5 + 4) (omega arith) d }
+at-agree t t′ m i e h =
+    λ d.
+    record {
+      cell = at (i * 5) (omega arith) d;
+      key = at (i * 5 + 1) (omega arith) d;
+      side = at (i * 5 + 2) (omega arith) d;
+      entries = at (i * 5 + 3) (omega arith) d;
+      lines = at (i * 5 + 4) (omega arith) d;
+    }
   where
     at : (k : ℕ) → k < m → getD t k 0 ≡ getD t′ k 0
     at k l = sym (getD-take m t k 0 l) ∙ ap (λ (x : List ℕ). getD x k 0) e ∙ getD-take m t′ k 0 l
@@ -146,13 +160,25 @@ put-same t i l h = λ d. record { cell = c d; key = k d; side = s d; entries = e
     t₄ = set t₃ (i * 5 + 3) (l .entries)
 
     c : lineAt (putAt t i l) i .cell ≡ l .cell
-    c = skip t₄ (i * 5 + 4) (i * 5) (l .lines) (omega arith) ∙ skip t₃ (i * 5 + 3) (i * 5) (l .entries) (omega arith) ∙ skip t₂ (i * 5 + 2) (i * 5) (l .side) (omega arith) ∙ skip t₁ (i * 5 + 1) (i * 5) (l .key) (omega arith) ∙ getD-set-same t (i * 5) (l .cell) 0 (omega arith)
+    c =
+        skip t₄ (i * 5 + 4) (i * 5) (l .lines) (omega arith)
+        ∙ skip t₃ (i * 5 + 3) (i * 5) (l .entries) (omega arith)
+        ∙ skip t₂ (i * 5 + 2) (i * 5) (l .side) (omega arith)
+        ∙ skip t₁ (i * 5 + 1) (i * 5) (l .key) (omega arith)
+        ∙ getD-set-same t (i * 5) (l .cell) 0 (omega arith)
 
     k : lineAt (putAt t i l) i .key ≡ l .key
-    k = skip t₄ (i * 5 + 4) (i * 5 + 1) (l .lines) (omega arith) ∙ skip t₃ (i * 5 + 3) (i * 5 + 1) (l .entries) (omega arith) ∙ skip t₂ (i * 5 + 2) (i * 5 + 1) (l .side) (omega arith) ∙ getD-set-same t₁ (i * 5 + 1) (l .key) 0 (simp length-set (omega arith))
+    k =
+        skip t₄ (i * 5 + 4) (i * 5 + 1) (l .lines) (omega arith)
+        ∙ skip t₃ (i * 5 + 3) (i * 5 + 1) (l .entries) (omega arith)
+        ∙ skip t₂ (i * 5 + 2) (i * 5 + 1) (l .side) (omega arith)
+        ∙ getD-set-same t₁ (i * 5 + 1) (l .key) 0 (simp length-set (omega arith))
 
     s : lineAt (putAt t i l) i .side ≡ l .side
-    s = skip t₄ (i * 5 + 4) (i * 5 + 2) (l .lines) (omega arith) ∙ skip t₃ (i * 5 + 3) (i * 5 + 2) (l .entries) (omega arith) ∙ getD-set-same t₂ (i * 5 + 2) (l .side) 0 (simp length-set (omega arith))
+    s =
+        skip t₄ (i * 5 + 4) (i * 5 + 2) (l .lines) (omega arith)
+        ∙ skip t₃ (i * 5 + 3) (i * 5 + 2) (l .entries) (omega arith)
+        ∙ getD-set-same t₂ (i * 5 + 2) (l .side) 0 (simp length-set (omega arith))
 
     e : lineAt (putAt t i l) i .entries ≡ l .entries
     e = skip t₄ (i * 5 + 4) (i * 5 + 3) (l .lines) (omega arith) ∙ getD-set-same t₃ (i * 5 + 3) (l .entries) 0 (simp length-set (omega arith))

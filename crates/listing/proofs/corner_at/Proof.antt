@@ -20,10 +20,15 @@ of-answer-requires c κs = search needs
 
 returns : tie.Need-returns
 returns c =
-    let a = c .before .before .before .before .before .before .before .before .before .before .before .args in
+    let after-find-leaf = c .before in
+    let after-corner-y = after-find-leaf .before in
+    let after-corner-x = after-corner-y .before in
+    let at-entry = after-corner-x .before .before .before .before .before .before .before .before in
+    let a = at-entry .args in
     let t = tree (now (a .plan)) (now (a .areas)) (now (a .xs)) (now (a .ys)) (now (a .head)) (now (a .cells)) (now (a .entries)) in
     c .of-answer .ensures
-    ∙ corner-is t (a .k) (c .before .before .before .corner-x .result) (c .before .before .corner-y .result) (c .before .find-leaf .result) (c .before .before .before .corner-x .ensures .0) (c .before .before .corner-y .ensures .0) (c .before .find-leaf .ensures)
+    ∙ corner-is t (a .k) (after-corner-x .corner-x .result) (after-corner-y .corner-y .result) (after-find-leaf .find-leaf .result)
+    (after-corner-x .corner-x .ensures .0) (after-corner-y .corner-y .ensures .0) (after-find-leaf .find-leaf .ensures)
 
 pub corner-at-spec : {M : Type 1} → statement M
 corner-at-spec =

@@ -8,8 +8,10 @@ key-requires c κs = search needs
 
 returns : tie.Need-returns
 returns c =
-    let a = c .before .before .before .before .args in
-    rw (c .before .if1 .taken, low-key (a .x) (a .y) (a .f) (c .before .if1 .taken), c .key .ensures)
+    let at-if1 = c .before in
+    let at-entry = at-if1 .before .before .before in
+    let a = at-entry .args in
+    rw (at-if1 .if1 .taken, low-key (a .x) (a .y) (a .f) (at-if1 .if1 .taken), c .key .ensures)
 
 returns-2 : tie.Need-returns-2
 returns-2 c = rw (c .if1 .left)

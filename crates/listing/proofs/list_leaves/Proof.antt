@@ -20,8 +20,11 @@ corner-at-requires c κs = search needs
 
 put-corner-requires : tie.Need-put-corner-requires Inv-loop μ-loop
 put-corner-requires c κs =
-    let i = c .before .before .before .loop .inv in
-    omega (arith, i .size, i .few, c .before .before .loop-test .taken, c .before .before .before .before .before .before .before .before .before .before .before .before .pre)
+    let at-loop-test = c .before .before in
+    let at-loop = at-loop-test .before in
+    let at-entry = at-loop .before .before .before .before .before .before .before .before .before in
+    let i = at-loop .loop .inv in
+    omega (arith, i .size, i .few, at-loop-test .loop-test .taken, at-entry .pre)
 
 add-k : tie.Need-add-k Inv-loop μ-loop
 add-k c = search needs
@@ -30,7 +33,13 @@ loop-less : tie.Need-loop-less Inv-loop μ-loop
 loop-less c = search needs
 
 loop-again : tie.Need-loop-again Inv-loop μ-loop
-loop-again c = list-turn _ _ _ _ _ _ _ _ (c .before .before .before .before .before .loop-test .taken) (c .before .before .before .before .corner-at .ensures) (c .before .before .put-corner .ensures .0) (c .before .before .put-corner .ensures .1) (c .before .before .before .before .before .before .loop .inv)
+loop-again c =
+    let after-put-corner = c .before .before in
+    let after-corner-at = after-put-corner .before .before in
+    let at-loop-test = after-corner-at .before in
+    let at-loop = at-loop-test .before in
+    list-turn _ _ _ _ _ _ _ _ (at-loop-test .loop-test .taken) (after-corner-at .corner-at .ensures)
+    (after-put-corner .put-corner .ensures .0) (after-put-corner .put-corner .ensures .1) (at-loop .loop .inv)
 
 same-length : tie.Need-same-length Inv-loop μ-loop
 same-length c = c .before .loop .inv .size

@@ -12,7 +12,9 @@ enum-told : tie.Need-enum-told
 enum-told c = search needs
 
 returns : tie.Need-returns
-returns c = rw (c .before .before .a .given .1) (c .if-low .ensures)
+returns c =
+    let after-a = c .before .before in
+    rw (after-a .a .given .1) (c .if-low .ensures)
 
 returns-2 : tie.Need-returns-2
 returns-2 c = search needs

@@ -20,8 +20,10 @@ same-length c = search needs
 
 returns : tie.Need-returns
 returns c =
-    let e = c .before .before .before .before .before .p .given .1 in
-    (one-count _ _ _ e, one-table _ _ _ _ _ e (c .before .before .put-line .ensures))
+    let after-put-line = c .before .before in
+    let after-p = after-put-line .before .before .before in
+    let e = after-p .p .given .1 in
+    (one-count _ _ _ e, one-table _ _ _ _ _ e (after-put-line .put-line .ensures))
 
 returns-2 : tie.Need-returns-2
 returns-2 c =
