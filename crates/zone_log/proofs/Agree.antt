@@ -15,7 +15,20 @@ use Rattle.find_leaf.specs.Leaf.{positionRange}
 use Rattle.position.specs.Spots.{known}
 use Rattle.zone_log.specs.declared.LogAnswer.{LogAnswer}
 use Rattle.zone_log.specs.declared.LogAnswer.the-variants.{Indices, Not}
-use Rattle.zone_log.specs.Logs.{isLogged, logFrom, outsideFrom, eachWord, materialAt, knownFrom, zoneLog, logRoom, logKnown, logRange, logAnswer, outAfter}
+use Rattle.zone_log.specs.Logs.{
+  isLogged,
+  logFrom,
+  outsideFrom,
+  eachWord,
+  materialAt,
+  knownFrom,
+  zoneLog,
+  logRoom,
+  logKnown,
+  logRange,
+  logAnswer,
+  outAfter,
+}
 use Rattle.zone_log.specs.code.Numbers.{RunIn}
 
 pub logged-agrees : (m m′ : ℕ → ℕ) (i : ℕ) → m i ≡ m′ i → m (i - 1) ≡ m′ (i - 1) → isLogged m i ≡ isLogged m′ i
@@ -47,20 +60,35 @@ module _ (t : Tree) (px py : List ℕ) where
   none-outside i (suc n) h = rw (h i (omega arith)) (none-outside (i + 1) n (λ k l. h k (omega (arith, l))) ∙ omega arith)
 
   -- a run in range, at whose positions 12 is not met, with room: the log of the materials
-  pub log-accepted : (m : ℕ → ℕ) (out : List ℕ) → length (t .xs) ≡ length (t .ys) → RunIn px py → ((k : ℕ) → k < length px → known t (getD px k 0) (getD py k 0) ≡ true)
-      → ((k : ℕ) → k < length px → materialAt t px py k ≡ m k) → length (logFrom m 0 (length px)) ≤ length out → eachWord (logFrom m 0 (length px)) ≡ true
-      → (logAnswer t px py (length out) ≡ Indices (length (logFrom m 0 (length px)))) × (outAfter t px py (logAnswer t px py (length out)) out ≡ sets out 0 (logFrom m 0 (length px)))
+  pub log-accepted : (m : ℕ → ℕ) (out : List ℕ)
+      → length (t .xs) ≡ length (t .ys)
+      → RunIn px py
+      → ((k : ℕ) → k < length px → known t (getD px k 0) (getD py k 0) ≡ true)
+      → ((k : ℕ) → k < length px → materialAt t px py k ≡ m k)
+      → length (logFrom m 0 (length px)) ≤ length out
+      → eachWord (logFrom m 0 (length px)) ≡ true
+      → (logAnswer t px py (length out) ≡ Indices (length (logFrom m 0 (length px))))
+      × (outAfter t px py (logAnswer t px py (length out)) out ≡ sets out 0 (logFrom m 0 (length px)))
   log-accepted m out e r k h l w =
       let z = log-is m h in
       let o : outsideFrom px py 0 (length px) ≡ length px = none-outside 0 (length px) (λ i g. range-true i r (omega (arith, g))) ∙ omega arith in
-      let room : (leb (length (zoneLog t px py)) (length out) && eachWord (zoneLog t px py)) ≡ true = rw z (ap₂ (λ (a b : Bool). a && b) (le-leb (length (logFrom m 0 (length px))) (length out) l) w) in
-      let a₁ : Indices (length (zoneLog t px py)) ≡ logRoom t px py (length out) = pick-true (leb (length (zoneLog t px py)) (length out) && eachWord (zoneLog t px py)) (Indices (length (zoneLog t px py))) (Not Refusals.Room 0) room in
-      let a₂ = pick-true (knownFrom t px py 0 (length px)) (logRoom t px py (length out)) (Not Refusals.Broken 0) (known-all 0 (length px) (λ i g. k i (omega (arith, g)))) in
-      let a₃ = pick-false (ltb (outsideFrom px py 0 (length px)) (length px)) (Not Refusals.Argument (outsideFrom px py 0 (length px))) (logKnown t px py (length out)) (le-ltb (outsideFrom px py 0 (length px)) (length px) (omega (arith, o))) in
+      let room : (leb (length (zoneLog t px py)) (length out) && eachWord (zoneLog t px py)) ≡ true =
+      rw z (ap₂ (λ (a b : Bool). a && b) (le-leb (length (logFrom m 0 (length px))) (length out) l) w) in
+      let a₁ : Indices (length (zoneLog t px py)) ≡ logRoom t px py (length out) = pick-true
+      (leb (length (zoneLog t px py)) (length out) && eachWord (zoneLog t px py)) (Indices (length (zoneLog t px py))) (Not Refusals.Room 0)
+      room in
+      let a₂ = pick-true (knownFrom t px py 0 (length px)) (logRoom t px py (length out)) (Not Refusals.Broken 0)
+      (known-all 0 (length px) (λ i g. k i (omega (arith, g)))) in
+      let a₃ = pick-false (ltb (outsideFrom px py 0 (length px)) (length px)) (Not Refusals.Argument (outsideFrom px py 0 (length px)))
+      (logKnown t px py (length out)) (le-ltb (outsideFrom px py 0 (length px)) (length px) (omega (arith, o))) in
       let a₄ = pick-true (eqb (length px) (length py)) (logRange t px py (length out)) (Not Refusals.Argument 0) (eq-eqb (length px) (length py) (r .same)) in
-      let a₅ = pick-true (eqb (length (t .xs)) (length (t .ys))) (cond (eqb (length px) (length py)) (logRange t px py (length out)) (Not Refusals.Argument 0)) (Not Refusals.Argument 0) (eq-eqb (length (t .xs)) (length (t .ys)) e) in
-      let whole : Indices (length (zoneLog t px py)) ≡ logAnswer t px py (length out) = a₁ ∙ (a₂ ∙ (a₃ ∙ (a₄ ∙ a₅))) in
-      (sym whole ∙ ap (λ (v : List ℕ). Indices (length v)) z, ap (λ (v : LogAnswer). outAfter t px py v out) (sym whole) ∙ ap (sets out 0) z)
+      let a₅ = pick-true (eqb (length (t .xs)) (length (t .ys)))
+      (cond (eqb (length px) (length py)) (logRange t px py (length out)) (Not Refusals.Argument 0)) (Not Refusals.Argument 0)
+      (eq-eqb (length (t .xs)) (length (t .ys)) e) in
+      let whole : Indices (length (zoneLog t px py)) ≡ logAnswer t px py (length out) = a₁ ∙ (a₂ ∙ (a₃ ∙ (a₄ ∙ a₅))) in (
+        sym whole ∙ ap (λ (v : List ℕ). Indices (length v)) z,
+        ap (λ (v : LogAnswer). outAfter t px py v out) (sym whole) ∙ ap (sets out 0) z,
+      )
 
 -- an empty run meets no number: it is accepted over any tree
 pub log-empty : (t : Tree) (out : ℕ) → length (t .xs) ≡ length (t .ys) → logAnswer t [] [] out ≡ Indices 0

@@ -58,12 +58,21 @@ module _ (t : Tree) (px py : List ℕ) where
   pub passing-begin : (n : ℕ) (before : ℕ) (last : Found) → LastIn t last → Passing n 0 last before
   passing-begin n before last h = record { to = omega arith; leaf = h; prior = λ z. absurd (z refl) }
 
-  pub passing-turn : (n i set : ℕ) (last f : Found) (before now : ℕ) → i < n → Passing n i last before → Known t (getD px i 0) (getD py i 0) set f → now ≡ materialOf (paintAt (t .areas)) set → Passing n (i + 1) f now
+  pub passing-turn : (n i set : ℕ) (last f : Found) (before now : ℕ)
+      → i < n
+      → Passing n i last before
+      → Known t (getD px i 0) (getD py i 0) set f
+      → now ≡ materialOf (paintAt (t .areas)) set
+      → Passing n (i + 1) f now
   passing-turn n i set last f before now h p k e =
       let z : i + 1 - 1 ≡ i = omega arith in
       record { to = omega (arith, h); leaf = k .is-leaf; prior = λ q. e ∙ (ap (materialOf (paintAt (t .areas))) (k .is-set) ∙ ap at (sym z)) }
 
-  passed-logged : (n i set : ℕ) (last f : Found) (before now : ℕ) → Passing n i last before → Known t (getD px i 0) (getD py i 0) set f → now ≡ materialOf (paintAt (t .areas)) set → loggedN i before now ≡ isLogged at i
+  passed-logged : (n i set : ℕ) (last f : Found) (before now : ℕ)
+      → Passing n i last before
+      → Known t (getD px i 0) (getD py i 0) set f
+      → now ≡ materialOf (paintAt (t .areas)) set
+      → loggedN i before now ≡ isLogged at i
   passed-logged n i set last f before now p k e = logged-is at i before now (p .prior) (e ∙ ap (materialOf (paintAt (t .areas))) (k .is-set))
 
   -- ---- one index of what is left
@@ -110,8 +119,14 @@ module _ (t : Tree) (px py : List ℕ) where
         words = ap (λ (k : ℕ). eachWord (logFrom at 0 k)) z;
       }
 
-  pub counting-turn : (n i set : ℕ) (last f : Found) (before now : ℕ) (b : Bool) (c d : Tally) → i < n → Counting n i last before c → Known t (getD px i 0) (getD py i 0) set f
-      → now ≡ materialOf (paintAt (t .areas)) set → b ≡ loggedN i before now → d ≡ talliedN c i b → Counting n (i + 1) f now d
+  pub counting-turn : (n i set : ℕ) (last f : Found) (before now : ℕ) (b : Bool) (c d : Tally)
+      → i < n
+      → Counting n i last before c
+      → Known t (getD px i 0) (getD py i 0) set f
+      → now ≡ materialOf (paintAt (t .areas)) set
+      → b ≡ loggedN i before now
+      → d ≡ talliedN c i b
+      → Counting n (i + 1) f now d
   counting-turn n i set last f before now b c d h p k e g r =
       go b (g ∙ passed-logged n i set last f before now (p .pass) k e) r
     where
@@ -137,17 +152,31 @@ module _ (t : Tree) (px py : List ℕ) where
             words = sym (ap (λ (w : List ℕ). c .fits && eachWord w) l) ∙ p .words;
           })
 
-  pub counting-done : (n i : ℕ) (last : Found) (before : ℕ) (c : Tally) → n ≤ i → n ≡ length px → Counting n i last before c → Counts.Known (c .count) (c .fits) ≡ countIn t px py
+  pub counting-done : (n i : ℕ) (last : Found) (before : ℕ) (c : Tally)
+      → n ≤ i
+      → n ≡ length px
+      → Counting n i last before c
+      → Counts.Known (c .count) (c .fits) ≡ countIn t px py
   unfolding zoneLog eachWord
   counting-done n i last before c h e p =
       let l = left-none n i h in
       let k : knownFrom t px py 0 n ≡ true = sym (p .knows) ∙ known-none n i h in
       let s : c .count ≡ length (logFrom at 0 n) = omega (arith, p .sum, ap length l) in
       let w : c .fits ≡ eachWord (logFrom at 0 n) = sym (and-true (c .fits)) ∙ (sym (ap (λ (w : List ℕ). c .fits && eachWord w) l) ∙ p .words) in
-      subst (λ (m : ℕ). Counts.Known (c .count) (c .fits) ≡ cond (knownFrom t px py 0 m) (Counts.Known (length (logFrom at 0 m)) (eachWord (logFrom at 0 m))) Counts.Broken) e
-      (ap₂ Counts.Known s w ∙ pick-true (knownFrom t px py 0 n) (Counts.Known (length (logFrom at 0 n)) (eachWord (logFrom at 0 n))) Counts.Broken k)
+      subst
+      (λ (m : ℕ).
+      Counts.Known (c .count) (c .fits)
+      ≡ cond (knownFrom t px py 0 m) (Counts.Known (length (logFrom at 0 m)) (eachWord (logFrom at 0 m))) Counts.Broken)
+      e
+      (ap₂ Counts.Known s w
+      ∙ pick-true (knownFrom t px py 0 n) (Counts.Known (length (logFrom at 0 n)) (eachWord (logFrom at 0 n))) Counts.Broken k)
 
-  pub counting-broken : (n i : ℕ) (last : Found) (before : ℕ) (c : Tally) → i < n → n ≡ length px → Counting n i last before c → known t (getD px i 0) (getD py i 0) ≡ false → Counts.Broken ≡ countIn t px py
+  pub counting-broken : (n i : ℕ) (last : Found) (before : ℕ) (c : Tally)
+      → i < n
+      → n ≡ length px
+      → Counting n i last before c
+      → known t (getD px i 0) (getD py i 0) ≡ false
+      → Counts.Broken ≡ countIn t px py
   counting-broken n i last before c h e p g =
       let k : knownFrom t px py 0 (length px) ≡ false = ap (knownFrom t px py 0) (sym e) ∙ (sym (p .knows) ∙ known-no n i h g) in
       pick-false (knownFrom t px py 0 (length px)) (Counts.Known (length (zoneLog t px py)) (eachWord (zoneLog t px py))) Counts.Broken k
@@ -161,8 +190,13 @@ module _ (t : Tree) (px py : List ℕ) where
     pub knows : knownFrom t px py i (n - i) ≡ true
     pub rest : sets out k (left n i) ≡ sets out₀ 0 (zoneLog t px py)
 
-  pub writing-begin : (out : List ℕ) (n before : ℕ) (last : Found) → LastIn t last → n ≡ length px → length (zoneLog t px py) ≤ length out → eachWord (zoneLog t px py) ≡ true
-      → knownFrom t px py 0 (length px) ≡ true → Writing out n 0 last before 0 out
+  pub writing-begin : (out : List ℕ) (n before : ℕ) (last : Found)
+      → LastIn t last
+      → n ≡ length px
+      → length (zoneLog t px py) ≤ length out
+      → eachWord (zoneLog t px py) ≡ true
+      → knownFrom t px py 0 (length px) ≡ true
+      → Writing out n 0 last before 0 out
   unfolding zoneLog
   writing-begin out n before last h e r w k =
       let z : n - 0 ≡ length px = less-none n ∙ e in
@@ -183,7 +217,8 @@ module _ (t : Tree) (px py : List ℕ) where
       go true e q = (ltb-true i 4294967296 e, q)
       go false e q = clash q
 
-  module _ (out₀ : List ℕ) (n i set : ℕ) (last f : Found) (before now k : ℕ) (out : List ℕ) (h : i < n) (p : Writing out₀ n i last before k out) (g : Known t (getD px i 0) (getD py i 0) set f)
+  module _ (out₀ : List ℕ) (n i set : ℕ) (last f : Found) (before now k : ℕ) (out : List ℕ) (h : i < n)
+      (p : Writing out₀ n i last before k out) (g : Known t (getD px i 0) (getD py i 0) set f)
       (e : now ≡ materialOf (paintAt (t .areas)) set) where
     is : loggedN i before now ≡ isLogged at i
     is = passed-logged n i set last f before now (p .pass) g e
@@ -195,7 +230,11 @@ module _ (t : Tree) (px py : List ℕ) where
         let w = word-true i (left n (i + 1)) (subst (λ (v : List ℕ). eachWord v ≡ true) l (p .words)) in
         (omega (arith, p .room, p .size, ap length l), w .0)
 
-    pub writing-turn : (b : Bool) (k′ : ℕ) (out′ : List ℕ) → b ≡ loggedN i before now → k′ ≡ cond b (k + 1) k → out′ ≡ cond b (ListN.set out k i) out → Writing out₀ n (i + 1) f now k′ out′
+    pub writing-turn : (b : Bool) (k′ : ℕ) (out′ : List ℕ)
+        → b ≡ loggedN i before now
+        → k′ ≡ cond b (k + 1) k
+        → out′ ≡ cond b (ListN.set out k i) out
+        → Writing out₀ n (i + 1) f now k′ out′
     writing-turn b k′ out′ q r s = go b (q ∙ is) r s
       where
         go : (b : Bool) → b ≡ isLogged at i → k′ ≡ cond b (k + 1) k → out′ ≡ cond b (ListN.set out k i) out → Writing out₀ n (i + 1) f now k′ out′
@@ -222,9 +261,16 @@ module _ (t : Tree) (px py : List ℕ) where
               rest = ap₂ (λ (m : ℕ) (o : List ℕ). sets o m (left n (i + 1))) r s ∙ (sym (ap (sets out k) l) ∙ p .rest);
             }
 
-  pub writing-done : (out₀ : List ℕ) (n i : ℕ) (last : Found) (before k : ℕ) (out : List ℕ) → n ≤ i → Writing out₀ n i last before k out → out ≡ sets out₀ 0 (zoneLog t px py)
+  pub writing-done : (out₀ : List ℕ) (n i : ℕ) (last : Found) (before k : ℕ) (out : List ℕ)
+      → n ≤ i
+      → Writing out₀ n i last before k out
+      → out ≡ sets out₀ 0 (zoneLog t px py)
   writing-done out₀ n i last before k out h p = sym (ap (sets out k) (left-none n i h)) ∙ p .rest
 
   -- no position of a run that is known is met by 12
-  pub writing-known : {A : Type 0} (out₀ : List ℕ) (n i : ℕ) (last : Found) (before k : ℕ) (out : List ℕ) → i < n → Writing out₀ n i last before k out → known t (getD px i 0) (getD py i 0) ≡ false → A
+  pub writing-known : {A : Type 0} (out₀ : List ℕ) (n i : ℕ) (last : Found) (before k : ℕ) (out : List ℕ)
+      → i < n
+      → Writing out₀ n i last before k out
+      → known t (getD px i 0) (getD py i 0) ≡ false
+      → A
   writing-known out₀ n i last before k out h p g = absurd (clash (sym (known-no n i h g) ∙ p .knows))

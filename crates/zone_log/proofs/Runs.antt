@@ -21,7 +21,11 @@ pub less-none : (n : ℕ) → n - 0 ≡ n
 less-none n = omega arith
 
 module _ (px py : List ℕ) where
-  pub outside-turn : (e i whole : ℕ) → i < e → positionRange (getD px i 0) (getD py i 0) ≡ true → outsideFrom px py i (e - i) ≡ whole → outsideFrom px py (i + 1) (e - (i + 1)) ≡ whole
+  pub outside-turn : (e i whole : ℕ)
+      → i < e
+      → positionRange (getD px i 0) (getD py i 0) ≡ true
+      → outsideFrom px py i (e - i) ≡ whole
+      → outsideFrom px py (i + 1) (e - (i + 1)) ≡ whole
   unfolding outsideFrom
   outside-turn e i whole h g k = rw g at (rw (less-one e i h) at k)
 
@@ -39,8 +43,13 @@ module _ (px py : List ℕ) where
   all-from i zero h k a b = absurd (omega arith)
   all-from i (suc n) h k a b = go (positionRange (getD px i 0) (getD py i 0)) refl h (ltb i k) refl (all-from (i + 1) n)
     where
-      go : (t : Bool) → positionRange (getD px i 0) (getD py i 0) ≡ t → i + suc n ≤ cond t (outsideFrom px py (i + 1) n) i → (l : Bool) → ltb i k ≡ l
-          → (i + 1 + n ≤ outsideFrom px py (i + 1) n → (k : ℕ) → i + 1 ≤ k → k < i + 1 + n → positionRange (getD px k 0) (getD py k 0) ≡ true) → positionRange (getD px k 0) (getD py k 0) ≡ true
+      go : (t : Bool)
+          → positionRange (getD px i 0) (getD py i 0) ≡ t
+          → i + suc n ≤ cond t (outsideFrom px py (i + 1) n) i
+          → (l : Bool)
+          → ltb i k ≡ l
+          → (i + 1 + n ≤ outsideFrom px py (i + 1) n → (k : ℕ) → i + 1 ≤ k → k < i + 1 + n → positionRange (getD px k 0) (getD py k 0) ≡ true)
+          → positionRange (getD px k 0) (getD py k 0) ≡ true
       go true e h true l r = r (omega arith) k (omega (arith, ltb-true i k l)) (omega arith)
       go true e h false l r = let q : k ≡ i = omega (arith, ltb-false i k l) in ap (λ (j : ℕ). positionRange (getD px j 0) (getD py j 0)) q ∙ e
       go false e h b l r = absurd (omega arith)
@@ -49,5 +58,7 @@ module _ (px py : List ℕ) where
   run-in s h =
       record {
         same = s;
-        inside = λ i l. let b = both (ltb (getD px i 0) 65536) (ltb (getD py i 0) 65536) (all-from 0 (length px) (omega arith) i (omega arith) (omega arith)) in (ltb-true (getD px i 0) 65536 (b .0), ltb-true (getD py i 0) 65536 (b .1));
+        inside = λ i l.
+            let b = both (ltb (getD px i 0) 65536) (ltb (getD py i 0) 65536) (all-from 0 (length px) (omega arith) i (omega arith) (omega arith)) in
+            (ltb-true (getD px i 0) 65536 (b .0), ltb-true (getD py i 0) 65536 (b .1));
       }

@@ -12,58 +12,155 @@ use Rattle.zone_log.proofs.count_log.Statement.{statement}
 use Rattle.zone_log.proofs.count_log.Tie as tie
 
 abbrev Inv-loop : tie.InvT-loop
-Inv-loop plan areas xs ys head cells entries px py n last₀ prior₀ c₀ i₀ last prior c i = (n ≡ length px) × Counting (tree plan areas xs ys head cells entries) px py n i last prior c
+Inv-loop plan areas xs ys head cells entries px py n last₀ prior₀ c₀ i₀ last prior c i =
+    (n ≡ length px) × Counting (tree plan areas xs ys head cells entries) px py n i last prior c
 
 abbrev μ-loop : tie.MeasureT-loop
 μ-loop plan areas xs ys head cells entries px py n last₀ prior₀ c₀ i₀ last prior c i = n - i
 
 loop-holds : tie.Need-loop-holds Inv-loop μ-loop
-loop-holds c = let a = c .before .before .before .before .before .before .before .before .before .args in let T = tree (now (a .plan)) (now (a .areas)) (now (a .xs)) (now (a .ys)) (now (a .head)) (now (a .cells)) (now (a .entries)) in (refl, counting-begin T (now (a .px)) (now (a .py)) (length (now (a .px))) 0 Broken tt)
+loop-holds c =
+    let at-entry = c .before .before .before .before .before .before .before .before .before in
+    let a = at-entry .args in
+    let T = tree (now (a .plan)) (now (a .areas)) (now (a .xs)) (now (a .ys)) (now (a .head)) (now (a .cells)) (now (a .entries)) in
+    (refl, counting-begin T (now (a .px)) (now (a .py)) (length (now (a .px))) 0 Broken tt)
 
 mul-shown-at : tie.Need-mul-shown-at Inv-loop μ-loop
-mul-shown-at c = let a = c .before .before .before .before .before .before .before .before .before .before .before .args in let p = c .before .before .before .before .before .before .before .before .before .before .before .pre in let T = tree (now (a .plan)) (now (a .areas)) (now (a .xs)) (now (a .ys)) (now (a .head)) (now (a .cells)) (now (a .entries)) in let px = now (a .px) in let py = now (a .py) in let i = c .before .loop .i in let k = c .loop-test .taken in omega (arith, c .before .before .before .before .before .before .before .before .before .before .before .good, k)
+mul-shown-at c =
+    let at-loop = c .before in
+    let at-entry = at-loop .before .before .before .before .before .before .before .before .before .before in
+    let k = c .loop-test .taken in
+    omega (arith, at-entry .good, k)
 
 shared-slice-read-shown-at : tie.Need-shared-slice-read-shown-at Inv-loop μ-loop
-shared-slice-read-shown-at c = let a = c .before .before .before .before .before .before .before .before .before .before .before .before .args in let p = c .before .before .before .before .before .before .before .before .before .before .before .before .pre in let T = tree (now (a .plan)) (now (a .areas)) (now (a .xs)) (now (a .ys)) (now (a .head)) (now (a .cells)) (now (a .entries)) in let px = now (a .px) in let py = now (a .py) in let i = c .before .before .loop .i in let k = c .before .loop-test .taken in omega (arith, k)
+shared-slice-read-shown-at c =
+    let at-loop-test = c .before in
+    let k = at-loop-test .loop-test .taken in
+    omega (arith, k)
 
 mul-shown-at-2 : tie.Need-mul-shown-at-2 Inv-loop μ-loop
-mul-shown-at-2 c = let a = c .before .before .before .before .before .before .before .before .before .before .before .before .args in let p = c .before .before .before .before .before .before .before .before .before .before .before .before .pre in let T = tree (now (a .plan)) (now (a .areas)) (now (a .xs)) (now (a .ys)) (now (a .head)) (now (a .cells)) (now (a .entries)) in let px = now (a .px) in let py = now (a .py) in let i = c .before .before .loop .i in let k = c .before .loop-test .taken in omega (arith, c .before .before .before .before .before .before .before .before .before .before .before .before .good, p .same, k)
+mul-shown-at-2 c =
+    let at-loop-test = c .before in
+    let at-loop = at-loop-test .before in
+    let at-entry = at-loop .before .before .before .before .before .before .before .before .before .before in
+    let p = at-entry .pre in
+    let k = at-loop-test .loop-test .taken in
+    omega (arith, at-entry .good, p .same, k)
 
 shared-slice-read-shown-at-2 : tie.Need-shared-slice-read-shown-at-2 Inv-loop μ-loop
-shared-slice-read-shown-at-2 c = let a = c .before .before .before .before .before .before .before .before .before .before .before .before .before .args in let p = c .before .before .before .before .before .before .before .before .before .before .before .before .before .pre in let T = tree (now (a .plan)) (now (a .areas)) (now (a .xs)) (now (a .ys)) (now (a .head)) (now (a .cells)) (now (a .entries)) in let px = now (a .px) in let py = now (a .py) in let i = c .before .before .before .loop .i in let k = c .before .before .loop-test .taken in omega (arith, p .same, k)
+shared-slice-read-shown-at-2 c =
+    let at-loop-test = c .before .before in
+    let at-loop = at-loop-test .before in
+    let at-entry = at-loop .before .before .before .before .before .before .before .before .before .before in
+    let p = at-entry .pre in
+    let k = at-loop-test .loop-test .taken in
+    omega (arith, p .same, k)
 
 shown-at-requires : tie.Need-shown-at-requires Inv-loop μ-loop
-shown-at-requires c κs = let a = c .before .before .before .before .before .before .before .before .before .before .before .before .before .args in let p = c .before .before .before .before .before .before .before .before .before .before .before .before .before .pre in let T = tree (now (a .plan)) (now (a .areas)) (now (a .xs)) (now (a .ys)) (now (a .head)) (now (a .cells)) (now (a .entries)) in let px = now (a .px) in let py = now (a .py) in let i = c .before .before .before .loop .i in let k = c .before .before .loop-test .taken in (c .before .before .before .loop .inv .1 .pass .leaf, p .inside i k)
+shown-at-requires c κs =
+    let at-loop-test = c .before .before in
+    let at-loop = at-loop-test .before in
+    let at-entry = at-loop .before .before .before .before .before .before .before .before .before .before in
+    let p = at-entry .pre in
+    let i = at-loop .loop .i in
+    let k = at-loop-test .loop-test .taken in
+    (at-loop .loop .inv .1 .pass .leaf, p .inside i k)
 
 enum-known-s : tie.Need-enum-known-s Inv-loop μ-loop
 enum-known-s c = search needs
 
 material-of-requires : tie.Need-material-of-requires Inv-loop μ-loop
-material-of-requires c κs = let a = c .before .before .before .before .before .before .before .before .before .before .before .before .before .before .before .before .before .args in let p = c .before .before .before .before .before .before .before .before .before .before .before .before .before .before .before .before .before .pre in let T = tree (now (a .plan)) (now (a .areas)) (now (a .xs)) (now (a .ys)) (now (a .head)) (now (a .cells)) (now (a .entries)) in let px = now (a .px) in let py = now (a .py) in let i = c .before .before .before .before .before .before .before .loop .i in let k = c .before .before .before .before .before .before .loop-test .taken in let g = known-set T (getD px i 0) (getD py i 0) (c .before .before .before .shown-at .result) (c .before .s .given .0 .0) (c .before .s .given .0 .1 .0) (c .before .before .before .shown-at .ensures) (c .before .s .given .1) in rw (g .is-set) (in-painted T (getD px i 0) (getD py i 0))
+material-of-requires c κs =
+    let after-s = c .before in
+    let after-shown-at = after-s .before .before in
+    let at-loop-test = after-shown-at .before .before .before in
+    let at-loop = at-loop-test .before in
+    let at-entry = at-loop .before .before .before .before .before .before .before .before .before .before in
+    let a = at-entry .args in
+    let T = tree (now (a .plan)) (now (a .areas)) (now (a .xs)) (now (a .ys)) (now (a .head)) (now (a .cells)) (now (a .entries)) in
+    let px = now (a .px) in
+    let py = now (a .py) in
+    let i = at-loop .loop .i in
+    let g = known-set T (getD px i 0) (getD py i 0) (after-shown-at .shown-at .result) (after-s .s .given .0 .0)
+    (after-s .s .given .0 .1 .0) (after-shown-at .shown-at .ensures) (after-s .s .given .1) in
+    rw (g .is-set) (in-painted T (getD px i 0) (getD py i 0))
 
 is-logged-requires : tie.Need-is-logged-requires Inv-loop μ-loop
 is-logged-requires c κs = search needs
 
 tallied-requires : tie.Need-tallied-requires Inv-loop μ-loop
-tallied-requires c κs = let a = c .before .before .before .before .before .before .before .before .before .before .before .before .before .before .before .before .before .before .before .args in let p = c .before .before .before .before .before .before .before .before .before .before .before .before .before .before .before .before .before .before .before .pre in let T = tree (now (a .plan)) (now (a .areas)) (now (a .xs)) (now (a .ys)) (now (a .head)) (now (a .cells)) (now (a .entries)) in let px = now (a .px) in let py = now (a .py) in let i = c .before .before .before .before .before .before .before .before .before .loop .i in let k = c .before .before .before .before .before .before .before .before .loop-test .taken in omega (arith, c .before .before .before .before .before .before .before .before .before .before .before .before .before .before .before .before .before .before .before .good, k, c .before .before .before .before .before .before .before .before .before .loop .inv .1 .few)
+tallied-requires c κs =
+    let at-loop-test = c .before .before .before .before .before .before .before .before in
+    let at-loop = at-loop-test .before in
+    let at-entry = at-loop .before .before .before .before .before .before .before .before .before .before in
+    let k = at-loop-test .loop-test .taken in
+    omega (arith, at-entry .good, k, at-loop .loop .inv .1 .few)
 
 add-i : tie.Need-add-i Inv-loop μ-loop
-add-i c = omega (arith, c .before .before .before .before .before .before .before .before .before .before .before .before .before .before .before .before .before .before .before .before .good, c .before .before .before .before .before .before .before .before .before .loop-test .taken)
+add-i c =
+    let at-loop-test = c .before .before .before .before .before .before .before .before .before in
+    let at-entry = at-loop-test .before .before .before .before .before .before .before .before .before .before .before in
+    omega (arith, at-entry .good, at-loop-test .loop-test .taken)
 
 loop-less : tie.Need-loop-less Inv-loop μ-loop
-loop-less c = omega (arith, c .before .before .before .before .before .before .before .before .before .loop-test .taken)
+loop-less c =
+    let at-loop-test = c .before .before .before .before .before .before .before .before .before in
+    omega (arith, at-loop-test .loop-test .taken)
 
 loop-again : tie.Need-loop-again Inv-loop μ-loop
-loop-again c = let a = c .before .before .before .before .before .before .before .before .before .before .before .before .before .before .before .before .before .before .before .before .args in let p = c .before .before .before .before .before .before .before .before .before .before .before .before .before .before .before .before .before .before .before .before .pre in let T = tree (now (a .plan)) (now (a .areas)) (now (a .xs)) (now (a .ys)) (now (a .head)) (now (a .cells)) (now (a .entries)) in let px = now (a .px) in let py = now (a .py) in let i = c .before .before .before .before .before .before .before .before .before .before .loop .i in let k = c .before .before .before .before .before .before .before .before .before .loop-test .taken in let g = known-set T (getD px i 0) (getD py i 0) (c .before .before .before .before .before .before .shown-at .result) (c .before .before .before .before .s .given .0 .0) (c .before .before .before .before .s .given .0 .1 .0) (c .before .before .before .before .before .before .shown-at .ensures) (c .before .before .before .before .s .given .1) in (c .before .before .before .before .before .before .before .before .before .before .loop .inv .0, counting-turn T px py (length px) i (c .before .before .before .before .s .given .0 .0) (c .before .before .before .before .before .before .before .before .before .before .loop .last) (c .before .before .before .before .s .given .0 .1 .0) (c .before .before .before .before .before .before .before .before .before .before .loop .prior) (c .before .before .material-of .result) (c .before .is-logged .result) (c .before .before .before .before .before .before .before .before .before .before .loop .c) (c .tallied .result) k (c .before .before .before .before .before .before .before .before .before .before .loop .inv .1) g (c .before .before .material-of .ensures) (c .before .is-logged .ensures) (c .tallied .ensures))
+loop-again c =
+    let after-is-logged = c .before in
+    let after-material-of = after-is-logged .before in
+    let after-s = after-material-of .before .before in
+    let after-shown-at = after-s .before .before in
+    let at-loop-test = after-shown-at .before .before .before in
+    let at-loop = at-loop-test .before in
+    let at-entry = at-loop .before .before .before .before .before .before .before .before .before .before in
+    let a = at-entry .args in
+    let T = tree (now (a .plan)) (now (a .areas)) (now (a .xs)) (now (a .ys)) (now (a .head)) (now (a .cells)) (now (a .entries)) in
+    let px = now (a .px) in
+    let py = now (a .py) in
+    let i = at-loop .loop .i in
+    let k = at-loop-test .loop-test .taken in
+    let g = known-set T (getD px i 0) (getD py i 0) (after-shown-at .shown-at .result) (after-s .s .given .0 .0)
+    (after-s .s .given .0 .1 .0) (after-shown-at .shown-at .ensures) (after-s .s .given .1) in (
+      at-loop .loop .inv .0,
+      counting-turn T px py (length px) i (after-s .s .given .0 .0) (at-loop .loop .last) (after-s .s .given .0 .1 .0)
+          (at-loop .loop .prior) (after-material-of .material-of .result) (after-is-logged .is-logged .result) (at-loop .loop .c)
+          (c .tallied .result) k (at-loop .loop .inv .1) g (after-material-of .material-of .ensures) (after-is-logged .is-logged .ensures)
+          (c .tallied .ensures),
+    )
 
 enum-told : tie.Need-enum-told Inv-loop μ-loop
 enum-told c = search needs
 
 returns : tie.Need-returns Inv-loop μ-loop
-returns c = let a = c .before .before .before .before .before .before .before .before .before .before .before .before .before .before .before .before .args in let p = c .before .before .before .before .before .before .before .before .before .before .before .before .before .before .before .before .pre in let T = tree (now (a .plan)) (now (a .areas)) (now (a .xs)) (now (a .ys)) (now (a .head)) (now (a .cells)) (now (a .entries)) in let px = now (a .px) in let py = now (a .py) in let i = c .before .before .before .before .before .before .loop .i in let k = c .before .before .before .before .before .loop-test .taken in counting-broken T px py (length px) i (c .before .before .before .before .before .before .loop .last) (c .before .before .before .before .before .before .loop .prior) (c .before .before .before .before .before .before .loop .c) k refl (c .before .before .before .before .before .before .loop .inv .1) (unknown-set T (getD px i 0) (getD py i 0) (c .before .before .shown-at .result) (c .before .before .shown-at .ensures) (c .enum-told .given .1))
+returns c =
+    let after-shown-at = c .before .before in
+    let at-loop-test = after-shown-at .before .before .before in
+    let at-loop = at-loop-test .before in
+    let at-entry = at-loop .before .before .before .before .before .before .before .before .before .before in
+    let a = at-entry .args in
+    let T = tree (now (a .plan)) (now (a .areas)) (now (a .xs)) (now (a .ys)) (now (a .head)) (now (a .cells)) (now (a .entries)) in
+    let px = now (a .px) in
+    let py = now (a .py) in
+    let i = at-loop .loop .i in
+    let k = at-loop-test .loop-test .taken in
+    counting-broken T px py (length px) i (at-loop .loop .last) (at-loop .loop .prior) (at-loop .loop .c) k refl (at-loop .loop .inv .1)
+    (unknown-set T (getD px i 0) (getD py i 0) (after-shown-at .shown-at .result) (after-shown-at .shown-at .ensures)
+    (c .enum-told .given .1))
 
 returns-2 : tie.Need-returns-2 Inv-loop μ-loop
-returns-2 c = let a = c .before .before .before .before .before .before .before .before .before .before .before .args in let p = c .before .before .before .before .before .before .before .before .before .before .before .pre in let T = tree (now (a .plan)) (now (a .areas)) (now (a .xs)) (now (a .ys)) (now (a .head)) (now (a .cells)) (now (a .entries)) in let px = now (a .px) in let py = now (a .py) in let i = c .before .loop .i in let k = c .loop-test .left in counting-done T px py (length px) i (c .before .loop .last) (c .before .loop .prior) (c .before .loop .c) k refl (c .before .loop .inv .1)
+returns-2 c =
+    let at-loop = c .before in
+    let at-entry = at-loop .before .before .before .before .before .before .before .before .before .before in
+    let a = at-entry .args in
+    let T = tree (now (a .plan)) (now (a .areas)) (now (a .xs)) (now (a .ys)) (now (a .head)) (now (a .cells)) (now (a .entries)) in
+    let px = now (a .px) in
+    let py = now (a .py) in
+    let i = at-loop .loop .i in
+    let k = c .loop-test .left in
+    counting-done T px py (length px) i (at-loop .loop .last) (at-loop .loop .prior) (at-loop .loop .c) k refl (at-loop .loop .inv .1)
 
 pub count-log-spec : {M : Type 1} → statement M
 count-log-spec =

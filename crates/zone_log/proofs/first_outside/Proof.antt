@@ -18,37 +18,79 @@ abbrev μ-loop : tie.MeasureT-loop
 μ-loop px py n i₀ i = n - i
 
 loop-holds : tie.Need-loop-holds Inv-loop μ-loop
-loop-holds c = let a = c .before .before .args in let p = c .before .before .pre in (omega arith, refl, ap (outsideFrom (now (a .px)) (now (a .py)) 0) (less-none (length (now (a .px)))))
+loop-holds c =
+    let at-entry = c .before .before in
+    let a = at-entry .args in
+    let p = at-entry .pre in
+    (omega arith, refl, ap (outsideFrom (now (a .px)) (now (a .py)) 0) (less-none (length (now (a .px)))))
 
 mul-in-range : tie.Need-mul-in-range Inv-loop μ-loop
-mul-in-range c = let a = c .before .before .before .before .args in let p = c .before .before .before .before .pre in omega (arith, c .before .before .before .before .good, c .loop-test .taken)
+mul-in-range c =
+    let at-entry = c .before .before .before .before in
+    omega (arith, at-entry .good, c .loop-test .taken)
 
 shared-slice-read-in-range : tie.Need-shared-slice-read-in-range Inv-loop μ-loop
-shared-slice-read-in-range c = let a = c .before .before .before .before .before .args in let p = c .before .before .before .before .before .pre in omega (arith, c .before .loop-test .taken)
+shared-slice-read-in-range c =
+    let at-loop-test = c .before in
+    omega (arith, at-loop-test .loop-test .taken)
 
 mul-in-range-2 : tie.Need-mul-in-range-2 Inv-loop μ-loop
-mul-in-range-2 c = let a = c .before .before .before .before .before .args in let p = c .before .before .before .before .before .pre in omega (arith, c .before .before .before .before .before .good, p, c .before .loop-test .taken)
+mul-in-range-2 c =
+    let at-loop-test = c .before in
+    let at-entry = at-loop-test .before .before .before .before in
+    let p = at-entry .pre in
+    omega (arith, at-entry .good, p, at-loop-test .loop-test .taken)
 
 shared-slice-read-in-range-2 : tie.Need-shared-slice-read-in-range-2 Inv-loop μ-loop
-shared-slice-read-in-range-2 c = let a = c .before .before .before .before .before .before .args in let p = c .before .before .before .before .before .before .pre in omega (arith, p, c .before .before .loop-test .taken)
+shared-slice-read-in-range-2 c =
+    let at-loop-test = c .before .before in
+    let at-entry = at-loop-test .before .before .before .before in
+    let p = at-entry .pre in
+    omega (arith, p, at-loop-test .loop-test .taken)
 
 in-range-requires : tie.Need-in-range-requires Inv-loop μ-loop
 in-range-requires c κs = search needs
 
 add-i : tie.Need-add-i Inv-loop μ-loop
-add-i c = omega (arith, c .before .before .before .before .before .before .before .before .good, c .before .before .before .before .loop-test .taken)
+add-i c =
+    let at-loop-test = c .before .before .before .before in
+    let at-entry = at-loop-test .before .before .before .before in
+    omega (arith, at-entry .good, at-loop-test .loop-test .taken)
 
 loop-less : tie.Need-loop-less Inv-loop μ-loop
-loop-less c = omega (arith, c .before .before .before .before .loop-test .taken)
+loop-less c =
+    let at-loop-test = c .before .before .before .before in
+    omega (arith, at-loop-test .loop-test .taken)
 
 loop-again : tie.Need-loop-again Inv-loop μ-loop
-loop-again c = let a = c .before .before .before .before .before .before .before .before .args in let p = c .before .before .before .before .before .before .before .before .pre in (omega (arith, c .before .before .before .before .loop-test .taken), c .before .before .before .before .before .loop .inv .1, outside-turn (now (a .px)) (now (a .py)) _ (c .before .before .before .before .before .loop .i) _ (c .before .before .before .before .loop-test .taken) (sym (c .before .in-range .ensures) ∙ c .if1 .taken) (c .before .before .before .before .before .loop .inv .2))
+loop-again c =
+    let after-in-range = c .before in
+    let at-loop-test = after-in-range .before .before .before in
+    let at-loop = at-loop-test .before in
+    let at-entry = at-loop .before .before .before in
+    let a = at-entry .args in (
+      omega (arith, at-loop-test .loop-test .taken),
+      at-loop .loop .inv .1,
+      outside-turn (now (a .px)) (now (a .py)) _ (at-loop .loop .i) _ (at-loop-test .loop-test .taken)
+          (sym (after-in-range .in-range .ensures) ∙ c .if1 .taken) (at-loop .loop .inv .2),
+    )
 
 returns : tie.Need-returns Inv-loop μ-loop
-returns c = let a = c .before .before .before .before .before .before .before .before .args in let p = c .before .before .before .before .before .before .before .before .pre in outside-here (now (a .px)) (now (a .py)) _ (c .before .before .before .before .before .loop .i) _ (c .before .before .before .before .loop-test .taken) (sym (c .before .in-range .ensures) ∙ c .if1 .left) (c .before .before .before .before .before .loop .inv .2)
+returns c =
+    let after-in-range = c .before in
+    let at-loop-test = after-in-range .before .before .before in
+    let at-loop = at-loop-test .before in
+    let at-entry = at-loop .before .before .before in
+    let a = at-entry .args in
+    outside-here (now (a .px)) (now (a .py)) _ (at-loop .loop .i) _ (at-loop-test .loop-test .taken)
+    (sym (after-in-range .in-range .ensures) ∙ c .if1 .left) (at-loop .loop .inv .2)
 
 returns-2 : tie.Need-returns-2 Inv-loop μ-loop
-returns-2 c = let a = c .before .before .before .before .args in let p = c .before .before .before .before .pre in outside-done (now (a .px)) (now (a .py)) _ (c .before .loop .i) _ (c .loop-test .left) (c .before .loop .inv .2)
+returns-2 c =
+    let at-loop = c .before in
+    let at-entry = at-loop .before .before .before in
+    let a = at-entry .args in
+    outside-done (now (a .px)) (now (a .py)) _ (at-loop .loop .i) _ (c .loop-test .left) (at-loop .loop .inv .2)
 
 pub first-outside-spec : {M : Type 1} → statement M
 first-outside-spec =

@@ -18,16 +18,52 @@ first-outside-requires : tie.Need-first-outside-requires
 first-outside-requires c κs = search needs
 
 returns : tie.Need-returns
-returns c = let a = c .before .before .before .before .before .before .before .before .before .before .before .before .args in let p = c .before .before .before .before .before .before .before .before .before .before .before .before .pre in let T = tree (now (a .plan)) (now (a .areas)) (now (a .xs)) (now (a .ys)) (now (a .head)) (now (a .cells)) (now (a .entries)) in let px = now (a .px) in let py = now (a .py) in let e = c .before .first-outside .ensures in (ap (Not Argument) e ∙ pick-true (ltb (outsideFrom px py 0 (length px)) (length px)) (Not Argument (outsideFrom px py 0 (length px))) (logKnown T px py (length (now (a .out)))) (lt-ltb (outsideFrom px py 0 (length px)) (length px) (omega (arith, e, c .if1 .taken))), refl)
+returns c =
+    let after-first-outside = c .before in
+    let at-entry = after-first-outside .before .before .before .before .before .before .before .before .before .before .before in
+    let a = at-entry .args in
+    let T = tree (now (a .plan)) (now (a .areas)) (now (a .xs)) (now (a .ys)) (now (a .head)) (now (a .cells)) (now (a .entries)) in
+    let px = now (a .px) in
+    let py = now (a .py) in
+    let e = after-first-outside .first-outside .ensures in (
+      ap (Not Argument) e
+          ∙ pick-true (ltb (outsideFrom px py 0 (length px)) (length px)) (Not Argument (outsideFrom px py 0 (length px)))
+          (logKnown T px py (length (now (a .out))))
+          (lt-ltb (outsideFrom px py 0 (length px)) (length px) (omega (arith, e, c .if1 .taken))),
+      refl,
+    )
 
 log-known-requires : tie.Need-log-known-requires
-log-known-requires c κs = let a = c .before .before .before .before .before .before .before .before .before .before .before .before .before .args in let p = c .before .before .before .before .before .before .before .before .before .before .before .before .before .pre in let T = tree (now (a .plan)) (now (a .areas)) (now (a .xs)) (now (a .ys)) (now (a .head)) (now (a .cells)) (now (a .entries)) in let px = now (a .px) in let py = now (a .py) in run-in px py p (omega (arith, c .before .before .first-outside .ensures, c .before .if1 .left))
+log-known-requires c κs =
+    let at-if1 = c .before in
+    let after-first-outside = at-if1 .before in
+    let at-entry = after-first-outside .before .before .before .before .before .before .before .before .before .before .before in
+    let a = at-entry .args in
+    let p = at-entry .pre in
+    let px = now (a .px) in
+    let py = now (a .py) in
+    run-in px py p (omega (arith, after-first-outside .first-outside .ensures, at-if1 .if1 .left))
 
 same-length : tie.Need-same-length
 same-length c = search needs
 
 returns-2 : tie.Need-returns-2
-returns-2 c = let a = c .before .before .before .before .before .before .before .before .before .before .before .before .before .before .before .before .args in let p = c .before .before .before .before .before .before .before .before .before .before .before .before .before .before .before .before .pre in let T = tree (now (a .plan)) (now (a .areas)) (now (a .xs)) (now (a .ys)) (now (a .head)) (now (a .cells)) (now (a .entries)) in let px = now (a .px) in let py = now (a .py) in let e = c .before .before .before .before .before .first-outside .ensures in (c .before .before .log-known .ensures .0 ∙ pick-false (ltb (outsideFrom px py 0 (length px)) (length px)) (Not Argument (outsideFrom px py 0 (length px))) (logKnown T px py (length (now (a .out)))) (le-ltb (outsideFrom px py 0 (length px)) (length px) (omega (arith, e, c .before .before .before .before .if1 .left))), c .before .before .log-known .ensures .1)
+returns-2 c =
+    let after-log-known = c .before .before in
+    let at-if1 = after-log-known .before .before in
+    let after-first-outside = at-if1 .before in
+    let at-entry = after-first-outside .before .before .before .before .before .before .before .before .before .before .before in
+    let a = at-entry .args in
+    let T = tree (now (a .plan)) (now (a .areas)) (now (a .xs)) (now (a .ys)) (now (a .head)) (now (a .cells)) (now (a .entries)) in
+    let px = now (a .px) in
+    let py = now (a .py) in
+    let e = after-first-outside .first-outside .ensures in (
+      after-log-known .log-known .ensures .0
+          ∙ pick-false (ltb (outsideFrom px py 0 (length px)) (length px)) (Not Argument (outsideFrom px py 0 (length px)))
+          (logKnown T px py (length (now (a .out))))
+          (le-ltb (outsideFrom px py 0 (length px)) (length px) (omega (arith, e, at-if1 .if1 .left))),
+      after-log-known .log-known .ensures .1,
+    )
 
 pub log-ranged-spec : {M : Type 1} → statement M
 log-ranged-spec =

@@ -8,13 +8,17 @@ cast-out : tie.Need-cast-out
 cast-out c = record { fits = c .before .pre (c .if1 .taken) .1 }
 
 mul-out : tie.Need-mul-out
-mul-out c = record { fits = omega (arith, c .before .good, c .before .pre (c .if1 .taken) .0) }
+mul-out c =
+    let at-entry = c .before in
+    record { fits = omega (arith, at-entry .good, at-entry .pre (c .if1 .taken) .0) }
 
 slice-write-out : tie.Need-slice-write-out
 slice-write-out c = c .before .pre (c .if1 .taken) .0
 
 add-result : tie.Need-add-result
-add-result c = record { fits = omega (arith, c .before .good, c .before .pre (c .if1 .taken) .0) }
+add-result c =
+    let at-entry = c .before in
+    record { fits = omega (arith, at-entry .good, at-entry .pre (c .if1 .taken) .0) }
 
 same-length : tie.Need-same-length
 same-length c = search needs
