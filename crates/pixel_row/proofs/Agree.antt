@@ -21,27 +21,36 @@ use Rattle.pixel_row.specs.code.Numbers.{noChannels}
 
 -- ---- a pixel is decided by the colours at its samples
 
-samples-agree : (at at′ : ℕ → ℕ → Colour) (row pixel i n : ℕ) (s : Channels) → ((k : ℕ) → k < i + n → at (sampleX pixel k) (sampleY row k) ≡ at′ (sampleX pixel k) (sampleY row k)) → samples at row pixel i n s ≡ samples at′ row pixel i n s
+samples-agree : (at at′ : ℕ → ℕ → Colour) (row pixel i n : ℕ) (s : Channels)
+    → ((k : ℕ) → k < i + n → at (sampleX pixel k) (sampleY row k) ≡ at′ (sampleX pixel k) (sampleY row k))
+    → samples at row pixel i n s ≡ samples at′ row pixel i n s
 samples-agree at at′ row pixel i zero s h = refl
 samples-agree at at′ row pixel i (suc n) s h =
     ap (λ (c : Colour). samples at row pixel (suc i) n (plus s c)) (h i (omega arith))
     ∙ samples-agree at at′ row pixel (suc i) n (plus s (at′ (sampleX pixel i) (sampleY row i))) (λ k l. h k (omega (arith, l)))
 
-pub pixel-agrees : (at at′ : ℕ → ℕ → Colour) (row pixel : ℕ) → ((k : ℕ) → k < 16 → at (sampleX pixel k) (sampleY row k) ≡ at′ (sampleX pixel k) (sampleY row k)) → pixelOf at row pixel ≡ pixelOf at′ row pixel
+pub pixel-agrees : (at at′ : ℕ → ℕ → Colour) (row pixel : ℕ)
+    → ((k : ℕ) → k < 16 → at (sampleX pixel k) (sampleY row k) ≡ at′ (sampleX pixel k) (sampleY row k))
+    → pixelOf at row pixel ≡ pixelOf at′ row pixel
 unfolding pixelOf
 pixel-agrees at at′ row pixel h = ap sixteenth (samples-agree at at′ row pixel 0 16 noChannels (λ k l. h k (omega (arith, l))))
 
-pub bytes-agree : (at at′ : ℕ → ℕ → Colour) (row pixel n : ℕ) → ((p : ℕ) → pixel ≤ p → p < pixel + n → pixelOf at row p ≡ pixelOf at′ row p) → rowBytes at row pixel n ≡ rowBytes at′ row pixel n
+pub bytes-agree : (at at′ : ℕ → ℕ → Colour) (row pixel n : ℕ)
+    → ((p : ℕ) → pixel ≤ p → p < pixel + n → pixelOf at row p ≡ pixelOf at′ row p)
+    → rowBytes at row pixel n ≡ rowBytes at′ row pixel n
 unfolding rowBytes
 bytes-agree at at′ row pixel zero h = refl
-bytes-agree at at′ row pixel (suc n) h = rw (h pixel (omega arith) (omega arith), bytes-agree at at′ row (pixel + 1) n (λ p g l. h p (omega (arith, g)) (omega (arith, l))))
+bytes-agree at at′ row pixel (suc n) h =
+    rw (h pixel (omega arith) (omega arith), bytes-agree at at′ row (pixel + 1) n (λ p g l. h p (omega (arith, g)) (omega (arith, l))))
 
 bytes-none : (at : ℕ → ℕ → Colour) (row pixel i : ℕ) (out : List ℕ) → out ≡ sets out i (rowBytes at row pixel 0)
 unfolding rowBytes
 bytes-none at row pixel i out = refl
 
 -- three stores are one pixel's bytes
-put-bytes : (at : ℕ → ℕ → Colour) (row first i n : ℕ) (out : List ℕ) → sets (putPixel out i (pixelOf at row (first + i))) ((i + 1) * 3) (rowBytes at row (first + (i + 1)) n) ≡ sets out (i * 3) (rowBytes at row (first + i) (suc n))
+put-bytes : (at : ℕ → ℕ → Colour) (row first i n : ℕ) (out : List ℕ)
+    → sets (putPixel out i (pixelOf at row (first + i))) ((i + 1) * 3) (rowBytes at row (first + (i + 1)) n)
+    ≡ sets out (i * 3) (rowBytes at row (first + i) (suc n))
 unfolding rowBytes
 put-bytes at row first i n out =
     let a : i * 3 + 1 ≡ suc (i * 3) = omega arith in
@@ -66,7 +75,11 @@ module _ (t : Tree) (row : ℕ) where
     -- what a filling from pixel i on says: all n pixels are written, or those before pixel k, which 12 meets
     pub data Stands (i n : ℕ) (out : List ℕ) : Filled → Type 0 where
       all : (bytes : List ℕ) → bytes ≡ sets out (i * 3) (rowBytes (colourIn t) row (first + i) n) → Stands i n out (filled Done bytes)
-      upTo : (k : ℕ) (bytes : List ℕ) → k < n → pixelKnown t row (first + i + k) ≡ false → bytes ≡ sets out (i * 3) (rowBytes (colourIn t) row (first + i) k) → Stands i n out (filled (Not Refusals.Broken (i + k)) bytes)
+      upTo : (k : ℕ) (bytes : List ℕ)
+          → k < n
+          → pixelKnown t row (first + i + k) ≡ false
+          → bytes ≡ sets out (i * 3) (rowBytes (colourIn t) row (first + i) k)
+          → Stands i n out (filled (Not Refusals.Broken (i + k)) bytes)
 
     stands-more : (i n : ℕ) (out : List ℕ) {F : Filled} → Stands (i + 1) n (putPixel out i (pixelIn t row (first + i))) F → Stands i (suc n) out F
     stands-more i n out (all bytes e) = all bytes (e ∙ put-bytes (colourIn t) row first i n out)
@@ -88,25 +101,36 @@ module _ (t : Tree) (row : ℕ) where
     fill-stands i zero out = all out refl
     fill-stands i (suc n) out = go (pixelKnown t row (first + i)) refl (fill-stands (i + 1) n (putPixel out i (pixelIn t row (first + i))))
       where
-        go : (b : Bool) → pixelKnown t row (first + i) ≡ b → Stands (i + 1) n (putPixel out i (pixelIn t row (first + i))) (fillFrom t row first (i + 1) n (putPixel out i (pixelIn t row (first + i))))
-            → Stands i (suc n) out (cond b (fillFrom t row first (i + 1) n (putPixel out i (pixelIn t row (first + i)))) (filled (Not Refusals.Broken i) out))
+        go : (b : Bool)
+            → pixelKnown t row (first + i) ≡ b
+            → Stands (i + 1) n (putPixel out i (pixelIn t row (first + i)))
+            (fillFrom t row first (i + 1) n (putPixel out i (pixelIn t row (first + i))))
+            → Stands i (suc n) out
+            (cond b (fillFrom t row first (i + 1) n (putPixel out i (pixelIn t row (first + i)))) (filled (Not Refusals.Broken i) out))
         go true e h = stands-more i n out h
         go false e h = stands-none i n out e
 
     -- ---- a row at whose pixels 12 is not met
-    fill-all : (i n : ℕ) (out : List ℕ) → ((k : ℕ) → k < i + n → pixelKnown t row (first + k) ≡ true) → fillFrom t row first i n out ≡ filled Done (sets out (i * 3) (rowBytes (colourIn t) row (first + i) n))
+    fill-all : (i n : ℕ) (out : List ℕ)
+        → ((k : ℕ) → k < i + n → pixelKnown t row (first + k) ≡ true)
+        → fillFrom t row first i n out ≡ filled Done (sets out (i * 3) (rowBytes (colourIn t) row (first + i) n))
     unfolding fillFrom
     fill-all i zero out h = ap (filled Done) (bytes-none (colourIn t) row (first + i) (i * 3) out)
     fill-all i (suc n) out h =
         rw (h i (omega arith))
-        (fill-all (i + 1) n (putPixel out i (pixelIn t row (first + i))) (λ k l. h k (omega (arith, l))) ∙ ap (filled Done) (put-bytes (colourIn t) row first i n out))
+        (fill-all (i + 1) n (putPixel out i (pixelIn t row (first + i))) (λ k l. h k (omega (arith, l)))
+        ∙ ap (filled Done) (put-bytes (colourIn t) row first i n out))
 
     -- pixel p of the row is one of the call
-    pixel-from : (at : ℕ → ℕ → Colour) (n p : ℕ) → first ≤ p → p < first + n
-        → ((p i : ℕ) → p < n → i < 16 → colourIn t (sampleX (first + p) i) (sampleY row i) ≡ at (sampleX (first + p) i) (sampleY row i)) → pixelOf (colourIn t) row p ≡ pixelOf at row p
+    pixel-from : (at : ℕ → ℕ → Colour) (n p : ℕ)
+        → first ≤ p
+        → p < first + n
+        → ((p i : ℕ) → p < n → i < 16 → colourIn t (sampleX (first + p) i) (sampleY row i) ≡ at (sampleX (first + p) i) (sampleY row i))
+        → pixelOf (colourIn t) row p ≡ pixelOf at row p
     pixel-from at n p g l h =
         let z : first + (p - first) ≡ p = omega (arith, g) in
-        subst (λ (j : ℕ). pixelOf (colourIn t) row j ≡ pixelOf at row j) z (pixel-agrees (colourIn t) at row (first + (p - first)) (λ i k. h (p - first) i (omega (arith, g, l)) k))
+        subst (λ (j : ℕ). pixelOf (colourIn t) row j ≡ pixelOf at row j) z
+        (pixel-agrees (colourIn t) at row (first + (p - first)) (λ i k. h (p - first) i (omega (arith, g, l)) k))
 
     -- in range, with room and 12 met at none of its samples: the row is filled with the pixels of the colours that are read there
     pub row-accepted : (at : ℕ → ℕ → Colour) (out : List ℕ) → length (t .xs) ≡ length (t .ys) → row ≤ 4095 → length out % 3 ≡ 0 → first + length out / 3 ≤ 4096
@@ -122,8 +146,11 @@ module _ (t : Tree) (row : ℕ) where
         let a₁ = pick-true (leb (first + n) 4096) (fillFrom t row first 0 n out) no (le-leb (first + n) 4096 s) in
         let a₂ = pick-true (eqb (length out % 3) 0) (rowSpan t row first out) no (eq-eqb (length out % 3) 0 m) in
         let a₃ = pick-true (leb row 4095) (cond (eqb (length out % 3) 0) (rowSpan t row first out) no) no (le-leb row 4095 r) in
-        let a₄ = pick-true (eqb (length (t .xs)) (length (t .ys))) (cond (leb row 4095) (cond (eqb (length out % 3) 0) (rowSpan t row first out) no) no) no (eq-eqb (length (t .xs)) (length (t .ys)) e) in
-        sym (a₁ ∙ (a₂ ∙ (a₃ ∙ a₄))) ∙ (f ∙ ap (λ (v : List ℕ). filled Done (sets out 0 v)) (ap (λ (j : ℕ). rowBytes (colourIn t) row j n) z ∙ b))
+        let a₄ = pick-true (eqb (length (t .xs)) (length (t .ys)))
+        (cond (leb row 4095) (cond (eqb (length out % 3) 0) (rowSpan t row first out) no) no) no
+        (eq-eqb (length (t .xs)) (length (t .ys)) e) in
+        sym (a₁ ∙ (a₂ ∙ (a₃ ∙ a₄)))
+        ∙ (f ∙ ap (λ (v : List ℕ). filled Done (sets out 0 v)) (ap (λ (j : ℕ). rowBytes (colourIn t) row j n) z ∙ b))
 
 -- no pixel meets no number: the call is accepted over any tree
 pub row-empty : (t : Tree) (row first : ℕ) → length (t .xs) ≡ length (t .ys) → row ≤ 4095 → first ≤ 4096 → rowFilled t row first [] ≡ filled Done []

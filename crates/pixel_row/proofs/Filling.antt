@@ -39,19 +39,28 @@ module _ (t : Tree) (row : ℕ) where
   pub pixel-told : (pixel : ℕ) (r : Pixel) (c : Colour) (f : Found) → r ≡ pixelTold t row pixel → PixelBytes r → r ≡ Known c f → Told pixel c f
   pixel-told pixel r c f e b g = go (pixelKnown t row pixel) refl (sym e ∙ g)
     where
-      go : (k : Bool) → pixelKnown t row pixel ≡ k → cond k (Known (pixelIn t row pixel) (leafIn t (sampleX pixel 15) (sampleY row 15))) Broken ≡ Known c f → Told pixel c f
+      go : (k : Bool)
+          → pixelKnown t row pixel ≡ k
+          → cond k (Known (pixelIn t row pixel) (leafIn t (sampleX pixel 15) (sampleY row 15))) Broken ≡ Known c f
+          → Told pixel c f
       go true h q = record { is-known = h; is-pixel = cc; is-leaf = last-in t (sampleX pixel 15) (sampleY row 15) f cc; bytes = subst PixelBytes g b }
       go false h q = absurd (let z : _≡_ {A = ℕ} 0 1 = cc in omega arith)
 
   pub pixel-broken : (pixel : ℕ) (r : Pixel) → r ≡ pixelTold t row pixel → r ≡ Broken → pixelKnown t row pixel ≡ false
   pixel-broken pixel r e g = go (pixelKnown t row pixel) refl (sym e ∙ g)
     where
-      go : (k : Bool) → pixelKnown t row pixel ≡ k → cond k (Known (pixelIn t row pixel) (leafIn t (sampleX pixel 15) (sampleY row 15))) Broken ≡ Broken → k ≡ false
+      go : (k : Bool)
+          → pixelKnown t row pixel ≡ k
+          → cond k (Known (pixelIn t row pixel) (leafIn t (sampleX pixel 15) (sampleY row 15))) Broken ≡ Broken
+          → k ≡ false
       go true h q = absurd (let z : _≡_ {A = ℕ} 0 1 = cc in omega arith)
       go false h q = refl
 
   module _ (first : ℕ) where
-    fill-step : (n i : ℕ) (out : List ℕ) → i < n → pixelKnown t row (first + i) ≡ true → fillFrom t row first i (n - i) out ≡ fillFrom t row first (i + 1) (n - (i + 1)) (putPixel out i (pixelIn t row (first + i)))
+    fill-step : (n i : ℕ) (out : List ℕ)
+        → i < n
+        → pixelKnown t row (first + i) ≡ true
+        → fillFrom t row first i (n - i) out ≡ fillFrom t row first (i + 1) (n - (i + 1)) (putPixel out i (pixelIn t row (first + i)))
     unfolding fillFrom
     fill-step n i out h k = rw (less-one n i h, k)
 
@@ -75,7 +84,12 @@ module _ (t : Tree) (row : ℕ) where
         let z : n - 0 ≡ n = omega arith in
         record { to = omega arith; leaf = h; size = refl; rest = ap (λ (k : ℕ). fillFrom t row first 0 k out) z }
 
-    pub filling-turn : (out₀ : List ℕ) (n i : ℕ) (last f : Found) (out out′ : List ℕ) (c : Colour) → i < n → Filling out₀ n i last out → Told (first + i) c f → out′ ≡ putPixel out i c → Filling out₀ n (i + 1) f out′
+    pub filling-turn : (out₀ : List ℕ) (n i : ℕ) (last f : Found) (out out′ : List ℕ) (c : Colour)
+        → i < n
+        → Filling out₀ n i last out
+        → Told (first + i) c f
+        → out′ ≡ putPixel out i c
+        → Filling out₀ n (i + 1) f out′
     filling-turn out₀ n i last f out out′ c h p k e =
         record {
           to = omega (arith, h);
@@ -84,8 +98,15 @@ module _ (t : Tree) (row : ℕ) where
           rest = ap (fillFrom t row first (i + 1) (n - (i + 1))) (e ∙ ap (putPixel out i) (k .is-pixel)) ∙ (sym (fill-step n i out h (k .is-known)) ∙ p .rest);
         }
 
-    pub filling-done : (out₀ : List ℕ) (n i : ℕ) (last : Found) (out : List ℕ) → n ≤ i → Filling out₀ n i last out → filled Done out ≡ fillFrom t row first 0 n out₀
+    pub filling-done : (out₀ : List ℕ) (n i : ℕ) (last : Found) (out : List ℕ)
+        → n ≤ i
+        → Filling out₀ n i last out
+        → filled Done out ≡ fillFrom t row first 0 n out₀
     filling-done out₀ n i last out h p = sym (fill-end n i out h) ∙ p .rest
 
-    pub filling-broken : (out₀ : List ℕ) (n i : ℕ) (last : Found) (out : List ℕ) → i < n → Filling out₀ n i last out → pixelKnown t row (first + i) ≡ false → filled (Not Refusals.Broken i) out ≡ fillFrom t row first 0 n out₀
+    pub filling-broken : (out₀ : List ℕ) (n i : ℕ) (last : Found) (out : List ℕ)
+        → i < n
+        → Filling out₀ n i last out
+        → pixelKnown t row (first + i) ≡ false
+        → filled (Not Refusals.Broken i) out ≡ fillFrom t row first 0 n out₀
     filling-broken out₀ n i last out h p g = sym (fill-off n i out h g) ∙ p .rest

@@ -39,7 +39,9 @@ pub unknown-at : (t : Tree) (x y x′ y′ : ℕ) → x ≡ x′ → y ≡ y′ 
 unknown-at t x y x′ y′ p q k = sym (ap₂ (known t) p q) ∙ k
 
 module _ (t : Tree) (row pixel : ℕ) where
-  sampled-step : (e i : ℕ) (s : Channels) → i < e → sampled t row pixel i (e - i) s ≡ sampled t row pixel (i + 1) (e - (i + 1)) (plus s (colourIn t (sampleX pixel i) (sampleY row i)))
+  sampled-step : (e i : ℕ) (s : Channels)
+      → i < e
+      → sampled t row pixel i (e - i) s ≡ sampled t row pixel (i + 1) (e - (i + 1)) (plus s (colourIn t (sampleX pixel i) (sampleY row i)))
   unfolding sampled
   sampled-step e i s h = rw (less-one e i h, add-one i)
 
@@ -47,7 +49,10 @@ module _ (t : Tree) (row pixel : ℕ) where
   unfolding sampled
   sampled-none e i s h = let z : e - i ≡ 0 = omega arith in rw z
 
-  known-step : (e i : ℕ) → i < e → known t (sampleX pixel i) (sampleY row i) ≡ true → samplesKnown t row pixel i (e - i) ≡ samplesKnown t row pixel (i + 1) (e - (i + 1))
+  known-step : (e i : ℕ)
+      → i < e
+      → known t (sampleX pixel i) (sampleY row i) ≡ true
+      → samplesKnown t row pixel i (e - i) ≡ samplesKnown t row pixel (i + 1) (e - (i + 1))
   unfolding samplesKnown
   known-step e i h k = rw (less-one e i h, k, add-one i)
 
@@ -80,8 +85,14 @@ module _ (t : Tree) (row pixel : ℕ) where
         rest = ap (λ (k : ℕ). sampled t row pixel 0 k noChannels) z;
       }
 
-  pub sampling-turn : (e i set : ℕ) (last f : Found) (sum sum′ : Channels) (c : Colour) → i < e → Sampling e i last sum → Known t (sampleX pixel i) (sampleY row i) set f
-      → c ≡ colourOf (paintAt (t .areas)) set → ColourIn c → sum′ ≡ plus sum c → Sampling e (i + 1) f sum′
+  pub sampling-turn : (e i set : ℕ) (last f : Found) (sum sum′ : Channels) (c : Colour)
+      → i < e
+      → Sampling e i last sum
+      → Known t (sampleX pixel i) (sampleY row i) set f
+      → c ≡ colourOf (paintAt (t .areas)) set
+      → ColourIn c
+      → sum′ ≡ plus sum c
+      → Sampling e (i + 1) f sum′
   sampling-turn e i set last f sum sum′ c h p k g b r =
       let z : i + 1 - 1 ≡ i = omega arith in
       let v : c ≡ colourIn t (sampleX pixel i) (sampleY row i) = g ∙ ap (colourOf (paintAt (t .areas))) (k .is-set) in
@@ -98,17 +109,28 @@ module _ (t : Tree) (row pixel : ℕ) where
   unfolding sampled pixelOf
   pixel-is = refl
 
-  pub sampling-done : (i : ℕ) (last : Found) (sum : Channels) (c : Colour) → 16 ≤ i → Sampling 16 i last sum → c ≡ sixteenth sum → Pixels.Known c last ≡ pixelTold t row pixel
+  pub sampling-done : (i : ℕ) (last : Found) (sum : Channels) (c : Colour)
+      → 16 ≤ i
+      → Sampling 16 i last sum
+      → c ≡ sixteenth sum
+      → Pixels.Known c last ≡ pixelTold t row pixel
   unfolding pixelKnown
   sampling-done i last sum c h p r =
       let z : i - 1 ≡ 15 = omega (arith, p .to, h) in
       let k : samplesKnown t row pixel 0 16 ≡ true = sym (p .knows) ∙ known-end 16 i h in
       let s : c ≡ pixelIn t row pixel = r ∙ (ap sixteenth (sym (sampled-none 16 i sum h) ∙ p .rest) ∙ pixel-is) in
-      let f : last ≡ leafIn t (sampleX pixel 15) (sampleY row 15) = p .prior (λ q. omega (arith, q, h)) ∙ ap (λ (j : ℕ). leafIn t (sampleX pixel j) (sampleY row j)) z in
+      let f : last ≡ leafIn t (sampleX pixel 15) (sampleY row 15) =
+      p .prior (λ q. omega (arith, q, h)) ∙ ap (λ (j : ℕ). leafIn t (sampleX pixel j) (sampleY row j)) z in
       ap₂ Pixels.Known s f
-      ∙ pick-true (samplesKnown t row pixel 0 16) (Pixels.Known (pixelIn t row pixel) (leafIn t (sampleX pixel 15) (sampleY row 15))) Pixels.Broken k
+      ∙ pick-true (samplesKnown t row pixel 0 16) (Pixels.Known (pixelIn t row pixel) (leafIn t (sampleX pixel 15) (sampleY row 15)))
+      Pixels.Broken k
 
-  pub sampling-broken : (i : ℕ) (last : Found) (sum : Channels) → i < 16 → Sampling 16 i last sum → known t (sampleX pixel i) (sampleY row i) ≡ false → Pixels.Broken ≡ pixelTold t row pixel
+  pub sampling-broken : (i : ℕ) (last : Found) (sum : Channels)
+      → i < 16
+      → Sampling 16 i last sum
+      → known t (sampleX pixel i) (sampleY row i) ≡ false
+      → Pixels.Broken ≡ pixelTold t row pixel
   unfolding pixelKnown
   sampling-broken i last sum h p g =
-      pick-false (samplesKnown t row pixel 0 16) (Pixels.Known (pixelIn t row pixel) (leafIn t (sampleX pixel 15) (sampleY row 15))) Pixels.Broken (sym (p .knows) ∙ known-off 16 i h g)
+      pick-false (samplesKnown t row pixel 0 16) (Pixels.Known (pixelIn t row pixel) (leafIn t (sampleX pixel 15) (sampleY row 15)))
+      Pixels.Broken (sym (p .knows) ∙ known-off 16 i h g)
