@@ -22,7 +22,11 @@ add-pack : tie.Need-add-pack
 add-pack c = search needs
 
 pack-requires-2 : tie.Need-pack-requires-2
-pack-requires-2 c κs = let h = rw (c .before .a2 .given .1) at (c .before .before .before .pre) in omega arith
+pack-requires-2 c κs =
+    let after-a2 = c .before in
+    let at-entry = after-a2 .before .before in
+    let h = rw (after-a2 .a2 .given .1) at (at-entry .pre) in
+    omega arith
 
 enum-known-a-3 : tie.Need-enum-known-a-3
 enum-known-a-3 c = search needs
@@ -31,13 +35,19 @@ refused-requires : tie.Need-refused-requires
 refused-requires c κs = search needs
 
 returns : tie.Need-returns
-returns c = rw (c .before .before .a .given .1) (c .pack .ensures)
+returns c =
+    let after-a = c .before .before in
+    rw (after-a .a .given .1) (c .pack .ensures)
 
 returns-2 : tie.Need-returns-2
-returns-2 c = rw (c .before .before .a2 .given .1) (c .pack2 .ensures)
+returns-2 c =
+    let after-a2 = c .before .before in
+    rw (after-a2 .a2 .given .1) (c .pack2 .ensures)
 
 returns-3 : tie.Need-returns-3
-returns-3 c = rw (c .before .before .a3 .given .1) (c .refused .ensures)
+returns-3 c =
+    let after-a3 = c .before .before in
+    rw (after-a3 .a3 .given .1) (c .refused .ensures)
 
 pub pack-grow-spec : {M : Type 1} → statement M
 pack-grow-spec =

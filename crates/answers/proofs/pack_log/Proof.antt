@@ -24,16 +24,17 @@ pack-requires-2 : tie.Need-pack-requires-2
 pack-requires-2 c κs = search needs
 
 returns : tie.Need-returns
-returns c = rw (c .before .before .before .a .given .1, ← c .before .low-half .ensures .0) (c .pack .ensures)
+returns c =
+    let after-low-half = c .before in
+    let after-a = after-low-half .before .before in
+    rw (after-a .a .given .1, ← after-low-half .low-half .ensures .0) (c .pack .ensures)
 
 returns-2 : tie.Need-returns-2
 returns-2 c =
-    rw (
-      c .before .before .before .before .a2 .given .1,
-      ← c .before .before .number .ensures,
-      ← c .before .low-half2 .ensures .0,
-    )
-    (c .pack2 .ensures)
+    let after-low-half2 = c .before in
+    let after-number = after-low-half2 .before in
+    let after-a2 = after-number .before .before in
+    rw (after-a2 .a2 .given .1, ← after-number .number .ensures, ← after-low-half2 .low-half2 .ensures .0) (c .pack2 .ensures)
 
 pub pack-log-spec : {M : Type 1} → statement M
 pack-log-spec =

@@ -16,13 +16,20 @@ number-requires : tie.Need-number-requires
 number-requires c κs = search needs
 
 pack-requires-2 : tie.Need-pack-requires-2
-pack-requires-2 c κs = let h = rw (c .before .before .a .given .1) at (c .before .before .before .before .pre) in omega arith
+pack-requires-2 c κs =
+    let after-a = c .before .before in
+    let at-entry = after-a .before .before in
+    let h = rw (after-a .a .given .1) at (at-entry .pre) in
+    omega arith
 
 returns : tie.Need-returns
 returns c = search needs
 
 returns-2 : tie.Need-returns-2
-returns-2 c = rw (c .before .before .before .a .given .1, ← c .before .number .ensures) (c .pack2 .ensures)
+returns-2 c =
+    let after-number = c .before in
+    let after-a = after-number .before .before in
+    rw (after-a .a .given .1, ← after-number .number .ensures) (c .pack2 .ensures)
 
 pub pack-row-spec : {M : Type 1} → statement M
 pack-row-spec =

@@ -18,10 +18,14 @@ refused-requires : tie.Need-refused-requires
 refused-requires c κs = search needs
 
 returns : tie.Need-returns
-returns c = rw (c .before .before .a .given .1) (c .pack .ensures)
+returns c =
+    let after-a = c .before .before in
+    rw (after-a .a .given .1) (c .pack .ensures)
 
 returns-2 : tie.Need-returns-2
-returns-2 c = rw (c .before .before .a2 .given .1) (c .refused .ensures)
+returns-2 c =
+    let after-a2 = c .before .before in
+    rw (after-a2 .a2 .given .1) (c .refused .ensures)
 
 pub pack-split-spec : {M : Type 1} → statement M
 pack-split-spec = tie.close (tie.spec enum-known-a cast-pack pack-requires enum-known-a-2 refused-requires returns returns-2)

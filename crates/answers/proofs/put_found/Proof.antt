@@ -21,17 +21,19 @@ same-length c = search needs
 
 returns : tie.Need-returns
 returns c =
-    rw (
-      c .before .before .before .before .before .before .before .before .a .given .1,
-      le-leb 7 _ (c .before .before .before .before .before .before .if1 .taken),
-    )
-    (c .pack .ensures, c .before .before .before .before .put-leaf .ensures)
+    let after-put-leaf = c .before .before .before .before in
+    let at-if1 = after-put-leaf .before .before in
+    let after-a = at-if1 .before .before in
+    rw (after-a .a .given .1, le-leb 7 _ (at-if1 .if1 .taken)) (c .pack .ensures, after-put-leaf .put-leaf .ensures)
 
 refused-requires : tie.Need-refused-requires
 refused-requires c κs = search needs
 
 returns-2 : tie.Need-returns-2
-returns-2 c = rw (c .before .before .before .a .given .1, lt-leb 7 _ (c .before .if1 .left)) (c .refused .ensures, refl)
+returns-2 c =
+    let at-if1 = c .before in
+    let after-a = at-if1 .before .before in
+    rw (after-a .a .given .1, lt-leb 7 _ (at-if1 .if1 .left)) (c .refused .ensures, refl)
 
 enum-known-a-2 : tie.Need-enum-known-a-2
 enum-known-a-2 c = search needs
@@ -40,7 +42,9 @@ refused-requires-2 : tie.Need-refused-requires-2
 refused-requires-2 c κs = search needs
 
 returns-3 : tie.Need-returns-3
-returns-3 c = rw (c .before .before .a2 .given .1) (c .refused2 .ensures, refl)
+returns-3 c =
+    let after-a2 = c .before .before in
+    rw (after-a2 .a2 .given .1) (c .refused2 .ensures, refl)
 
 pub put-found-spec : {M : Type 1} → statement M
 put-found-spec =
