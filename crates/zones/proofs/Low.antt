@@ -19,7 +19,24 @@ use Rattle.drawing.specs.Tables.{Tables, drawingOf, writtenOf, writeAnswer}
 use Rattle.drawing.proofs.Rows.{drawn}
 use Rattle.split.specs.Tables.{Tree}
 use Rattle.split_laws.specs.After.{splitTree}
-use Rattle.grow.specs.Grow.{Round, splits, done, full, broken, round, goOn, growing, Ending, none-left, no-room, not-passed, grown, answerBy, answerOf, growAnswer}
+use Rattle.grow.specs.Grow.{
+  Round,
+  splits,
+  done,
+  full,
+  broken,
+  round,
+  goOn,
+  growing,
+  Ending,
+  none-left,
+  no-room,
+  not-passed,
+  grown,
+  answerBy,
+  answerOf,
+  growAnswer,
+}
 use Rattle.grow.specs.declared.Answer.the-variants as growth
 use Rattle.answers.specs.Answers.{readLow, writeLow, growSplits}
 

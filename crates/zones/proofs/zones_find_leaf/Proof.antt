@@ -12,7 +12,10 @@ same-length : tie.Need-same-length
 same-length c = search needs
 
 returns : tie.Need-returns
-returns c = rw (← c .before .before .before .before .find-leaf .ensures) (c .before .before .put-found .ensures)
+returns c =
+    let after-put-found = c .before .before in
+    let after-find-leaf = after-put-found .before .before in
+    rw (← after-find-leaf .find-leaf .ensures) (after-put-found .put-found .ensures)
 
 pub zones-find-leaf-spec : {M : Type 1} → statement M
 zones-find-leaf-spec = tie.close (tie.spec find-leaf-requires put-found-requires same-length returns)

@@ -12,9 +12,11 @@ grow-requires c κs = search needs
 
 pack-grow-requires : tie.Need-pack-grow-requires
 pack-grow-requires c κs =
-    let a = c .before .before .before .before .before .before .before .before .before .before .before .before .before .before .before .before .before .args in
+    let after-grow = c .before .before .before .before .before .before in
+    let at-entry = after-grow .before .before .before .before .before .before .before .before .before .before .before in
+    let a = at-entry .args in
     let t = tree (now (a .plan)) (now (a .areas)) (now (a .xs)) (now (a .ys)) (now (a .head)) (now (a .cells)) (now (a .entries)) in
-    rw (c .before .before .before .before .before .before .grow .ensures .0) (grow-low t (a .threshold) (a .limit))
+    rw (after-grow .grow .ensures .0) (grow-low t (a .threshold) (a .limit))
 
 same-length : tie.Need-same-length
 same-length c = search needs
@@ -27,7 +29,8 @@ same-length-3 c = search needs
 
 returns : tie.Need-returns
 returns c =
-    let g = c .before .before .before .before .before .before .before .grow .ensures in
+    let after-grow = c .before .before .before .before .before .before .before in
+    let g = after-grow .grow .ensures in
     (c .pack-grow .ensures ∙ ap growNumber (g .0), g .1)
 
 pub zones-grow-spec : {M : Type 1} → statement M

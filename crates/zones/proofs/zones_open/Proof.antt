@@ -21,10 +21,9 @@ same-length-3 c = search needs
 
 returns : tie.Need-returns
 returns c =
-    let s = c .before .before .before .before .before .before .before .open .ensures in (
-      c .pack-open .ensures ∙ ap openNumber (s .0),
-      (rw (← s .0) (s .1 .0), (rw (← s .0) (s .1 .1 .0), rw (← s .0) (s .1 .1 .1))),
-    )
+    let after-open = c .before .before .before .before .before .before .before in
+    let s = after-open .open .ensures in
+    (c .pack-open .ensures ∙ ap openNumber (s .0), (rw (← s .0) (s .1 .0), (rw (← s .0) (s .1 .1 .0), rw (← s .0) (s .1 .1 .1))))
 
 pub zones-open-spec : {M : Type 1} → statement M
 zones-open-spec = tie.close (tie.spec open-requires pack-open-requires same-length same-length-2 same-length-3 returns)

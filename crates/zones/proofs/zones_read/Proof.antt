@@ -9,7 +9,9 @@ read-requires : tie.Need-read-requires
 read-requires c κs = search needs
 
 pack-read-requires : tie.Need-pack-read-requires
-pack-read-requires c κs = rw (c .before .before .before .before .before .before .before .before .read .ensures .0) (read-low _ _ _ _ _)
+pack-read-requires c κs =
+    let after-read = c .before .before .before .before .before .before .before .before in
+    rw (after-read .read .ensures .0) (read-low _ _ _ _ _)
 
 same-length : tie.Need-same-length
 same-length c = search needs
@@ -25,18 +27,10 @@ same-length-4 c = search needs
 
 returns : tie.Need-returns
 returns c =
-    let r = c .before .before .before .before .before .before .before .before .before .read .ensures in (
+    let after-read = c .before .before .before .before .before .before .before .before .before in
+    let r = after-read .read .ensures in (
       c .pack-read .ensures ∙ ap readNumber (r .0),
-      (
-        rw (← r .0) (r .1 .0),
-        (
-          rw (← r .0) (r .1 .1 .0),
-          (
-            rw (← r .0) (r .1 .1 .1 .0),
-            rw (← r .0) (r .1 .1 .1 .1),
-          ),
-        ),
-      ),
+      (rw (← r .0) (r .1 .0), (rw (← r .0) (r .1 .1 .0), (rw (← r .0) (r .1 .1 .1 .0), rw (← r .0) (r .1 .1 .1 .1)))),
     )
 
 pub zones-read-spec : {M : Type 1} → statement M

@@ -21,10 +21,9 @@ same-length-3 c = search needs
 
 returns : tie.Need-returns
 returns c =
-    let s = c .before .before .before .before .before .before .before .split .ensures in (
-      c .pack-split .ensures ∙ ap splitNumber (s .0),
-      (rw (← s .0) (s .1 .0), (rw (← s .0) (s .1 .1 .0), rw (← s .0) (s .1 .1 .1))),
-    )
+    let after-split = c .before .before .before .before .before .before .before in
+    let s = after-split .split .ensures in
+    (c .pack-split .ensures ∙ ap splitNumber (s .0), (rw (← s .0) (s .1 .0), (rw (← s .0) (s .1 .1 .0), rw (← s .0) (s .1 .1 .1))))
 
 pub zones-split-spec : {M : Type 1} → statement M
 zones-split-spec = tie.close (tie.spec split-requires pack-split-requires same-length same-length-2 same-length-3 returns)

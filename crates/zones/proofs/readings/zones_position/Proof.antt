@@ -12,7 +12,10 @@ same-length : tie.Need-same-length
 same-length c = search needs
 
 returns : tie.Need-returns
-returns c = rw (← c .before .before .before .before .position .ensures) (c .before .before .put-shown .ensures)
+returns c =
+    let after-put-shown = c .before .before in
+    let after-position = after-put-shown .before .before in
+    rw (← after-position .position .ensures) (after-put-shown .put-shown .ensures)
 
 pub zones-position-spec : {M : Type 1} → statement M
 zones-position-spec = tie.close (tie.spec position-requires put-shown-requires same-length returns)

@@ -14,7 +14,10 @@ same-length : tie.Need-same-length
 same-length c = search needs
 
 returns : tie.Need-returns
-returns c = let r = c .before .before .before .zone-log .ensures in (c .pack-log .ensures ∙ ap logNumber (r .0), rw (← r .0) (r .1))
+returns c =
+    let after-zone-log = c .before .before .before in
+    let r = after-zone-log .zone-log .ensures in
+    (c .pack-log .ensures ∙ ap logNumber (r .0), rw (← r .0) (r .1))
 
 pub zones-zone-log-spec : {M : Type 1} → statement M
 zones-zone-log-spec = tie.close (tie.spec zone-log-requires pack-log-requires same-length returns)
