@@ -82,15 +82,19 @@ pub record GrowDone (D : Drawing) (n l : ℕ) (H K : List Node) (u : Tree) (a : 
   pub right : GrowRight D n l H K u a
   pub unmet : refusal (growing a) ≡ 12 → ⊥
 
-grown-by : (D : Drawing) (n l : ℕ) (few : l ≤ 16) (H : List Node) (u : Tree) (is : List ℕ) (e : Ending) → Sound u (afterSplits H is) → Ends D n l few (afterSplits H is) u e
+grown-by : (D : Drawing) (n l : ℕ) (few : l ≤ 16) (H : List Node) (u : Tree) (is : List ℕ) (e : Ending)
+    → Sound u (afterSplits H is)
+    → Ends D n l few (afterSplits H is) u e
     → GrowDone D n l H (afterSplits H is) u (answerBy e (length is))
 grown-by D n l few H u is none-left s f = record { sound = s; right = (splits-longer H is, f); unmet = λ z. omega arith }
 grown-by D n l few H u is no-room s f = record { sound = s; right = (splits-longer H is, f); unmet = λ z. omega arith }
 grown-by D n l few H u is not-passed s f = absurd f
 
 module _ (t : Tree) (H : List Node) (n l : ℕ) (s : Sound t H) where
-  limited : (b : Bool) → leb l 16 ≡ b
-      → GrowDone (drawingOf t) n l H (afterSplits H (cond b (grown n l t .cells) [])) (cond b (grown n l t .after) t) (cond b (answerOf (grown n l t)) (Grows.Not Refusals.Argument))
+  limited : (b : Bool)
+      → leb l 16 ≡ b
+      → GrowDone (drawingOf t) n l H (afterSplits H (cond b (grown n l t .cells) [])) (cond b (grown n l t .after) t)
+      (cond b (answerOf (grown n l t)) (Grows.Not Refusals.Argument))
   limited true e =
       let few : l ≤ 16 = leb-true l 16 e in
       let g = grown-sound (drawingOf t) n l few t H s refl in
@@ -100,10 +104,11 @@ module _ (t : Tree) (H : List Node) (n l : ℕ) (s : Sound t H) where
   pub grow-done : GrowDone (drawingOf t) n l H (afterSplits H (grownCells t n l)) (growTree t n l) (growAnswer t n l)
   grow-done =
       subst
-      (λ (b : Bool). GrowDone (drawingOf t) n l H (afterSplits H (cond b (cond (leb l 16) (grown n l t .cells) []) [])) (cond b (cond (leb l 16) (grown n l t .after) t) t)
+      (λ (b : Bool).
+      GrowDone (drawingOf t) n l H (afterSplits H (cond b (cond (leb l 16) (grown n l t .cells) []) []))
+      (cond b (cond (leb l 16) (grown n l t .after) t) t)
       (cond b (cond (leb l 16) (answerOf (grown n l t)) (Grows.Not Refusals.Argument)) (Grows.Not Refusals.Argument)))
-      (sym (eq-eqb (length (t .xs)) (length (t .ys)) (s .drawn .pair)))
-      (limited (leb l 16) refl)
+      (sym (eq-eqb (length (t .xs)) (length (t .ys)) (s .drawn .pair))) (limited (leb l 16) refl)
 
 -- ---- finding
 -- the leaf that holds the position, with no output
@@ -116,15 +121,26 @@ module _ (t : Tree) (H : List Node) (s : Sound t H) (x y : ℕ) where
   report-is i l =
       let q = s .squares i (l .in-use) in
       let ws = s .streams i l in
-      let n : words t i .count ≡ length (wordsOfCell (drawingOf t) (cellIn H i)) = sym (words-length (t .entries) (words t i .first) (words t i .count)) ∙ ap length ws in
+      let n : words t i .count ≡ length (wordsOfCell (drawingOf t) (cellIn H i)) =
+      sym (words-length (t .entries) (words t i .first) (words t i .count)) ∙ ap length ws in
       λ d.
-      record { cell = i; x = q .same-x d; y = q .same-y d; side = q .same-side d; steps = 16 - level (cellIn H i); entries = n d; lines = linesIn (ws d) }
+      record {
+        cell = i;
+        x = q .same-x d;
+        y = q .same-y d;
+        side = q .same-side d;
+        steps = 16 - level (cellIn H i);
+        entries = n d;
+        lines = linesIn (ws d);
+      }
 
   abbrev found : Finding.Answer
   found = foundBy t (leafIn t x y)
 
   find-is : findAnswer t x y ≡ cond (positionRange x y) found (Finds.Not Refusals.Argument)
-  find-is = ap (λ (b : Bool). cond b (cond (positionRange x y) found (Finds.Not Refusals.Argument)) (Finds.Not Refusals.Argument)) (eq-eqb (length (t .xs)) (length (t .ys)) (s .drawn .pair))
+  find-is =
+      ap (λ (b : Bool). cond b (cond (positionRange x y) found (Finds.Not Refusals.Argument)) (Finds.Not Refusals.Argument))
+      (eq-eqb (length (t .xs)) (length (t .ys)) (s .drawn .pair))
 
   chosen : (b : Bool) → positionRange x y ≡ b → findAnswer t x y ≡ cond b found (Finds.Not Refusals.Argument)
   chosen b e = find-is ∙ ap (λ (c : Bool). cond c found (Finds.Not Refusals.Argument)) e
@@ -153,7 +169,8 @@ module _ (t : Tree) (H : List Node) (s : Sound t H) (x y : ℕ) where
     find-by : (b : Bool) → positionRange x y ≡ b → refusal (finding (findRoom (findAnswer t x y) (length out))) ≡ 12 → ⊥
     find-by true e z =
         let r = find-right .inside e in
-        roomed (leb 7 (length out)) (reportShown (drawingOf t) H (r .0)) (sym (ap (λ (a : Finding.Answer). refusal (finding (findRoom a (length out)))) (r .2)) ∙ z)
+        roomed (leb 7 (length out)) (reportShown (drawingOf t) H (r .0))
+        (sym (ap (λ (a : Finding.Answer). refusal (finding (findRoom a (length out)))) (r .2)) ∙ z)
     find-by false e z =
         let o : _≡_ {A = ℕ} 7 12 = sym (ap (λ (a : Finding.Answer). refusal (finding (findRoom a (length out)))) (find-right .outside e)) ∙ z in
         omega arith
@@ -172,15 +189,18 @@ module _ (t : Tree) (x y out : ℕ) (a : Reading.Answer) (e : a ≡ positionShow
   shown-by false s z = omega arith
 
   pub position-unmet : refusal (reading (spotRoom a out)) ≡ 12 → ⊥
-  position-unmet z = shown-by (positionRange x y) (spotShown (drawingOf t) (at x y)) (sym (ap (λ (r : Reading.Answer). refusal (reading (spotRoom r out))) e) ∙ z)
+  position-unmet z =
+      shown-by (positionRange x y) (spotShown (drawingOf t) (at x y))
+      (sym (ap (λ (r : Reading.Answer). refusal (reading (spotRoom r out))) e) ∙ z)
 
 -- ---- a row
 module _ (D : Drawing) (row first : ℕ) (out : List ℕ) where
   row-shown-by : (p q r : Bool) (bytes : List ℕ)
       → refusal
       (rowing
-      (cond p (cond q (cond r (filled Rows.Done bytes) (filled (Rows.Not Refusals.Argument 0) out)) (filled (Rows.Not Refusals.Argument 0) out)) (filled (Rows.Not Refusals.Argument 0) out)
-      .answer))
+      (cond p
+      (cond q (cond r (filled Rows.Done bytes) (filled (Rows.Not Refusals.Argument 0) out)) (filled (Rows.Not Refusals.Argument 0) out))
+      (filled (Rows.Not Refusals.Argument 0) out) .answer))
       ≡ 12
       → ⊥
   row-shown-by true true true bytes z = omega arith
@@ -196,7 +216,12 @@ module _ (D : Drawing) (row first : ℕ) (out : List ℕ) where
 -- ---- a log
 module _ (D : Drawing) (px py : List ℕ) (n : ℕ) where
   log-shown-by : (p q r : Bool) (place : ℕ) (l : List ℕ)
-      → refusal (logging (cond p (cond q (Logs.Not Refusals.Argument place) (cond r (Logs.Indices (length l)) (Logs.Not Refusals.Room 0))) (Logs.Not Refusals.Argument 0))) ≡ 12 → ⊥
+      → refusal
+      (logging
+      (cond p (cond q (Logs.Not Refusals.Argument place) (cond r (Logs.Indices (length l)) (Logs.Not Refusals.Room 0)))
+      (Logs.Not Refusals.Argument 0)))
+      ≡ 12
+      → ⊥
   log-shown-by true true r place l z = omega arith
   log-shown-by true false true place l z = omega arith
   log-shown-by true false false place l z = omega arith
@@ -204,5 +229,6 @@ module _ (D : Drawing) (px py : List ℕ) (n : ℕ) where
 
   pub log-unmet : (a : LogAnswer) → a ≡ logAnswerShown D px py n → refusal (logging a) ≡ 12 → ⊥
   log-unmet a e z =
-      log-shown-by (eqb (length px) (length py)) (ltb (outsideFrom px py 0 (length px)) (length px)) (leb (length (logShown D px py)) n && eachWord (logShown D px py)) (outsideFrom px py 0 (length px)) (logShown D px py)
+      log-shown-by (eqb (length px) (length py)) (ltb (outsideFrom px py 0 (length px)) (length px))
+      (leb (length (logShown D px py)) n && eachWord (logShown D px py)) (outsideFrom px py 0 (length px)) (logShown D px py)
       (sym (ap (λ (r : LogAnswer). refusal (logging r)) e) ∙ z)

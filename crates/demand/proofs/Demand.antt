@@ -18,7 +18,26 @@ use Rattle.answers.specs.Readings.{spotRoom, outSpot}
 use Rattle.demand.specs.History.{Node, begun}
 use Rattle.demand.specs.Stands.{drawingOf, Stands}
 use Rattle.demand.specs.Opened.{openedBy, openTree}
-use Rattle.demand.specs.Calls.{Call, opens, splits, grows, finds, reads, rows, logs, opening, reading, rowing, logging, refusal, isOpening, answerTo, treeAfter, historyAfter, gives}
+use Rattle.demand.specs.Calls.{
+  Call,
+  opens,
+  splits,
+  grows,
+  finds,
+  reads,
+  rows,
+  logs,
+  opening,
+  reading,
+  rowing,
+  logging,
+  refusal,
+  isOpening,
+  answerTo,
+  treeAfter,
+  historyAfter,
+  gives,
+}
 use Rattle.demand.specs.Lists.{Listed, own, other, Allowed, tablesAfter, nodesAfter, AllAllowed, tablesAfterAll, nodesAfterAll}
 use Rattle.demand.specs.Demand.{Right, RightListed, Unmet, Throughout, Demand3}
 use Rattle.demand.proofs.Sound.{Sound, sound-stands}
@@ -42,8 +61,12 @@ called : (c : Listed) (t : Tree) (H : List Node) → Sound t H → Allowed c t �
 called (own opens) t H s a =
     let e = opening-same t (openAnswer t) (a refl) in
     record { sound = subst (λ (u : Tree). Sound u H) (sym e) s; right = tt; unmet = λ f. clash (sym f); unchanged = ap drawingTables e }
-called (own (splits i)) t H s a = let r = split-done t H i s in record { sound = r .sound; right = r .right; unmet = λ e. r .unmet; unchanged = tables-split t i }
-called (own (grows n l)) t H s a = let r = grow-done t H n l s in record { sound = r .sound; right = r .right; unmet = λ e. r .unmet; unchanged = tables-grown t n l }
+called (own (splits i)) t H s a =
+    let r = split-done t H i s in
+    record { sound = r .sound; right = r .right; unmet = λ e. r .unmet; unchanged = tables-split t i }
+called (own (grows n l)) t H s a =
+    let r = grow-done t H n l s in
+    record { sound = r .sound; right = r .right; unmet = λ e. r .unmet; unchanged = tables-grown t n l }
 called (own (finds x y out)) t H s a = record { sound = s; right = find-given t H s x y out; unmet = λ e. find-unmet t H s x y out; unchanged = refl }
 called (own (reads x y out)) t H s a =
     let q = position-right t H s x y in

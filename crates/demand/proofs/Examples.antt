@@ -177,8 +177,8 @@ D = drawingOfFile file
 
 given-there : (x y : ℕ) → given (callOf (reading x y)) after ≡ positionGiven D x y (zeros 6)
 given-there x y =
-    list-goes-on D calls (own (callOf (reading x y)) ∷ []) (fileTree file blank) begun (file-demand file blank file-opened (calls ++ (own (callOf (reading x y)) ∷ []))) allowed
-    (λ e. clash e) .0 .right
+    list-goes-on D calls (own (callOf (reading x y)) ∷ []) (fileTree file blank) begun
+    (file-demand file blank file-opened (calls ++ (own (callOf (reading x y)) ∷ []))) allowed (λ e. clash e) .0 .right
 
 there : (x y : ℕ) → refusal (positionGiven D x y (zeros 6) .answer) ≡ 0 → GivesShown D (reading x y) after
 there x y e = from-file file blank file-opened calls allowed (reading x y) (ap (λ (g : Given). refusal (g .answer)) (given-there x y) ∙ e)

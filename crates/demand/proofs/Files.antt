@@ -37,14 +37,32 @@ use Rattle.demand.specs.Shown.{positionShown, positionGiven, fillShown, 
 use Rattle.demand.specs.Calls.{reads, rows, logs, reading, rowing, logging, numberBy, refusal, answerTo, Given, given}
 use Rattle.demand.specs.Lists.{own, Allowed, tablesAfterAll, nodesAfterAll}
 use Rattle.demand.specs.Demand.{Right}
-use Rattle.demand.specs.Files.{readBy, readTree, FileOpened, fileTree, drawingOfFile, FileDemand3, Shows, position, pixels, run, callOf, numberShown, outputShown, GivesShown, FromFile}
+use Rattle.demand.specs.Files.{
+  readBy,
+  readTree,
+  FileOpened,
+  fileTree,
+  drawingOfFile,
+  FileDemand3,
+  Shows,
+  position,
+  pixels,
+  run,
+  callOf,
+  numberShown,
+  outputShown,
+  GivesShown,
+  FromFile,
+}
 use Rattle.demand.proofs.Demand.{demand-over}
 use Rattle.demand.proofs.Lists.{list-goes-on}
 
 -- ---- the drawing of an accepted file
 pub file-drawing : (b p a x y : List ℕ) (k : Counts) → readAnswer b p a x y ≡ Accepted k → drawingIn (after (Accepted k) b p a x y) ≡ drawingFrom (recordsIn b)
 file-drawing b p a x y k e =
-    ap drawingFrom (drawn-records (after (Accepted k) b p a x y) (recordsIn b) (file-accepts b k (taken b p a x y k e .verdict) .range) (read-leaves b p a x y k e))
+    ap drawingFrom
+    (drawn-records (after (Accepted k) b p a x y) (recordsIn b) (file-accepts b k (taken b p a x y k e .verdict) .range)
+    (read-leaves b p a x y k e))
 
 file-held : (file : List ℕ) (t : Tree) → FileOpened file t → drawingOf (readTree file t) ≡ drawingOfFile file
 file-held file t o =
@@ -60,7 +78,9 @@ number-is n = omega arith
 
 module _ (D : Drawing) where
   -- at a position
-  spot-roomed : (b : Bool) (s : Spot) → refusal (reading (cond b (Reads.At s) (Reads.Not Refusals.Room))) ≡ 0 → cond b (Reads.At s) (Reads.Not Refusals.Room) ≡ Reads.At s
+  spot-roomed : (b : Bool) (s : Spot)
+      → refusal (reading (cond b (Reads.At s) (Reads.Not Refusals.Room))) ≡ 0
+      → cond b (Reads.At s) (Reads.Not Refusals.Room) ≡ Reads.At s
   spot-roomed true s e = refl
   spot-roomed false s e = absurd (omega arith)
 
@@ -71,7 +91,9 @@ module _ (D : Drawing) where
 
   -- in a row
   row-accepted : (a b c : Bool) (bytes out : List ℕ)
-      → let f : Filled = cond a (cond b (cond c (filled Rows.Done bytes) (filled (Rows.Not Refusals.Argument 0) out)) (filled (Rows.Not Refusals.Argument 0) out)) (filled (Rows.Not Refusals.Argument 0) out) in
+      → let f : Filled = cond a
+      (cond b (cond c (filled Rows.Done bytes) (filled (Rows.Not Refusals.Argument 0) out)) (filled (Rows.Not Refusals.Argument 0) out))
+      (filled (Rows.Not Refusals.Argument 0) out) in
       refusal (rowing (f .answer)) ≡ 0 → f ≡ filled Rows.Done bytes
   row-accepted true true true bytes out e = refl
   row-accepted true true false bytes out e = absurd (omega arith)
@@ -80,15 +102,25 @@ module _ (D : Drawing) where
 
   -- along a run
   log-accepted : (a b c : Bool) (place n : ℕ)
-      → refusal (logging (cond a (cond b (Logs.Not Refusals.Argument place) (cond c (Logs.Indices n) (Logs.Not Refusals.Room 0))) (Logs.Not Refusals.Argument 0))) ≡ 0
-      → cond a (cond b (Logs.Not Refusals.Argument place) (cond c (Logs.Indices n) (Logs.Not Refusals.Room 0))) (Logs.Not Refusals.Argument 0) ≡ Logs.Indices n
+      → refusal
+      (logging
+      (cond a (cond b (Logs.Not Refusals.Argument place) (cond c (Logs.Indices n) (Logs.Not Refusals.Room 0)))
+      (Logs.Not Refusals.Argument 0)))
+      ≡ 0
+      → cond a (cond b (Logs.Not Refusals.Argument place) (cond c (Logs.Indices n) (Logs.Not Refusals.Room 0)))
+      (Logs.Not Refusals.Argument 0)
+      ≡ Logs.Indices n
   log-accepted true true c place n e = absurd (omega arith)
   log-accepted true false true place n e = refl
   log-accepted true false false place n e = absurd (omega arith)
   log-accepted false b c place n e = absurd (omega arith)
 
   -- what is given is what is shown
-  shows-accepted : (r : Shows) (t : Tree) (g : Given) → given (callOf r) t ≡ g → numberBy (g .answer) ≡ numberShown D r → g .output ≡ outputShown D r → GivesShown D r t
+  shows-accepted : (r : Shows) (t : Tree) (g : Given)
+      → given (callOf r) t ≡ g
+      → numberBy (g .answer) ≡ numberShown D r
+      → g .output ≡ outputShown D r
+      → GivesShown D r t
   shows-accepted r t g e n o = record { number = ap (λ (h : Given). numberBy (h .answer)) e ∙ n; output = ap (λ (h : Given). h .output) e ∙ o }
 
   pub accepted-shows : (r : Shows) (t : Tree) (H : List Node) → Right D (callOf r) t H → refusal (answerTo (callOf r) t) ≡ 0 → GivesShown D r t
@@ -97,12 +129,17 @@ module _ (D : Drawing) where
       let a = spot-accepted (positionRange x y) s (length out) (sym (ap (λ (g : Given). refusal (g .answer)) q) ∙ h) in
       shows-accepted (position x y out) t (positionGiven D x y out) q (ap spotNumber a ∙ number-is (s .material)) (ap (λ (w : Reading.Answer). outSpot w out) a)
   accepted-shows (pixels row first out) t H q h =
-      let a = row-accepted (leb row 4095) (eqb (length out % 3) 0) (leb (first + length out / 3) 4096) (fillShown D row first 0 (length out / 3) out) out (sym (ap (λ (g : Given). refusal (g .answer)) q) ∙ h) in
-      shows-accepted (pixels row first out) t (rowGiven D row first out) q (ap (λ (f : Filled). rowNumber (f .answer)) a) (ap (λ (f : Filled). f .bytes) a)
+      let a = row-accepted (leb row 4095) (eqb (length out % 3) 0) (leb (first + length out / 3) 4096)
+      (fillShown D row first 0 (length out / 3) out) out (sym (ap (λ (g : Given). refusal (g .answer)) q) ∙ h) in
+      shows-accepted (pixels row first out) t (rowGiven D row first out) q (ap (λ (f : Filled). rowNumber (f .answer)) a)
+      (ap (λ (f : Filled). f .bytes) a)
   accepted-shows (run px py out) t H q h =
       let l = logShown D px py in
-      let a = log-accepted (eqb (length px) (length py)) (ltb (outsideFrom px py 0 (length px)) (length px)) (leb (length l) (length out) && eachWord l) (outsideFrom px py 0 (length px)) (length l) (sym (ap (λ (g : Given). refusal (g .answer)) q) ∙ h) in
-      shows-accepted (run px py out) t (logGiven D px py out) q (ap logNumber a ∙ number-is (lowHalf (length l))) (ap (λ (w : LogAnswer). logOutShown D px py w out) a)
+      let a = log-accepted (eqb (length px) (length py)) (ltb (outsideFrom px py 0 (length px)) (length px))
+      (leb (length l) (length out) && eachWord l) (outsideFrom px py 0 (length px)) (length l)
+      (sym (ap (λ (g : Given). refusal (g .answer)) q) ∙ h) in
+      shows-accepted (run px py out) t (logGiven D px py out) q (ap logNumber a ∙ number-is (lowHalf (length l)))
+      (ap (λ (w : LogAnswer). logOutShown D px py w out) a)
 
   allowed : (r : Shows) (t : Tree) → Allowed (own (callOf r)) t
   allowed (position x y out) t = λ e. clash e

@@ -41,13 +41,23 @@ module _ (t : Tree) (H : List Node) (s : Sound t H) where
   on-cell : (i : ℕ) (c : Cell) → i < length H → cellIn H i ≡ c → onSquare (words t i) c ≡ true
   on-cell i c h e = on-square (words t i) c (subst (SaysCell (words t i)) e (s .squares i h))
 
-  down : (p : Position) (n i steps : ℕ) (c : Cell) → i < length H → cellIn H i ≡ c → Holds c p → level c < n → Ends p steps (level c) (downFrom (t .cells) used free p n i steps c)
+  down : (p : Position) (n i steps : ℕ) (c : Cell)
+      → i < length H
+      → cellIn H i ≡ c
+      → Holds c p
+      → level c < n
+      → Ends p steps (level c) (downFrom (t .cells) used free p n i steps c)
   down p zero i steps c h e o k = absurd (omega arith)
   down p (suc n) i steps c h e o k =
       go (ℕ-discrete (firstIn H i) 0) (λ j l z d. down p n j (steps + 1) (child c (quarterOf c p)) l z (child-holds c p o) d)
     where
       go : Dec (firstIn H i ≡ 0)
-          → ((j : ℕ) → j < length H → cellIn H j ≡ child c (quarterOf c p) → level (child c (quarterOf c p)) < n → Ends p (steps + 1) (level (child c (quarterOf c p))) (downFrom (t .cells) used free p n j (steps + 1) (child c (quarterOf c p))))
+          → ((j : ℕ)
+          → j < length H
+          → cellIn H j ≡ child c (quarterOf c p)
+          → level (child c (quarterOf c p)) < n
+          → Ends p (steps + 1) (level (child c (quarterOf c p)))
+          (downFrom (t .cells) used free p n j (steps + 1) (child c (quarterOf c p))))
           → Ends p steps (level c) (downFrom (t .cells) used free p (suc n) i steps c)
       go (yes z) next =
           record {
@@ -61,14 +71,17 @@ module _ (t : Tree) (H : List Node) (s : Sound t H) where
           let d = s .grown .divided i h z in
           let wide : 0 < level c = subst (λ (x : Cell). 0 < level x) e (d .wide) in
           let less : suc (level (child c (quarterOf c p))) ≡ level c = level-child c (quarterOf c p) wide in
-          let r = next (firstIn H i + placeOf (quarterOf c p)) (omega (arith, d .in-use, few-places (quarterOf c p))) (d .quarter (quarterOf c p) ∙ ap (λ (x : Cell). child x (quarterOf c p)) e) (omega (arith, less)) in
+          let r = next (firstIn H i + placeOf (quarterOf c p)) (omega (arith, d .in-use, few-places (quarterOf c p)))
+          (d .quarter (quarterOf c p) ∙ ap (λ (x : Cell). child x (quarterOf c p)) e) (omega (arith, less)) in
           record {
             leaf = r .leaf;
             holds = r .holds;
             deep = r .deep;
-            found =
-                down-split (t .cells) used free p n i steps c (cell-passes t H s i h) (on-cell i c h e) (λ y. z (sym (s .firsts i h) ∙ y))
-                ∙ (ap (λ (j : ℕ). downFrom (t .cells) used free p n (j + placeOf (quarterOf c p)) (steps + 1) (child c (quarterOf c p))) (s .firsts i h) ∙ r .found);
+            found = down-split (t .cells) used free p n i steps c (cell-passes t H s i h) (on-cell i c h e)
+                (λ y. z (sym (s .firsts i h) ∙ y))
+                ∙ (ap (λ (j : ℕ). downFrom (t .cells) used free p n (j + placeOf (quarterOf c p)) (steps + 1) (child c (quarterOf c p)))
+                (s .firsts i h)
+                ∙ r .found);
             level-is = omega (arith, r .level-is, less);
           }
 

@@ -22,7 +22,33 @@ use Rattle.open.specs.Open.{drawingTables}
 use Rattle.find_leaf.specs.Leaf.{linesIn}
 use Rattle.grow.specs.declared.Tried.{Tried}
 use Rattle.grow.specs.declared.Tried.the-variants.{Bad, Past, Wanted}
-use Rattle.grow.specs.Grow.{depthAt, isWanted, tried, Lowest, none, at, orNext, lowestFrom, Round, splits, done, full, broken, roundAt, roundBy, round, Ending, none-left, no-room, not-passed, Grown, goOn, growing, grown, growTree}
+use Rattle.grow.specs.Grow.{
+  depthAt,
+  isWanted,
+  tried,
+  Lowest,
+  none,
+  at,
+  orNext,
+  lowestFrom,
+  Round,
+  splits,
+  done,
+  full,
+  broken,
+  roundAt,
+  roundBy,
+  round,
+  Ending,
+  none-left,
+  no-room,
+  not-passed,
+  Grown,
+  goOn,
+  growing,
+  grown,
+  growTree,
+}
 use Rattle.demand.specs.History.{Node, cellIn, splitAt, afterSplits, Leaf}
 use Rattle.demand.specs.Stands.{drawingOf, wordsOfCell}
 use Rattle.demand.specs.Demand as Demand
@@ -34,7 +60,10 @@ use Rattle.demand.proofs.Splits.{tables-split, drawing-split}
 use Rattle.demand.proofs.Outcomes.{Roomed, fits, short, leaf-roomed}
 
 -- ---- the drawing stays
-on-tables : (n l : ℕ) (t : Tree) (f : Tree → Grown) → ((u : Tree) → drawingTables (f u .after) ≡ drawingTables u) → (r : Round) → drawingTables (goOn r t f .after) ≡ drawingTables t
+on-tables : (n l : ℕ) (t : Tree) (f : Tree → Grown)
+    → ((u : Tree) → drawingTables (f u .after) ≡ drawingTables u)
+    → (r : Round)
+    → drawingTables (goOn r t f .after) ≡ drawingTables t
 on-tables n l t f g (splits i) = g (splitTree t i) ∙ tables-split t i
 on-tables n l t f g done = refl
 on-tables n l t f g full = refl
@@ -97,7 +126,10 @@ module _ (D : Drawing) (n l : ℕ) (few : l ≤ 16) where
     sees : Sees H i (tried t n l i)
     unfolding tried
     sees =
-        subst (Sees H i) (sym (ap (λ (b : Bool). cond b (cond (eqb (words t i .child) 0) (cond streamed (cond wants Wanted Past) Bad) Past) Bad) (cell-passes t H s i h)))
+        subst (Sees H i)
+        (sym
+        (ap (λ (b : Bool). cond b (cond (eqb (words t i .child) 0) (cond streamed (cond wants Wanted Past) Bad) Past) Bad)
+        (cell-passes t H s i h)))
         (sees-cell (eqb (words t i .child) 0) refl)
 
   -- ---- the lowest wanted leaf, among the cells from i on and below e
@@ -131,7 +163,13 @@ module _ (D : Drawing) (n l : ℕ) (few : l ≤ 16) where
   deep : (H : List Node) (i : ℕ) → Wants H i → 0 < level (cellIn H i)
   deep H i w = omega (arith, w .shallow)
 
-  round-at : (t : Tree) (H : List Node) (i : ℕ) → Wants H i → ((j : ℕ) → j < i → Wants H j → ⊥) → {r : Splitting.Answer} → splitAnswer t i ≡ r → Roomed t H i r → Turns t H (roundAt i r)
+  round-at : (t : Tree) (H : List Node) (i : ℕ)
+      → Wants H i
+      → ((j : ℕ) → j < i → Wants H j → ⊥)
+      → {r : Splitting.Answer}
+      → splitAnswer t i ≡ r
+      → Roomed t H i r
+      → Turns t H (roundAt i r)
   round-at t H i w g e (fits m q o) = divides i o
   round-at t H i w g e short = stops (record { cell = i; wanted = w; lowest = g; refused = e })
 
@@ -155,10 +193,17 @@ module _ (D : Drawing) (n l : ℕ) (few : l ≤ 16) where
     pub sound : Sound (g .after) (afterSplits H (g .cells))
     pub ending : Ends (afterSplits H (g .cells)) (g .after) (g .ending)
 
-  go-on : (k : ℕ) (t : Tree) (H : List Node) → Sound t H → drawingOf t ≡ D → 4096 - cellsUsed (t .head) < 4 * suc k
-      → ((u : Tree) (K : List Node) → Sound u K → drawingOf u ≡ D → 4096 - cellsUsed (u .head) < 4 * k → Grows K (growing k n l u)) → {r : Round} → Turns t H r → Grows H (goOn r t (growing k n l))
+  go-on : (k : ℕ) (t : Tree) (H : List Node)
+      → Sound t H
+      → drawingOf t ≡ D
+      → 4096 - cellsUsed (t .head) < 4 * suc k
+      → ((u : Tree) (K : List Node) → Sound u K → drawingOf u ≡ D → 4096 - cellsUsed (u .head) < 4 * k → Grows K (growing k n l u))
+      → {r : Round}
+      → Turns t H r
+      → Grows H (goOn r t (growing k n l))
   go-on k t H s q m next (divides i o) =
-      let r = next (splitTree t i) (splitAt H i) o (drawing-split t i ∙ q) (omega (arith, o .in-use, s .in-use, one-longer H i, used-most (splitTree t i) (o .counts))) in
+      let r = next (splitTree t i) (splitAt H i) o (drawing-split t i ∙ q)
+      (omega (arith, o .in-use, s .in-use, one-longer H i, used-most (splitTree t i) (o .counts))) in
       record { sound = r .sound; ending = r .ending }
   go-on k t H s q m next (ends g) = record { sound = s; ending = g }
   go-on k t H s q m next (stops g) = record { sound = s; ending = g }

@@ -176,7 +176,12 @@ module _ (H : List Node) (i : ℕ) (h : i < length H) where
     grid-by m (new q e) = rw (e, cell-new q) (child-gridded c q (g .on-grid i h))
 
     divided-here : Divided K i n
-    divided-here = record { wide = rw (cell-old i h) large; in-use = omega (arith, split-length); quarter = λ q. cell-new q ∙ ap (λ (x : Cell). child x q) (sym (cell-old i h)) }
+    divided-here =
+        record {
+          wide = rw (cell-old i h) large;
+          in-use = omega (arith, split-length);
+          quarter = λ q. cell-new q ∙ ap (λ (x : Cell). child x q) (sym (cell-old i h));
+        }
 
     divided-by : (m : ℕ) → From m → (firstIn K m ≡ 0 → ⊥) → Divided K m (firstIn K m)
     divided-by m (kept l e) z =
@@ -186,7 +191,9 @@ module _ (H : List Node) (i : ℕ) (h : i < length H) where
         (record {
           wide = rw (cell-old m l) (d .wide);
           in-use = omega (arith, d .in-use, split-length);
-          quarter = λ q. cell-old (firstIn H m + placeOf q) (omega (arith, d .in-use, few-places q)) ∙ (d .quarter q ∙ ap (λ (x : Cell). child x q) (sym (cell-old m l)));
+          quarter = λ q.
+              cell-old (firstIn H m + placeOf q) (omega (arith, d .in-use, few-places q))
+              ∙ (d .quarter q ∙ ap (λ (x : Cell). child x q) (sym (cell-old m l)));
         })
     divided-by m (divides e) z = subst (λ (x : ℕ). Divided K x (firstIn K x)) (sym e) (subst (Divided K i) (sym first-split) divided-here)
     divided-by m (new q e) z = absurd (z (ap (firstIn K) e ∙ first-new q))
@@ -198,7 +205,11 @@ module _ (H : List Node) (i : ℕ) (h : i < length H) where
 
     found-by : (p : Position) (m : ℕ) → From m → LeafAt K p m → Found p m
     found-by p m (kept l e) a =
-        old e (record { leaf = record { in-use = l; undivided = sym (first-other m l e) ∙ a .leaf .undivided }; holds = subst (λ (x : Cell). Holds x p) (cell-old m l) (a .holds) })
+        old e
+        (record {
+          leaf = record { in-use = l; undivided = sym (first-other m l e) ∙ a .leaf .undivided };
+          holds = subst (λ (x : Cell). Holds x p) (cell-old m l) (a .holds);
+        })
     found-by p m (divides e) a = absurd (let f : n ≡ 0 = sym first-split ∙ (ap (firstIn K) (sym e) ∙ a .leaf .undivided) in omega (arith, some-cells))
     found-by p m (new q e) a = quarter q e (subst (λ (x : Cell). Holds x p) (ap (cellIn K) e ∙ cell-new q) (a .holds))
 
@@ -218,7 +229,10 @@ module _ (H : List Node) (i : ℕ) (h : i < length H) where
     leaf-kept : (p : Position) (m : ℕ) → (m ≡ i → ⊥) → LeafAt H p m → LeafAt K p m
     leaf-kept p m e a =
         let l = a .leaf .in-use in
-        record { leaf = record { in-use = omega (arith, split-length); undivided = first-other m l e ∙ a .leaf .undivided }; holds = rw (cell-old m l) (a .holds) }
+        record {
+          leaf = record { in-use = omega (arith, split-length); undivided = first-other m l e ∙ a .leaf .undivided };
+          holds = rw (cell-old m l) (a .holds);
+        }
 
     leaf-new : (p : Position) → Holds c p → LeafAt K p (n + placeOf (quarterOf c p))
     leaf-new p k =

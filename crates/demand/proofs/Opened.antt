@@ -96,11 +96,12 @@ module _ (t : Tree) (n : ℕ) (a : Accepts t n) (long : 3 ≤ length (t .plan)) 
   opened-counts : countsIn u ≡ true
   opened-counts =
       counts-of u
-      (head-fits (u .head) (length (u .cells)) (length (u .entries)) (omega (arith, head-length, a .head-room)) (omega (arith, head-cells)) (omega (arith, head-cells, cells-length, a .cells-room)) (omega (arith, head-cells))
+      (head-fits (u .head) (length (u .cells)) (length (u .entries)) (omega (arith, head-length, a .head-room)) (omega (arith, head-cells))
+      (omega (arith, head-cells, cells-length, a .cells-room)) (omega (arith, head-cells))
       (omega (arith, head-entries, entries-length, a .entries-room)) (omega (arith, head-entries, a .few)))
-      (le-leb 3 (length (t .plan)) long)
-      0
-      (used-in t opened-drawn (length (u .entries)) (entriesUsed (u .head)) (omega (arith, head-entries, entries-length, a .entries-room)) (omega (arith, head-entries, a .few)) (words u 0 .y) (words u 0 .side))
+      (le-leb 3 (length (t .plan)) long) 0
+      (used-in t opened-drawn (length (u .entries)) (entriesUsed (u .head)) (omega (arith, head-entries, entries-length, a .entries-room))
+      (omega (arith, head-entries, a .few)) (words u 0 .y) (words u 0 .side))
 
   squares : (i : ℕ) → i < 1 → SaysCell (words u i) (cellIn begun i)
   squares zero h = subst (λ (w : CellWords). SaysCell w root) (sym root-cell) (record { same-x = refl; same-y = refl; same-side = refl })
@@ -121,7 +122,8 @@ module _ (t : Tree) (n : ℕ) (a : Accepts t n) (long : 3 ≤ length (t .plan)) 
   streams : (i : ℕ) → Leaf begun i → stream u i ≡ wordsOfCell (drawingOf t) (cellIn begun i)
   streams zero l =
       ap (λ (w : CellWords). wordsFrom (u .entries) (w .first) (w .count)) root-cell
-      ∙ (ap (wordsFrom (u .entries) 0) (a .entries) ∙ (written-read (t .entries) 0 (streamOpened t) (omega (arith, a .entries, a .entries-room)) ∙ stream-opened))
+      ∙ (ap (wordsFrom (u .entries) 0) (a .entries)
+      ∙ (written-read (t .entries) 0 (streamOpened t) (omega (arith, a .entries, a .entries-room)) ∙ stream-opened))
   streams (suc i) l = absurd (omega (arith, l .in-use))
 
   opened-sound : Sound u begun
@@ -140,4 +142,5 @@ module _ (t : Tree) (n : ℕ) (a : Accepts t n) (long : 3 ≤ length (t .plan)) 
 pub open-sound : (t : Tree) (n : ℕ) → openAnswer t ≡ Opened n → Sound (openTree t) begun
 open-sound t n e =
     let a = open-accepts t n e in
-    subst (λ (r : Answer). Sound (openedBy t r) begun) (sym e) (opened-sound t n a (omega (arith, Rows.drawn (drawingTables t) (a .counts) (a .drawing) .room .plan)))
+    subst (λ (r : Answer). Sound (openedBy t r) begun) (sym e)
+    (opened-sound t n a (omega (arith, Rows.drawn (drawingTables t) (a .counts) (a .drawing) .room .plan)))

@@ -76,9 +76,12 @@ module _ (t : Tree) (H : List Node) (i : ℕ) (s : Sound t H) where
     -- 12 does not meet the numbers in use, nor the cell
     counted : countsSplit t i ≡ celled
     counted =
-        chosen (headRange (t .head) (length (t .cells)) (length (t .entries))) (cond (leb 3 (length (t .plan))) (drawingSplit t i) (Not Broken)) (Not Broken) (counts-head t (s .counts))
+        chosen (headRange (t .head) (length (t .cells)) (length (t .entries)))
+        (cond (leb 3 (length (t .plan))) (drawingSplit t i) (Not Broken)) (Not Broken) (counts-head t (s .counts))
         ∙ (chosen (leb 3 (length (t .plan))) (drawingSplit t i) (Not Broken) (counts-plan t (s .counts))
-        ∙ (chosen (usedRange (length (t .entries)) free (length (t .areas)) (length (t .xs)) (length (t .ys)) (boundsOf (t .plan) (words t i))) (cellSplit t i) (Not Broken) (counts-used t (s .counts) i)
+        ∙ (chosen
+        (usedRange (length (t .entries)) free (length (t .areas)) (length (t .xs)) (length (t .ys)) (boundsOf (t .plan) (words t i)))
+        (cellSplit t i) (Not Broken) (counts-used t (s .counts) i)
         ∙ chosen (cellRange (words t i) i used free) celled (Not Broken) (cell-passes t H s i h)))
 
     module _ (l : Leaf H i) where
@@ -141,5 +144,7 @@ module _ (t : Tree) (H : List Node) (i : ℕ) (s : Sound t H) where
   pub split-outcome : Outcome t H i (splitAnswer t i)
   split-outcome =
       subst (Outcome t H i)
-      (sym (chosen (eqb (length (t .xs)) (length (t .ys))) (cond (ltb i used) (countsSplit t i) (Not NoCell)) (Not Argument) (eq-eqb (length (t .xs)) (length (t .ys)) (s .drawn .pair))))
+      (sym
+      (chosen (eqb (length (t .xs)) (length (t .ys))) (cond (ltb i used) (countsSplit t i) (Not NoCell)) (Not Argument)
+      (eq-eqb (length (t .xs)) (length (t .ys)) (s .drawn .pair))))
       (numbered (ltb i used) refl)

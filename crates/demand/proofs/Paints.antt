@@ -47,7 +47,8 @@ module _ (P : ℕ → Type 0) where
   all-shown pass k end o = tt
   all-shown pass k (leaf n t) o = all-append (cond (pass n) (n ∷ []) []) (shownAll pass t) (all-cond (pass n) (n ∷ []) (o .0, tt)) (all-shown pass k t (o .1))
   all-shown pass k (group l r t) o =
-      all-append (cond (clipPasses pass l) (shownAll pass r) []) (shownAll pass t) (all-cond (clipPasses pass l) (shownAll pass r) (all-shown pass k r (o .1))) (all-shown pass k t (o .2))
+      all-append (cond (clipPasses pass l) (shownAll pass r) []) (shownAll pass t)
+      (all-cond (clipPasses pass l) (shownAll pass r) (all-shown pass k r (o .1))) (all-shown pass k t (o .2))
 
   all-up : (opaque : ℕ → Bool) (x : List ℕ) → All x → All (upTo opaque x)
   all-up opaque [] h = tt
@@ -63,8 +64,10 @@ module _ (P : ℕ → Type 0) where
 
 pub shown-below : (D : Drawing) → Valid D → (p : Position) (n : ℕ) → has (setShown D p) n ≡ true → n < length (D .fields)
 shown-below D ok p n e =
-    all-among (λ m. m < length (D .fields)) (shownAt D p) (all-up (λ m. m < length (D .fields)) (isOpaque D) (shownAll (passesAt D p) (D .plan)) (all-shown (λ m. m < length (D .fields)) (passesAt D p) paint (D .plan) (ok .numbers))) n
-    (sym (has-set (shownAt D p) n) ∙ e)
+    all-among (λ m. m < length (D .fields)) (shownAt D p)
+    (all-up (λ m. m < length (D .fields)) (isOpaque D) (shownAll (passesAt D p) (D .plan))
+    (all-shown (λ m. m < length (D .fields)) (passesAt D p) paint (D .plan) (ok .numbers)))
+    n (sym (has-set (shownAt D p) n) ∙ e)
 
 -- ---- material and colour go by the areas of the set
 module _ (f g : ℕ → Paint) (set : ℕ) (same : (n : ℕ) → has set n ≡ true → f n ≡ g n) where
@@ -100,7 +103,8 @@ module _ (f g : ℕ → Paint) (set : ℕ) (same : (n : ℕ) → has set n ≡ t
 module _ (D : Drawing) (ok : Valid D) (areas xs ys : List ℕ) (b : Bounds) (H : Held areas xs ys b D) (p : Position) where
   paint-same : (n : ℕ) → has (setShown D p) n ≡ true → paintAt areas n ≡ paintOf D n
   paint-same n e =
-      ap (λ (f : Fields). record { alpha = f .alpha; red = f .red; green = f .green; blue = f .blue; material = f .material }) (fields-are D areas xs ys b H n (shown-below D ok p n e))
+      ap (λ (f : Fields). record { alpha = f .alpha; red = f .red; green = f .green; blue = f .blue; material = f .material })
+      (fields-are D areas xs ys b H n (shown-below D ok p n e))
 
   pub material-held : materialOf (paintAt areas) (setShown D p) ≡ materialShown D p
   material-held = material-same (paintAt areas) (paintOf D) (setShown D p) paint-same

@@ -46,7 +46,8 @@ module _ (t : Tree) (H : List Node) (s : Sound t H) where
       go (no z) =
           let d = s .grown .divided i h z in
           and-both (childRange (words t i .child) used) (entryRange (words t i .first) (words t i .count) free)
-          (or-right (eqb (words t i .child) 0) (ltb (words t i .child + 3) used) (lt-ltb (words t i .child + 3) used (omega (arith, d .in-use, s .firsts i h, s .in-use))))
+          (or-right (eqb (words t i .child) 0) (ltb (words t i .child + 3) used)
+          (lt-ltb (words t i .child + 3) used (omega (arith, d .in-use, s .firsts i h, s .in-use))))
           (le-leb (words t i .first + words t i .count) free (s .entries i h))
 
   first-root : (i : ℕ) → i ≡ 0 → cellIn H i ≡ root
@@ -58,5 +59,6 @@ module _ (t : Tree) (H : List Node) (s : Sound t H) where
   pub leaf-passes : (i : ℕ) → Leaf H i → checkStream (t .entries) (words t i .first) (words t i .count) (entriesUsed (t .head)) (against t i) ≡ true
   leaf-passes i l =
       let q = s .squares i (l .in-use) in
-      made-checks (drawingOf t) (s .drawn .valid) (t .areas) (t .xs) (t .ys) (boundsOf (t .plan) (words t i)) (s .drawn .held (words t i .y) (words t i .side)) (cellIn H i)
-      (q .same-y) (q .same-side) (t .entries) (words t i .first) (words t i .count) free (s .streams i l) (s .entries i (l .in-use)) (free-within t (s .counts)) (free-most t (s .counts))
+      made-checks (drawingOf t) (s .drawn .valid) (t .areas) (t .xs) (t .ys) (boundsOf (t .plan) (words t i))
+      (s .drawn .held (words t i .y) (words t i .side)) (cellIn H i) (q .same-y) (q .same-side) (t .entries) (words t i .first)
+      (words t i .count) free (s .streams i l) (s .entries i (l .in-use)) (free-within t (s .counts)) (free-most t (s .counts))

@@ -44,25 +44,42 @@ module _ (t : Tree) (H : List Node) (s : Sound t H) where
         ∙ (ap (setAt (t .areas) (t .xs) (t .ys) x y) (s .streams (r .leaf) (r .holds .leaf)) ∙ cell-set t (s .drawn) (cellIn H (r .leaf)) x y (r .holds .holds))
 
     pub material-there : materialIn t x y ≡ materialShown (drawingOf t) (at x y)
-    material-there = ap (materialOf (paintAt (t .areas))) set-there ∙ material-held (drawingOf t) (s .drawn .valid) (t .areas) (t .xs) (t .ys) _ (s .drawn .held 0 0) (at x y)
+    material-there =
+        ap (materialOf (paintAt (t .areas))) set-there
+        ∙ material-held (drawingOf t) (s .drawn .valid) (t .areas) (t .xs) (t .ys) _ (s .drawn .held 0 0) (at x y)
 
     pub colour-there : colourIn t x y ≡ colourShown (drawingOf t) (at x y)
-    colour-there = ap (colourOf (paintAt (t .areas))) set-there ∙ colour-held (drawingOf t) (s .drawn .valid) (t .areas) (t .xs) (t .ys) _ (s .drawn .held 0 0) (at x y)
+    colour-there =
+        ap (colourOf (paintAt (t .areas))) set-there
+        ∙ colour-held (drawingOf t) (s .drawn .valid) (t .areas) (t .xs) (t .ys) _ (s .drawn .held 0 0) (at x y)
 
     spot-there : spotOf (t .areas) (setIn t x y) ≡ spotShown (drawingOf t) (at x y)
-    spot-there = λ d. record { set = set-there d; material = material-there d; red = colour-there d .red; green = colour-there d .green; blue = colour-there d .blue }
+    spot-there =
+        λ d.
+        record {
+          set = set-there d;
+          material = material-there d;
+          red = colour-there d .red;
+          green = colour-there d .green;
+          blue = colour-there d .blue;
+        }
 
     pub spot-answer : spotIn t x y ≡ Answers.At (spotShown (drawingOf t) (at x y))
     spot-answer =
         ap (λ (b : Bool). cond b (Answers.At (spotOf (t .areas) (setIn t x y))) (Answers.Not Refusals.Broken)) known-there ∙ ap Answers.At spot-there
 
   -- the call: with no tree, and refused with 7 where the position is out of range
-  pub position-right : (x y : ℕ) → positionAnswer t x y ≡ cond (positionRange x y) (Answers.At (spotShown (drawingOf t) (at x y))) (Answers.Not Refusals.Argument)
+  pub position-right : (x y : ℕ)
+      → positionAnswer t x y ≡ cond (positionRange x y) (Answers.At (spotShown (drawingOf t) (at x y))) (Answers.Not Refusals.Argument)
   position-right x y =
-      ap (λ (b : Bool). cond b (cond (positionRange x y) (spotIn t x y) (Answers.Not Refusals.Argument)) (Answers.Not Refusals.Argument)) (eq-eqb (length (t .xs)) (length (t .ys)) (s .drawn .pair))
+      ap (λ (b : Bool). cond b (cond (positionRange x y) (spotIn t x y) (Answers.Not Refusals.Argument)) (Answers.Not Refusals.Argument))
+      (eq-eqb (length (t .xs)) (length (t .ys)) (s .drawn .pair))
       ∙ go (positionRange x y) refl
     where
-      go : (b : Bool) → positionRange x y ≡ b → cond b (spotIn t x y) (Answers.Not Refusals.Argument) ≡ cond b (Answers.At (spotShown (drawingOf t) (at x y))) (Answers.Not Refusals.Argument)
+      go : (b : Bool)
+          → positionRange x y ≡ b
+          → cond b (spotIn t x y) (Answers.Not Refusals.Argument)
+          ≡ cond b (Answers.At (spotShown (drawingOf t) (at x y))) (Answers.Not Refusals.Argument)
       go true e = spot-answer x y (on-grid x y e)
       go false e = refl
 

@@ -28,7 +28,8 @@ module _ (t : Tree) (H : List Node) (s : Sound t H) (row first : ℕ) where
     unfolding samplesKnown
     samples-known pixel i zero k l = refl
     samples-known pixel i (suc n) k l =
-        ap (λ (b : Bool). cond b (samplesKnown t row pixel (suc i) n) false) (known-there t H s (sampleX pixel i) (sampleY row i) (sample-on-grid row pixel i h k (omega arith)))
+        ap (λ (b : Bool). cond b (samplesKnown t row pixel (suc i) n) false)
+        (known-there t H s (sampleX pixel i) (sampleY row i) (sample-on-grid row pixel i h k (omega arith)))
         ∙ samples-known pixel (suc i) n k (omega arith)
 
     pixel-known : (pixel : ℕ) → pixel ≤ 4095 → pixelKnown t row pixel ≡ true
@@ -42,7 +43,8 @@ module _ (t : Tree) (H : List Node) (s : Sound t H) (row first : ℕ) where
     unfolding fillFrom
     fill-is i zero out k = refl
     fill-is i (suc n) out k =
-        ap (λ (b : Bool). cond b (fillFrom t row first (i + 1) n (putPixel out i (pixelIn t row (first + i)))) (filled (Not Broken i) out)) (pixel-known (first + i) (omega arith))
+        ap (λ (b : Bool). cond b (fillFrom t row first (i + 1) n (putPixel out i (pixelIn t row (first + i)))) (filled (Not Broken i) out))
+        (pixel-known (first + i) (omega arith))
         ∙ (ap (λ (c : Colour). fillFrom t row first (i + 1) n (putPixel out i c)) (pixel-is (first + i) (omega arith))
         ∙ fill-is (i + 1) n (putPixel out i (pixelShown (drawingOf t) row (first + i))) (omega arith))
 
@@ -58,11 +60,15 @@ module _ (t : Tree) (H : List Node) (s : Sound t H) (row first : ℕ) where
     abbrev span : Filled
     span = cond (leb (first + length out / 3) 4096) (filled Done (fillShown (drawingOf t) row first 0 (length out / 3) out)) refused
 
-    rowed : (b : Bool) → leb row 4095 ≡ b → cond b (cond (eqb (length out % 3) 0) (rowSpan t row first out) refused) refused ≡ cond b (cond (eqb (length out % 3) 0) span refused) refused
+    rowed : (b : Bool)
+        → leb row 4095 ≡ b
+        → cond b (cond (eqb (length out % 3) 0) (rowSpan t row first out) refused) refused
+        ≡ cond b (cond (eqb (length out % 3) 0) span refused) refused
     rowed true e = ap (λ (f : Filled). cond (eqb (length out % 3) 0) f refused) (spanned (leb-true row 4095 e) (leb (first + length out / 3) 4096) refl)
     rowed false e = refl
 
     pub row-right : rowFilled t row first out ≡ rowShown (drawingOf t) row first out
     row-right =
-        ap (λ (b : Bool). cond b (cond (leb row 4095) (cond (eqb (length out % 3) 0) (rowSpan t row first out) refused) refused) refused) (eq-eqb (length (t .xs)) (length (t .ys)) (s .drawn .pair))
+        ap (λ (b : Bool). cond b (cond (leb row 4095) (cond (eqb (length out % 3) 0) (rowSpan t row first out) refused) refused) refused)
+        (eq-eqb (length (t .xs)) (length (t .ys)) (s .drawn .pair))
         ∙ rowed (leb row 4095) refl

@@ -67,8 +67,12 @@ module _ (t : Tree) (d : Drawn t) (c : Cell) where
         windings = rw (words-say D (d .valid) c) cell-winds;
         meaning = λ p h. ap (shownIn D p) (words-stream D (d .valid) c) ∙ (made-shown D c p h (source D) ∙ source-shown D p);
         set = cell-set;
-        material = λ x y h. ap (materialOf (paintAt (t .areas))) (cell-set x y h) ∙ material-held D (d .valid) (t .areas) (t .xs) (t .ys) _ (d .held 0 0) (at x y);
-        colour = λ x y h. ap (colourOf (paintAt (t .areas))) (cell-set x y h) ∙ colour-held D (d .valid) (t .areas) (t .xs) (t .ys) _ (d .held 0 0) (at x y);
+        material = λ x y h.
+            ap (materialOf (paintAt (t .areas))) (cell-set x y h)
+            ∙ material-held D (d .valid) (t .areas) (t .xs) (t .ys) _ (d .held 0 0) (at x y);
+        colour = λ x y h.
+            ap (colourOf (paintAt (t .areas))) (cell-set x y h)
+            ∙ colour-held D (d .valid) (t .areas) (t .xs) (t .ys) _ (d .held 0 0) (at x y);
       }
 
 -- over the drawing that the tables hold

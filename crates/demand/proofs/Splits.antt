@@ -25,7 +25,21 @@ use Rattle.root_stream.specs.Opened.{drawingIn}
 use Rattle.open.specs.Open.{drawingTables}
 use Rattle.demand.specs.History.{Node, cellIn, firstIn, splitAt, Leaf}
 use Rattle.demand.specs.Stands.{drawingOf, wordsOfCell}
-use Rattle.demand.proofs.History.{From, kept, divides, new, comes, few-places, split-length, cell-old, cell-new, first-other, first-split, first-new, split-grown}
+use Rattle.demand.proofs.History.{
+  From,
+  kept,
+  divides,
+  new,
+  comes,
+  few-places,
+  split-length,
+  cell-old,
+  cell-new,
+  first-other,
+  first-split,
+  first-new,
+  split-grown,
+}
 use Rattle.demand.proofs.Made.{split-made}
 use Rattle.demand.proofs.Sound.{Drawn, Sound}
 use Rattle.demand.proofs.Passing.{cell-is}
@@ -85,34 +99,45 @@ module _ (t : Tree) (H : List Node) (i n : ℕ) (s : Sound t H) (e : splitAnswer
 
   new-entries : (q : Quarter) → streamFirst (placeOf q) + streamCount (placeOf q) ≤ entriesUsed (u .head)
   new-entries q =
-      omega (arith, tree-free t i n e, streams-more (drawing t i) (cellOf w) (stream t i) (placeOf q), streams-up (drawing t i) (cellOf w) (stream t i) (suc (placeOf q)) 4 (omega (arith, few-places q)))
+      omega (
+        arith,
+        tree-free t i n e,
+        streams-more (drawing t i) (cellOf w) (stream t i) (placeOf q),
+        streams-up (drawing t i) (cellOf w) (stream t i) (suc (placeOf q)) 4 (omega (arith, few-places q)),
+      )
 
   -- ---- each cell
   squares-by : (m : ℕ) → From H i h m → SaysCell (words u m) (cellIn K m)
   squares-by m (kept g z) =
-      subst (λ (x : CellWords). SaysCell x (cellIn K m)) (sym (tree-keeps-cell t i n e m (omega (arith, used-is)) z)) (subst (SaysCell (words t m)) (sym (cell-old H i h m g)) (s .squares m g))
+      subst (λ (x : CellWords). SaysCell x (cellIn K m)) (sym (tree-keeps-cell t i n e m (omega (arith, used-is)) z))
+      (subst (SaysCell (words t m)) (sym (cell-old H i h m g)) (s .squares m g))
   squares-by m (divides z) =
       let o = s .squares i h in
-      let p : SaysCell (words u i) (cellIn K i) =
-      subst (λ (x : CellWords). SaysCell x (cellIn K i)) (sym (tree-cell t i n e))
-      (subst (SaysCell (withChild w (cellsUsed (t .head)))) (sym (cell-old H i h i h)) (record { same-x = o .same-x; same-y = o .same-y; same-side = o .same-side })) in
+      let p : SaysCell (words u i) (cellIn K i) = subst (λ (x : CellWords). SaysCell x (cellIn K i)) (sym (tree-cell t i n e))
+      (subst (SaysCell (withChild w (cellsUsed (t .head)))) (sym (cell-old H i h i h))
+      (record { same-x = o .same-x; same-y = o .same-y; same-side = o .same-side })) in
       subst (λ (k : ℕ). SaysCell (words u k) (cellIn K k)) (sym z) p
   squares-by m (new q z) =
-      let p : SaysCell (words u (length H + placeOf q)) (cellIn K (length H + placeOf q)) =
-      subst (λ (x : CellWords). SaysCell x (cellIn K (length H + placeOf q))) (sym (new-words q))
-      (subst (SaysCell (wordsWith (child (cellIn H i) q) (streamFirst (placeOf q)) (streamCount (placeOf q)))) (sym (cell-new H i h q)) (record { same-x = refl; same-y = refl; same-side = refl })) in
+      let p : SaysCell (words u (length H + placeOf q)) (cellIn K (length H + placeOf q)) = subst
+      (λ (x : CellWords). SaysCell x (cellIn K (length H + placeOf q))) (sym (new-words q))
+      (subst (SaysCell (wordsWith (child (cellIn H i) q) (streamFirst (placeOf q)) (streamCount (placeOf q)))) (sym (cell-new H i h q))
+      (record { same-x = refl; same-y = refl; same-side = refl })) in
       subst (λ (k : ℕ). SaysCell (words u k) (cellIn K k)) (sym z) p
 
   firsts-by : (m : ℕ) → From H i h m → words u m .child ≡ firstIn K m
-  firsts-by m (kept g z) = ap (λ (x : CellWords). x .child) (tree-keeps-cell t i n e m (omega (arith, used-is)) z) ∙ (s .firsts m g ∙ sym (first-other H i h m g z))
+  firsts-by m (kept g z) =
+      ap (λ (x : CellWords). x .child) (tree-keeps-cell t i n e m (omega (arith, used-is)) z)
+      ∙ (s .firsts m g ∙ sym (first-other H i h m g z))
   firsts-by m (divides z) =
-      ap (λ (k : ℕ). words u k .child) z ∙ (ap (λ (x : CellWords). x .child) (tree-cell t i n e) ∙ (used-is ∙ (sym (first-split H i h) ∙ ap (firstIn K) (sym z))))
+      ap (λ (k : ℕ). words u k .child) z
+      ∙ (ap (λ (x : CellWords). x .child) (tree-cell t i n e) ∙ (used-is ∙ (sym (first-split H i h) ∙ ap (firstIn K) (sym z))))
   firsts-by m (new q z) =
       ap (λ (k : ℕ). words u k .child) z ∙ (ap (λ (x : CellWords). x .child) (new-words q) ∙ (sym (first-new H i h q) ∙ ap (firstIn K) (sym z)))
 
   entries-by : (m : ℕ) → From H i h m → words u m .first + words u m .count ≤ entriesUsed (u .head)
   entries-by m (kept g z) =
-      subst (λ (x : CellWords). x .first + x .count ≤ entriesUsed (u .head)) (sym (tree-keeps-cell t i n e m (omega (arith, used-is)) z)) (omega (arith, s .entries m g, tree-free t i n e))
+      subst (λ (x : CellWords). x .first + x .count ≤ entriesUsed (u .head)) (sym (tree-keeps-cell t i n e m (omega (arith, used-is)) z))
+      (omega (arith, s .entries m g, tree-free t i n e))
   entries-by m (divides z) =
       subst (λ (k : ℕ). words u k .first + words u k .count ≤ entriesUsed (u .head)) (sym z)
       (subst (λ (x : CellWords). x .first + x .count ≤ entriesUsed (u .head)) (sym (tree-cell t i n e)) (omega (arith, s .entries i h, tree-free t i n e)))
@@ -127,7 +152,9 @@ module _ (t : Tree) (H : List Node) (i n : ℕ) (s : Sound t H) (e : splitAnswer
       ∙ (s .streams m (record { in-use = g; undivided = sym (first-other H i h m g z) ∙ f }) ∙ ap (wordsOfCell (drawingOf t)) (sym (cell-old H i h m g))))
   streams-by m (divides z) f = absurd (let o : length H ≡ 0 = sym (first-split H i h) ∙ (ap (firstIn K) (sym z) ∙ f) in omega (arith, h))
   streams-by m (new q z) f =
-      ap (stream u) z ∙ (new-stream q ∙ (ap (wordsOfCell (drawingOf t)) (sym (cell-new H i h q)) ∙ ap (λ (k : ℕ). wordsOfCell (drawingOf t) (cellIn K k)) (sym z)))
+      ap (stream u) z
+      ∙ (new-stream q
+      ∙ (ap (wordsOfCell (drawingOf t)) (sym (cell-new H i h q)) ∙ ap (λ (k : ℕ). wordsOfCell (drawingOf t) (cellIn K k)) (sym z)))
 
   pub split-sound : Sound (splitTree t i) (splitAt H i)
   split-sound =
