@@ -28,7 +28,28 @@ use Rattle.open.proofs.Accepted.{open-accepts}
 use Rattle.open.proofs.After.{cells-used, cell-is}
 use Rattle.grow.specs.declared.Tried.{Tried}
 use Rattle.grow.specs.declared.Tried.the-variants.{Bad, Past, Wanted}
-use Rattle.grow.specs.Grow.{isWanted, tried, Lowest, none, bad, at, orNext, lowestFrom, Round, splits, done, full, broken, roundAt, roundBy, round, goOn, growing, grown, growTree}
+use Rattle.grow.specs.Grow.{
+  isWanted,
+  tried,
+  Lowest,
+  none,
+  bad,
+  at,
+  orNext,
+  lowestFrom,
+  Round,
+  splits,
+  done,
+  full,
+  broken,
+  roundAt,
+  roundBy,
+  round,
+  goOn,
+  growing,
+  grown,
+  growTree,
+}
 use Rattle.find_leaf.specs.declared.FoundLeaf.{FoundLeaf}
 use Rattle.find_leaf.specs.declared.Answer.the-variants.{Found}
 use Rattle.find_leaf.specs.Leaf.{linesIn, findAnswer}
@@ -55,7 +76,8 @@ module _ (t : Tree) (n : ℕ) where
   wanted-level i e =
       let w = words t i in
       let ws = wordsFrom (t .entries) (w .first) (w .count) in
-      let d = wanted-passes (cellRange w i (cellsUsed (t .head)) (entriesUsed (t .head))) (eqb (w .child) 0) (checkStream (t .entries) (w .first) (w .count) (entriesUsed (t .head)) (against t i)) (isWanted n 4 w ws) e in
+      let d = wanted-passes (cellRange w i (cellsUsed (t .head)) (entriesUsed (t .head))) (eqb (w .child) 0)
+      (checkStream (t .entries) (w .first) (w .count) (entriesUsed (t .head)) (against t i)) (isWanted n 4 w ws) e in
       omega (arith, ltb-true (16 - levelOf (w .side)) 4 (and-right (ltb n (linesIn ws)) (ltb (16 - levelOf (w .side)) 4) d))
 
   lowest-wanted : (m i j : ℕ) → lowestFrom t n 4 i m ≡ at j → tried t n 4 j ≡ Wanted
@@ -63,7 +85,11 @@ module _ (t : Tree) (n : ℕ) where
   lowest-wanted zero i j e = absurd (let z : _≡_ {A = ℕ} 0 1 = cc in omega arith)
   lowest-wanted (suc m) i j e = go (tried t n 4 i) refl (lowest-wanted m (i + 1) j) e
     where
-      go : (x : Tried) → tried t n 4 i ≡ x → (lowestFrom t n 4 (i + 1) m ≡ at j → tried t n 4 j ≡ Wanted) → orNext x i (lowestFrom t n 4 (i + 1) m) ≡ at j → tried t n 4 j ≡ Wanted
+      go : (x : Tried)
+          → tried t n 4 i ≡ x
+          → (lowestFrom t n 4 (i + 1) m ≡ at j → tried t n 4 j ≡ Wanted)
+          → orNext x i (lowestFrom t n 4 (i + 1) m) ≡ at j
+          → tried t n 4 j ≡ Wanted
       go Wanted p rest q = let k : i ≡ j = cc in subst (λ (h : ℕ). tried t n 4 h ≡ Wanted) k p
       go Past p rest q = rest q
       go Bad p rest q = absurd (let z : _≡_ {A = ℕ} 0 1 = cc in omega arith)
@@ -135,7 +161,10 @@ unfolding growing
 shallow-growing n zero t s = s
 shallow-growing n (suc k) t s = go (round n 4 t) refl (λ i. shallow-growing n k (splitTree t i))
   where
-    go : (r : Round) → round n 4 t ≡ r → ((i : ℕ) → Shallow (splitTree t i) → Shallow (growing k n 4 (splitTree t i) .after)) → Shallow (goOn r t (growing k n 4) .after)
+    go : (r : Round)
+        → round n 4 t ≡ r
+        → ((i : ℕ) → Shallow (splitTree t i) → Shallow (growing k n 4 (splitTree t i) .after))
+        → Shallow (goOn r t (growing k n 4) .after)
     go (splits i) p rest =
         let m = round-splits t n i p in
         rest i (shallow-split t i (m .first) (m .accepted) (wanted-level t n i (m .wanted)) s)

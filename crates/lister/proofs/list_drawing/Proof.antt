@@ -32,14 +32,15 @@ same-length-4 c = search needs
 
 returns : tie.Need-returns
 returns c =
-    let after-list = c .before .before .before .before .before .before .before .before in
-    let told = after-list .before .before .before .before .before in
-    let after-open = told .before .before .before .before .before .before .before .before in
-    let a = after-open .before .before .before .before .before .before .before .before .before .before .before .before .args in
+    let after-list-grown = c .before .before .before .before .before .before .before .before in
+    let after-enum-told = after-list-grown .before .before .before .before .before in
+    let after-open = after-enum-told .before .before .before .before .before .before .before .before in
+    let at-entry = after-open .before .before .before .before .before .before .before .before .before .before .before .before in
+    let a = at-entry .args in
     let t = tree (now (a .plan)) (now (a .areas)) (now (a .xs)) (now (a .ys)) (now (a .head)) (now (a .cells)) (now (a .entries)) in
     let o = after-open .«open» .ensures in
-    let e = told .enum-told .given .1 in
-    let l = after-list .list-grown .ensures in
+    let e = after-enum-told .enum-told .given .1 in
+    let l = after-list-grown .list-grown .ensures in
     let same = handed-opened t _ _ _ _ (o .0) (o .1 .0) (o .1 .1 .0) (o .1 .1 .1) in
     (opened-outcome t _ (o .0) _ _ _ e same (l .0), (opened-rows t _ (o .0) _ _ _ _ e same (l .1 .0), l .1 .1))
 
@@ -54,11 +55,13 @@ same-length-7 c = search needs
 
 returns-2 : tie.Need-returns-2
 returns-2 c =
-    let after-open = c .before .before .before .before .before .before .before .before .before in
-    let a = after-open .before .before .before .before .before .before .before .before .before .before .before .before .args in
+    let after-a = c .before in
+    let after-open = after-a .before .before .before .before .before .before .before .before in
+    let at-entry = after-open .before .before .before .before .before .before .before .before .before .before .before .before in
+    let a = at-entry .args in
     let t = tree (now (a .plan)) (now (a .areas)) (now (a .xs)) (now (a .ys)) (now (a .head)) (now (a .cells)) (now (a .entries)) in
     let w = after-open .«open» .ensures .0 in
-    let e = c .before .a .given .1 in
+    let e = after-a .a .given .1 in
     (refused-outcome t _ w _ e, (refused-rows t _ w _ _ e, omega arith))
 
 pub list-drawing-spec : {M : Type 1} → statement M

@@ -28,12 +28,13 @@ same-length-4 c = search needs
 
 returns : tie.Need-returns
 returns c =
-    let after-list = c .before .before .before in
-    let after-grow = after-list .before .before .before .before .before .before .before .before .before .before .before in
-    let a = after-grow .before .before .before .before .before .before .before .before .before .before .before .before .args in
+    let after-list-leaves = c .before .before .before in
+    let after-grow = after-list-leaves .before .before .before .before .before .before .before .before .before .before .before in
+    let at-entry = after-grow .before .before .before .before .before .before .before .before .before .before .before .before in
+    let a = at-entry .args in
     let u = tree (now (a .plan)) (now (a .areas)) (now (a .xs)) (now (a .ys)) (now (a .head)) (now (a .cells)) (now (a .entries)) in
     let g = after-grow .grow .ensures in
-    let l = after-list .list-leaves .ensures in
+    let l = after-list-leaves .list-leaves .ensures in
     let same = handed-grown u _ _ _ (g .1 .0) (g .1 .1 .0) (g .1 .1 .1) in
     (grown-outcome u _ same _ _ _ (g .0) (l .0) (c .outcome-of .ensures .0), (grown-rows u _ same _ _ (l .1 .0), c .outcome-of .ensures .1))
 

@@ -13,10 +13,14 @@ enum-known-a : tie.Need-enum-known-a
 enum-known-a c = search needs
 
 returns : tie.Need-returns
-returns c = (rw (c .enum-told .given .1), c .before .before .pre)
+returns c =
+    let at-entry = c .before .before in
+    (rw (c .enum-told .given .1), at-entry .pre)
 
 returns-2 : tie.Need-returns-2
-returns-2 c = (rw (c .enum-told2 .given .1), c .before .before .pre)
+returns-2 c =
+    let at-entry = c .before .before in
+    (rw (c .enum-told2 .given .1), at-entry .pre)
 
 returns-3 : tie.Need-returns-3
 returns-3 c = (rw (c .before .a .given .1), omega arith)

@@ -26,8 +26,9 @@ slice-aggregate-print-lines c = search needs
 
 print-lines-requires : tie.Need-print-lines-requires
 print-lines-requires c κs =
-    let after-list = c .before .before .before .before .before .before .before .before in
-    let n = rw (c .before .before .a .given .1) at (after-list .list-drawing .ensures .1 .1) in
+    let after-a = c .before .before in
+    let after-list-drawing = after-a .before .before .before .before .before .before in
+    let n = rw (after-a .a .given .1) at (after-list-drawing .list-drawing .ensures .1 .1) in
     omega arith
 
 enum-known-a-2 : tie.Need-enum-known-a-2
@@ -38,8 +39,9 @@ slice-aggregate-print-lines-2 c = search needs
 
 print-lines-requires-2 : tie.Need-print-lines-requires-2
 print-lines-requires-2 c κs =
-    let after-list = c .before .before .before .before .before .before .before .before in
-    let n = rw (c .before .before .a2 .given .1) at (after-list .list-drawing .ensures .1 .1) in
+    let after-a2 = c .before .before in
+    let after-list-drawing = after-a2 .before .before .before .before .before .before in
+    let n = rw (after-a2 .a2 .given .1) at (after-list-drawing .list-drawing .ensures .1 .1) in
     omega arith
 
 slice-aggregate-write-all : tie.Need-slice-aggregate-write-all
