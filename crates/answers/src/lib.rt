@@ -13,7 +13,8 @@ ghost use mathlib.Core.Path.{_≡_};
 ghost use Prim.Native.Nat.{_≤_};
 ghost use lib.ListN.{length};
 ghost use Rattle.refusals.specs.Refusals.{numberOf};
-ghost use Rattle.answers.specs.Answers.{packed, readNumber, writeNumber, readLow, writeLow, openNumber, splitNumber, growSplits, growNumber, leafPut, findRoom, findNumber, leafWritten};
+ghost use Rattle.answers.specs.Answers.{packed, readNumber, writeNumber, readLow, writeLow, openNumber, splitNumber, growSplits, growNumber};
+ghost use Rattle.answers.specs.Answers.{leafPut, findRoom, findNumber, leafWritten};
 ghost use Rattle.answers.specs.Readings.{spotPut, spotRoom, spotNumber, spotWritten, lowHalf, logNumber, rowPlace, rowNumber};
 
 // The refusal's number, or 0, and what goes with it.

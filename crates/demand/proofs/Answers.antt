@@ -15,7 +15,7 @@ use Rattle.cells.specs.Drawings.{Drawing}
 use Rattle.ranges.proofs.Streams.{words-length}
 use Rattle.celltable.specs.Descent.{leafOf}
 use Rattle.split.specs.declared.Answer as Splitting
-use Rattle.split.specs.Tables.{Tree}
+use Rattle.tables.specs.Tables.{Tree}
 use Rattle.split.specs.Split.{words, splitAnswer}
 use Rattle.split_laws.specs.After.{splitTree}
 use Rattle.split_laws.proofs.Trees.{tree-refused}

@@ -5,10 +5,10 @@ use Prim.Native.Nat.{ℕ}
 use lib.ListN.{length}
 use Rattle.laws.proofs.Booleans.{clash}
 use Rattle.cells.specs.Drawings.{Drawing}
-use Rattle.split.specs.Tables.{Tree}
+use Rattle.tables.specs.Tables.{Tree}
 use Rattle.open.specs.declared.Answer as Opening
 use Rattle.open.specs.declared.Answer.the-variants as Opens
-use Rattle.open.specs.Open.{drawingTables, openAnswer}
+use Rattle.open.specs.Open.{drawingTables, openAnswer, openTree}
 use Rattle.root_stream.specs.Opened.{drawingIn}
 use Rattle.position.specs.declared.Answer as Reading
 use Rattle.position.specs.Spots.{positionAnswer}
@@ -17,7 +17,7 @@ use Rattle.zone_log.specs.Logs.{logAnswer}
 use Rattle.answers.specs.Readings.{spotRoom, outSpot}
 use Rattle.demand.specs.History.{Node, begun}
 use Rattle.demand.specs.Stands.{drawingOf, Stands}
-use Rattle.demand.specs.Opened.{openedBy, openTree}
+use Rattle.demand.specs.code.Opened.{openedBy}
 use Rattle.demand.specs.Calls.{
   Call,
   opens,

@@ -32,17 +32,16 @@ use Rattle.ranges.specs.code.Valid.{weigh, lines}
 use Rattle.ranges.proofs.Weights.{rows-length, made-rows}
 use Rattle.plans.specs.Plans.{drawingFrom}
 use Rattle.root_stream.specs.Opened.{rowsOpened}
-use Rattle.split.specs.Tables.{Tree, tree}
+use Rattle.tables.specs.Tables.{Tree, tree}
 use Rattle.open.specs.declared.Answer as Opening
 use Rattle.open.specs.declared.Answer.the-variants.{Opened, Not}
-use Rattle.open.specs.Open.{drawingTables, streamOpened, roomFor, drawingAnswer, openAnswer}
+use Rattle.open.specs.Open.{drawingTables, streamOpened, roomFor, drawingAnswer, openAnswer, openTree}
 use Rattle.open.proofs.Rooms.{rows-words, has-room}
 use Rattle.open.proofs.Answers.{passed}
 use Rattle.position.specs.declared.Spot.{Spot}
 use Rattle.demand.specs.History.{begun}
 use Rattle.demand.specs.NoTree.{spotShown}
 use Rattle.demand.specs.Stands.{drawingOf}
-use Rattle.demand.specs.Opened.{openTree}
 use Rattle.answers.specs.Readings.{spotPut}
 use Rattle.demand.specs.Calls.{opens, splits, reads, opening, answerTo, numberBy, refusal, outputAfter, Given, given}
 use Rattle.demand.specs.Shown.{positionGiven}

@@ -17,7 +17,7 @@ use Rattle.cells.specs.Cells.{at}
 use Rattle.cells.specs.Drawings.{Drawing}
 use Rattle.plans.specs.Plans.{drawingFrom}
 use Rattle.root_stream.specs.Opened.{drawingIn}
-use Rattle.split.specs.Tables.{Tree}
+use Rattle.tables.specs.Tables.{Tree}
 use Rattle.open.specs.Open.{drawingTables}
 use Rattle.find_leaf.specs.Leaf.{positionRange}
 use Rattle.position.specs.declared.Spot.{Spot}

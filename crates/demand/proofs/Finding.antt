@@ -14,7 +14,7 @@ use Rattle.celltable.specs.declared.Found.the-variants.{At}
 use Rattle.celltable.specs.Descent.{placeOf, onSquare, leafOf, downFrom, descendIn}
 use Rattle.celltable.proofs.Landing.{down-leaf, down-split}
 use Rattle.celltable.proofs.Grid.{SaysCell, on-square}
-use Rattle.split.specs.Tables.{Tree, cellsUsed, entriesUsed}
+use Rattle.tables.specs.Tables.{Tree, cellsUsed, entriesUsed}
 use Rattle.split.specs.Split.{words}
 use Rattle.find_leaf.specs.Leaf.{leafIn}
 use Rattle.find_leaf.proofs.Landing.{leaf-met}

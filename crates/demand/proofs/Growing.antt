@@ -14,7 +14,7 @@ use Rattle.cells.specs.Cells.{level}
 use Rattle.cells.specs.Drawings.{Drawing}
 use Rattle.stream.specs.Grammar.{checkStream}
 use Rattle.split.specs.declared.Answer as Splitting
-use Rattle.split.specs.Tables.{Tree, cellsUsed, entriesUsed}
+use Rattle.tables.specs.Tables.{Tree, cellsUsed, entriesUsed}
 use Rattle.split.specs.Split.{words, against, stream, splitAnswer}
 use Rattle.split_laws.specs.After.{splitTree}
 use Rattle.split_laws.proofs.Counts.{used-most}

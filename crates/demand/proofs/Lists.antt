@@ -8,7 +8,7 @@ use lib.Dec.{eqb, leb}
 use lib.ListN.{length}
 use Rattle.laws.proofs.Booleans.{clash}
 use Rattle.cells.specs.Drawings.{Drawing}
-use Rattle.split.specs.Tables.{Tree}
+use Rattle.tables.specs.Tables.{Tree}
 use Rattle.split.specs.declared.Answer as Splitting
 use Rattle.split.specs.declared.Answer.the-variants as Splits
 use Rattle.split.specs.Split.{splitAnswer}
@@ -18,7 +18,7 @@ use Rattle.open.specs.declared.Answer.the-variants as Opens
 use Rattle.open.specs.Open.{openAnswer}
 use Rattle.demand.specs.History.{Node}
 use Rattle.demand.specs.Stands.{Stands}
-use Rattle.demand.specs.Opened.{openedBy}
+use Rattle.demand.specs.code.Opened.{openedBy}
 use Rattle.demand.specs.Calls.{Call, opens, splits, grows, finds, reads, rows, logs, opening, splitting, refusal, isGrowing, treeAfter}
 use Rattle.demand.specs.Lists.{Listed, Refused, tablesAfter, nodesAfter, AllAllowed, tablesAfterAll, nodesAfterAll}
 use Rattle.demand.specs.Demand.{Throughout}

@@ -12,7 +12,7 @@ use borrow.Author.Tests.{eq-eqb, lt-ltb}
 use Rattle.laws.proofs.Booleans.{clash}
 use Rattle.refusals.specs.declared.Refusal.the-variants.{Argument, Room, Broken}
 use Rattle.cells.specs.Cells.{at}
-use Rattle.split.specs.Tables.{Tree}
+use Rattle.tables.specs.Tables.{Tree}
 use Rattle.find_leaf.specs.Leaf.{positionRange}
 use Rattle.find_leaf.proofs.Landing.{on-grid}
 use Rattle.zone_log.specs.declared.LogAnswer.{LogAnswer}

@@ -22,22 +22,22 @@ use Rattle.celltable.specs.declared.CellWords.{CellWords}
 use Rattle.celltable.proofs.Table.{put-cell-same, length-put-cell}
 use Rattle.celltable.proofs.Grid.{SaysCell}
 use Rattle.root_stream.specs.Opened.{rowsOpened, wordsOpened}
-use Rattle.split.specs.Tables.{Tree, cellsUsed, entriesUsed, countsIn}
+use Rattle.tables.specs.Tables.{Tree, cellsUsed, entriesUsed, countsIn}
 use Rattle.split.specs.Split.{words, stream}
-use Rattle.split.proofs.Heads.{used-is}
+use Rattle.tables.proofs.Heads.{used-is}
 use Rattle.split_laws.proofs.Counts.{head-fits, counts-of}
 use Rattle.open.specs.declared.Answer.{Answer}
 use Rattle.open.specs.declared.Answer.the-variants.{Opened}
-use Rattle.open.specs.Open.{rootWords, drawingTables, streamOpened, openAnswer}
+use Rattle.open.specs.Open.{rootWords, drawingTables, streamOpened, openAnswer, openTree}
 use Rattle.open.proofs.Accepted.{Accepts, open-accepts}
 use Rattle.demand.specs.History.{begun, cellIn, firstIn, Leaf}
 use Rattle.demand.specs.Stands.{drawingOf, wordsOfCell}
-use Rattle.demand.specs.Opened.{openedBy, openTree}
+use Rattle.demand.specs.code.Opened.{openedBy}
 use Rattle.demand.proofs.History.{begun-grown}
 use Rattle.demand.proofs.Sound.{Drawn, Sound}
 
 -- ---- a drawing that the check accepts
-pub accepted-drawn : (t : Tree) (k : Counts) → Tables.drawingOf (drawingTables t) ≡ Accepted k → Drawn t
+pub accepted-drawn : (t : Tree) (k : Counts) → Tables.drawingVerdict (drawingTables t) ≡ Accepted k → Drawn t
 accepted-drawn t k e =
     let p = passes-holding (drawingTables t) k e in
     let u : Tables.usedOf (t .plan) ≡ k = sym (Rows.drawn (drawingTables t) k e .used) in

@@ -17,7 +17,7 @@ use Rattle.stream.specs.Grammar.{usedRange, checkStream}
 use Rattle.celltable.specs.Ranges.{cellRange, headRange, cellsHeld, entriesHeld}
 use Rattle.split.specs.declared.Answer.{Answer}
 use Rattle.split.specs.declared.Answer.the-variants.{Split, Not}
-use Rattle.split.specs.Tables.{Tree, cellsUsed, entriesUsed, boundsOf}
+use Rattle.tables.specs.Tables.{Tree, cellsUsed, entriesUsed, boundsOf}
 use Rattle.split.specs.Split.{words, against, made, roomAnswer, drawingSplit, cellSplit, countsSplit, splitAnswer}
 use Rattle.split_laws.specs.After.{splitTree}
 use Rattle.split_laws.specs.code.Accepted.{Splittable}

@@ -17,7 +17,7 @@ use Rattle.celltable.specs.Ranges.{childRange, entryRange, numbersRange, cellRa
 use Rattle.celltable.proofs.Powers.{level-of}
 use Rattle.celltable.proofs.Ranges.{leaf-numbers}
 use Rattle.celltable.proofs.Grid.{Gridded, SaysCell, gridded-cell}
-use Rattle.split.specs.Tables.{Tree, cellsUsed, entriesUsed, boundsOf}
+use Rattle.tables.specs.Tables.{Tree, cellsUsed, entriesUsed, boundsOf}
 use Rattle.split.specs.Split.{words, against}
 use Rattle.split_laws.proofs.Counts.{free-most, free-within}
 use Rattle.demand.specs.History.{Node, cellIn, firstIn, Leaf}

@@ -17,7 +17,7 @@ use Rattle.paint.specs.Pixels.{rowOffsets, rowOffset, sampleX, sampleY, plus, s
 use Rattle.cells.specs.Cells.{at, OnGrid}
 use Rattle.celltable.specs.declared.Found.the-variants.{At}
 use Rattle.evaluate.specs.Reading.{setAt}
-use Rattle.split.specs.Tables.{Tree}
+use Rattle.tables.specs.Tables.{Tree}
 use Rattle.find_leaf.specs.Leaf.{positionRange}
 use Rattle.find_leaf.proofs.Landing.{on-grid}
 use Rattle.position.specs.declared.Answer.the-variants as Answers

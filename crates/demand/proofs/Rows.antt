@@ -11,7 +11,7 @@ use Rattle.refusals.specs.declared.Refusal.the-variants.{Argument, Broken}
 use Rattle.paint.specs.declared.colour.Colour.{Colour}
 use Rattle.paint.specs.Pixels.{sampleX, sampleY}
 use Rattle.cells.specs.Cells.{at}
-use Rattle.split.specs.Tables.{Tree}
+use Rattle.tables.specs.Tables.{Tree}
 use Rattle.position.specs.Spots.{colourIn}
 use Rattle.pixel_row.specs.declared.RowAnswer.the-variants.{Done, Not}
 use Rattle.pixel_row.specs.Rows.{Filled, filled, putPixel, samplesKnown, pixelKnown, pixelIn, fillFrom, rowSpan, rowFilled}

@@ -21,7 +21,7 @@ use Rattle.ranges.specs.Held.{Held}
 use Rattle.ranges.proofs.Reading.{valid-words-read}
 use Rattle.celltable.specs.Table.{cellAt}
 use Rattle.celltable.proofs.Grid.{SaysCell, on-square}
-use Rattle.split.specs.Tables.{Tree, cellsUsed, entriesUsed, countsIn}
+use Rattle.tables.specs.Tables.{Tree, cellsUsed, entriesUsed, countsIn}
 use Rattle.split.specs.Split.{stream}
 use Rattle.demand.specs.History.{Node, cellIn, firstIn, Leaf}
 use Rattle.demand.specs.NoTree.{setShown}

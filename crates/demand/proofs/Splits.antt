@@ -16,7 +16,7 @@ use Rattle.making.specs.Made.{wordsMade}
 use Rattle.four_children.specs.Children.{wordsWith, entriesOfChild, streamsTo}
 use Rattle.four_children.proofs.Filled.{streams-more}
 use Rattle.split.specs.declared.Answer.the-variants.{Split}
-use Rattle.split.specs.Tables.{Tree, cellsUsed, entriesUsed, boundsOf}
+use Rattle.tables.specs.Tables.{Tree, cellsUsed, entriesUsed, boundsOf}
 use Rattle.split.specs.Split.{words, drawing, stream, splitAnswer}
 use Rattle.split_laws.specs.After.{splitTree}
 use Rattle.split_laws.proofs.Rows.{streams-up}

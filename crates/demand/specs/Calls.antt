@@ -7,14 +7,14 @@ use Prim.Native.Nat.{ℕ}
 use lib.Dec.{eqb, leb}
 use lib.ListN.{length}
 use Rattle.refusals.specs.Refusals.{numberOf}
-use Rattle.split.specs.Tables.{Tree}
+use Rattle.tables.specs.Tables.{Tree}
 use Rattle.split.specs.declared.Answer as Splitting
 use Rattle.split.specs.declared.Answer.the-variants as Splits
 use Rattle.split.specs.Split.{splitAnswer}
 use Rattle.split_laws.specs.After.{splitTree}
 use Rattle.open.specs.declared.Answer as Opening
 use Rattle.open.specs.declared.Answer.the-variants as Opens
-use Rattle.open.specs.Open.{openAnswer}
+use Rattle.open.specs.Open.{openAnswer, openTree}
 use Rattle.grow.specs.declared.Answer as Growing
 use Rattle.grow.specs.declared.Answer.the-variants as Grows
 use Rattle.grow.specs.Grow.{grown, growAnswer, growTree}
@@ -33,7 +33,6 @@ use Rattle.zone_log.specs.Logs.{logAnswer, outAfter}
 use Rattle.answers.specs.Answers.{openNumber, splitNumber, growNumber, findRoom, findNumber, outFound}
 use Rattle.answers.specs.Readings.{spotRoom, spotNumber, outSpot, rowNumber, logNumber}
 use Rattle.demand.specs.History.{Node, splitAt, afterSplits}
-use Rattle.demand.specs.Opened.{openTree}
 
 -- "calls that split, grow or read, none or more, in any sequence, accepted or refused; refused openings may be among them. Reading calls are all that
 -- answer from the tree: leaves found, positions, pixel rows, zone logs."

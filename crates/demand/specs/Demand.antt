@@ -7,12 +7,12 @@ use lib.ListN.{length}
 use Rattle.refusals.specs.declared.Refusal.the-variants as Refusals
 use Rattle.cells.specs.Cells.{at, left, low, side, level}
 use Rattle.cells.specs.Drawings.{Drawing}
-use Rattle.split.specs.Tables.{Tree}
+use Rattle.tables.specs.Tables.{Tree}
 use Rattle.split.specs.declared.Answer as Splitting
 use Rattle.split.specs.declared.Answer.the-variants as Splits
 use Rattle.split.specs.Split.{splitAnswer}
 use Rattle.open.specs.declared.Answer.the-variants as Opens
-use Rattle.open.specs.Open.{drawingTables, openAnswer}
+use Rattle.open.specs.Open.{drawingTables, openAnswer, openTree}
 use Rattle.grow.specs.declared.Answer as Growing
 use Rattle.grow.specs.declared.Answer.the-variants as Grows
 use Rattle.grow.specs.Grow.{growAnswer, growTree}
@@ -23,8 +23,8 @@ use Rattle.find_leaf.specs.Leaf.{positionRange, linesIn}
 use Rattle.answers.specs.Answers.{findRoom, outFound}
 use Rattle.demand.specs.History.{Node, begun, afterSplits, cellIn, Leaf, LeafAt}
 use Rattle.demand.specs.Stands.{drawingOf, wordsOfCell, Stands}
-use Rattle.demand.specs.Opened.{openTree}
-use Rattle.demand.specs.Calls.{Call, opens, splits, grows, finds, reads, rows, logs, isOpening, finding, answerTo, refusal, Given, gives, given, grownCells}
+use Rattle.demand.specs.Calls.{Call, opens, splits, grows, finds, reads, rows, logs, isOpening, finding, answerTo, refusal, Given, gives, given}
+use Rattle.demand.specs.Calls.{grownCells}
 use Rattle.demand.specs.Shown.{positionGiven, rowGiven, logGiven}
 use Rattle.demand.specs.Lists.{Listed, own, other, Allowed, tablesAfter, nodesAfter}
 

@@ -14,13 +14,12 @@ use Rattle.read.specs.Reading.{recordsIn, readAnswer, leftBy}
 use Rattle.cells.specs.Cells.{at}
 use Rattle.cells.specs.Drawings.{Drawing}
 use Rattle.plans.specs.Plans.{drawingFrom}
-use Rattle.split.specs.Tables.{Tree, tree}
+use Rattle.tables.specs.Tables.{Tree, tree}
 use Rattle.open.specs.declared.Answer.the-variants.{Opened}
-use Rattle.open.specs.Open.{openAnswer}
+use Rattle.open.specs.Open.{openAnswer, openTree}
 use Rattle.answers.specs.Readings.{spotPut, lowHalf}
 use Rattle.demand.specs.History.{begun}
 use Rattle.demand.specs.NoTree.{materialShown, spotShown}
-use Rattle.demand.specs.Opened.{openTree}
 use Rattle.demand.specs.Calls.{Call, reads, rows, logs, answerTo, numberBy, refusal, outputAfter}
 use Rattle.demand.specs.Shown.{fillShown, logShown}
 use Rattle.demand.specs.Lists.{Listed, AllAllowed, tablesAfterAll}

@@ -2,9 +2,9 @@
 pub mod History
 pub mod NoTree
 pub mod Stands
-pub mod Opened
 pub mod Calls
 pub mod Shown
 pub mod Lists
 pub mod Demand
 pub mod Files
+pub mod code

@@ -3,7 +3,7 @@
 use mathlib.Core.Path.{_≡_}
 use mathlib.Core.Bool.{true}
 use mathlib.Core.List.{List, [], _∷_}
-use Rattle.split.specs.Tables.{Tree}
+use Rattle.tables.specs.Tables.{Tree}
 use Rattle.demand.specs.History.{Node}
 use Rattle.demand.specs.Calls.{Call, isOpening, answerTo, refusal, treeAfter, historyAfter}
 

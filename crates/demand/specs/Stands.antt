@@ -17,7 +17,7 @@ use Rattle.evaluate.specs.Words.{wordsOf}
 use Rattle.celltable.specs.Table.{cellAt}
 use Rattle.celltable.specs.Descent.{onSquare}
 use Rattle.root_stream.specs.Opened.{drawingIn}
-use Rattle.split.specs.Tables.{Tree, cellsUsed}
+use Rattle.tables.specs.Tables.{Tree, cellsUsed}
 use Rattle.split.specs.Split as Split
 use Rattle.open.specs.Open.{drawingTables}
 use Rattle.demand.specs.History.{Node, cellIn, firstIn, Leaf, Tiled}

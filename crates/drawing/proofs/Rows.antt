@@ -28,7 +28,7 @@ use Rattle.grammar.proofs.Laws.{sound, stopped-stays, refused-not}
 use Rattle.drawing.specs.declared.Cursor.{Cursor}
 use Rattle.read.specs.Words.{spread, onGood, fileOf}
 use Rattle.read.specs.Reading.{holds}
-use Rattle.drawing.specs.Tables.{Tables, Ready, cursor, rowOf, pastOf, rebuilt, usedOf, rebuiltIn, agreed, countsJudged, drawingOf}
+use Rattle.drawing.specs.Tables.{Tables, Ready, cursor, rowOf, pastOf, rebuilt, usedOf, rebuiltIn, agreed, countsJudged, drawingVerdict}
 use Rattle.read.proofs.Writes.{length-on, turn-table}
 use Rattle.read.proofs.Files.{file-length, Holds, held}
 
@@ -244,8 +244,8 @@ counts-drawn t u k h₀ = go (leb (u .records) 4096) (holds (length (t .plan)) (
         let g = agreed-is (checked ds) u k ds refl (re-length t u 0 (cursor 0 0) (u .records)) x in
         (g .0, leb-true _ _ p, held _ _ _ u q, g .1)
 
-pub drawn : (t : Tables) (k : Counts) → drawingOf t ≡ Accepted k → Drawn t k
-unfolding drawingOf
+pub drawn : (t : Tables) (k : Counts) → drawingVerdict t ≡ Accepted k → Drawn t k
+unfolding drawingVerdict
 drawn t k h₀ = go (eqb (length (t .xs)) (length (t .ys))) (leb 3 (length (t .plan))) refl refl h₀
   where
     u : Counts
@@ -271,7 +271,7 @@ holds-ready p a x y u f h e =
     record { records = g .plan; areas = g .areas; xs = g .corners; ys = omega (arith, g .corners); few = f }
 
 pub drawn-left : (t : Tables) (k : Counts)
-    → drawingOf t ≡ Accepted k
+    → drawingVerdict t ≡ Accepted k
     → (o o′ : List ℕ)
     → o′ ≡ sets o 0 (fileOf (goods (rebuilt t k 0 (cursor 0 0) (k .records))))
     → o′ ≡ sets o 0 (fileOf (goods (rebuiltIn t)))

@@ -22,7 +22,8 @@ use Rattle.grammar.specs.Lists.{goods, areasIn, cornersIn}
 use Rattle.grammar.proofs.Laws.{sound, refused-not}
 use Rattle.read.specs.Words.{spread, planWords, areaWords, xWords, yWords, fileOf, Has, allRange}
 use Rattle.read.specs.Reading.{decodedFrom, decodedIn, recordsIn, verdictOf, holds, ifRoom, readAnswer, leftBy}
-use Rattle.drawing.specs.Tables.{Tables, tables, cursor, rebuilt, usedOf, rebuiltIn, drawnIn, agreed, countsJudged, drawingOf, writtenOf, writeAnswer}
+use Rattle.drawing.specs.Tables.{Tables, tables, cursor, rebuilt, usedOf, rebuiltIn, drawnIn, agreed, countsJudged, drawingVerdict, writtenOf}
+use Rattle.drawing.specs.Tables.{writeAnswer}
 use Rattle.drawing.specs.code.Held.{Acceptable, Holding}
 use Rattle.read.proofs.Files.{filed, filed-checked, length-good, kinds-length, areas-length, xs-length, ys-length, file-length, Holds, held}
 use Rattle.drawing.proofs.Rows.{drawn}
@@ -128,8 +129,8 @@ unfolding countsJudged
 counts-pass t k b r f = rw (le-leb (k .records) 4096 b, r, f) (agreed-same k)
 
 -- tables that hold acceptable records pass
-pub holding-passes : (t : Tables) (rs : List Record) (k : Counts) → Acceptable rs k → Holding t rs → drawingOf t ≡ Accepted k
-unfolding drawingOf
+pub holding-passes : (t : Tables) (rs : List Record) (k : Counts) → Acceptable rs k → Holding t rs → drawingVerdict t ≡ Accepted k
+unfolding drawingVerdict
 holding-passes t rs k a h =
     let c : k ≡ counts (length rs) (areasIn rs) (cornersIn rs) = counted rs k a in
     let n : k .records ≡ length rs = ap (λ (x : Counts). x .records) c in
@@ -145,7 +146,7 @@ holding-passes t rs k a h =
     rw (eq-eqb _ _ (h .pair), le-leb _ _ l) (ap (countsJudged t) u ∙ counts-pass t k (omega (arith, a .below)) r f)
 
 -- tables that pass hold acceptable records
-pub passes-holding : (t : Tables) (k : Counts) → drawingOf t ≡ Accepted k → Acceptable (drawnIn t) k × Holding t (drawnIn t)
+pub passes-holding : (t : Tables) (k : Counts) → drawingVerdict t ≡ Accepted k → Acceptable (drawnIn t) k × Holding t (drawnIn t)
 passes-holding t k e =
     let d = drawn t k e in
     let s = sound (rebuiltIn t) k (d .fold) in
@@ -223,7 +224,7 @@ read-leaves b p a x y k e =
     }
 
 pub record Written-back (b : List ℕ) (t : Tables) (k : Counts) : Type 0 where
-  pub passes : drawingOf t ≡ Accepted k
+  pub passes : drawingVerdict t ≡ Accepted k
   pub bytes : fileOf (drawnIn t) ≡ b
   pub answer : (out : List ℕ) → writeAnswer t out ≡ writtenOf (Accepted k) (length out)
 
@@ -255,7 +256,7 @@ pub record Read-back (t : Tables) (k : Counts) : Type 0 where
   pub same : after (Accepted k) (fileOf (drawnIn t)) (t .plan) (t .areas) (t .xs) (t .ys) ≡ t
 
 -- a lent drawing that passes, written out and read
-pub write-read : (t : Tables) (k : Counts) → drawingOf t ≡ Accepted k → Read-back t k
+pub write-read : (t : Tables) (k : Counts) → drawingVerdict t ≡ Accepted k → Read-back t k
 unfolding readAnswer holds
 write-read t k e =
     let d = drawn t k e in
@@ -363,12 +364,12 @@ pub record Left (t : Tables) (k : Counts) : Type 0 where
   pub accepted : readAnswer file (before .plan) (before .areas) (before .xs) (before .ys) ≡ Accepted k
   pub is : after (Accepted k) file (before .plan) (before .areas) (before .xs) (before .ys) ≡ t
 
-pub passes-left : (t : Tables) (k : Counts) → drawingOf t ≡ Accepted k → Left t k
+pub passes-left : (t : Tables) (k : Counts) → drawingVerdict t ≡ Accepted k → Left t k
 passes-left t k e =
     let r = write-read t k e in
     record { file = fileOf (drawnIn t); bytes = bytes-at (fileOf (drawnIn t)) (file-bytes (drawnIn t)); before = t; accepted = r .answer; is = r .same }
 
-pub left-passes : (t : Tables) (k : Counts) → Left t k → drawingOf t ≡ Accepted k
+pub left-passes : (t : Tables) (k : Counts) → Left t k → drawingVerdict t ≡ Accepted k
 left-passes t k l =
-    subst (λ (x : Tables). drawingOf x ≡ Accepted k) (l .is)
+    subst (λ (x : Tables). drawingVerdict x ≡ Accepted k) (l .is)
     (read-write (l .file) (l .before .plan) (l .before .areas) (l .before .xs) (l .before .ys) k (l .bytes) (l .accepted) .passes)

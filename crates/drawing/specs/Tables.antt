@@ -75,7 +75,8 @@ kindRow areas xs ys u k c =
 -- record i, with the areas and the corners before it
 unfoldable pub rowOf : Tables → Counts → ℕ → Cursor → Decoded
 rowOf t u i c =
-    cond (leb 1 (getD (t .plan) (i + 3) 0)) (cond (leb (getD (t .plan) (i + 3) 0) 6) (kindRow (t .areas) (t .xs) (t .ys) u (getD (t .plan) (i + 3) 0) c) (Bad Kind)) (Bad Kind)
+    cond (leb 1 (getD (t .plan) (i + 3) 0))
+    (cond (leb (getD (t .plan) (i + 3) 0) 6) (kindRow (t .areas) (t .xs) (t .ys) u (getD (t .plan) (i + 3) 0) c) (Bad Kind)) (Bad Kind)
 
 abbrev pub pastRecord : Cursor → Record → Cursor
 pastRecord c r = cursor (c .area + areaOne r) (c .corner + cornerOne r)
@@ -99,18 +100,24 @@ rebuiltIn t = rebuilt t (usedOf (t .plan)) 0 (cursor 0 0) (usedOf (t .plan) .rec
 abbrev pub drawnIn : Tables → List Record
 drawnIn t = goods (rebuiltIn t)
 
--- 12, "a number met in the tables used ... is outside its range, or that drawing ... breaks the grammar": all that is wrong with the records of lent tables is 12; so is a number of areas or of corners that is not that of the kinds
+-- 12, "a number met in the tables used ... is outside its range, or that drawing ... breaks the grammar": all that is wrong with the records of lent
+-- tables is 12; so is a number of areas or of corners that is not that of the kinds
 abbrev pub agreed : Verdict → Counts → Verdict
 agreed (Accepted k) u = cond (eqb (k .areas) (u .areas)) (cond (eqb (k .corners) (u .corners)) (Accepted k) (Refused Broken 0)) (Refused Broken 0)
 agreed (Refused r i) u = Refused Broken 0
 
 unfoldable pub countsJudged : Tables → Counts → Verdict
 countsJudged t u =
-    cond (leb (u .records) 4096) (cond (holds (length (t .plan)) (length (t .areas)) (length (t .xs)) u) (agreed (checked (rebuilt t u 0 (cursor 0 0) (u .records))) u) (Refused Broken 0)) (Refused Broken 0)
+    cond (leb (u .records) 4096)
+    (cond (holds (length (t .plan)) (length (t .areas)) (length (t .xs)) u) (agreed (checked (rebuilt t u 0 (cursor 0 0) (u .records))) u)
+    (Refused Broken 0))
+    (Refused Broken 0)
 
 -- 7, then 12: "the drawing when opening or writing out"
-unfoldable pub drawingOf : Tables → Verdict
-drawingOf t = cond (eqb (length (t .xs)) (length (t .ys))) (cond (leb 3 (length (t .plan))) (countsJudged t (usedOf (t .plan))) (Refused Broken 0)) (Refused Argument 0)
+unfoldable pub drawingVerdict : Tables → Verdict
+drawingVerdict t =
+    cond (eqb (length (t .xs)) (length (t .ys))) (cond (leb 3 (length (t .plan))) (countsJudged t (usedOf (t .plan))) (Refused Broken 0))
+    (Refused Argument 0)
 
 -- then 11, the output too short for 16 bytes a record
 abbrev pub writtenOf : Verdict → ℕ → Written
@@ -118,7 +125,7 @@ writtenOf (Accepted k) n = cond (leb (k .records) (n / 16)) (Bytes (k .records *
 writtenOf (Refused r i) n = Not r
 
 unfoldable pub writeAnswer : Tables → List ℕ → Written
-writeAnswer t out = writtenOf (drawingOf t) (length out)
+writeAnswer t out = writtenOf (drawingVerdict t) (length out)
 
 abbrev pub outAfter : Written → List ℕ → List ℕ → List ℕ
 outAfter (Bytes n) out bs = sets out 0 bs

@@ -15,7 +15,8 @@ ghost use Rattle.grammar.specs.code.Machine.{scanN, startN};
 ghost use Rattle.grammar.specs.Lists.{goods, areaOne, cornerOne};
 ghost use Rattle.records.specs.Bytes.{bytesOf};
 ghost use Rattle.read.specs.Words.{fileOf, onGood};
-ghost use Rattle.drawing.specs.Tables.{tables, drawingLent, Ready, cursor, fieldsAt, areaRow, cornerRow, kindRow, rowOf, pastRecord, pastOf, rebuilt, drawnIn, agreed, countsJudged, drawingOf, writtenOf, writeAnswer, outAfter};
+ghost use Rattle.drawing.specs.Tables.{tables, drawingLent, Ready, cursor, fieldsAt, areaRow, cornerRow, kindRow, rowOf, pastRecord, pastOf};
+ghost use Rattle.drawing.specs.Tables.{rebuilt, drawnIn, agreed, countsJudged, drawingVerdict, writtenOf, writeAnswer, outAfter};
 
 // The areas and the corners before a record.
 pub struct Cursor {
@@ -214,7 +215,7 @@ fn check_counts(plan: &[u32], areas: &[u32], xs: &[u32], ys: &[u32], used: Count
 
 // Whether lent tables hold a drawing: 7, then 12.
 pub fn check_drawing(plan: &[u32], areas: &[u32], xs: &[u32], ys: &[u32]) -> Verdict
-    ensures answer { λ v. ⌜ v ≡ drawingOf (drawingLent plan areas xs ys) ⌝ }
+    ensures answer { λ v. ⌜ v ≡ drawingVerdict (drawingLent plan areas xs ys) ⌝ }
 {
     if xs.len() == ys.len() {
         if 3 <= plan.len() {
@@ -280,7 +281,7 @@ fn write_if_room(
     k: Counts,
     out: &mut [u8],
 ) -> Written
-    requires { ⌜ drawingOf (tables (now plan) (now areas) (now xs) (now ys)) ≡ Accepted k ⌝ }
+    requires { ⌜ drawingVerdict (tables (now plan) (now areas) (now xs) (now ys)) ≡ Accepted k ⌝ }
     ensures { λ w. ⌜ w ≡ writtenOf (Accepted k) (length (now (out .entry))) ⌝ }
     ensures { λ w. ⌜ now (out .exit) ≡ outAfter w (now (out .entry)) (fileOf (drawnIn (drawingLent plan areas xs ys))) ⌝ }
 {

@@ -9,8 +9,8 @@ use Rattle.refusals.specs.declared.Refusal.the-variants as Refusals
 use Rattle.celltable.specs.declared.Leaf.{Leaf}
 use Rattle.celltable.specs.declared.Found.{Found}
 use Rattle.celltable.specs.declared.Found.the-variants.{At, Broken}
-use Rattle.split.specs.Tables.{Tree}
-use Rattle.split.proofs.Choices.{pick-true, pick-false}
+use Rattle.tables.specs.Tables.{Tree}
+use Rattle.laws.proofs.Choices.{pick-true, pick-false}
 use Rattle.find_leaf.specs.declared.FoundLeaf.{FoundLeaf}
 use Rattle.find_leaf.specs.declared.Answer.{Answer}
 use Rattle.find_leaf.specs.declared.Answer.the-variants as Answers

@@ -10,8 +10,8 @@ use Rattle.stream.specs.declared.Bounds.{Bounds}
 use Rattle.stream.specs.Grammar.{bounds, usedRange}
 use Rattle.celltable.specs.Ranges.{headRange, CellsIn}
 use Rattle.celltable.proofs.Ranges.{head-long, head-cells, head-entries}
-use Rattle.split.specs.Tables.{Tree, cellsUsed, entriesUsed, countsIn}
-use Rattle.split.proofs.Choices.{pick-true, pick-false}
+use Rattle.tables.specs.Tables.{Tree, cellsUsed, entriesUsed, countsIn}
+use Rattle.laws.proofs.Choices.{pick-true, pick-false}
 
 module _ (t : Tree) where
   abbrev headFits : Bool

@@ -9,7 +9,7 @@ use Rattle.stream.specs.Table.{wordsFrom}
 use Rattle.stream.specs.Grammar.{course, accepts, usedRange}
 use Rattle.celltable.specs.Ranges.{powerUpTo, cellRange, headRange}
 use Rattle.celltable.specs.Descent.{downFrom, descendIn}
-use Rattle.split.specs.Tables.{Tree, tree, countsIn}
+use Rattle.tables.specs.Tables.{Tree, tree, countsIn}
 use Rattle.find_leaf.specs.declared.Answer.{Answer}
 use Rattle.find_leaf.specs.declared.Answer.the-variants.{Found, Not}
 use Rattle.find_leaf.specs.Leaf.{leafIn, findAnswer}

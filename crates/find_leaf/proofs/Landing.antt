@@ -17,8 +17,8 @@ use Rattle.celltable.specs.Descent.{descendIn}
 use Rattle.celltable.proofs.Ranges.{passes-range}
 use Rattle.celltable.proofs.Grid.{passes-east, passes-north}
 use Rattle.celltable.proofs.Landing.{LeafFound, leaf-found, broken-not}
-use Rattle.split.specs.Tables.{Tree, cellsUsed, entriesUsed, countsIn}
-use Rattle.split.proofs.Choices.{pick-true, pick-false}
+use Rattle.tables.specs.Tables.{Tree, cellsUsed, entriesUsed, countsIn}
+use Rattle.laws.proofs.Choices.{pick-true, pick-false}
 use Rattle.find_leaf.specs.Leaf.{positionRange, leafBounds, streamFound, leafIn}
 use Rattle.find_leaf.proofs.Counts.{counts-fit}
 

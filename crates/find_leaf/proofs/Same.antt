@@ -18,7 +18,7 @@ use Rattle.celltable.specs.Ranges.{cellRange}
 use Rattle.celltable.specs.Descent.{placeOf, onSquare, leafOf, downFrom, descendIn}
 use Rattle.celltable.proofs.Grid.{says-cell}
 use Rattle.celltable.proofs.Landing.{broken-not}
-use Rattle.split.specs.Tables.{Tree, cellsUsed, entriesUsed}
+use Rattle.tables.specs.Tables.{Tree, cellsUsed, entriesUsed}
 use Rattle.find_leaf.specs.Leaf.{leafIn}
 use Rattle.find_leaf.proofs.Landing.{leaf-landed, leaf-met}
 

@@ -13,7 +13,7 @@ use Rattle.celltable.specs.declared.Leaf.{Leaf}
 use Rattle.celltable.specs.declared.Found.{Found}
 use Rattle.celltable.specs.declared.Found.the-variants.{At, Broken}
 use Rattle.celltable.specs.Descent.{descendIn}
-use Rattle.split.specs.Tables.{Tree, cellsUsed, entriesUsed, countsIn}
+use Rattle.tables.specs.Tables.{Tree, cellsUsed, entriesUsed, countsIn}
 use Rattle.find_leaf.specs.declared.FoundLeaf.{FoundLeaf}
 use Rattle.find_leaf.specs.declared.Answer.{Answer}
 use Rattle.find_leaf.specs.declared.Answer.the-variants as Answers
@@ -31,7 +31,15 @@ linesIn (w ∷ ws) = cond (eqb (w .kind) 5) (1 + linesIn ws) (linesIn ws)
 -- the steps free
 abbrev pub reportOf : (entries : List ℕ) → Leaf → FoundLeaf
 reportOf entries l =
-    record { cell = l .cell; x = l .x; y = l .y; side = l .side; steps = l .steps; entries = l .count; lines = linesIn (wordsFrom entries (l .first) (l .count)) }
+    record {
+      cell = l .cell;
+      x = l .x;
+      y = l .y;
+      side = l .side;
+      steps = l .steps;
+      entries = l .count;
+      lines = linesIn (wordsFrom entries (l .first) (l .count));
+    }
 
 module _ (t : Tree) where
   -- the areas and corners in use, and the leaf's rows

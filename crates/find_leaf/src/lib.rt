@@ -9,7 +9,7 @@ ghost use lib.Dec.{eqb};
 ghost use lib.ListN.{length, getD};
 ghost use Rattle.stream.specs.Table.{wordsFrom};
 ghost use Rattle.stream.specs.Grammar.{env, bounds, checkStream};
-ghost use Rattle.split.specs.Tables.{treeLent, countsIn};
+ghost use Rattle.tables.specs.Tables.{treeLent, countsIn};
 ghost use Rattle.find_leaf.specs.Leaf.{linesIn, leafIn, reportOf, foundBy, findAnswer};
 
 // A leaf as it is reported: its number, low corner, side, depth, and how many entries and lines it has.
@@ -45,7 +45,7 @@ pub fn counts_fit(
     if celltable::head_fits(head, cells.len(), n) {
         if 3 <= plan.len() {
             let free = laws::wide(head[1]);
-            let b = split::bounds_in(plan, 0, 0);
+            let b = tables::bounds_in(plan, 0, 0);
             return stream::used_range(n, free, areas.len(), xs.len(), ys.len(), b);
         }
         return false;
@@ -100,7 +100,7 @@ fn leaf_passes(
 {
     let first = l.first as usize;
     let count = l.count as usize;
-    let b = split::bounds_in(plan, l.y, l.side);
+    let b = tables::bounds_in(plan, l.y, l.side);
     stream::check_stream(entries, first, count, free, areas, xs, ys, b)
 }
 

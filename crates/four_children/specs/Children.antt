@@ -35,7 +35,9 @@ module _ (D : Drawing) (c : Cell) (ws : List Words) where
   streamsTo zero = []
   streamsTo (suc n) = streamsTo n ++ wordsOfChild n
 
-  -- their cells, "numbered onward from the cells in use", each with its square and where its stream stands: "their entries are written from the first unused entry onward, child by child"
+  -- their cells, "numbered onward from the cells in use", each with its square and where its stream stands: "their entries are written from the first
+  -- unused entry onward, child by child"
   unfoldable pub cellsTo : (cells : List ℕ) (used free n : ℕ) → List ℕ
   cellsTo cells used free zero = cells
-  cellsTo cells used free (suc n) = putCellAt (cellsTo cells used free n) (used + n) (wordsWith (cellOfChild n) (free + length (streamsTo n)) (entriesOfChild n))
+  cellsTo cells used free (suc n) =
+      putCellAt (cellsTo cells used free n) (used + n) (wordsWith (cellOfChild n) (free + length (streamsTo n)) (entriesOfChild n))

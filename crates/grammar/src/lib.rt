@@ -7,7 +7,8 @@ ghost use mathlib.Core.Bool.{true};
 ghost use Prim.Native.Nat.{_+_, _<_};
 ghost use Rattle.groups.specs.code.Stack.{roomN};
 ghost use Rattle.grammar.specs.Grammar.{isShort, oneMore};
-ghost use Rattle.grammar.specs.code.Machine.{roleN, fitsN, endsN, limitN, areaN, firstN, nextN, afterOpenN, afterBarN, afterCloseN, afterN, stepN, settledN, advanceAtN, advanceN, startN, endStateN, endedN, isStopped};
+ghost use Rattle.grammar.specs.code.Machine.{roleN, fitsN, endsN, limitN, areaN, firstN, nextN, afterOpenN, afterBarN, afterCloseN, afterN, stepN};
+ghost use Rattle.grammar.specs.code.Machine.{settledN, advanceAtN, advanceN, startN, endStateN, endedN, isStopped};
 
 // Where a reader stands. `stack`: the open groups (crate `groups`). `held`: an area or a corner stands straight before. `run`: the corners of
 // the contour in progress, 3 for more than 3.

@@ -6,8 +6,8 @@ use lib.Dec.{eqb, leb}
 use lib.ListN.{length}
 use borrow.Author.Tests.{eq-eqb, ne-eqb, le-leb, lt-leb}
 use Rattle.refusals.specs.declared.Refusal.the-variants.{Argument, Broken}
-use Rattle.split.specs.Tables.{Tree, cellsUsed, countsIn}
-use Rattle.split.proofs.Choices.{pick-true, pick-false}
+use Rattle.tables.specs.Tables.{Tree, cellsUsed, countsIn}
+use Rattle.laws.proofs.Choices.{pick-true, pick-false}
 use Rattle.grow.specs.declared.Answer.the-variants.{Not}
 use Rattle.grow.specs.Grow.{lowestFrom, Round, broken, roundBy, round, not-passed, Grown, ended, goOn, grown, answerOf, growAnswer, growTree}
 use Rattle.grow.proofs.Fuel.{grown-step}

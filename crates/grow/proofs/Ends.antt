@@ -13,7 +13,7 @@ use Rattle.refusals.specs.declared.Refusal.{Refusal}
 use Rattle.refusals.specs.declared.Refusal.the-variants.{Length, Kind, Field, Unfit, Short, Limit, Argument, NoCell, AlreadySplit, Smallest, Room, Broken}
 use Rattle.split.specs.declared.Answer as Splitting
 use Rattle.split.specs.declared.Answer.the-variants.{Split, Not}
-use Rattle.split.specs.Tables.{Tree, cellsUsed, countsIn}
+use Rattle.tables.specs.Tables.{Tree, cellsUsed, countsIn}
 use Rattle.split.specs.Split.{splitAnswer}
 use Rattle.split_laws.specs.After.{splitTree}
 use Rattle.split_laws.proofs.Accepted.{split-accepted}

@@ -8,7 +8,7 @@ use Rattle.drawing.specs.Tables.{areaRow}
 use Rattle.stream.specs.Table.{wordsFrom}
 use Rattle.stream.specs.Grammar.{course, accepts, usedRange}
 use Rattle.celltable.specs.Ranges.{powerUpTo, levelUpTo, cellRange, headRange}
-use Rattle.split.specs.Tables.{Tree, tree, countsIn}
+use Rattle.tables.specs.Tables.{Tree, tree, countsIn}
 use Rattle.grow.specs.declared.Answer.the-variants.{Done, Full, Not}
 use Rattle.grow.specs.Grow.{tried, lowestFrom, round, growing, grown, growAnswer}
 

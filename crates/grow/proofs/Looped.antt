@@ -4,7 +4,7 @@ use mathlib.Core.List.{List}
 use Prim.Native.Nat.{ℕ, _-_, _≤_, _<_}
 use native.Mathlib.Omega.{arith}
 use Rattle.refusals.specs.declared.Refusal.the-variants.{Broken}
-use Rattle.split.specs.Tables.{Tree, tree}
+use Rattle.tables.specs.Tables.{Tree, tree}
 use Rattle.split_laws.proofs.Counts.{used-most}
 use Rattle.grow.specs.declared.Answer.the-variants.{Full, Not}
 use Rattle.grow.specs.declared.Sweep.{Sweep}

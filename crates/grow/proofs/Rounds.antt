@@ -4,7 +4,7 @@ use mathlib.Core.Bool.{Bool, true, cond}
 use Prim.Native.Nat.{ℕ, zero, suc, _+_, _-_, _≤_, _<_}
 use native.Mathlib.Omega.{arith}
 use native.Mathlib.Decide.{ℕ-discrete}
-use Rattle.split.specs.Tables.{Tree, cellsUsed, countsIn}
+use Rattle.tables.specs.Tables.{Tree, cellsUsed, countsIn}
 use Rattle.split.specs.Split.{splitAnswer}
 use Rattle.grow.specs.declared.Tried.{Tried}
 use Rattle.grow.specs.declared.Tried.the-variants.{Bad, Past, Wanted}

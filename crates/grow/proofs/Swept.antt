@@ -10,9 +10,9 @@ use Rattle.laws.proofs.Booleans.{clash}
 use Rattle.refusals.specs.declared.Refusal.the-variants.{Room, Broken}
 use Rattle.split.specs.declared.Answer as Splitting
 use Rattle.split.specs.declared.Answer.the-variants as split
-use Rattle.split.specs.Tables.{Tree, cellsUsed, entriesUsed, countsIn}
+use Rattle.tables.specs.Tables.{Tree, cellsUsed, entriesUsed, countsIn}
 use Rattle.split.specs.Split.{splitAnswer}
-use Rattle.split.proofs.Heads.{used-is}
+use Rattle.tables.proofs.Heads.{used-is}
 use Rattle.split_laws.specs.After.{splitTree}
 use Rattle.split_laws.proofs.Counts.{counts-long}
 use Rattle.split_laws.proofs.Trees.{tree-refused, tree-xs, tree-ys, tree-used, tree-length-head, tree-length-cells, tree-length-entries, tree-counts}

@@ -17,7 +17,7 @@ use Rattle.celltable.specs.Ranges.{cellRange, cellsHeld, entriesHeld, levelOf}
 use Rattle.celltable.proofs.Ranges.{passes-range, passes-entries, square-fits}
 use Rattle.split.specs.declared.Answer as Splitting
 use Rattle.split.specs.declared.Answer.the-variants.{Split, Not}
-use Rattle.split.specs.Tables.{Tree, cellsUsed, entriesUsed, boundsOf, countsIn}
+use Rattle.tables.specs.Tables.{Tree, cellsUsed, entriesUsed, boundsOf, countsIn}
 use Rattle.split.specs.Split.{words, against, made, splitAnswer}
 use Rattle.split_laws.specs.After.{splitTree}
 use Rattle.split_laws.specs.code.Accepted.{Splittable}

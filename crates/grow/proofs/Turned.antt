@@ -16,7 +16,7 @@ use Rattle.celltable.specs.Ranges.{sideRange, gridRange, squareRange}
 use Rattle.ranges.specs.Held.{lent}
 use Rattle.split.specs.declared.Answer as Splitting
 use Rattle.split.specs.declared.Answer.the-variants as split
-use Rattle.split.specs.Tables.{Tree, tree, cellsUsed, entriesUsed, boundsOf, countsIn}
+use Rattle.tables.specs.Tables.{Tree, tree, cellsUsed, entriesUsed, boundsOf, countsIn}
 use Rattle.split.specs.Split.{words, roomAnswer, madeBy, headBy, cellsOf, entriesBy, splitAnswer, headAfter, cellsAfter, entriesAfter}
 use Rattle.split_laws.specs.After.{splitTree}
 use Rattle.split_laws.specs.code.Accepted.{Splittable}

@@ -10,7 +10,7 @@ ghost use Rattle.stream.specs.Table.{wordsFrom};
 ghost use Rattle.stream.specs.Grammar.{env, Passed};
 ghost use Rattle.celltable.specs.Ranges.{sideRange, squareRange};
 ghost use Rattle.ranges.specs.Held.{lent};
-ghost use Rattle.split.specs.Tables.{tree, treeLent, cellsUsed, entriesUsed, countsIn};
+ghost use Rattle.tables.specs.Tables.{tree, treeLent, cellsUsed, entriesUsed, countsIn};
 ghost use Rattle.split.specs.Split.{roomAnswer, madeLent, headBy, cellsOf, entriesBy};
 ghost use Rattle.grow.specs.Grow.{depthAt, isWanted, triedLeaf, triedCell, tried, grown, answerOf, growAnswer, growTree};
 ghost use Rattle.grow.specs.code.Numbers.{pastN, splitN, byRoom, turnBy, treeBy};
@@ -228,7 +228,7 @@ fn take_turn(
 {
     let i = s.cell as usize;
     let w = celltable::read_cell(cells, i);
-    let b = split::bounds_in(plan, w.y, w.side);
+    let b = tables::bounds_in(plan, w.y, w.side);
     let t = try_cell(entries, areas, xs, ys, b, s, w, threshold, limit);
     match t {
         Tried::Bad => {

@@ -6,3 +6,4 @@ pub mod Tests
 pub mod Integers
 pub mod Differences
 pub mod Signed
+pub mod Choices

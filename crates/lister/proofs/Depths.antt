@@ -17,13 +17,13 @@ use Rattle.celltable.specs.Ranges.{cellRange, levelOf}
 use Rattle.celltable.specs.Descent.{quarterAt}
 use Rattle.split.specs.declared.Answer as Splitting
 use Rattle.split.specs.declared.Answer.the-variants as split
-use Rattle.split.specs.Tables.{Tree, cellsUsed, entriesUsed, countsIn}
+use Rattle.tables.specs.Tables.{Tree, cellsUsed, entriesUsed, countsIn}
 use Rattle.split.specs.Split.{words, against, splitAnswer}
 use Rattle.split_laws.specs.After.{splitTree}
 use Rattle.split_laws.proofs.Trees.{tree-used, tree-keeps-cell, tree-cell, tree-child}
 use Rattle.open.specs.declared.Answer.{Answer}
 use Rattle.open.specs.declared.Answer.the-variants.{Opened}
-use Rattle.open.specs.Open.{openAnswer}
+use Rattle.open.specs.Open.{openAnswer, openTree}
 use Rattle.open.proofs.Accepted.{open-accepts}
 use Rattle.open.proofs.After.{cells-used, cell-is}
 use Rattle.grow.specs.declared.Tried.{Tried}
@@ -55,7 +55,7 @@ use Rattle.find_leaf.specs.declared.Answer.the-variants.{Found}
 use Rattle.find_leaf.specs.Leaf.{linesIn, findAnswer}
 use Rattle.listing.specs.Listed.{lineOf, listed, Among}
 use Rattle.listing.proofs.Every.{every-leaf, found-cell}
-use Rattle.demand.specs.Opened.{openedBy, openTree}
+use Rattle.demand.specs.code.Opened.{openedBy}
 use Rattle.lister.specs.Printed.{grownTree}
 
 -- every cell in use has a depth of at most 4

@@ -12,11 +12,11 @@ use Rattle.refusals.specs.declared.Refusal.{Refusal}
 use Rattle.cells.specs.Cells.{at, OnGrid, side, level}
 use Rattle.cells.proofs.Cells.{some-side}
 use Rattle.celltable.specs.Descent.{leafOf}
-use Rattle.split.specs.Tables.{Tree}
+use Rattle.tables.specs.Tables.{Tree}
 use Rattle.split.specs.Split.{words}
 use Rattle.open.specs.declared.Answer as Opening
 use Rattle.open.specs.declared.Answer.the-variants.{Opened}
-use Rattle.open.specs.Open.{openAnswer}
+use Rattle.open.specs.Open.{openAnswer, openTree}
 use Rattle.grow.specs.declared.Answer.{Answer}
 use Rattle.grow.specs.declared.Answer.the-variants as Answers
 use Rattle.grow.specs.Grow.{Ending, none-left, no-room, not-passed, grown, answerBy, answerOf}
@@ -31,7 +31,6 @@ use Rattle.listing.proofs.Listing.{few-lines, written-read}
 use Rattle.listing.proofs.Only.{only-leaves, one-line}
 use Rattle.demand.specs.History.{Node, begun, cellIn, afterSplits, Leaf, LeafAt}
 use Rattle.demand.specs.Stands.{drawingOf}
-use Rattle.demand.specs.Opened.{openTree}
 use Rattle.demand.proofs.Sound.{Sound}
 use Rattle.demand.proofs.Opened.{open-sound}
 use Rattle.demand.proofs.Growing.{Ends, Grows, grown-sound}

@@ -5,14 +5,13 @@ use Prim.Native.Nat.{ℕ}
 use lib.ListN.{length}
 use Rattle.refusals.specs.declared.Refusal.{Refusal}
 use Rattle.drawing.specs.Tables.{Tables}
-use Rattle.split.specs.Tables.{Tree, tree}
+use Rattle.tables.specs.Tables.{Tree, tree}
 use Rattle.open.specs.declared.Answer.{Answer}
 use Rattle.open.specs.declared.Answer.the-variants as Opens
-use Rattle.open.specs.Open.{drawingTables, openAnswer, headOpened, cellsOpened, entriesOpened}
+use Rattle.open.specs.Open.{drawingTables, openAnswer, headOpened, cellsOpened, entriesOpened, openTree}
 use Rattle.grow.specs.declared.Answer as Growing
 use Rattle.listing.specs.Listed.{listed}
 use Rattle.listing.specs.Numbers.{written}
-use Rattle.demand.specs.Opened.{openTree}
 use Rattle.demand.proofs.Growing.{tables-grown}
 use Rattle.lister.specs.declared.Outcome.{Outcome}
 use Rattle.lister.specs.declared.Outcome.the-variants.{Not}

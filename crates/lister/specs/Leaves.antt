@@ -4,12 +4,11 @@ use mathlib.Core.List.{List, _∷_, _++_}
 use Prim.Native.Nat.{ℕ, _≤_}
 use lib.ListN.{length}
 use Rattle.refusals.specs.declared.Refusal.{Refusal}
-use Rattle.split.specs.Tables.{Tree}
+use Rattle.tables.specs.Tables.{Tree}
 use Rattle.open.specs.declared.Answer.the-variants.{Opened}
-use Rattle.open.specs.Open.{openAnswer}
+use Rattle.open.specs.Open.{openAnswer, openTree}
 use Rattle.listing.specs.declared.Line.{Line}
 use Rattle.listing.specs.Listed.{keysFrom, Among, IsLeaf, leafLine}
-use Rattle.demand.specs.Opened.{openTree}
 use Rattle.lister.specs.declared.Outcome.the-variants.{Not}
 use Rattle.lister.specs.Printed.{grownTree, outcome, printed}
 

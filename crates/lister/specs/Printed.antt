@@ -2,17 +2,16 @@
 use mathlib.Core.List.{List}
 use Prim.Native.Nat.{ℕ}
 use lib.ListN.{length}
-use Rattle.split.specs.Tables.{Tree}
+use Rattle.tables.specs.Tables.{Tree}
 use Rattle.open.specs.declared.Answer as Opening
 use Rattle.open.specs.declared.Answer.the-variants as Opens
-use Rattle.open.specs.Open.{openAnswer}
+use Rattle.open.specs.Open.{openAnswer, openTree}
 use Rattle.grow.specs.declared.Answer as Growing
 use Rattle.grow.specs.declared.Answer.the-variants as Grows
 use Rattle.grow.specs.Grow.{growAnswer, growTree}
 use Rattle.listing.specs.declared.Line.{Line}
 use Rattle.listing.specs.Listed.{listed}
 use Rattle.listing.specs.Numbers.{linesIn, written}
-use Rattle.demand.specs.Opened.{openTree}
 use Rattle.lister.specs.declared.Outcome.{Outcome}
 use Rattle.lister.specs.declared.Outcome.the-variants.{Done, Full, Not}
 

@@ -5,7 +5,7 @@ use refusals::Refusal;
 ghost use mathlib.Core.Path.{_≡_};
 ghost use Prim.Native.Nat.{_*_, _≤_};
 ghost use lib.ListN.{length};
-ghost use Rattle.split.specs.Tables.{treeLent};
+ghost use Rattle.tables.specs.Tables.{treeLent};
 ghost use Rattle.lister.specs.Printed.{linesOf, outcomeOf, outcomeGrown, rowsGrown, outcome, rowsAfter};
 
 fn print_number(n: u32) {

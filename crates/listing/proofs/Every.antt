@@ -20,7 +20,7 @@ use Rattle.celltable.specs.declared.Found.the-variants.{At, Broken}
 use Rattle.celltable.specs.Table.{cellAt}
 use Rattle.celltable.proofs.Ranges.{SquareFits, square-fits, passes-range}
 use Rattle.celltable.proofs.Landing.{LeafFound}
-use Rattle.split.specs.Tables.{Tree, cellsUsed, entriesUsed}
+use Rattle.tables.specs.Tables.{Tree, cellsUsed, entriesUsed}
 use Rattle.find_leaf.specs.declared.FoundLeaf.{FoundLeaf}
 use Rattle.find_leaf.specs.declared.Answer.the-variants as Answers
 use Rattle.find_leaf.specs.Leaf.{positionRange, reportOf, leafIn, foundBy, findAnswer}

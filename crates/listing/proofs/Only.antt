@@ -5,7 +5,7 @@ use mathlib.Core.List.{List, [], _∷_, _++_, append-assoc}
 use Prim.Native.Nat.{ℕ, zero, suc, _+_, _≤_, _<_}
 use native.Mathlib.Omega.{arith}
 use lib.Dec.{eqb}
-use Rattle.split.specs.Tables.{Tree}
+use Rattle.tables.specs.Tables.{Tree}
 use Rattle.find_leaf.specs.declared.FoundLeaf.{FoundLeaf}
 use Rattle.find_leaf.specs.declared.Answer.{Answer}
 use Rattle.find_leaf.specs.declared.Answer.the-variants.{Found, Not}

@@ -9,7 +9,7 @@ use Rattle.laws.specs.Ranges.{all}
 use Rattle.laws.proofs.Ranges.{all-at}
 use Rattle.laws.proofs.Booleans.{true-T, and-left, and-right}
 use Rattle.geometry.specs.Keys.{spread, keyOf}
-use Rattle.split.specs.Tables.{Tree}
+use Rattle.tables.specs.Tables.{Tree}
 use Rattle.find_leaf.specs.declared.FoundLeaf.{FoundLeaf}
 use Rattle.find_leaf.specs.declared.Answer.{Answer}
 use Rattle.find_leaf.specs.declared.Answer.the-variants.{Found, Not}

@@ -6,7 +6,7 @@ use mathlib.Core.List.{List, [], _∷_, _++_}
 use Prim.Native.Nat.{ℕ, zero, suc, _+_, _*_, _/_, _%_, _≤_, _<_}
 use lib.Dec.{eqb}
 use Rattle.geometry.specs.Keys.{keyOf}
-use Rattle.split.specs.Tables.{Tree, cellsUsed}
+use Rattle.tables.specs.Tables.{Tree, cellsUsed}
 use Rattle.split.specs.Split.{words, stream}
 use Rattle.find_leaf.specs.declared.FoundLeaf.{FoundLeaf}
 use Rattle.find_leaf.specs.declared.Answer.{Answer}

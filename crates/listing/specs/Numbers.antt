@@ -13,7 +13,14 @@ flat (l ∷ ls) = l .cell ∷ l .key ∷ l .side ∷ l .entries ∷ l .lines ∷
 
 -- the five words of line i
 abbrev pub lineAt : List ℕ → ℕ → Line
-lineAt t i = record { cell = getD t (i * 5) 0; key = getD t (i * 5 + 1) 0; side = getD t (i * 5 + 2) 0; entries = getD t (i * 5 + 3) 0; lines = getD t (i * 5 + 4) 0 }
+lineAt t i =
+    record {
+      cell = getD t (i * 5) 0;
+      key = getD t (i * 5 + 1) 0;
+      side = getD t (i * 5 + 2) 0;
+      entries = getD t (i * 5 + 3) 0;
+      lines = getD t (i * 5 + 4) 0;
+    }
 
 -- the n lines from line i on
 unfoldable pub linesIn : List ℕ → (i n : ℕ) → List Line

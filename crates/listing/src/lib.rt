@@ -5,7 +5,7 @@ ghost use mathlib.Core.Path.{_≡_};
 ghost use mathlib.Core.List.{[]};
 ghost use Prim.Native.Nat.{_+_, _*_, _≤_, _<_};
 ghost use lib.ListN.{length};
-ghost use Rattle.split.specs.Tables.{treeLent};
+ghost use Rattle.tables.specs.Tables.{treeLent};
 ghost use Rattle.listing.specs.Listed.{everyOther, cornerX, cornerY, ifLow, ofAnswer, cornerAt, withCorner, listed};
 ghost use Rattle.listing.specs.Numbers.{putAt, written, lineAt};
 

@@ -20,7 +20,8 @@ ghost use Rattle.geometry.specs.code.Reach.{EndsIn, SquareIn};
 ghost use Rattle.stream.specs.Entry.{startRange, signRange};
 ghost use Rattle.pruning.specs.code.Counters.{lengthOf};
 ghost use Rattle.pruner.specs.code.Numbers.{counted};
-ghost use Rattle.making.specs.code.Numbers.{leftSign, leftClass, leftRange, waiting, resting, withLeft, waitingN, classN, settledN, movedN, prunesN, prunedN, Room, Inside};
+ghost use Rattle.making.specs.code.Numbers.{leftSign, leftClass, leftRange, waiting, resting, withLeft, waitingN, classN, settledN, movedN, prunesN};
+ghost use Rattle.making.specs.code.Numbers.{prunedN, Room, Inside};
 
 // ---- what is left of a line or a shortcut in a square
 pub struct Left {

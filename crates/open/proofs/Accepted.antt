@@ -11,10 +11,10 @@ use Rattle.refusals.specs.declared.Refusal.the-variants.{Argument, Room, Broken
 use Rattle.grammar.specs.declared.Counts.{Counts}
 use Rattle.grammar.specs.declared.Verdict.{Verdict}
 use Rattle.grammar.specs.declared.Verdict.the-variants.{Accepted, Refused}
-use Rattle.drawing.specs.Tables.{drawingOf}
+use Rattle.drawing.specs.Tables.{drawingVerdict}
 use Rattle.cells.specs.Cells.{root}
 use Rattle.four_children.specs.Children.{wordsWith}
-use Rattle.split.specs.Tables.{Tree}
+use Rattle.tables.specs.Tables.{Tree}
 use Rattle.open.specs.declared.Answer.the-variants.{Opened, Not}
 use Rattle.open.specs.Open.{rootWords, roomFor, drawingTables, streamOpened, drawingAnswer, openAnswer}
 use Rattle.open.proofs.Rooms.{room-says, few-words}
@@ -29,7 +29,7 @@ not-opened r n e = absurd (let z : _≡_ {A = ℕ} 0 1 = cc in omega arith)
 module _ (t : Tree) where
   pub record Accepts (n : ℕ) : Type 0 where
     pub counts : Counts
-    pub drawing : drawingOf (drawingTables t) ≡ Accepted counts
+    pub drawing : drawingVerdict (drawingTables t) ≡ Accepted counts
     pub pair : length (t .xs) ≡ length (t .ys)
     pub entries : n ≡ length (streamOpened t)
     pub few : n ≤ 4096
@@ -39,7 +39,7 @@ module _ (t : Tree) where
 
   pub open-accepts : (n : ℕ) → openAnswer t ≡ Opened n → Accepts n
   open-accepts n e₀ =
-      go (eqb (length (t .xs)) (length (t .ys))) (drawingOf (drawingTables t))
+      go (eqb (length (t .xs)) (length (t .ys))) (drawingVerdict (drawingTables t))
       (roomFor (length (t .head)) (length (t .cells)) (length (t .entries)) (length (streamOpened t))) refl refl refl e₀
     where
       is : (m : ℕ) → Opened m ≡ Opened n → m ≡ n
@@ -47,7 +47,7 @@ module _ (t : Tree) where
 
       taken : (k : Counts)
           → length (t .xs) ≡ length (t .ys)
-          → drawingOf (drawingTables t) ≡ Accepted k
+          → drawingVerdict (drawingTables t) ≡ Accepted k
           → roomFor (length (t .head)) (length (t .cells)) (length (t .entries)) (length (streamOpened t)) ≡ true
           → length (streamOpened t) ≡ n
           → Accepts n
@@ -66,7 +66,7 @@ module _ (t : Tree) where
 
       go : (a : Bool) (v : Verdict) (b : Bool)
           → eqb (length (t .xs)) (length (t .ys)) ≡ a
-          → drawingOf (drawingTables t) ≡ v
+          → drawingVerdict (drawingTables t) ≡ v
           → roomFor (length (t .head)) (length (t .cells)) (length (t .entries)) (length (streamOpened t)) ≡ b
           → cond a (drawingAnswer t v) (Not Argument) ≡ Opened n
           → Accepts n

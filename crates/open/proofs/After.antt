@@ -18,7 +18,7 @@ use Rattle.celltable.specs.Ranges.{powerUpTo, headRange, cellRange}
 use Rattle.celltable.proofs.Table.{length-put-cell, put-cell-same}
 use Rattle.root_stream.specs.Opened.{rowsOpened}
 use Rattle.root_stream.proofs.Opened.{accepted-opened, opened-passed}
-use Rattle.split.specs.Tables.{Tree, cellsUsed, entriesUsed, boundsOf}
+use Rattle.tables.specs.Tables.{Tree, cellsUsed, entriesUsed, boundsOf}
 use Rattle.open.specs.declared.Answer.the-variants.{Opened}
 use Rattle.open.specs.Open.{rootWords, drawingTables, streamOpened, headOpened, cellsOpened, entriesOpened}
 use Rattle.open.proofs.Rooms.{rows-words}

@@ -6,10 +6,10 @@ use Rattle.refusals.specs.declared.Refusal.the-variants.{Argument, Room, Broken
 use Rattle.grammar.specs.Grammar.{course, checked}
 use Rattle.read.specs.Words.{spread}
 use Rattle.read.specs.Reading.{holds}
-use Rattle.drawing.specs.Tables.{rebuilt, countsJudged, drawingOf}
+use Rattle.drawing.specs.Tables.{rebuilt, countsJudged, drawingVerdict}
 use Rattle.stream.proofs.Table.{written-nil}
 use Rattle.root_stream.specs.Opened.{rowsOpened, wordsOpened}
-use Rattle.split.specs.Tables.{Tree, tree}
+use Rattle.tables.specs.Tables.{Tree, tree}
 use Rattle.open.specs.declared.Answer.the-variants.{Opened, Not}
 use Rattle.open.specs.Open.{openAnswer, headOpened, cellsOpened, entriesOpened}
 
@@ -21,7 +21,7 @@ abbrev seven : List ℕ
 seven = 7 ∷ 7 ∷ 7 ∷ 7 ∷ 7 ∷ 7 ∷ 7 ∷ []
 
 none-opens : openAnswer (none [] (7 ∷ seven)) ≡ Opened 0
-unfolding drawingOf countsJudged rebuilt holds course checked spread rowsOpened wordsOpened
+unfolding drawingVerdict countsJudged rebuilt holds course checked spread rowsOpened wordsOpened
 none-opens = refl
 
 none-head : headOpened (none [] (7 ∷ seven)) (Opened 0) ≡ 1 ∷ 0 ∷ 7 ∷ []
@@ -36,7 +36,7 @@ none-entries = written-nil (7 ∷ []) 0
 
 -- seven words are not a whole cell
 none-short : openAnswer (none [] seven) ≡ Not Room
-unfolding drawingOf countsJudged rebuilt holds course checked
+unfolding drawingVerdict countsJudged rebuilt holds course checked
 none-short = refl
 
 -- 7 before 11
@@ -45,5 +45,5 @@ none-unequal = refl
 
 -- 12 before 11: a plan of two words
 plan-short : openAnswer (tree (0 ∷ 0 ∷ []) [] [] [] [] [] []) ≡ Not Broken
-unfolding drawingOf
+unfolding drawingVerdict
 plan-short = refl

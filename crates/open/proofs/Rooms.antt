@@ -9,7 +9,7 @@ use borrow.Author.Tests.{leb-true}
 use Rattle.refusals.specs.declared.Refusal.the-variants.{Room}
 use Rattle.grammar.specs.declared.Counts.{Counts}
 use Rattle.grammar.specs.declared.Verdict.the-variants.{Accepted}
-use Rattle.drawing.specs.Tables.{Tables, drawingOf}
+use Rattle.drawing.specs.Tables.{Tables, drawingVerdict}
 use Rattle.stream.specs.declared.Words.{Words}
 use Rattle.stream.specs.Grammar.{bounds}
 use Rattle.evaluate.specs.Words.{wordsOf}
@@ -17,8 +17,8 @@ use Rattle.evaluate.proofs.Laws.{both}
 use Rattle.pruning.specs.code.Weights.{total}
 use Rattle.cells.specs.code.Making.{rowSize}
 use Rattle.celltable.specs.Ranges.{cellsHeld, entriesHeld}
-use Rattle.split.specs.Tables.{Tree}
-use Rattle.split.proofs.Rooms.{cells-room, entries-room}
+use Rattle.tables.specs.Tables.{Tree}
+use Rattle.tables.proofs.Rooms.{cells-room, entries-room}
 use Rattle.root_stream.specs.code.Numbers.{Opened}
 use Rattle.root_stream.specs.Opened.{rowsOpened, wordsOpened}
 use Rattle.root_stream.proofs.Opened.{accepted-opened, opened-short, opened-count}
@@ -37,7 +37,7 @@ pub rows-words : (t : Tables) → length (wordsOpened t) ≡ length (rowsOpened 
 unfolding wordsOpened
 rows-words t = length-map {B = Words} (rowsOpened t) wordsOf
 
-module _ (t : Tables) (k : Counts) (e : drawingOf t ≡ Accepted k) where
+module _ (t : Tables) (k : Counts) (e : drawingVerdict t ≡ Accepted k) where
   abbrev known : Opened t (k .records) (bounds (k .areas) (k .corners) 0 65536)
   known = accepted-opened t k e
 

@@ -7,14 +7,14 @@ use lib.ListN.{length, set}
 use Rattle.refusals.specs.declared.Refusal.the-variants.{Argument, Room, Broken}
 use Rattle.grammar.specs.declared.Verdict.{Verdict}
 use Rattle.grammar.specs.declared.Verdict.the-variants.{Accepted, Refused}
-use Rattle.drawing.specs.Tables.{Tables, tables, drawingOf}
+use Rattle.drawing.specs.Tables.{Tables, tables, drawingVerdict}
 use Rattle.stream.specs.declared.Words.{Words}
 use Rattle.stream.specs.Table.{written}
 use Rattle.celltable.specs.declared.CellWords.{CellWords}
 use Rattle.celltable.specs.Table.{putCellAt}
 use Rattle.celltable.specs.Ranges.{cellsHeld, entriesHeld}
 use Rattle.root_stream.specs.Opened.{wordsOpened}
-use Rattle.split.specs.Tables.{Tree, tree}
+use Rattle.tables.specs.Tables.{Tree, tree}
 use Rattle.open.specs.declared.Answer.{Answer}
 use Rattle.open.specs.declared.Answer.the-variants.{Opened, Not}
 
@@ -23,7 +23,8 @@ use Rattle.open.specs.declared.Answer.the-variants.{Opened, Not}
 abbrev pub rootWords : ℕ → CellWords
 rootWords n = record { x = 0; y = 0; side = 65536; child = 0; first = 0; count = n }
 
--- 11: "cells, entries or another output table too short for the whole result", which is the two words of the head, one cell and n entries; the lengths of the tables
+-- 11: "cells, entries or another output table too short for the whole result", which is the two words of the head, one cell and n entries; the
+-- lengths of the tables
 abbrev pub roomFor : (head cells entries n : ℕ) → Bool
 roomFor head cells entries n = leb 2 head && (cellsHeld 1 cells && entriesHeld n entries)
 
@@ -46,7 +47,7 @@ module _ (t : Tree) where
 
   -- 7: "a lent pair of x and y tables of unequal length"; then 12, then 11
   abbrev pub openAnswer : Answer
-  openAnswer = cond (eqb (length (t .xs)) (length (t .ys))) (drawingAnswer (drawingOf drawingTables)) (Not Argument)
+  openAnswer = cond (eqb (length (t .xs)) (length (t .ys))) (drawingAnswer (drawingVerdict drawingTables)) (Not Argument)
 
   -- ---- the tables afterwards: "nothing lent changed" on a refusal; "An accepted call leaves the rest of a longer output untouched."
 

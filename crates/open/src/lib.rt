@@ -8,12 +8,12 @@ ghost use mathlib.Core.Path.{_≡_};
 ghost use Prim.Native.Nat.{_*_, _%_, _≤_};
 ghost use lib.ListN.{length, set};
 ghost use Rattle.grammar.specs.declared.Verdict.the-variants.{Accepted};
-ghost use Rattle.drawing.specs.Tables.{tables, drawingLent, drawingOf};
+ghost use Rattle.drawing.specs.Tables.{tables, drawingLent, drawingVerdict};
 ghost use Rattle.stream.specs.Table.{written};
 ghost use Rattle.celltable.specs.Table.{putCellAt};
 ghost use Rattle.root_stream.specs.code.Numbers.{Opened};
 ghost use Rattle.root_stream.specs.Opened.{rowsOpened, wordsOpened};
-ghost use Rattle.split.specs.Tables.{treeLent};
+ghost use Rattle.tables.specs.Tables.{treeLent};
 ghost use Rattle.open.specs.Open.{rootWords, roomFor, roomAnswer, openAnswer, headOpened, cellsOpened, entriesOpened};
 
 // An opening's answer: the entries of cell 0's stream, or why it was refused.
@@ -26,8 +26,8 @@ pub enum Answer {
 fn has_room(head: usize, cells: usize, entries: usize, n: usize) -> bool
     ensures { λ r. ⌜ r ≡ roomFor head cells entries n ⌝ }
 {
-    let c = split::cells_held(1, cells);
-    let e = split::entries_held(n, entries);
+    let c = tables::cells_held(1, cells);
+    let e = tables::entries_held(n, entries);
     (2 <= head) & (c & e)
 }
 
@@ -78,7 +78,7 @@ fn put_opened(
 {
     root_stream::write_open(entries, n as usize, plan, areas, xs, ys, records, b);
     put_root(cells, n);
-    split::put_head(head, 1, n);
+    tables::put_head(head, 1, n);
 }
 
 // 11, and then the new tree. The drawing has passed.
@@ -92,7 +92,7 @@ fn open_accepted(
     entries: &mut [u32],
     k: Counts,
 ) -> Answer
-    requires { ⌜ drawingOf (tables (now plan) (now areas) (now xs) (now ys)) ≡ Accepted k ⌝ }
+    requires { ⌜ drawingVerdict (tables (now plan) (now areas) (now xs) (now ys)) ≡ Accepted k ⌝ }
     ensures { λ r. ⌜ r ≡ roomAnswer (treeLent plan areas xs ys head cells entries) ⌝ }
     ensures { λ r. ⌜ now (head .exit) ≡ headOpened (treeLent plan areas xs ys head cells entries) r ⌝ }
     ensures { λ r. ⌜ now (cells .exit) ≡ cellsOpened (treeLent plan areas xs ys head cells entries) r ⌝ }

@@ -9,7 +9,14 @@ use Rattle.paint.specs.declared.area.Paint.{Paint}
 
 -- the paint of area n in the table of areas: 8 words an area, of which words 2 to 6 are alpha, red, green, blue and material
 abbrev pub paintAt : List ℕ → ℕ → Paint
-paintAt areas n = record { alpha = getD areas (n * 8 + 2) 0; red = getD areas (n * 8 + 3) 0; green = getD areas (n * 8 + 4) 0; blue = getD areas (n * 8 + 5) 0; material = getD areas (n * 8 + 6) 0 }
+paintAt areas n =
+    record {
+      alpha = getD areas (n * 8 + 2) 0;
+      red = getD areas (n * 8 + 3) 0;
+      green = getD areas (n * 8 + 4) 0;
+      blue = getD areas (n * 8 + 5) 0;
+      material = getD areas (n * 8 + 6) 0;
+    }
 
 -- "The material is the material of the lowest numbered area in that set, or 0 if it is empty."
 abbrev pub materialFrom : (ℕ → Paint) → (set i n : ℕ) → ℕ

@@ -12,8 +12,8 @@ use Rattle.refusals.specs.declared.Refusal.the-variants as Refusals
 use Rattle.paint.specs.declared.colour.Channels.{Channels}
 use Rattle.paint.specs.declared.colour.Colour.{Colour}
 use Rattle.paint.specs.Pixels.{sampleX, sampleY, plus, samples, sixteenth, pixelOf}
-use Rattle.split.specs.Tables.{Tree}
-use Rattle.split.proofs.Choices.{pick-true}
+use Rattle.tables.specs.Tables.{Tree}
+use Rattle.laws.proofs.Choices.{pick-true}
 use Rattle.position.specs.Spots.{known, colourIn}
 use Rattle.pixel_row.specs.declared.RowAnswer.the-variants.{Done, Not}
 use Rattle.pixel_row.specs.Rows.{Filled, filled, putPixel, rowBytes, samplesKnown, pixelKnown, pixelIn, fillFrom, rowSpan, rowFilled}

@@ -10,7 +10,7 @@ use Rattle.paint.specs.declared.colour.Colour.{Colour}
 use Rattle.paint.specs.Colours.{ColourIn}
 use Rattle.paint.specs.Pixels.{sampleX, sampleY}
 use Rattle.celltable.specs.declared.Found.{Found}
-use Rattle.split.specs.Tables.{Tree}
+use Rattle.tables.specs.Tables.{Tree}
 use Rattle.find_leaf.specs.Leaf.{leafIn}
 use Rattle.position.specs.code.Numbers.{LastIn}
 use Rattle.position.proofs.Known.{last-in}

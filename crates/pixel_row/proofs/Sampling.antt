@@ -10,8 +10,8 @@ use Rattle.paint.specs.Areas.{paintAt}
 use Rattle.paint.specs.Colours.{colourOf, ColourIn}
 use Rattle.paint.specs.Pixels.{sampleX, sampleY, plus, sixteenth, pixelOf, SamplesIn}
 use Rattle.celltable.specs.declared.Found.{Found}
-use Rattle.split.specs.Tables.{Tree}
-use Rattle.split.proofs.Choices.{pick-true, pick-false}
+use Rattle.tables.specs.Tables.{Tree}
+use Rattle.laws.proofs.Choices.{pick-true, pick-false}
 use Rattle.find_leaf.specs.Leaf.{leafIn}
 use Rattle.position.specs.Spots.{known, colourIn}
 use Rattle.position.specs.code.Numbers.{LastIn}

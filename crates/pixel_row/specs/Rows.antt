@@ -7,7 +7,7 @@ use lib.ListN.{length, set}
 use Rattle.refusals.specs.declared.Refusal.the-variants.{Argument, Broken}
 use Rattle.paint.specs.declared.colour.Colour.{Colour}
 use Rattle.paint.specs.Pixels.{sampleX, sampleY, pixelOf}
-use Rattle.split.specs.Tables.{Tree}
+use Rattle.tables.specs.Tables.{Tree}
 use Rattle.position.specs.Spots.{known, colourIn}
 use Rattle.pixel_row.specs.declared.RowAnswer.{RowAnswer}
 use Rattle.pixel_row.specs.declared.RowAnswer.the-variants.{Done, Not}

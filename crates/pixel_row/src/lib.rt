@@ -10,7 +10,7 @@ ghost use mathlib.Core.Path.{_≡_};
 ghost use Prim.Native.Nat.{_+_, _*_, _/_, _≤_};
 ghost use lib.ListN.{length};
 ghost use Rattle.paint.specs.Colours.{ColourIn};
-ghost use Rattle.split.specs.Tables.{tree, treeLent};
+ghost use Rattle.tables.specs.Tables.{tree, treeLent};
 ghost use Rattle.position.specs.code.Numbers.{LastIn};
 ghost use Rattle.pixel_row.specs.Rows.{putPixel, fillFrom, rowSpan, rowFilled};
 ghost use Rattle.pixel_row.specs.code.Numbers.{pixelTold, PixelBytes};

@@ -16,8 +16,8 @@ use Rattle.celltable.specs.declared.Found.{Found}
 use Rattle.celltable.specs.declared.Found.the-variants.{At, Broken}
 use Rattle.evaluate.specs.Reading.{setAt}
 use Rattle.making.proofs.Meaning.{lent-meaning}
-use Rattle.split.specs.Tables.{Tree}
-use Rattle.split.proofs.Choices.{pick-true, pick-false}
+use Rattle.tables.specs.Tables.{Tree}
+use Rattle.laws.proofs.Choices.{pick-true, pick-false}
 use Rattle.find_leaf.specs.Leaf.{positionRange, leafStream, leafBounds, leafIn}
 use Rattle.find_leaf.proofs.Counts.{counts-fit}
 use Rattle.find_leaf.proofs.Landing.{leaf-landed, leaf-passed}

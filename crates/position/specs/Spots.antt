@@ -18,7 +18,7 @@ use Rattle.cells.specs.Streams.{shownIn}
 use Rattle.cells.specs.Rows.{streamOf, roleIn}
 use Rattle.evaluate.specs.Reading.{rowsIn, setAt}
 use Rattle.ranges.specs.Held.{lent}
-use Rattle.split.specs.Tables.{Tree}
+use Rattle.tables.specs.Tables.{Tree}
 use Rattle.find_leaf.specs.Leaf.{positionRange, leafBounds, leafStream, leafIn}
 use Rattle.position.specs.declared.Spot.{Spot}
 use Rattle.position.specs.declared.Answer.{Answer}

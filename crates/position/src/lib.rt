@@ -11,7 +11,7 @@ ghost use Rattle.paint.specs.Areas.{Painted};
 ghost use Rattle.stream.specs.Table.{wordsFrom};
 ghost use Rattle.stream.specs.Grammar.{env, bounds, Passed};
 ghost use Rattle.evaluate.specs.Reading.{setAt};
-ghost use Rattle.split.specs.Tables.{tree, treeLent};
+ghost use Rattle.tables.specs.Tables.{tree, treeLent};
 ghost use Rattle.find_leaf.specs.Leaf.{leafIn};
 ghost use Rattle.position.specs.Spots.{spotOf, spotIn, positionAnswer};
 ghost use Rattle.position.specs.code.Numbers.{between, inSquare, LastIn, shownIn};
@@ -56,7 +56,7 @@ pub fn set_in(
     ensures { λ r. ⌜ r ≡ setAt (now (areas .entry)) (now (xs .entry)) (now (ys .entry)) x y (wordsFrom (now (entries .entry)) (l .first) (l .count)) ⌝ }
     ensures { λ r. ⌜ Painted (now (areas .entry)) r ⌝ }
 {
-    let b = split::bounds_in(plan, l.y, l.side);
+    let b = tables::bounds_in(plan, l.y, l.side);
     let first = l.first as usize;
     let count = l.count as usize;
     evaluate::read_stream(entries, first, count, areas, xs, ys, b, x, y)

@@ -38,7 +38,10 @@ rawAt b i =
 -- the list with sixteen bytes at `at`, as sixteen stores
 abbrev pub putRaw : List ℕ → ℕ → Raw → List ℕ
 putRaw t at r =
-    set (set (set (set (set (set (set (set (set (set (set (set (set (set (set (set t at (r .b0)) (at + 1) (r .b1)) (at + 2) (r .b2)) (at + 3) (r .b3)) (at + 4) (r .b4)) (at + 5) (r .b5)) (at + 6) (r .b6)) (at + 7) (r .b7)) (at + 8) (r .b8)) (at + 9) (r .b9)) (at + 10) (r .b10)) (at + 11) (r .b11)) (at + 12) (r .b12)) (at + 13) (r .b13)) (at + 14) (r .b14)) (at + 15) (r .b15)
+    set (set (set (set (set (set (set (set (set (set (set (set (set (set (set (set t at (r .b0)) (at + 1) (r .b1)) (at + 2) (r .b2)) (at + 3) (r .b3))
+    (at + 4) (r .b4)) (at + 5) (r .b5)) (at + 6) (r .b6)) (at + 7) (r .b7))
+    (at + 8) (r .b8)) (at + 9) (r .b9)) (at + 10) (r .b10)) (at + 11) (r .b11))
+    (at + 12) (r .b12)) (at + 13) (r .b13)) (at + 14) (r .b14)) (at + 15) (r .b15)
 
 abbrev pub rawBytes : Raw → List ℕ
 rawBytes r =

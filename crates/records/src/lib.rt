@@ -4,7 +4,8 @@ ghost use mathlib.Core.Path.{_≡_};
 ghost use Prim.Native.Nat.{_+_, _*_, _≤_, _<_};
 ghost use lib.ListN.{length};
 ghost use Rattle.records.specs.Record.{paintRange, clipRange, areaRange, cornerRange, inRange, ranged, cornerOf, delimiterOf};
-ghost use Rattle.records.specs.Bytes.{rawAt, putRaw, number2, number4, areaUnnamed, cornerUnnamed, delimiterUnnamed, unnamed, fieldsOf, named, decodedRaw, rawArea, rawCorner, rawDelimiter, rawOf};
+ghost use Rattle.records.specs.Bytes.{rawAt, putRaw, number2, number4, areaUnnamed, cornerUnnamed, delimiterUnnamed, unnamed, fieldsOf, named};
+ghost use Rattle.records.specs.Bytes.{decodedRaw, rawArea, rawCorner, rawDelimiter, rawOf};
 
 // The fields of an area.
 pub struct Fields {

@@ -7,7 +7,7 @@ use native.Mathlib.Omega.{arith}
 use lib.ListN.{length, length-map}
 use Rattle.grammar.specs.declared.Counts.{Counts}
 use Rattle.grammar.specs.declared.Verdict.the-variants.{Accepted}
-use Rattle.drawing.specs.Tables.{Tables, drawnIn, drawingOf}
+use Rattle.drawing.specs.Tables.{Tables, drawnIn, drawingVerdict}
 use Rattle.drawing.proofs.Theorems.{passes-holding}
 use Rattle.pruning.specs.code.Weights.{total}
 use Rattle.cells.specs.Cells.{root}
@@ -28,7 +28,7 @@ use Rattle.root_stream.proofs.Ahead.{entries-ahead}
 use Rattle.root_stream.proofs.Base.{base, valid, held}
 
 -- a lent drawing that the check accepts
-pub accepted-opened : (t : Tables) (k : Counts) → drawingOf t ≡ Accepted k → Opened t (k .records) (bounds (k .areas) (k .corners) 0 65536)
+pub accepted-opened : (t : Tables) (k : Counts) → drawingVerdict t ≡ Accepted k → Opened t (k .records) (bounds (k .areas) (k .corners) 0 65536)
 accepted-opened t k e = let p = passes-holding t k e in record { used = k; accepted = p .0; holding = p .1; records-used = refl; bounds-used = refl }
 
 module _ (t : Tables) (records : ℕ) (b : Bounds) (o : Opened t records b) where

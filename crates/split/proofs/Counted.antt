@@ -12,9 +12,9 @@ use Rattle.celltable.specs.declared.CellWords.{CellWords}
 use Rattle.ranges.specs.Held.{lent}
 use Rattle.split.specs.declared.Answer.{Answer}
 use Rattle.split.specs.declared.Answer.the-variants.{Not}
-use Rattle.split.specs.Tables.{Tree, cellsUsed, entriesUsed, boundsOf}
+use Rattle.tables.specs.Tables.{Tree, cellsUsed, entriesUsed, boundsOf}
 use Rattle.split.specs.Split.{words, cellAnswer, madeBy, headBy, cellsOf, entriesBy, cellSplit, drawingSplit, headAfter, cellsAfter, entriesAfter}
-use Rattle.split.proofs.Choices.{pick-true, pick-false}
+use Rattle.laws.proofs.Choices.{pick-true, pick-false}
 
 module _ (t : Tree) (i used free : ℕ) (w : CellWords) (b : Bounds) (ew : w ≡ words t i) (eb : b ≡ boundsOf (t .plan) w)
     (eu : used ≡ cellsUsed (t .head)) (ef : free ≡ entriesUsed (t .head)) where

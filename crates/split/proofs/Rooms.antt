@@ -67,17 +67,6 @@ sum-is D c ws ts n e h =
       entries-at D c ws ts 3 (omega arith) e,
     )
 
-pub cells-room : (n len : ℕ) → cellsHeld n len ≡ true → (n * 8 ≤ len) × (n ≤ 4096)
-cells-room n len h =
-    let p = both (leb 1 n) (leb n (len / 8) && leb n 4096) h in
-    let q = both (leb n (len / 8)) (leb n 4096) (p .1) in
-    (omega (arith, leb-true n (len / 8) (q .0)), leb-true n 4096 (q .1))
-
-pub entries-room : (n len : ℕ) → entriesHeld n len ≡ true → (n * 4 ≤ len) × (n ≤ 65536)
-entries-room n len h =
-    let q = both (leb n (len / 4)) (leb n 65536) h in
-    (omega (arith, leb-true n (len / 4) (q .0)), leb-true n 65536 (q .1))
-
 -- ---- the answer
 pub has-room : (C E used free n : ℕ) (made : List Words)
     → cellsHeld (used + 4) C ≡ true

@@ -1,3 +1,2 @@
 -- The calls on a tree.
-pub mod Tables
 pub mod Split

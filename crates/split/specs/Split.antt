@@ -17,7 +17,7 @@ use Rattle.celltable.specs.Ranges.{cellRange, headRange, cellsHeld, entriesHeld
 use Rattle.cells.specs.Drawings.{Drawing}
 use Rattle.ranges.specs.Held.{lent}
 use Rattle.four_children.specs.Children.{streamsTo, cellsTo}
-use Rattle.split.specs.Tables.{Tree, tree, cellsUsed, entriesUsed, boundsOf}
+use Rattle.tables.specs.Tables.{Tree, tree, cellsUsed, entriesUsed, boundsOf}
 use Rattle.split.specs.declared.Answer.{Answer}
 use Rattle.split.specs.declared.Answer.the-variants.{Split, Not}
 
@@ -29,7 +29,8 @@ madeBy areas xs ys b w entries = streamsTo (lent areas xs ys b) (cellOf w) (word
 abbrev pub madeLent : (areas xs ys : Both (RefT (List ℕ)) (RefT (List ℕ))) → Bounds → CellWords → Both (RefT (List ℕ)) (RefT (List ℕ)) → List Words
 madeLent areas xs ys b w entries = madeBy (now (areas .entry)) (now (xs .entry)) (now (ys .entry)) b w (now (entries .entry))
 
--- 11: "cells, entries or another output table too short for the whole result"; the lengths of the tables of cells and of entries, and how many of each are in use
+-- 11: "cells, entries or another output table too short for the whole result"; the lengths of the tables of cells and of entries, and how many of
+-- each are in use
 abbrev pub roomAnswer : (cells entries used free : ℕ) → List Words → Answer
 roomAnswer cells entries used free made = cond (cellsHeld (used + 4) cells) (cond (entriesHeld (free + length made) entries) (Split used) (Not Room)) (Not Room)
 
@@ -77,12 +78,16 @@ module _ (t : Tree) where
     made = madeBy (t .areas) (t .xs) (t .ys) (boundsOf (t .plan) words) words (t .entries)
 
     abbrev pub cellSplit : Answer
-    cellSplit = cellAnswer (t .areas) (t .xs) (t .ys) (boundsOf (t .plan) words) words (t .entries) (length (t .cells)) i (cellsUsed (t .head)) (entriesUsed (t .head))
+    cellSplit =
+        cellAnswer (t .areas) (t .xs) (t .ys) (boundsOf (t .plan) words) words (t .entries) (length (t .cells)) i (cellsUsed (t .head))
+        (entriesUsed (t .head))
 
     -- 12 over the areas and corners in use: "areas, corners and entries in use at most what their tables and limits hold"
     abbrev pub drawingSplit : Answer
     drawingSplit =
-        cond (usedRange (length (t .entries)) (entriesUsed (t .head)) (length (t .areas)) (length (t .xs)) (length (t .ys)) (boundsOf (t .plan) words)) cellSplit (Not Broken)
+        cond
+        (usedRange (length (t .entries)) (entriesUsed (t .head)) (length (t .areas)) (length (t .xs)) (length (t .ys)) (boundsOf (t .plan) words))
+        cellSplit (Not Broken)
 
     -- 12 over the head: "cells in use from 1 to what the table holds"; a plan too short for its counts
     abbrev pub countsSplit : Answer

@@ -14,34 +14,14 @@ ghost use Rattle.celltable.specs.Ranges.{squareRange, cellOf, cellsHeld, entrie
 ghost use Rattle.ranges.specs.Held.{lent};
 ghost use Rattle.four_children.specs.Children.{streamsTo};
 ghost use Rattle.four_children.specs.code.Numbers.{noTally, fourTallies, cellsBy, FewEach};
-ghost use Rattle.split.specs.Tables.{treeLent, cellsUsed, entriesUsed};
-ghost use Rattle.split.specs.Split.{roomAnswer, leafAnswer, cellAnswer, madeLent, headBy, cellsOf, entriesBy, drawingSplit, countsSplit, splitAnswer, headAfter, cellsAfter, entriesAfter};
+ghost use Rattle.tables.specs.Tables.{treeLent, cellsUsed, entriesUsed};
+ghost use Rattle.split.specs.Split.{roomAnswer, leafAnswer, cellAnswer, madeLent, headBy, cellsOf, entriesBy, drawingSplit, countsSplit};
+ghost use Rattle.split.specs.Split.{splitAnswer, headAfter, cellsAfter, entriesAfter};
 
 // A split's answer: the number of the first child, or why it was refused.
 pub enum Answer {
     Split(u32),
     Not(Refusal),
-}
-
-pub fn cells_used(head: &[u32]) -> u32
-    ensures { λ r. ⌜ r ≡ cellsUsed (now (head .entry)) ⌝ }
-{
-    if 2 <= head.len() {
-        return head[0];
-    }
-    0
-}
-
-pub fn cells_held(n: u32, len: usize) -> bool
-    ensures { λ r. ⌜ r ≡ cellsHeld n len ⌝ }
-{
-    (1 <= n) & (((n as usize) <= len / 8) & (n <= 4096))
-}
-
-pub fn entries_held(n: usize, len: usize) -> bool
-    ensures { λ r. ⌜ r ≡ entriesHeld n len ⌝ }
-{
-    (n <= len / 4) & (n <= 65536)
 }
 
 // The entries of all four children.
@@ -54,15 +34,6 @@ fn entries_of(ts: [Tally; 4]) -> usize
     let c = ts[2];
     let d = ts[3];
     a.entries + b.entries + c.entries + d.entries
-}
-
-// The numbers in use.
-pub fn put_head(head: &mut [u32], cells: u32, entries: u32)
-    requires { ⌜ 2 ≤ length (now head) ⌝ }
-    ensures { λ _. ⌜ now (head .exit) ≡ set (set (now (head .entry)) 0 cells) 1 entries ⌝ }
-{
-    head[0] = cells;
-    head[1] = entries;
 }
 
 // The four children from cell `used` on, and the first of them at cell i.
@@ -126,7 +97,7 @@ fn put_split(
         ts,
     );
     put_cells(cells, i, used, free, w, ts);
-    put_head(head, used + 4, free + n);
+    tables::put_head(head, used + 4, free + n);
 }
 
 // 11, and then the split.
@@ -161,8 +132,8 @@ pub fn split_in_room(
     let ts = four_children::count_four(entries, first, count, areas, xs, ys, b, w);
     let n = entries_of(ts);
     let all = (free as usize) + n;
-    if cells_held(used + 4, cells.len()) {
-        if entries_held(all, entries.len()) {
+    if tables::cells_held(used + 4, cells.len()) {
+        if tables::entries_held(all, entries.len()) {
             put_split(
                 head,
                 cells,
@@ -255,19 +226,6 @@ fn split_cell(
     Answer::Not(Refusal::Broken)
 }
 
-// The areas and corners in use, and the rows of a cell.
-pub fn bounds_in(plan: &[u32], low: u32, side: u32) -> Bounds
-    requires { ⌜ 3 ≤ length (now plan) ⌝ }
-    ensures { λ r. ⌜ r ≡ bounds (getD (now (plan .entry)) 1 0) (getD (now (plan .entry)) 2 0) low side ⌝ }
-{
-    Bounds {
-        areas: laws::wide(plan[1]),
-        corners: laws::wide(plan[2]),
-        low: low,
-        side: side,
-    }
-}
-
 // 12 over the areas and corners in use, and then the cell. The head has passed.
 fn split_counted(
     plan: &[u32],
@@ -291,7 +249,7 @@ fn split_counted(
     ensures { λ r. ⌜ now (entries .exit) ≡ entriesAfter (treeLent plan areas xs ys head cells entries) i r ⌝ }
 {
     let w = celltable::read_cell(cells, i);
-    let b = bounds_in(plan, w.y, w.side);
+    let b = tables::bounds_in(plan, w.y, w.side);
     let n = entries.len();
     if stream::used_range(n, free as usize, areas.len(), xs.len(), ys.len(), b) {
         return split_cell(head, cells, entries, areas, xs, ys, b, i, used, free, w);
@@ -348,7 +306,7 @@ pub fn split(
     ensures entries { λ r. ⌜ now (entries .exit) ≡ entriesAfter (treeLent plan areas xs ys head cells entries) i r ⌝ }
 {
     if xs.len() == ys.len() {
-        let used = cells_used(head);
+        let used = tables::cells_used(head);
         if i < used {
             return split_headed(plan, areas, xs, ys, head, cells, entries, i as usize, used);
         }

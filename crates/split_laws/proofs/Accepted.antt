@@ -15,9 +15,9 @@ use Rattle.celltable.specs.Ranges.{squareRange, cellRange, headRange, cellsHeld
 use Rattle.celltable.proofs.Ranges.{passes-range, passes-entries, square-fits}
 use Rattle.split.specs.declared.Answer.{Answer}
 use Rattle.split.specs.declared.Answer.the-variants.{Split, Not}
-use Rattle.split.specs.Tables.{Tree, cellsUsed, entriesUsed, boundsOf}
+use Rattle.tables.specs.Tables.{Tree, cellsUsed, entriesUsed, boundsOf}
 use Rattle.split.specs.Split.{words, against, made, roomAnswer, cellSplit, drawingSplit, countsSplit, splitAnswer}
-use Rattle.split.proofs.Rooms.{cells-room, entries-room}
+use Rattle.tables.proofs.Rooms.{cells-room, entries-room}
 use Rattle.split_laws.specs.code.Accepted.{Splittable, Accepted}
 use Rattle.split_laws.proofs.Counts.{counts-head, counts-plan, counts-used, counts-of}
 

@@ -12,9 +12,9 @@ use Rattle.stream.specs.declared.Bounds.{Bounds}
 use Rattle.stream.specs.Grammar.{bounds, usedRange}
 use Rattle.celltable.specs.Ranges.{headRange}
 use Rattle.celltable.proofs.Ranges.{head-long, head-cells, head-entries}
-use Rattle.split.specs.Tables.{Tree, cellsUsed, entriesUsed, boundsOf, countsIn}
+use Rattle.tables.specs.Tables.{Tree, cellsUsed, entriesUsed, boundsOf, countsIn}
 use Rattle.split.specs.Split.{words}
-use Rattle.split.proofs.Heads.{used-is}
+use Rattle.tables.proofs.Heads.{used-is}
 
 module _ (t : Tree) where
   abbrev inHead : Bool

@@ -15,9 +15,9 @@ use Rattle.celltable.specs.Descent.{quarterAt}
 use Rattle.celltable.proofs.Table.{length-put-child, put-child-same, put-child-other}
 use Rattle.four_children.specs.Children.{wordsWith, wordsOfChild, entriesOfChild, streamsTo, cellsTo}
 use Rattle.split.specs.declared.Answer.the-variants.{Split}
-use Rattle.split.specs.Tables.{Tree, cellsUsed, entriesUsed}
+use Rattle.tables.specs.Tables.{Tree, cellsUsed, entriesUsed}
 use Rattle.split.specs.Split.{words, drawing, stream, made, splitAnswer, headAfter, cellsAfter, entriesAfter}
-use Rattle.split.proofs.Heads.{used-is}
+use Rattle.tables.proofs.Heads.{used-is}
 use Rattle.split_laws.specs.code.Accepted.{Accepted}
 use Rattle.split_laws.proofs.Counts.{counts-long}
 use Rattle.split_laws.proofs.Accepted.{split-accepted}

@@ -15,7 +15,7 @@ use Rattle.celltable.specs.Table.{withChild}
 use Rattle.celltable.specs.Ranges.{squareRange, rootRange, childRange, entryRange, numbersRange, cellRange}
 use Rattle.celltable.proofs.Ranges.{range-more}
 use Rattle.split.specs.declared.Answer.the-variants.{Split}
-use Rattle.split.specs.Tables.{Tree, cellsUsed, entriesUsed}
+use Rattle.tables.specs.Tables.{Tree, cellsUsed, entriesUsed}
 use Rattle.split.specs.Split.{words, splitAnswer}
 use Rattle.split_laws.specs.After.{splitTree}
 use Rattle.split_laws.specs.code.Accepted.{Accepted}

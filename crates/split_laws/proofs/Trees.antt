@@ -15,9 +15,9 @@ use Rattle.celltable.specs.Ranges.{headRange, cellOf}
 use Rattle.celltable.specs.Descent.{quarterAt}
 use Rattle.four_children.specs.Children.{wordsWith, wordsOfChild, entriesOfChild, streamsTo}
 use Rattle.split.specs.declared.Answer.the-variants.{Split, Not}
-use Rattle.split.specs.Tables.{Tree, tree, cellsUsed, entriesUsed, boundsOf, countsIn}
+use Rattle.tables.specs.Tables.{Tree, tree, cellsUsed, entriesUsed, boundsOf, countsIn}
 use Rattle.split.specs.Split.{words, drawing, stream, made, splitAnswer, headAfter, cellsAfter, entriesAfter}
-use Rattle.split.proofs.Heads.{used-is}
+use Rattle.tables.proofs.Heads.{used-is}
 use Rattle.split_laws.specs.After.{splitTree}
 use Rattle.split_laws.specs.code.Accepted.{Accepted}
 use Rattle.split_laws.proofs.Counts.{counts-plan, counts-used, counts-long, counts-of, used-more, head-fits}

@@ -3,7 +3,7 @@ use mathlib.Core.Path.{_≡_}
 use Prim.Native.Nat.{ℕ, _+_, _≤_, _<_}
 use Rattle.celltable.specs.declared.CellWords.{CellWords}
 use Rattle.stream.specs.Table.{wordsFrom}
-use Rattle.split.specs.Tables.{Tree, cellsUsed, entriesUsed}
+use Rattle.tables.specs.Tables.{Tree, cellsUsed, entriesUsed}
 use Rattle.split.specs.Split.{words, stream}
 use Rattle.split_laws.specs.After.{splitTree}
 

@@ -155,7 +155,8 @@ accepts v ws = isWhole (course v begin ws)
 -- The lengths of the tables of entries, areas, xs and ys, and `used` entries in use
 unfoldable pub usedRange : ℕ → ℕ → ℕ → ℕ → ℕ → Bounds → Bool
 usedRange entries used areas xs ys b =
-    (leb used (entries / 4) && leb used 65536) && ((leb (b .areas) (areas / 8) && leb (b .areas) 64) && (leb (b .corners) xs && (leb (b .corners) ys && leb (b .corners) 2048)))
+    (leb used (entries / 4) && leb used 65536)
+    && ((leb (b .areas) (areas / 8) && leb (b .areas) 64) && (leb (b .corners) xs && (leb (b .corners) ys && leb (b .corners) 2048)))
 
 -- the tables have the words that these numbers speak of
 pub record Ready (a x y : List ℕ) (b : Bounds) : Type 0 where
@@ -170,7 +171,8 @@ runRange first count used = cond (leb count used) (cond (leb first (used - count
 -- whether the `count` entries from `first` on, with `used` entries in use, are a stream that passes 12
 abbrev pub checkStream : List ℕ → ℕ → ℕ → ℕ → Env → Bool
 checkStream t first count used v =
-    cond (usedRange (length t) used (length (v .areas)) (length (v .xs)) (length (v .ys)) (v .used)) (cond (runRange first count used) (accepts v (wordsFrom t first count)) false) false
+    cond (usedRange (length t) used (length (v .areas)) (length (v .xs)) (length (v .ys)) (v .used))
+    (cond (runRange first count used) (accepts v (wordsFrom t first count)) false) false
 
 -- what a reader of the stream may rely on
 pub record Passed (t : List ℕ) (first count : ℕ) (v : Env) : Type 0 where

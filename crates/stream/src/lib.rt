@@ -7,7 +7,8 @@ ghost use Prim.Native.Nat.{_+_, _*_, _-_, _≤_, _<_};
 ghost use lib.ListN.{length};
 ghost use Rattle.stream.specs.Table.{wordsAt, wordsFrom, putAt};
 ghost use Rattle.stream.specs.Grammar.{env, cornerMet, lineRange, shortcutRange, recordFits, roleFits, usedRange, Ready, checkStream};
-ghost use Rattle.stream.specs.code.Machine.{offN, startN, inGroups, afterOpenN, afterBarN, afterCloseN, afterPassesN, withAreaN, areaFitsN, withLineN, stepN, scanN, isSegment, segmentFits, segmentsIn, runFits, afterRunN, Onward};
+ghost use Rattle.stream.specs.code.Machine.{offN, startN, inGroups, afterOpenN, afterBarN, afterCloseN, afterPassesN, withAreaN, areaFitsN};
+ghost use Rattle.stream.specs.code.Machine.{withLineN, stepN, scanN, isSegment, segmentFits, segmentsIn, runFits, afterRunN, Onward};
 
 // The four words of an entry.
 pub struct Words {

@@ -9,8 +9,8 @@ use lib.ListN.{length, getD}
 use lib.Seq.{sets}
 use borrow.Author.Tests.{eq-eqb, le-leb, le-ltb, lt-ltb}
 use Rattle.refusals.specs.declared.Refusal.the-variants as Refusals
-use Rattle.split.specs.Tables.{Tree}
-use Rattle.split.proofs.Choices.{pick-true, pick-false}
+use Rattle.tables.specs.Tables.{Tree}
+use Rattle.laws.proofs.Choices.{pick-true, pick-false}
 use Rattle.find_leaf.specs.Leaf.{positionRange}
 use Rattle.position.specs.Spots.{known}
 use Rattle.zone_log.specs.declared.LogAnswer.{LogAnswer}

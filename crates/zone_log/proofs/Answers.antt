@@ -9,8 +9,8 @@ use lib.ListN.{length}
 use borrow.Author.Tests.{leb-true}
 use Rattle.refusals.specs.declared.Refusal.the-variants as Refusals
 use Rattle.evaluate.proofs.Laws.{both}
-use Rattle.split.specs.Tables.{Tree}
-use Rattle.split.proofs.Choices.{pick-true, pick-false}
+use Rattle.tables.specs.Tables.{Tree}
+use Rattle.laws.proofs.Choices.{pick-true, pick-false}
 use Rattle.zone_log.specs.declared.Count.{Count}
 use Rattle.zone_log.specs.declared.Count.the-variants.{Known, Broken}
 use Rattle.zone_log.specs.declared.LogAnswer.the-variants.{Indices, Not}

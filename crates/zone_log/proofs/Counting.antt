@@ -13,8 +13,8 @@ use borrow.Author.Tests.{ltb-true}
 use Rattle.laws.proofs.Booleans.{clash, and-true}
 use Rattle.paint.specs.Areas.{paintAt, materialOf}
 use Rattle.celltable.specs.declared.Found.{Found}
-use Rattle.split.specs.Tables.{Tree}
-use Rattle.split.proofs.Choices.{pick-true, pick-false}
+use Rattle.tables.specs.Tables.{Tree}
+use Rattle.laws.proofs.Choices.{pick-true, pick-false}
 use Rattle.position.specs.Spots.{known}
 use Rattle.position.specs.code.Numbers.{LastIn}
 use Rattle.position.proofs.Known.{Known}

@@ -6,7 +6,7 @@ use lib.Dec.{eqb, ltb, leb}
 use lib.ListN.{length, getD}
 use lib.Seq.{sets}
 use Rattle.refusals.specs.declared.Refusal.the-variants.{Argument, Room, Broken}
-use Rattle.split.specs.Tables.{Tree}
+use Rattle.tables.specs.Tables.{Tree}
 use Rattle.find_leaf.specs.Leaf.{positionRange}
 use Rattle.position.specs.Spots.{known, materialIn}
 use Rattle.zone_log.specs.declared.LogAnswer.{LogAnswer}

@@ -8,7 +8,7 @@ ghost use mathlib.Core.Bool.{true, cond};
 ghost use Prim.Native.Nat.{_+_, _≤_, _<_};
 ghost use lib.ListN.{length, set};
 ghost use lib.Seq.{sets};
-ghost use Rattle.split.specs.Tables.{tree, treeLent};
+ghost use Rattle.tables.specs.Tables.{tree, treeLent};
 ghost use Rattle.find_leaf.specs.Leaf.{positionRange};
 ghost use Rattle.zone_log.specs.Logs.{outsideFrom, eachWord, knownFrom, zoneLog, logKnown, logRange, logAnswer, outAfter};
 ghost use Rattle.zone_log.specs.code.Numbers.{RunIn, loggedN, talliedN, countIn};

@@ -15,9 +15,9 @@ use Rattle.grammar.proofs.Laws.{place-below}
 use Rattle.read.specs.Reading.{decodedIn, verdictOf, holds, ifRoom, readAnswer}
 use Rattle.read.proofs.Files.{filed, length-from}
 use Rattle.drawing.specs.declared.Written.the-variants.{Bytes, Not}
-use Rattle.drawing.specs.Tables.{Tables, drawingOf, writtenOf, writeAnswer}
+use Rattle.drawing.specs.Tables.{Tables, drawingVerdict, writtenOf, writeAnswer}
 use Rattle.drawing.proofs.Rows.{drawn}
-use Rattle.split.specs.Tables.{Tree}
+use Rattle.tables.specs.Tables.{Tree}
 use Rattle.split_laws.specs.After.{splitTree}
 use Rattle.grow.specs.Grow.{
   Round,
@@ -74,13 +74,13 @@ read-low b p a x y = go (eqb (length x) (length y))
 
 pub write-low : (t : Tables) (out : List ℕ) → writeLow (writeAnswer t out) ≤ 65536
 unfolding writeAnswer
-write-low t out = go (drawingOf t) refl
+write-low t out = go (drawingVerdict t) refl
   where
     room : (b : Bool) (n : ℕ) → n ≤ 4096 → writeLow (cond b (Bytes (n * 16)) (Not Room)) ≤ 65536
     room true n h = omega arith
     room false n h = omega arith
 
-    go : (v : Verdict) → drawingOf t ≡ v → writeLow (writtenOf v (length out)) ≤ 65536
+    go : (v : Verdict) → drawingVerdict t ≡ v → writeLow (writtenOf v (length out)) ≤ 65536
     go (Accepted k) e = room (leb (k .records) (length out / 16)) (k .records) (drawn t k e .below)
     go (Refused r i) e = omega arith
 

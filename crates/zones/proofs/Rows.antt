@@ -8,7 +8,7 @@ use lib.ListN.{length}
 use lib.Dec.{eqb, leb}
 use borrow.Author.Tests.{leb-true}
 use Rattle.refusals.specs.declared.Refusal.the-variants.{Argument, Broken}
-use Rattle.split.specs.Tables.{Tree}
+use Rattle.tables.specs.Tables.{Tree}
 use Rattle.pixel_row.specs.declared.RowAnswer.the-variants.{Not}
 use Rattle.pixel_row.specs.Rows.{filled, Filled, putPixel, pixelKnown, pixelIn, fillFrom, rowFilled}
 use Rattle.answers.specs.Readings.{rowPlace}

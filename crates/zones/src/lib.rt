@@ -13,7 +13,7 @@ ghost use lib.ListN.{length};
 ghost use Rattle.read.specs.Words.{planWords, areaWords, xWords, yWords};
 ghost use Rattle.read.specs.Reading.{recordsLent, readLent, leftBy};
 ghost use Rattle.drawing.specs.Tables.{drawingLent, writeAnswer, outWritten};
-ghost use Rattle.split.specs.Tables.{treeLent};
+ghost use Rattle.tables.specs.Tables.{treeLent};
 ghost use Rattle.split.specs.Split.{splitAnswer, splitTables};
 ghost use Rattle.open.specs.Open.{openAnswer, openTree};
 ghost use Rattle.find_leaf.specs.Leaf.{findAnswer};

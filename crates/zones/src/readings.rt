@@ -1,7 +1,7 @@
 // The calls that answer from a tree, exported for C.
 ghost use mathlib.Core.Path.{_≡_};
 ghost use lib.ListN.{length};
-ghost use Rattle.split.specs.Tables.{treeLent};
+ghost use Rattle.tables.specs.Tables.{treeLent};
 ghost use Rattle.position.specs.Spots.{positionAnswer};
 ghost use Rattle.zone_log.specs.Logs.{logAnswer, outLogged};
 ghost use Rattle.pixel_row.specs.Rows.{rowFilled};

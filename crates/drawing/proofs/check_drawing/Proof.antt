@@ -1,6 +1,6 @@
 use borrow.Author.Needs.{needs}
 use borrow.Author.Tests.{eq-eqb, ne-eqb, le-leb, lt-leb}
-use Rattle.drawing.specs.Tables.{drawingOf}
+use Rattle.drawing.specs.Tables.{drawingVerdict}
 use Rattle.drawing.proofs.check_drawing.Statement.{statement}
 use Rattle.drawing.proofs.check_drawing.Tie as tie
 
@@ -26,7 +26,7 @@ check-counts-requires : tie.Need-check-counts-requires
 check-counts-requires c κs = search needs
 
 returns : tie.Need-returns
-unfolding drawingOf
+unfolding drawingVerdict
 returns c =
     let after-wide3 = c .before in
     let after-wide2 = after-wide3 .before .before in
@@ -43,11 +43,11 @@ returns c =
     )
 
 returns-2 : tie.Need-returns-2
-unfolding drawingOf
+unfolding drawingVerdict
 returns-2 c = rw (eq-eqb _ _ (c .before .if1 .taken), lt-leb _ _ (c .if2 .left))
 
 returns-3 : tie.Need-returns-3
-unfolding drawingOf
+unfolding drawingVerdict
 returns-3 c = rw (ne-eqb _ _ (c .if1 .left))
 
 pub check-drawing-spec : {M : Type 1} → statement M

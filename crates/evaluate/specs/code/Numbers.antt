@@ -70,11 +70,14 @@ module _ (areas xs ys : List ℕ) (x y : ℕ) where
   -- the set in the end, from a state of the rows on
   abbrev pub setFrom : State → List Words → ℕ
   setFrom st ws =
-      outOf (settle (roleAt areas) (passAt areas) (opaqueAt areas) (addsAt xs ys (at x y)) (onRows (roleAt areas) (passAt areas) (opaqueAt areas) (addsAt xs ys (at x y)) (rowsIn ws) st))
+      outOf
+      (settle (roleAt areas) (passAt areas) (opaqueAt areas) (addsAt xs ys (at x y))
+      (onRows (roleAt areas) (passAt areas) (opaqueAt areas) (addsAt xs ys (at x y)) (rowsIn ws) st))
 
   -- from entry i the machine m has come to another entry: what is left gives the same set
   pub record Onward (t : List ℕ) (i end : ℕ) (m : Machine) (r : Reading) : Type 0 where
     pub later : i < r .next
     pub inside : r .next ≤ end
     pub deeper : r .machine .depth ≤ m .depth + 1
-    pub same : setFrom (state (meant (r .machine)) settled) (wordsFrom t (r .next) (end - r .next)) ≡ setFrom (state (meant m) settled) (wordsFrom t i (end - i))
+    pub same : setFrom (state (meant (r .machine)) settled) (wordsFrom t (r .next) (end - r .next))
+        ≡ setFrom (state (meant m) settled) (wordsFrom t i (end - i))

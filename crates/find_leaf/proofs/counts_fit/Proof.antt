@@ -5,7 +5,7 @@ use mathlib.Core.Path.{sym, _∙_}
 use denote.Ref.{now}
 use lib.ListN.{length}
 use Rattle.celltable.proofs.Ranges.{head-long}
-use Rattle.split.specs.Tables.{tree}
+use Rattle.tables.specs.Tables.{tree}
 use Rattle.find_leaf.proofs.Counts.{counts-yes, counts-short, counts-no}
 
 head-fits-requires : tie.Need-head-fits-requires

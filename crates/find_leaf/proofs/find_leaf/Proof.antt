@@ -2,7 +2,7 @@ use borrow.Author.Needs.{needs}
 use Rattle.find_leaf.proofs.find_leaf.Statement.{statement}
 use Rattle.find_leaf.proofs.find_leaf.Tie as tie
 use denote.Ref.{now}
-use Rattle.split.specs.Tables.{tree}
+use Rattle.tables.specs.Tables.{tree}
 use Rattle.find_leaf.proofs.Answers.{find-within, find-outside, find-uneven}
 
 find-within-requires : tie.Need-find-within-requires

@@ -2,7 +2,7 @@ use borrow.Author.Needs.{needs}
 use Rattle.find_leaf.proofs.find_within.Statement.{statement}
 use Rattle.find_leaf.proofs.find_within.Tie as tie
 use denote.Ref.{now}
-use Rattle.split.specs.Tables.{tree}
+use Rattle.tables.specs.Tables.{tree}
 use Rattle.find_leaf.proofs.Answers.{found-passed, found-yes, found-no}
 
 leaf-at-requires : tie.Need-leaf-at-requires

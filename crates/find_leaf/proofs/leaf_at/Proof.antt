@@ -4,7 +4,7 @@ use Rattle.find_leaf.proofs.leaf_at.Tie as tie
 use mathlib.Core.Bool.{true, false}
 use native.Mathlib.Omega.{arith}
 use denote.Ref.{now}
-use Rattle.split.specs.Tables.{tree, countsIn}
+use Rattle.tables.specs.Tables.{tree, countsIn}
 use Rattle.find_leaf.proofs.Counts.{counts-fit, counts-cells, told}
 use Rattle.find_leaf.proofs.Landing.{leaf-uncounted, read-astray, read-unfit, read-met}
 

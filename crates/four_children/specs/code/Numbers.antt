@@ -47,7 +47,8 @@ firstBy ts free (suc n) = firstBy ts free n + getD ts n noTally .entries
 -- the first n children of cell c, from cell `used` on, by the tallies
 unfoldable pub cellsBy : Cell → List Tally → (t : List ℕ) (used free n : ℕ) → List ℕ
 cellsBy c ts t used free zero = t
-cellsBy c ts t used free (suc n) = putCellAt (cellsBy c ts t used free n) (used + n) (wordsWith (child c (quarterAt n)) (firstBy ts free n) (getD ts n noTally .entries))
+cellsBy c ts t used free (suc n) =
+    putCellAt (cellsBy c ts t used free n) (used + n) (wordsWith (child c (quarterAt n)) (firstBy ts free n) (getD ts n noTally .entries))
 
 -- each has at most 4,096 entries
 pub record FewEach (ts : List Tally) : Type 0 where

@@ -3,7 +3,7 @@ use Rattle.grow.proofs.grow.Statement.{statement}
 use Rattle.grow.proofs.grow.Tie as tie
 use mathlib.Core.Path.{sym, ap, _∙_}
 use denote.Ref.{now}
-use Rattle.split.specs.Tables.{Tree, tree}
+use Rattle.tables.specs.Tables.{Tree, tree}
 use Rattle.grow.proofs.Calls.{call-uneven, tree-uneven, call-deep, tree-deep, call-grown, tree-grown, answer-uncounted, tree-uncounted}
 
 counts-fit-requires : tie.Need-counts-fit-requires

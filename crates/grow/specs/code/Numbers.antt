@@ -3,7 +3,7 @@ use mathlib.Core.List.{List}
 use Prim.Native.Nat.{ℕ, _+_}
 use Rattle.split.specs.declared.Answer as Splitting
 use Rattle.split.specs.declared.Answer.the-variants as split
-use Rattle.split.specs.Tables.{Tree, entriesUsed}
+use Rattle.tables.specs.Tables.{Tree, entriesUsed}
 use Rattle.split.specs.Split.{splitAnswer}
 use Rattle.split_laws.specs.After.{splitTree}
 use Rattle.grow.specs.declared.Tried.{Tried}

@@ -1,6 +1,6 @@
 use native.Mathlib.Omega.{arith}
 use denote.Ref.{now}
-use Rattle.split.specs.Tables.{tree}
+use Rattle.tables.specs.Tables.{tree}
 use Rattle.lister.proofs.Outcomes.{handed-opened, opened-outcome, opened-rows, refused-outcome, refused-rows}
 use borrow.Author.Needs.{needs}
 use Rattle.lister.proofs.list_drawing.Statement.{statement}

@@ -1,5 +1,5 @@
 use denote.Ref.{now}
-use Rattle.split.specs.Tables.{tree}
+use Rattle.tables.specs.Tables.{tree}
 use Rattle.lister.proofs.Outcomes.{handed-grown, grown-outcome, grown-rows}
 use borrow.Author.Needs.{needs}
 use Rattle.lister.proofs.list_grown.Statement.{statement}

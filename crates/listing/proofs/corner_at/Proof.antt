@@ -1,6 +1,6 @@
 use mathlib.Core.Path.{_∙_}
 use denote.Ref.{now}
-use Rattle.split.specs.Tables.{tree}
+use Rattle.tables.specs.Tables.{tree}
 use Rattle.listing.proofs.Order.{corner-is}
 use borrow.Author.Needs.{needs}
 use Rattle.listing.proofs.corner_at.Statement.{statement}

@@ -1,6 +1,6 @@
 use Prim.Native.Nat.{_-_}
 use native.Mathlib.Omega.{arith}
-use Rattle.split.specs.Tables.{tree}
+use Rattle.tables.specs.Tables.{tree}
 use Rattle.listing.proofs.Listing.{Listing, list-begin, list-turn, list-count, list-done}
 use borrow.Author.Needs.{needs}
 use Rattle.listing.proofs.list_leaves.Statement.{statement}

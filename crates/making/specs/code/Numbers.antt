@@ -44,7 +44,9 @@ abbrev pub leftSign : (xs ys : List ℕ) → Words → ℤ
 leftSign xs ys w = cond (eqb (w .kind) 5) (sign (edgeBetween xs ys (w .p) (w .q))) (cond (eqb (w .kind) 6) (toZ w32 (w .p)) (pos 0))
 
 abbrev pub leftClass : (xs ys : List ℕ) → Square → Words → Class
-leftClass xs ys s w = cond (eqb (w .kind) 5) (edgeClass (edgeBetween xs ys (w .p) (w .q)) s) (cond (eqb (w .kind) 6) (cut (w .q) (w .r) (s .y) (s .side)) Dropped)
+leftClass xs ys s w =
+    cond (eqb (w .kind) 5) (edgeClass (edgeBetween xs ys (w .p) (w .q)) s)
+    (cond (eqb (w .kind) 6) (cut (w .q) (w .r) (s .y) (s .side)) Dropped)
 
 -- its numbers are in range
 abbrev pub leftRange : (xs ys : List ℕ) (corners : ℕ) → Words → Bool

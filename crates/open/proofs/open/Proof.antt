@@ -3,7 +3,7 @@ use Rattle.open.proofs.open.Statement.{statement}
 use Rattle.open.proofs.open.Tie as tie
 use mathlib.Core.Path.{sym, _∙_, refl}
 use denote.Ref.{now}
-use Rattle.split.specs.Tables.{tree}
+use Rattle.tables.specs.Tables.{tree}
 use Rattle.open.proofs.Answers.{unequal, broken, passed}
 
 check-drawing-requires : tie.Need-check-drawing-requires

@@ -6,7 +6,7 @@ use denote.Ref.{now}
 use lib.ListN.{length}
 use Rattle.drawing.specs.Tables.{tables}
 use Rattle.root_stream.proofs.Opened.{accepted-opened}
-use Rattle.split.specs.Tables.{tree}
+use Rattle.tables.specs.Tables.{tree}
 use Rattle.open.proofs.Rooms.{room-says, count-rows, count-words, has-room, no-room}
 
 count-open-requires : tie.Need-count-open-requires

@@ -1,6 +1,6 @@
 use Rattle.pixel_row.proofs.Filling.{Filling, pixel-told, pixel-broken, filling-begin, filling-turn, filling-done, filling-broken}
 use Rattle.pixel_row.specs.Rows.{Filled}
-use Rattle.split.specs.Tables.{tree}
+use Rattle.tables.specs.Tables.{tree}
 use Rattle.celltable.specs.declared.Found.the-variants.{Broken}
 use lib.ListN.{length}
 use denote.Ref.{now}

@@ -1,6 +1,6 @@
 use Rattle.pixel_row.proofs.Sampling.{Sampling, fewer-in, known-at, unknown-at, sampling-begin, sampling-turn, sampling-done, sampling-broken}
 use Rattle.position.proofs.Known.{known-set, unknown-set, in-painted}
-use Rattle.split.specs.Tables.{tree}
+use Rattle.tables.specs.Tables.{tree}
 use Rattle.paint.specs.Pixels.{sampleX, sampleY}
 use denote.Ref.{now}
 use native.Mathlib.Omega.{arith}

@@ -4,8 +4,8 @@ use lib.Dec.{eqb, leb}
 use Prim.Native.Nat.{_%_}
 use mathlib.Core.Bool.{cond}
 use Rattle.pixel_row.specs.declared.RowAnswer.the-variants.{Not}
-use Rattle.split.proofs.Choices.{pick-true, pick-false}
-use Rattle.split.specs.Tables.{tree}
+use Rattle.laws.proofs.Choices.{pick-true, pick-false}
+use Rattle.tables.specs.Tables.{tree}
 use Rattle.refusals.specs.declared.Refusal.the-variants.{Argument}
 use lib.ListN.{length}
 use denote.Ref.{now}

@@ -3,8 +3,8 @@ use borrow.Author.Tests.{le-leb, lt-leb}
 use lib.Dec.{leb}
 use Prim.Native.Nat.{_+_, _/_}
 use Rattle.pixel_row.specs.declared.RowAnswer.the-variants.{Not}
-use Rattle.split.proofs.Choices.{pick-true, pick-false}
-use Rattle.split.specs.Tables.{tree}
+use Rattle.laws.proofs.Choices.{pick-true, pick-false}
+use Rattle.tables.specs.Tables.{tree}
 use Rattle.refusals.specs.declared.Refusal.the-variants.{Argument}
 use lib.ListN.{length}
 use denote.Ref.{now}

@@ -4,7 +4,7 @@ use Prim.Native.Nat.{ℕ}
 use Rattle.paint.specs.declared.colour.Channels.{Channels}
 use Rattle.paint.specs.Colours.{ColourIn}
 use Rattle.paint.specs.Pixels.{sampleX, sampleY, samples}
-use Rattle.split.specs.Tables.{Tree}
+use Rattle.tables.specs.Tables.{Tree}
 use Rattle.find_leaf.specs.Leaf.{leafIn}
 use Rattle.position.specs.Spots.{colourIn}
 use Rattle.pixel_row.specs.declared.Pixel.{Pixel}

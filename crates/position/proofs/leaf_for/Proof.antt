@@ -2,7 +2,7 @@ use Rattle.position.proofs.Known.{leaf-again}
 use Rattle.position.specs.code.Numbers.{LastIn}
 use Rattle.celltable.specs.declared.Found.{Found}
 use mathlib.Core.Path.{sym, subst, _∙_}
-use Rattle.split.specs.Tables.{tree}
+use Rattle.tables.specs.Tables.{tree}
 use denote.Ref.{now}
 use borrow.Author.Needs.{needs}
 use Rattle.position.proofs.leaf_for.Statement.{statement}

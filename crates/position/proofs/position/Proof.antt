@@ -1,6 +1,6 @@
 use Rattle.position.specs.Spots.{spotIn}
 use Rattle.position.specs.declared.Answer.the-variants.{Not}
-use Rattle.split.proofs.Choices.{pick-true, pick-false}
+use Rattle.laws.proofs.Choices.{pick-true, pick-false}
 use Rattle.evaluate.proofs.Laws.{both}
 use Rattle.refusals.specs.declared.Refusal.the-variants.{Argument}
 use borrow.Author.Tests.{ltb-true, eq-eqb, ne-eqb}
@@ -8,7 +8,7 @@ use lib.ListN.{length}
 use lib.Dec.{eqb, ltb}
 use mathlib.Core.Bool.{cond, _&&_}
 use mathlib.Core.Path.{_∙_}
-use Rattle.split.specs.Tables.{tree}
+use Rattle.tables.specs.Tables.{tree}
 use denote.Ref.{now}
 use Rattle.position.proofs.position.Statement.{statement}
 use Rattle.position.proofs.position.Tie as tie

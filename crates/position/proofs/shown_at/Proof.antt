@@ -1,6 +1,6 @@
 use Rattle.position.proofs.Known.{leaf-plan, leaf-stream, shown-known, shown-broken}
 use mathlib.Core.Path.{sym, _∙_}
-use Rattle.split.specs.Tables.{tree}
+use Rattle.tables.specs.Tables.{tree}
 use denote.Ref.{now}
 use borrow.Author.Needs.{needs}
 use Rattle.position.proofs.shown_at.Statement.{statement}

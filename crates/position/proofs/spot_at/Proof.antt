@@ -1,6 +1,6 @@
 use Rattle.position.proofs.Known.{leaf-plan, leaf-stream, spot-known, spot-broken}
 use mathlib.Core.Path.{sym, _∙_}
-use Rattle.split.specs.Tables.{tree}
+use Rattle.tables.specs.Tables.{tree}
 use denote.Ref.{now}
 use borrow.Author.Needs.{needs}
 use Rattle.position.proofs.spot_at.Statement.{statement}

@@ -6,7 +6,7 @@ use lib.Dec.{ltb, leb}
 use Rattle.celltable.specs.declared.Leaf.{Leaf}
 use Rattle.celltable.specs.declared.Found.{Found}
 use Rattle.celltable.specs.declared.Found.the-variants.{At, Broken}
-use Rattle.split.specs.Tables.{Tree}
+use Rattle.tables.specs.Tables.{Tree}
 use Rattle.find_leaf.specs.Leaf.{leafIn}
 use Rattle.position.specs.declared.Shown.{Shown}
 use Rattle.position.specs.declared.Shown.the-variants.{Set}

@@ -10,9 +10,9 @@ use lib.ListN.{length}
 use borrow.Author.Tests.{eq-eqb, ne-eqb, lt-ltb, le-ltb}
 use Rattle.refusals.specs.declared.Refusal.the-variants.{NoCell, Argument}
 use Rattle.split.specs.declared.Answer.the-variants.{Not}
-use Rattle.split.specs.Tables.{tree, cellsUsed}
+use Rattle.tables.specs.Tables.{tree, cellsUsed}
 use Rattle.split.specs.Split.{countsSplit}
-use Rattle.split.proofs.Choices.{pick-true, pick-false}
+use Rattle.laws.proofs.Choices.{pick-true, pick-false}
 
 cells-used-requires : tie.Need-cells-used-requires
 cells-used-requires c κs = search needs

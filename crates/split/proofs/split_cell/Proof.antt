@@ -12,7 +12,7 @@ use Rattle.celltable.specs.Ranges.{cellRange}
 use Rattle.celltable.proofs.Ranges.{passes-range, passes-entries}
 use Rattle.split.specs.declared.Answer.the-variants.{Not}
 use Rattle.split.specs.Split.{leafAnswer}
-use Rattle.split.proofs.Choices.{pick-true, pick-false}
+use Rattle.laws.proofs.Choices.{pick-true, pick-false}
 
 cell-fits-requires : tie.Need-cell-fits-requires
 cell-fits-requires c κs = search needs

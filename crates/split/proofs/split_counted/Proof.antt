@@ -3,7 +3,7 @@ use Rattle.split.proofs.split_counted.Statement.{statement}
 use Rattle.split.proofs.split_counted.Tie as tie
 use mathlib.Core.Path.{_≡_, sym, _∙_, refl}
 use denote.Ref.{now}
-use Rattle.split.specs.Tables.{tree, boundsOf}
+use Rattle.tables.specs.Tables.{tree, boundsOf}
 use Rattle.split.proofs.Counted.{counted-no, counted-yes, counted-head, counted-cells, counted-entries}
 
 read-cell-requires : tie.Need-read-cell-requires

@@ -11,10 +11,10 @@ use borrow.Author.Tests.{le-leb, lt-leb}
 use Rattle.refusals.specs.declared.Refusal.the-variants.{Broken}
 use Rattle.celltable.specs.Ranges.{headRange}
 use Rattle.split.specs.declared.Answer.the-variants.{Not}
-use Rattle.split.specs.Tables.{tree}
+use Rattle.tables.specs.Tables.{tree}
 use Rattle.split.specs.Split.{drawingSplit}
-use Rattle.split.proofs.Choices.{pick-true, pick-false}
-use Rattle.split.proofs.Heads.{head-passes}
+use Rattle.laws.proofs.Choices.{pick-true, pick-false}
+use Rattle.tables.proofs.Heads.{head-passes}
 
 head-fits-requires : tie.Need-head-fits-requires
 head-fits-requires c κs = search needs

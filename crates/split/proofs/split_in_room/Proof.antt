@@ -13,7 +13,8 @@ use Rattle.celltable.specs.Table.{putChildAt}
 use Rattle.celltable.specs.Ranges.{cellOf}
 use Rattle.four_children.proofs.Placed.{cells-by-four}
 use Rattle.split.specs.Split.{madeBy}
-use Rattle.split.proofs.Rooms.{few-each, sum-is, cells-room, entries-room, has-room, no-entries, no-cells}
+use Rattle.tables.proofs.Rooms.{cells-room, entries-room}
+use Rattle.split.proofs.Rooms.{few-each, sum-is, has-room, no-entries, no-cells}
 
 cast-first : tie.Need-cast-first
 cast-first c = search needs

@@ -14,7 +14,7 @@ use Rattle.stream.proofs.Passed.{passed}
 use Rattle.celltable.proofs.Ranges.{square-fits}
 use Rattle.split.specs.declared.Answer.the-variants.{Not}
 use Rattle.split.specs.Split.{madeBy, roomAnswer}
-use Rattle.split.proofs.Choices.{pick-true, pick-false}
+use Rattle.laws.proofs.Choices.{pick-true, pick-false}
 
 cast-first : tie.Need-cast-first
 cast-first c = search needs

@@ -5,7 +5,7 @@ use Prim.Native.Nat.{ℕ, _+_, _*_, _≤_, _<_}
 use lib.ListN.{length}
 use Rattle.celltable.specs.Ranges.{cellRange}
 use Rattle.stream.specs.Grammar.{checkStream}
-use Rattle.split.specs.Tables.{Tree, cellsUsed, entriesUsed, countsIn}
+use Rattle.tables.specs.Tables.{Tree, cellsUsed, entriesUsed, countsIn}
 use Rattle.split.specs.Split.{words, against, made}
 
 -- a leaf of a side over 1, in tables whose numbers in use, whose cell i and whose stream pass: of all refusals only 11 is left

@@ -48,7 +48,8 @@ barePut limit t p = putBelow limit t (placeOf (p .base)) (words 7 0 0 0)
 
 abbrev pub classPut : (limit : ℕ) → (areas t : List ℕ) → Maker → ℕ → List ℕ
 classPut limit areas t m k =
-    cond (eqb k 0) t (cond (eqb k 1) (cond (eqb (getD areas (m .waiting .number * 8) 0) 0) (namedPut limit t m) (barePut limit t (m .pruner))) (namedPut limit t m))
+    cond (eqb k 0) t
+    (cond (eqb k 1) (cond (eqb (getD areas (m .waiting .number * 8) 0) 0) (namedPut limit t m) (barePut limit t (m .pruner))) (namedPut limit t m))
 
 abbrev pub settledPut : (limit : ℕ) → (areas t : List ℕ) → Maker → List ℕ
 settledPut limit areas t m = cond (m .waiting .waits) (cond (eqb (m .pruner .skip) 0) (classPut limit areas t m (classN areas (m .waiting))) t) t
@@ -62,11 +63,13 @@ markPut limit t q n kind =
 -- the same by the numbers of a count
 abbrev pub markOn : (limit : ℕ) → List ℕ → Count → (weight kind : ℕ) → List ℕ
 markOn limit t c n kind =
-    cond (eqb kind 7) (cond (eqb (skipIn c) 0) (putBelow limit t (placeOf (baseOf c)) (words 7 0 0 0)) t) (cond (ltb (lengthOf c) n) (putBelow limit t (placeOf (lengthOf c)) (words kind 0 0 0)) t)
+    cond (eqb kind 7) (cond (eqb (skipIn c) 0) (putBelow limit t (placeOf (baseOf c)) (words 7 0 0 0)) t)
+    (cond (ltb (lengthOf c) n) (putBelow limit t (placeOf (lengthOf c)) (words kind 0 0 0)) t)
 
 -- ---- entry w, of which this is left and after which what is made has this weight
 
 abbrev pub onePut : (limit : ℕ) → (areas t : List ℕ) → Maker → Class → ℤ → Words → (weight : ℕ) → List ℕ
 onePut limit areas t m f z w n =
     cond (eqb (w .kind) 5) (segmentPut limit t m f z w)
-    (cond (eqb (w .kind) 6) (segmentPut limit t m f z w) (markOn limit (settledPut limit areas t m) (settledN areas (counted (m .pruner)) (m .waiting)) n (w .kind)))
+    (cond (eqb (w .kind) 6) (segmentPut limit t m f z w)
+    (markOn limit (settledPut limit areas t m) (settledN areas (counted (m .pruner)) (m .waiting)) n (w .kind)))

@@ -1,5 +1,5 @@
 use Rattle.zone_log.proofs.Answers.{count-told, count-broken, log-room, log-written, log-full, log-broken}
-use Rattle.split.specs.Tables.{tree}
+use Rattle.tables.specs.Tables.{tree}
 use lib.ListN.{length}
 use denote.Ref.{now}
 use mathlib.Core.Path.{refl}

@@ -1,12 +1,12 @@
 use Rattle.zone_log.proofs.Runs.{run-in}
 use Rattle.zone_log.specs.Logs.{outsideFrom, logKnown}
 use Rattle.zone_log.specs.declared.LogAnswer.the-variants.{Not}
-use Rattle.split.proofs.Choices.{pick-true, pick-false}
+use Rattle.laws.proofs.Choices.{pick-true, pick-false}
 use Rattle.refusals.specs.declared.Refusal.the-variants.{Argument}
 use borrow.Author.Tests.{lt-ltb, le-ltb}
 use lib.Dec.{ltb}
 use native.Mathlib.Omega.{arith}
-use Rattle.split.specs.Tables.{tree}
+use Rattle.tables.specs.Tables.{tree}
 use lib.ListN.{length}
 use denote.Ref.{now}
 use mathlib.Core.Path.{refl, ap, _∙_}

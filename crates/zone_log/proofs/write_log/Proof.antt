@@ -1,7 +1,7 @@
 use Rattle.zone_log.proofs.Counting.{Writing, writing-begin, writing-room, writing-turn, writing-done, writing-known}
 use Rattle.celltable.specs.declared.Found.the-variants.{Broken}
 use Rattle.position.proofs.Known.{known-set, unknown-set, in-painted}
-use Rattle.split.specs.Tables.{tree}
+use Rattle.tables.specs.Tables.{tree}
 use lib.ListN.{length, getD}
 use denote.Ref.{now}
 use native.Mathlib.Omega.{arith}

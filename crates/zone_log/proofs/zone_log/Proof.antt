@@ -1,11 +1,11 @@
 use Rattle.zone_log.specs.Logs.{logRange}
 use Rattle.zone_log.specs.declared.LogAnswer.the-variants.{Not}
-use Rattle.split.proofs.Choices.{pick-true, pick-false}
+use Rattle.laws.proofs.Choices.{pick-true, pick-false}
 use Rattle.refusals.specs.declared.Refusal.the-variants.{Argument}
 use borrow.Author.Tests.{eq-eqb, ne-eqb}
 use lib.Dec.{eqb}
 use mathlib.Core.Bool.{cond}
-use Rattle.split.specs.Tables.{tree}
+use Rattle.tables.specs.Tables.{tree}
 use lib.ListN.{length}
 use denote.Ref.{now}
 use mathlib.Core.Path.{refl, _∙_}

@@ -5,7 +5,7 @@ use mathlib.Core.List.{List}
 use Prim.Native.Nat.{ℕ, _+_, _<_}
 use lib.Dec.{eqb, ltb}
 use lib.ListN.{length, getD}
-use Rattle.split.specs.Tables.{Tree}
+use Rattle.tables.specs.Tables.{Tree}
 use Rattle.zone_log.specs.declared.Tally.{Tally}
 use Rattle.zone_log.specs.declared.Count.{Count}
 use Rattle.zone_log.specs.declared.Count.the-variants.{Known, Broken}

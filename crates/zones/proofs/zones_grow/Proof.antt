@@ -1,6 +1,6 @@
 use mathlib.Core.Path.{ap, _∙_}
 use denote.Ref.{now}
-use Rattle.split.specs.Tables.{tree}
+use Rattle.tables.specs.Tables.{tree}
 use Rattle.answers.specs.Answers.{growNumber}
 use Rattle.zones.proofs.Low.{grow-low}
 use borrow.Author.Needs.{needs}

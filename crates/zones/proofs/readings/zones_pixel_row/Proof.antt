@@ -1,6 +1,6 @@
 use mathlib.Core.Path.{ap, _∙_}
 use denote.Ref.{now}
-use Rattle.split.specs.Tables.{tree}
+use Rattle.tables.specs.Tables.{tree}
 use Rattle.answers.specs.Readings.{rowNumber}
 use Rattle.zones.proofs.Rows.{row-place}
 use borrow.Author.Needs.{needs}

@@ -8,7 +8,7 @@ use lib.ListN.{length, getD}
 use borrow.Author.Tests.{le-leb}
 use Rattle.celltable.specs.Ranges.{headRange}
 use Rattle.celltable.proofs.Ranges.{head-long, head-cells, head-entries}
-use Rattle.split.specs.Tables.{cellsUsed, entriesUsed}
+use Rattle.tables.specs.Tables.{cellsUsed, entriesUsed}
 
 pub used-is : (head : List ℕ) → 2 ≤ length head → cellsUsed head ≡ getD head 0 0
 used-is head h = ap (λ (b : Bool). cond b (getD head 0 0) 0) (le-leb 2 (length head) h)

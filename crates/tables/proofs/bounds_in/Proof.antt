@@ -1,6 +1,6 @@
 use borrow.Author.Needs.{needs}
-use Rattle.split.proofs.bounds_in.Statement.{statement}
-use Rattle.split.proofs.bounds_in.Tie as tie
+use Rattle.tables.proofs.bounds_in.Statement.{statement}
+use Rattle.tables.proofs.bounds_in.Tie as tie
 
 shared-slice-read-wide : tie.Need-shared-slice-read-wide
 shared-slice-read-wide c = search needs

@@ -47,6 +47,7 @@ unfoldable pub countsIn : Tree → Bool
 countsIn t =
     cond (headRange (t .head) (length (t .cells)) (length (t .entries)))
     (cond (leb 3 (length (t .plan)))
-    (usedRange (length (t .entries)) (entriesUsed (t .head)) (length (t .areas)) (length (t .xs)) (length (t .ys)) (bounds (getD (t .plan) 1 0) (getD (t .plan) 2 0) 0 0))
+    (usedRange (length (t .entries)) (entriesUsed (t .head)) (length (t .areas)) (length (t .xs)) (length (t .ys))
+    (bounds (getD (t .plan) 1 0) (getD (t .plan) 2 0) 0 0))
     false)
     false

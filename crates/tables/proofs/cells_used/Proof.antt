@@ -1,6 +1,6 @@
 use borrow.Author.Needs.{needs}
-use Rattle.split.proofs.cells_used.Statement.{statement}
-use Rattle.split.proofs.cells_used.Tie as tie
+use Rattle.tables.proofs.cells_used.Statement.{statement}
+use Rattle.tables.proofs.cells_used.Tie as tie
 use Rattle.laws.proofs.Tests.{tests}
 
 shared-slice-read-result : tie.Need-shared-slice-read-result

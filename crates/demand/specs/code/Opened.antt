@@ -1,8 +1,7 @@
--- Document 01, "Cells": the seven tables after an opening.
-use Rattle.split.specs.Tables.{Tree, tree}
+-- The seven tables after an opening, by its answer.
+use Rattle.tables.specs.Tables.{Tree, tree}
 use Rattle.open.specs.declared.Answer.{Answer}
 use Rattle.open.specs.Open.{headOpened, cellsOpened, entriesOpened}
-pub use Rattle.open.specs.Open.{openTree}
 
 -- by the answer; those before where the opening is refused
 abbrev pub openedBy : Tree → Answer → Tree

@@ -1,0 +1,3 @@
+-- Laws of the numbers in use and of room.
+pub mod Heads
+pub mod Rooms
