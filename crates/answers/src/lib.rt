@@ -35,7 +35,7 @@ fn refused(r: Refusal) -> u64
 
 pub fn pack_read(v: Verdict) -> u64
     requires { ⌜ readLow v ≤ 4096 ⌝ }
-    ensures { λ r. ⌜ r ≡ readNumber v ⌝ }
+    ensures answer { λ r. ⌜ r ≡ readNumber v ⌝ }
 {
     match v {
         Verdict::Accepted(k) => pack(0, k.records),
@@ -48,7 +48,7 @@ pub fn pack_read(v: Verdict) -> u64
 
 pub fn pack_written(w: Written) -> u64
     requires { ⌜ writeLow w ≤ 65536 ⌝ }
-    ensures { λ r. ⌜ r ≡ writeNumber w ⌝ }
+    ensures answer { λ r. ⌜ r ≡ writeNumber w ⌝ }
 {
     match w {
         Written::Bytes(n) => pack(0, n),
@@ -57,7 +57,7 @@ pub fn pack_written(w: Written) -> u64
 }
 
 pub fn pack_open(a: open::Answer) -> u64
-    ensures { λ r. ⌜ r ≡ openNumber a ⌝ }
+    ensures answer { λ r. ⌜ r ≡ openNumber a ⌝ }
 {
     match a {
         open::Answer::Opened(entries) => pack(0, entries as usize),
@@ -66,7 +66,7 @@ pub fn pack_open(a: open::Answer) -> u64
 }
 
 pub fn pack_split(a: split::Answer) -> u64
-    ensures { λ r. ⌜ r ≡ splitNumber a ⌝ }
+    ensures answer { λ r. ⌜ r ≡ splitNumber a ⌝ }
 {
     match a {
         split::Answer::Split(child) => pack(0, child as usize),
@@ -77,7 +77,7 @@ pub fn pack_split(a: split::Answer) -> u64
 // "full" has 2^31 more than "done".
 pub fn pack_grow(a: grow::Answer) -> u64
     requires { ⌜ growSplits a ≤ 4096 ⌝ }
-    ensures { λ r. ⌜ r ≡ growNumber a ⌝ }
+    ensures answer { λ r. ⌜ r ≡ growNumber a ⌝ }
 {
     match a {
         grow::Answer::Done(splits) => pack(0, splits as usize),
@@ -165,7 +165,7 @@ fn low_half(n: usize) -> usize
 }
 
 pub fn pack_log(a: LogAnswer) -> u64
-    ensures { λ r. ⌜ r ≡ logNumber a ⌝ }
+    ensures answer { λ r. ⌜ r ≡ logNumber a ⌝ }
 {
     match a {
         LogAnswer::Indices(count) => {
@@ -183,7 +183,7 @@ pub fn pack_log(a: LogAnswer) -> u64
 // ---- a row of pixels
 pub fn pack_row(a: RowAnswer) -> u64
     requires { ⌜ rowPlace a ≤ 4096 ⌝ }
-    ensures { λ r. ⌜ r ≡ rowNumber a ⌝ }
+    ensures answer { λ r. ⌜ r ≡ rowNumber a ⌝ }
 {
     match a {
         RowAnswer::Done => pack(0, 0),

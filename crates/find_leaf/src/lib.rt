@@ -68,7 +68,7 @@ fn line_of(kind: u32) -> u32
 pub fn lines_in(entries: &[u32], first: usize, count: usize) -> u32
     requires { ⌜ (first + count) * 4 ≤ length (now entries) ⌝ }
     requires { ⌜ count ≤ 4096 ⌝ }
-    ensures { λ r. ⌜ r ≡ linesIn (wordsFrom (now (entries .entry)) first count) ⌝ }
+    ensures answer { λ r. ⌜ r ≡ linesIn (wordsFrom (now (entries .entry)) first count) ⌝ }
 {
     let end = first + count;
     let mut n: u32 = 0;

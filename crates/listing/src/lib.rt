@@ -137,7 +137,7 @@ pub fn list_leaves(
     requires { ⌜ 1280 ≤ length (now rows) ⌝ }
     ensures answer { λ n. ⌜ n ≡ length (listed (treeLent plan areas xs ys head cells entries)) ⌝ }
     ensures rows { λ n. ⌜ now (rows .exit) ≡ written (now (rows .entry)) 0 (listed (treeLent plan areas xs ys head cells entries)) ⌝ }
-    ensures { λ n. ⌜ n ≤ 256 ⌝ }
+    ensures most { λ n. ⌜ n ≤ 256 ⌝ }
 {
     let mut n = 0;
     let mut k = 0;
@@ -152,7 +152,7 @@ pub fn list_leaves(
 // Line n of a table.
 pub fn read_line(rows: &[u32], n: usize) -> Line
     requires { ⌜ n * 5 + 5 ≤ length (now rows) ⌝ }
-    ensures { λ l. ⌜ l ≡ lineAt (now (rows .entry)) n ⌝ }
+    ensures answer { λ l. ⌜ l ≡ lineAt (now (rows .entry)) n ⌝ }
 {
     Line {
         cell: rows[n * 5],

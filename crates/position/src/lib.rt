@@ -53,8 +53,8 @@ pub fn set_in(
     requires { ⌜ Passed (now entries) (l .first) (l .count)
         (env (now areas) (now xs) (now ys) (bounds (getD (now plan) 1 0) (getD (now plan) 2 0) (l .y) (l .side))) ⌝ }
     requires { ⌜ (x < 65536) × (y < 65536) ⌝ }
-    ensures { λ r. ⌜ r ≡ setAt (now (areas .entry)) (now (xs .entry)) (now (ys .entry)) x y (wordsFrom (now (entries .entry)) (l .first) (l .count)) ⌝ }
-    ensures { λ r. ⌜ Painted (now (areas .entry)) r ⌝ }
+    ensures answer { λ r. ⌜ r ≡ setAt (now (areas .entry)) (now (xs .entry)) (now (ys .entry)) x y (wordsFrom (now (entries .entry)) (l .first) (l .count)) ⌝ }
+    ensures painted { λ r. ⌜ Painted (now (areas .entry)) r ⌝ }
 {
     let b = tables::bounds_in(plan, l.y, l.side);
     let first = l.first as usize;
@@ -112,7 +112,7 @@ pub fn leaf_for(
     y: u32,
 ) -> Found
     requires { ⌜ LastIn (tree (now plan) (now areas) (now xs) (now ys) (now head) (now cells) (now entries)) last ⌝ }
-    ensures { λ r. ⌜ r ≡ leafIn (treeLent plan areas xs ys head cells entries) x y ⌝ }
+    ensures answer { λ r. ⌜ r ≡ leafIn (treeLent plan areas xs ys head cells entries) x y ⌝ }
 {
     match last {
         Found::At(l) => {
@@ -140,7 +140,7 @@ pub fn shown_at(
 ) -> Shown
     requires { ⌜ LastIn (tree (now plan) (now areas) (now xs) (now ys) (now head) (now cells) (now entries)) last ⌝ }
     requires { ⌜ (x < 65536) × (y < 65536) ⌝ }
-    ensures { λ r. ⌜ r ≡ shownIn (treeLent plan areas xs ys head cells entries) x y ⌝ }
+    ensures answer { λ r. ⌜ r ≡ shownIn (treeLent plan areas xs ys head cells entries) x y ⌝ }
 {
     let f = leaf_for(plan, areas, xs, ys, head, cells, entries, last, x, y);
     match f {

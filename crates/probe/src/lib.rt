@@ -26,7 +26,7 @@ pub extern "C" fn probe_check(
     low: u32,
     side: u32,
 ) -> u32
-    ensures { λ r. ⌜ r ≡
+    ensures answer { λ r. ⌜ r ≡
         cond (checkStream (now (entries .entry)) first count used
         (env (now (areas .entry)) (now (xs .entry)) (now (ys .entry)) (bounds «areas_used» «corners_used» low side))) 1 0 ⌝ }
 {
@@ -60,7 +60,7 @@ pub extern "C" fn probe_read(
     x: u32,
     y: u32,
 ) -> u64
-    ensures { λ r. ⌜ r ≡
+    ensures answer { λ r. ⌜ r ≡
         readAnswer (now (entries .entry)) first count used
         (env (now (areas .entry)) (now (xs .entry)) (now (ys .entry)) (bounds «areas_used» «corners_used» low side)) x y ⌝ }
 {
@@ -165,12 +165,12 @@ pub extern "C" fn probe_child(
     y: u32,
     half: u32,
 ) -> u64
-    ensures { λ r. ⌜ r ≡
+    ensures answer { λ r. ⌜ r ≡
         answerBy (childFits (now (entries .entry)) first count used
         (env (now (areas .entry)) (now (xs .entry)) (now (ys .entry)) (bounds «areas_used» «corners_used» low side)) (square x y half))
         (now (entries .entry)) first count (env (now (areas .entry)) (now (xs .entry)) (now (ys .entry))
         (bounds «areas_used» «corners_used» low side)) (square x y half) ⌝ }
-    ensures { λ r. ⌜ now (entries .exit) ≡
+    ensures entries { λ r. ⌜ now (entries .exit) ≡
         tableBy (childFits (now (entries .entry)) first count used
         (env (now (areas .entry)) (now (xs .entry)) (now (ys .entry)) (bounds «areas_used» «corners_used» low side)) (square x y half))
         (now (entries .entry)) first count used (env (now (areas .entry)) (now (xs .entry)) (now (ys .entry))

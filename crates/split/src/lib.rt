@@ -120,12 +120,12 @@ pub fn split_in_room(
     requires { ⌜ w .first + w .count ≤ free ⌝ }
     requires { ⌜ (used ≤ 4096) × (free ≤ 65536) ⌝ }
     requires { ⌜ (i < used) × (2 ≤ length (now head)) ⌝ }
-    ensures { λ r. ⌜ r ≡ roomAnswer (length (now (cells .entry))) (length (now (entries .entry))) used free (madeLent areas xs ys b w entries) ⌝ }
-    ensures { λ r. ⌜ now (head .exit) ≡ headBy r (now (head .entry)) used free (madeLent areas xs ys b w entries) ⌝ }
-    ensures { λ r. ⌜ now (cells .exit) ≡
+    ensures answer { λ r. ⌜ r ≡ roomAnswer (length (now (cells .entry))) (length (now (entries .entry))) used free (madeLent areas xs ys b w entries) ⌝ }
+    ensures head { λ r. ⌜ now (head .exit) ≡ headBy r (now (head .entry)) used free (madeLent areas xs ys b w entries) ⌝ }
+    ensures cells { λ r. ⌜ now (cells .exit) ≡
         cellsOf r (lent (now (areas .entry)) (now (xs .entry)) (now (ys .entry)) b) w (wordsFrom (now (entries .entry)) (w .first) (w .count))
         (now (cells .entry)) i used free ⌝ }
-    ensures { λ r. ⌜ now (entries .exit) ≡ entriesBy r (now (entries .entry)) free (madeLent areas xs ys b w entries) ⌝ }
+    ensures entries { λ r. ⌜ now (entries .exit) ≡ entriesBy r (now (entries .entry)) free (madeLent areas xs ys b w entries) ⌝ }
 {
     let first = w.first as usize;
     let count = w.count as usize;
