@@ -20,14 +20,14 @@ ghost use Rattle.answers.specs.Readings.{spotPut, spotRoom, spotNumber, 
 // The refusal's number, or 0, and what goes with it.
 fn pack(number: u32, low: usize) -> u64
     requires { ⌜ low ≤ 4294967295 ⌝ }
-    ensures { λ r. ⌜ r ≡ packed number low ⌝ }
+    ensures answer { λ r. ⌜ r ≡ packed number low ⌝ }
 {
     (number as u64) * 4294967296 + (low as u64)
 }
 
 // A refusal from the state, or one that is never about a place.
 fn refused(r: Refusal) -> u64
-    ensures { λ n. ⌜ n ≡ packed (numberOf r) 0 ⌝ }
+    ensures answer { λ n. ⌜ n ≡ packed (numberOf r) 0 ⌝ }
 {
     let n = refusals::number(r);
     pack(n, 0)
@@ -89,7 +89,7 @@ pub fn pack_grow(a: grow::Answer) -> u64
 // Writes the seven words of a leaf.
 fn put_leaf(out: &mut [u32], l: FoundLeaf)
     requires { ⌜ 7 ≤ length (now out) ⌝ }
-    ensures { λ _. ⌜ now (out .exit) ≡ leafPut l (now (out .entry)) ⌝ }
+    ensures out { λ _. ⌜ now (out .exit) ≡ leafPut l (now (out .entry)) ⌝ }
 {
     out[0] = l.cell;
     out[1] = l.x;
@@ -123,7 +123,7 @@ pub fn put_found(out: &mut [u32], a: find_leaf::Answer) -> u64
 // Writes the six words of what shows.
 fn put_spot(out: &mut [u32], s: Spot)
     requires { ⌜ 6 ≤ length (now out) ⌝ }
-    ensures { λ _. ⌜ now (out .exit) ≡ spotPut s (now (out .entry)) ⌝ }
+    ensures out { λ _. ⌜ now (out .exit) ≡ spotPut s (now (out .entry)) ⌝ }
 {
     out[0] = (s.set % 4294967296) as u32;
     out[1] = (s.set / 4294967296) as u32;
@@ -155,8 +155,8 @@ pub fn put_shown(out: &mut [u32], a: position::Answer) -> u64
 // ---- a zone log
 // A place or a result, or 4,294,967,295 where it is more.
 fn low_half(n: usize) -> usize
-    ensures { λ r. ⌜ r ≡ lowHalf n ⌝ }
-    ensures { λ r. ⌜ r ≤ 4294967295 ⌝ }
+    ensures answer { λ r. ⌜ r ≡ lowHalf n ⌝ }
+    ensures range { λ r. ⌜ r ≤ 4294967295 ⌝ }
 {
     if n <= 4294967295 {
         return n;

@@ -63,7 +63,7 @@ pub enum Found {
 // ---- the table of cells
 pub fn read_cell(cells: &[u32], i: usize) -> CellWords
     requires { ⌜ i * 8 + 8 ≤ length (now cells) ⌝ }
-    ensures { λ w. ⌜ w ≡ cellAt (now (cells .entry)) i ⌝ }
+    ensures answer { λ w. ⌜ w ≡ cellAt (now (cells .entry)) i ⌝ }
 {
     let at = i * 8;
     CellWords {
@@ -79,7 +79,7 @@ pub fn read_cell(cells: &[u32], i: usize) -> CellWords
 // Writes the eight words of cell i, the last two 0.
 pub fn put_cell(cells: &mut [u32], i: usize, w: CellWords)
     requires { ⌜ i * 8 + 8 ≤ length (now cells) ⌝ }
-    ensures { λ _. ⌜ now (cells .exit) ≡ putCellAt (now (cells .entry)) i w ⌝ }
+    ensures cells { λ _. ⌜ now (cells .exit) ≡ putCellAt (now (cells .entry)) i w ⌝ }
 {
     let at = i * 8;
     cells[at] = w.x;
@@ -95,7 +95,7 @@ pub fn put_cell(cells: &mut [u32], i: usize, w: CellWords)
 // Writes the first child of cell i, and nothing else.
 pub fn put_child(cells: &mut [u32], i: usize, child: u32)
     requires { ⌜ i * 8 + 8 ≤ length (now cells) ⌝ }
-    ensures { λ _. ⌜ now (cells .exit) ≡ putChildAt (now (cells .entry)) i child ⌝ }
+    ensures cells { λ _. ⌜ now (cells .exit) ≡ putChildAt (now (cells .entry)) i child ⌝ }
 {
     let at = i * 8;
     cells[at + 3] = child;
@@ -104,7 +104,7 @@ pub fn put_child(cells: &mut [u32], i: usize, child: u32)
 // ---- the check of a cell
 // Whether a side is a power of two up to 65,536: whether it divides 65,536.
 fn side_fits(s: u32) -> bool
-    ensures { λ r. ⌜ r ≡ sideRange s ⌝ }
+    ensures answer { λ r. ⌜ r ≡ sideRange s ⌝ }
 {
     if s == 0 {
         return false;
@@ -114,7 +114,7 @@ fn side_fits(s: u32) -> bool
 
 // Whether a cell's side is a power of two, and its low corner is on the grid of that side.
 fn square_fits(w: CellWords) -> bool
-    ensures { λ r. ⌜ r ≡ squareRange w ⌝ }
+    ensures answer { λ r. ⌜ r ≡ squareRange w ⌝ }
 {
     if side_fits(w.side) {
         return ((w.x % w.side == 0) & (w.x < 65536)) & ((w.y % w.side == 0) & (w.y < 65536));
@@ -124,7 +124,7 @@ fn square_fits(w: CellWords) -> bool
 
 // Whether a cell's four children, where it has some, and its entries are in use.
 fn numbers_fit(w: CellWords, used: usize, entries: usize) -> bool
-    ensures { λ r. ⌜ r ≡ numbersRange w used entries ⌝ }
+    ensures answer { λ r. ⌜ r ≡ numbersRange w used entries ⌝ }
 {
     ((w.child == 0) | ((w.child as usize) + 3 < used))
         & ((w.first as usize) + (w.count as usize) <= entries)
@@ -132,7 +132,7 @@ fn numbers_fit(w: CellWords, used: usize, entries: usize) -> bool
 
 // Whether cell i, where it is cell 0, is the whole grid.
 fn root_fits(w: CellWords, i: usize) -> bool
-    ensures { λ r. ⌜ r ≡ rootRange w i ⌝ }
+    ensures answer { λ r. ⌜ r ≡ rootRange w i ⌝ }
 {
     if i == 0 {
         return (w.x == 0) & ((w.y == 0) & (w.side == 65536));
@@ -142,7 +142,7 @@ fn root_fits(w: CellWords, i: usize) -> bool
 
 // Whether the numbers of cell i are in range, with so many cells and entries in use.
 pub fn cell_fits(w: CellWords, i: usize, used: usize, entries: usize) -> bool
-    ensures { λ r. ⌜ r ≡ cellRange w i used entries ⌝ }
+    ensures answer { λ r. ⌜ r ≡ cellRange w i used entries ⌝ }
 {
     let square = square_fits(w);
     let numbers = numbers_fit(w, used, entries);
@@ -152,7 +152,7 @@ pub fn cell_fits(w: CellWords, i: usize, used: usize, entries: usize) -> bool
 
 // Whether the numbers in use, in the head, are in range for tables of cells and of entries of these lengths.
 pub fn head_fits(head: &[u32], cells: usize, entries: usize) -> bool
-    ensures { λ r. ⌜ r ≡ headRange (now (head .entry)) cells entries ⌝ }
+    ensures answer { λ r. ⌜ r ≡ headRange (now (head .entry)) cells entries ⌝ }
 {
     if 2 <= head.len() {
         let n = laws::wide(head[0]);
@@ -166,8 +166,8 @@ pub fn head_fits(head: &[u32], cells: usize, entries: usize) -> bool
 // The low or the high half of a side.
 fn half_of(at: u32, half: u32, high: bool) -> Half
     requires { ⌜ at + half ≤ 65536 ⌝ }
-    ensures { λ r. ⌜ r ≡ halfN at half high ⌝ }
-    ensures { λ r. ⌜ r .bit ≤ 1 ⌝ }
+    ensures answer { λ r. ⌜ r ≡ halfN at half high ⌝ }
+    ensures bit_range { λ r. ⌜ r .bit ≤ 1 ⌝ }
 {
     if high {
         return Half {
@@ -182,7 +182,7 @@ fn half_of(at: u32, half: u32, high: bool) -> Half
 pub fn quarter_of(w: CellWords, q: u32) -> Square
     requires { ⌜ squareRange w ≡ true ⌝ }
     requires { ⌜ 1 < w .side ⌝ }
-    ensures { λ r. ⌜ r ≡ squareOf (child (cellOf w) (quarterAt q)) ⌝ }
+    ensures answer { λ r. ⌜ r ≡ squareOf (child (cellOf w) (quarterAt q)) ⌝ }
 {
     let half = w.side / 2;
     let h = half_of(w.x, half, q % 2 == 1);
@@ -198,7 +198,7 @@ pub fn quarter_of(w: CellWords, q: u32) -> Square
 impl Cursor {
     // Whether a cell is on the square that the way expects.
     fn stands_on(self, w: CellWords) -> bool
-        ensures { λ r. ⌜ r ≡ standsN self w ⌝ }
+        ensures answer { λ r. ⌜ r ≡ standsN self w ⌝ }
     {
         (w.x == self.x) & ((w.y == self.y) & (w.side == self.side))
     }
@@ -207,7 +207,7 @@ impl Cursor {
     fn deeper(self, first: u32, px: u32, py: u32) -> Self
         requires { ⌜ (self .x + self .side ≤ 65536) × (self .y + self .side ≤ 65536) ⌝ }
         requires { ⌜ (first < 65536) × (self .steps ≤ 16) ⌝ }
-        ensures { λ r. ⌜ r ≡ deeperN self first px py ⌝ }
+        ensures answer { λ r. ⌜ r ≡ deeperN self first px py ⌝ }
     {
         let half = self.side / 2;
         let h = half_of(self.x, half, self.x + half <= px);
@@ -226,7 +226,7 @@ impl Cursor {
     fn step(self, cells: &[u32], used: usize, entries: usize, px: u32, py: u32) -> Down
         requires { ⌜ CellsIn (now cells) used ⌝ }
         requires { ⌜ CursorIn self used ⌝ }
-        ensures { λ r. ⌜ r ≡ stepN (now (cells .entry)) used entries self px py ⌝ }
+        ensures answer { λ r. ⌜ r ≡ stepN (now (cells .entry)) used entries self px py ⌝ }
     {
         let w = read_cell(cells, self.cell as usize);
         if self.stands_on(w) {
@@ -254,7 +254,7 @@ impl Cursor {
 // The leaf that holds (x, y), over at most 16 steps from cell 0. `used` and `entries` are the head's numbers, and the head has passed.
 pub fn descend(cells: &[u32], used: usize, entries: usize, x: u32, y: u32) -> Found
     requires { ⌜ CellsIn (now cells) used ⌝ }
-    ensures { λ r. ⌜ r ≡ descendIn (now (cells .entry)) used entries x y ⌝ }
+    ensures answer { λ r. ⌜ r ≡ descendIn (now (cells .entry)) used entries x y ⌝ }
 {
     let mut c = Cursor {
         cell: 0,

@@ -31,7 +31,7 @@ pub struct Starts {
 fn note(at: &mut [i64], p: Pruner, a: Waiting)
     requires { ⌜ length (now at) ≡ 64 ⌝ }
     requires { ⌜ natAbs (a .start) ≤ 8192 ⌝ }
-    ensures { λ _. ⌜ now (at .exit) ≡ notedN (now (at .entry)) p a ⌝ }
+    ensures at { λ _. ⌜ now (at .exit) ≡ notedN (now (at .entry)) p a ⌝ }
 {
     let k = (p.weight / 4294967296) as usize;
     let z = a.start;
@@ -42,7 +42,7 @@ fn note(at: &mut [i64], p: Pruner, a: Waiting)
 
 // The first `count` of them, with zeros behind them.
 fn ended(zs: [i64; 64], count: usize) -> Starts
-    ensures { λ r. ⌜ r ≡ starts count (firstOf count zs) ⌝ }
+    ensures answer { λ r. ⌜ r ≡ starts count (firstOf count zs) ⌝ }
 {
     let mut at = zs;
     let mut i = count;
@@ -77,9 +77,9 @@ pub fn count_child(
     requires { ⌜ Passed (now entries) first count (env (now areas) (now xs) (now ys) b) ⌝ }
     requires { ⌜ SquareIn s ⌝ }
     requires { ⌜ squareOf (cellIn s) ≡ s ⌝ }
-    ensures { λ r. ⌜ r .weight ≡ total rowSize (rowsMade
+    ensures weight { λ r. ⌜ r .weight ≡ total rowSize (rowsMade
         (lent (now (areas .entry)) (now (xs .entry)) (now (ys .entry)) b) (cellIn s) (wordsFrom (now (entries .entry)) first count)) ⌝ }
-    ensures { λ r. ⌜ r .starts ≡ startsIn (rowsMade
+    ensures starts { λ r. ⌜ r .starts ≡ startsIn (rowsMade
         (lent (now (areas .entry)) (now (xs .entry)) (now (ys .entry)) b) (cellIn s) (wordsFrom (now (entries .entry)) first count)) ⌝ }
 {
     let end = first + count;
@@ -133,7 +133,7 @@ pub fn write_child(
     requires { ⌜ first + count ≤ free ⌝ }
     requires { ⌜ (free + made) * 4 ≤ length (now entries) ⌝ }
     requires { ⌜ made ≡ length (rowsMade (lent (now areas) (now xs) (now ys) b) (cellIn s) (wordsFrom (now entries) first count)) ⌝ }
-    ensures { λ _. ⌜ now (entries .exit) ≡ written (now (entries .entry)) free (wordsMade
+    ensures entries { λ _. ⌜ now (entries .exit) ≡ written (now (entries .entry)) free (wordsMade
         (lent (now (areas .entry)) (now (xs .entry)) (now (ys .entry)) b) (cellIn s) (wordsFrom (now (entries .entry)) first count)) ⌝ }
 {
     let end = first + count;

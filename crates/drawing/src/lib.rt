@@ -32,7 +32,7 @@ pub enum Written {
 // ---- a drawing in its tables
 fn fields_at(areas: &[u32], i: usize) -> Fields
     requires { ⌜ i * 8 + 8 ≤ length (now areas) ⌝ }
-    ensures { λ f. ⌜ f ≡ fieldsAt (now (areas .entry)) i ⌝ }
+    ensures answer { λ f. ⌜ f ≡ fieldsAt (now (areas .entry)) i ⌝ }
 {
     let at = i * 8;
     Fields {
@@ -49,7 +49,7 @@ fn fields_at(areas: &[u32], i: usize) -> Fields
 // Area i, where it is in use and its fields are in range.
 pub fn area_row(areas: &[u32], used: usize, i: usize) -> Decoded
     requires { ⌜ used * 8 ≤ length (now areas) ⌝ }
-    ensures { λ d. ⌜ d ≡ areaRow (now (areas .entry)) used i ⌝ }
+    ensures answer { λ d. ⌜ d ≡ areaRow (now (areas .entry)) used i ⌝ }
 {
     if i < used {
         if areas[i * 8 + 7] == 0 {
@@ -63,7 +63,7 @@ pub fn area_row(areas: &[u32], used: usize, i: usize) -> Decoded
 
 fn corner_row(xs: &[u32], ys: &[u32], used: usize, k: u32, i: usize) -> Decoded
     requires { ⌜ (used ≤ length (now xs)) × (used ≤ length (now ys)) ⌝ }
-    ensures { λ d. ⌜ d ≡ cornerRow (now (xs .entry)) (now (ys .entry)) used k i ⌝ }
+    ensures answer { λ d. ⌜ d ≡ cornerRow (now (xs .entry)) (now (ys .entry)) used k i ⌝ }
 {
     if i < used {
         let r = records::corner_of(k, xs[i], ys[i]);
@@ -74,7 +74,7 @@ fn corner_row(xs: &[u32], ys: &[u32], used: usize, k: u32, i: usize) -> Decoded
 
 fn kind_row(areas: &[u32], xs: &[u32], ys: &[u32], used: Counts, k: u32, c: Cursor) -> Decoded
     requires { ⌜ (used .areas * 8 ≤ length (now areas)) × (used .corners ≤ length (now xs)) × (used .corners ≤ length (now ys)) ⌝ }
-    ensures { λ d. ⌜ d ≡ kindRow (now (areas .entry)) (now (xs .entry)) (now (ys .entry)) used k c ⌝ }
+    ensures answer { λ d. ⌜ d ≡ kindRow (now (areas .entry)) (now (xs .entry)) (now (ys .entry)) used k c ⌝ }
 {
     if k == 1 {
         return area_row(areas, used.areas, c.area);
@@ -98,7 +98,7 @@ fn row(
 ) -> Decoded
     requires { ⌜ Ready (now plan) (now areas) (now xs) (now ys) used ⌝ }
     requires { ⌜ i < used .records ⌝ }
-    ensures { λ d. ⌜ d ≡ rowOf (drawingLent plan areas xs ys) used i c ⌝ }
+    ensures answer { λ d. ⌜ d ≡ rowOf (drawingLent plan areas xs ys) used i c ⌝ }
 {
     let k = plan[i + 3];
     if 1 <= k {
@@ -111,8 +111,8 @@ fn row(
 }
 
 fn area_one(r: Record) -> usize
-    ensures { λ n. ⌜ n ≡ areaOne r ⌝ }
-    ensures { λ n. ⌜ n ≤ 1 ⌝ }
+    ensures answer { λ n. ⌜ n ≡ areaOne r ⌝ }
+    ensures range { λ n. ⌜ n ≤ 1 ⌝ }
 {
     match r {
         Record::Area(_) => 1,
@@ -125,8 +125,8 @@ fn area_one(r: Record) -> usize
 }
 
 fn corner_one(r: Record) -> usize
-    ensures { λ n. ⌜ n ≡ cornerOne r ⌝ }
-    ensures { λ n. ⌜ n ≤ 1 ⌝ }
+    ensures answer { λ n. ⌜ n ≡ cornerOne r ⌝ }
+    ensures range { λ n. ⌜ n ≤ 1 ⌝ }
 {
     match r {
         Record::Area(_) => 0,
@@ -140,7 +140,7 @@ fn corner_one(r: Record) -> usize
 
 fn past_record(c: Cursor, r: Record) -> Cursor
     requires { ⌜ (c .area < 65536) × (c .corner < 65536) ⌝ }
-    ensures { λ d. ⌜ d ≡ pastRecord c r ⌝ }
+    ensures answer { λ d. ⌜ d ≡ pastRecord c r ⌝ }
 {
     let a = area_one(r);
     let b = corner_one(r);
@@ -152,7 +152,7 @@ fn past_record(c: Cursor, r: Record) -> Cursor
 
 fn past(c: Cursor, d: Decoded) -> Cursor
     requires { ⌜ (c .area < 65536) × (c .corner < 65536) ⌝ }
-    ensures { λ e. ⌜ e ≡ pastOf c d ⌝ }
+    ensures answer { λ e. ⌜ e ≡ pastOf c d ⌝ }
 {
     match d {
         Decoded::Good(r) => past_record(c, r),
@@ -162,7 +162,7 @@ fn past(c: Cursor, d: Decoded) -> Cursor
 
 fn scan_tables(plan: &[u32], areas: &[u32], xs: &[u32], ys: &[u32], used: Counts) -> Scan
     requires { ⌜ Ready (now plan) (now areas) (now xs) (now ys) used ⌝ }
-    ensures { λ s. ⌜ s ≡ scanN startN 0 (rebuilt (drawingLent plan areas xs ys) used 0 (cursor 0 0) (used .records)) ⌝ }
+    ensures answer { λ s. ⌜ s ≡ scanN startN 0 (rebuilt (drawingLent plan areas xs ys) used 0 (cursor 0 0) (used .records)) ⌝ }
 {
     let n = used.records;
     let mut s = grammar::start();
@@ -181,7 +181,7 @@ fn scan_tables(plan: &[u32], areas: &[u32], xs: &[u32], ys: &[u32], used: Counts
 }
 
 fn agreed_with(v: Verdict, used: Counts) -> Verdict
-    ensures { λ r. ⌜ r ≡ agreed v used ⌝ }
+    ensures answer { λ r. ⌜ r ≡ agreed v used ⌝ }
 {
     match v {
         Verdict::Accepted(k) => {
@@ -199,7 +199,7 @@ fn agreed_with(v: Verdict, used: Counts) -> Verdict
 
 fn check_counts(plan: &[u32], areas: &[u32], xs: &[u32], ys: &[u32], used: Counts) -> Verdict
     requires { ⌜ length (now xs) ≡ length (now ys) ⌝ }
-    ensures { λ v. ⌜ v ≡ countsJudged (drawingLent plan areas xs ys) used ⌝ }
+    ensures answer { λ v. ⌜ v ≡ countsJudged (drawingLent plan areas xs ys) used ⌝ }
 {
     if used.records <= 4096 {
         let h = read::tables_hold(plan.len(), areas.len(), xs.len(), used);
@@ -242,8 +242,8 @@ pub fn check_drawing(plan: &[u32], areas: &[u32], xs: &[u32], ys: &[u32]) -> Ver
 // ---- writing
 fn put_bytes(out: &mut [u8], at: usize, d: Decoded) -> usize
     requires { ⌜ at + length (onGood bytesOf d) ≤ length (now out) ⌝ }
-    ensures { λ n. ⌜ n ≡ at + length (onGood bytesOf d) ⌝ }
-    ensures { λ n. ⌜ now (out .exit) ≡ sets (now (out .entry)) at (onGood bytesOf d) ⌝ }
+    ensures answer { λ n. ⌜ n ≡ at + length (onGood bytesOf d) ⌝ }
+    ensures out { λ n. ⌜ now (out .exit) ≡ sets (now (out .entry)) at (onGood bytesOf d) ⌝ }
 {
     match d {
         Decoded::Good(r) => {
@@ -258,7 +258,7 @@ fn put_bytes(out: &mut [u8], at: usize, d: Decoded) -> usize
 fn write_all(plan: &[u32], areas: &[u32], xs: &[u32], ys: &[u32], used: Counts, out: &mut [u8])
     requires { ⌜ Ready (now plan) (now areas) (now xs) (now ys) used ⌝ }
     requires { ⌜ used .records * 16 ≤ length (now out) ⌝ }
-    ensures { λ _. ⌜ now (out .exit) ≡
+    ensures out { λ _. ⌜ now (out .exit) ≡
         sets (now (out .entry)) 0 (fileOf (goods (rebuilt (drawingLent plan areas xs ys) used 0 (cursor 0 0) (used .records)))) ⌝ }
 {
     let n = used.records;
@@ -282,8 +282,8 @@ fn write_if_room(
     out: &mut [u8],
 ) -> Written
     requires { ⌜ drawingVerdict (tables (now plan) (now areas) (now xs) (now ys)) ≡ Accepted k ⌝ }
-    ensures { λ w. ⌜ w ≡ writtenOf (Accepted k) (length (now (out .entry))) ⌝ }
-    ensures { λ w. ⌜ now (out .exit) ≡ outAfter w (now (out .entry)) (fileOf (drawnIn (drawingLent plan areas xs ys))) ⌝ }
+    ensures answer { λ w. ⌜ w ≡ writtenOf (Accepted k) (length (now (out .entry))) ⌝ }
+    ensures out { λ w. ⌜ now (out .exit) ≡ outAfter w (now (out .entry)) (fileOf (drawnIn (drawingLent plan areas xs ys))) ⌝ }
 {
     if k.records <= out.len() / 16 {
         write_all(plan, areas, xs, ys, k, out);

@@ -29,7 +29,7 @@ ghost use Rattle.evaluate.specs.code.Numbers.{segmentRange, segmentAdds,
 // What a shortcut adds in row y.
 fn shortcut_adds(w: Words, y: u32) -> i64
     requires { ⌜ signRange (w .p) ≡ true ⌝ }
-    ensures { λ r. ⌜ r ≡ cond (isRow (w .q) (w .r) y) (toZ w32 (w .p)) (pos 0) ⌝ }
+    ensures answer { λ r. ⌜ r ≡ cond (isRow (w .q) (w .r) y) (toZ w32 (w .p)) (pos 0) ⌝ }
 {
     if (w.q <= y) & (y < w.r) {
         if w.p == 1 {
@@ -45,7 +45,7 @@ fn line_adds(xs: &[u32], ys: &[u32], w: Words, x: u32, y: u32) -> i64
     requires { ⌜ (w .p < length (now xs)) × (w .p < length (now ys)) × (w .q < length (now xs)) × (w .q < length (now ys)) ⌝ }
     requires { ⌜ EndsIn (getD (now xs) (w .p) 0) (getD (now ys) (w .p) 0) (getD (now xs) (w .q) 0) (getD (now ys) (w .q) 0) ⌝ }
     requires { ⌜ PositionIn x y ⌝ }
-    ensures { λ r. ⌜ r ≡ adds (edgeBetween (now (xs .entry)) (now (ys .entry)) (w .p) (w .q)) x y ⌝ }
+    ensures answer { λ r. ⌜ r ≡ adds (edgeBetween (now (xs .entry)) (now (ys .entry)) (w .p) (w .q)) x y ⌝ }
 {
     let e = winding::edge_between(xs, ys, w.p as usize, w.q as usize);
     winding::edge_adds(e, x, y)
@@ -54,7 +54,7 @@ fn line_adds(xs: &[u32], ys: &[u32], w: Words, x: u32, y: u32) -> i64
 // Whether an area with this winding passes.
 pub fn area_passes(areas: &[u32], n: usize, sum: i64) -> bool
     requires { ⌜ n * 8 + 8 ≤ length (now areas) ⌝ }
-    ensures { λ r. ⌜ r ≡ passAt (now (areas .entry)) n sum ⌝ }
+    ensures answer { λ r. ⌜ r ≡ passAt (now (areas .entry)) n sum ⌝ }
 {
     if areas[n * 8 + 1] == 0 {
         return fill::fill_passes(FillRule::NonZero, sum);
@@ -66,7 +66,7 @@ pub fn area_passes(areas: &[u32], n: usize, sum: i64) -> bool
 fn after_area(areas: &[u32], m: Machine, n: u32, sum: i64) -> Machine
     requires { ⌜ n < 64 ⌝ }
     requires { ⌜ n * 8 + 8 ≤ length (now areas) ⌝ }
-    ensures { λ r. ⌜ (meant r ≡
+    ensures answer { λ r. ⌜ (meant r ≡
         onItem (roleAt (now (areas .entry)) n) (passAt (now (areas .entry)) n sum) (opaqueAt (now (areas .entry)) n) (λ s. withArea s n) (meant m))
         × (r .depth ≡ m .depth) ⌝ }
 {
@@ -82,7 +82,7 @@ fn after_area(areas: &[u32], m: Machine, n: u32, sum: i64) -> Machine
 // The start number of an area.
 pub fn start_of(w: Words) -> i64
     requires { ⌜ startRange (w .q) ≡ true ⌝ }
-    ensures { λ r. ⌜ r ≡ toZ w32 (w .q) ⌝ }
+    ensures answer { λ r. ⌜ r ≡ toZ w32 (w .q) ⌝ }
 {
     if w.q <= 2048 {
         return laws::difference(w.q, 0);
@@ -96,7 +96,7 @@ fn segment_adds(xs: &[u32], ys: &[u32], corners: usize, w: Words, x: u32, y: u32
     requires { ⌜ (corners ≤ length (now xs)) × (corners ≤ length (now ys)) ⌝ }
     requires { ⌜ segmentRange (now xs) (now ys) corners w ≡ true ⌝ }
     requires { ⌜ PositionIn x y ⌝ }
-    ensures { λ r. ⌜ (r ≡ segmentAdds (now (xs .entry)) (now (ys .entry)) x y w) × (natAbs r ≤ 1) ⌝ }
+    ensures answer { λ r. ⌜ (r ≡ segmentAdds (now (xs .entry)) (now (ys .entry)) x y w) × (natAbs r ≤ 1) ⌝ }
 {
     if w.kind == 5 {
         return line_adds(xs, ys, w, x, y);
@@ -125,8 +125,8 @@ fn winding_from(
     requires { ⌜ SegmentsIn (now entries) from end (now xs) (now ys) b ⌝ }
     requires { ⌜ PositionIn x y ⌝ }
     requires { ⌜ natAbs start ≤ 2048 ⌝ }
-    ensures { λ r. ⌜ r .sum ≡ start +ℤ segmentsSum (now (xs .entry)) (now (ys .entry)) x y (wordsFrom (now (entries .entry)) from (end - from)) ⌝ }
-    ensures { λ r. ⌜ r .next ≡ from + segmentsIn (wordsFrom (now (entries .entry)) from (end - from)) ⌝ }
+    ensures sum { λ r. ⌜ r .sum ≡ start +ℤ segmentsSum (now (xs .entry)) (now (ys .entry)) x y (wordsFrom (now (entries .entry)) from (end - from)) ⌝ }
+    ensures next { λ r. ⌜ r .next ≡ from + segmentsIn (wordsFrom (now (entries .entry)) from (end - from)) ⌝ }
 {
     let mut sum = start;
     let mut i = from;
@@ -153,7 +153,7 @@ pub struct Reading {
 // The machine after a delimiter or "passes". A line or a shortcut of an area that is not looked at leaves it as it is.
 fn moved(m: Machine, kind: u32) -> Machine
     requires { ⌜ m .depth < 4096 ⌝ }
-    ensures { λ r. ⌜ (meant r ≡ movedBy kind (meant m)) × (r .depth ≤ m .depth + 1) ⌝ }
+    ensures answer { λ r. ⌜ (meant r ≡ movedBy kind (meant m)) × (r .depth ≤ m .depth + 1) ⌝ }
 {
     match kind {
         1 => machine::after_open(m),
@@ -182,7 +182,7 @@ fn read_area(
     requires { ⌜ Ranged (now entries) i end (env (now areas) (now xs) (now ys) b) ⌝ }
     requires { ⌜ (w ≡ wordsAt (now entries) i) × (w .kind ≡ 4) ⌝ }
     requires { ⌜ PositionIn x y ⌝ }
-    ensures { λ r. ⌜ Onward (now (areas .entry)) (now (xs .entry)) (now (ys .entry)) x y (now (entries .entry)) i end m r ⌝ }
+    ensures onward { λ r. ⌜ Onward (now (areas .entry)) (now (xs .entry)) (now (ys .entry)) x y (now (entries .entry)) i end m r ⌝ }
 {
     if m.state == 0 {
         let z = start_of(w);
@@ -215,7 +215,7 @@ fn read_next(
     requires { ⌜ Ranged (now entries) i end (env (now areas) (now xs) (now ys) b) ⌝ }
     requires { ⌜ m .depth < 4096 ⌝ }
     requires { ⌜ PositionIn x y ⌝ }
-    ensures { λ r. ⌜ Onward (now (areas .entry)) (now (xs .entry)) (now (ys .entry)) x y (now (entries .entry)) i end m r ⌝ }
+    ensures onward { λ r. ⌜ Onward (now (areas .entry)) (now (xs .entry)) (now (ys .entry)) x y (now (entries .entry)) i end m r ⌝ }
 {
     let w = stream::read_entry(entries, i);
     if w.kind == 4 {
@@ -243,7 +243,7 @@ pub fn read_stream(
 ) -> u64
     requires { ⌜ Passed (now entries) first count (env (now areas) (now xs) (now ys) b) ⌝ }
     requires { ⌜ PositionIn x y ⌝ }
-    ensures { λ r. ⌜ r ≡ setAt (now (areas .entry)) (now (xs .entry)) (now (ys .entry)) x y (wordsFrom (now (entries .entry)) first count) ⌝ }
+    ensures answer { λ r. ⌜ r ≡ setAt (now (areas .entry)) (now (xs .entry)) (now (ys .entry)) x y (wordsFrom (now (entries .entry)) first count) ⌝ }
 {
     let end = first + count;
     let mut m = machine::begun();

@@ -55,8 +55,8 @@ pub fn counts_fit(
 
 // 1 for a line, or 0.
 fn line_of(kind: u32) -> u32
-    ensures { λ r. ⌜ r ≡ cond (eqb kind 5) 1 0 ⌝ }
-    ensures { λ r. ⌜ r ≤ 1 ⌝ }
+    ensures answer { λ r. ⌜ r ≡ cond (eqb kind 5) 1 0 ⌝ }
+    ensures range { λ r. ⌜ r ≤ 1 ⌝ }
 {
     if kind == 5 {
         return 1;
@@ -93,7 +93,7 @@ fn leaf_passes(
     l: Leaf,
 ) -> bool
     requires { ⌜ 3 ≤ length (now plan) ⌝ }
-    ensures { λ r. ⌜ r ≡
+    ensures answer { λ r. ⌜ r ≡
         checkStream (now (entries .entry)) (l .first) (l .count) free
         (env (now (areas .entry)) (now (xs .entry)) (now (ys .entry))
         (bounds (getD (now (plan .entry)) 1 0) (getD (now (plan .entry)) 2 0) (l .y) (l .side))) ⌝ }
@@ -141,7 +141,7 @@ pub fn leaf_at(
 fn report(entries: &[u32], l: Leaf) -> FoundLeaf
     requires { ⌜ (l .first + l .count) * 4 ≤ length (now entries) ⌝ }
     requires { ⌜ l .count ≤ 4096 ⌝ }
-    ensures { λ r. ⌜ r ≡ reportOf (now (entries .entry)) l ⌝ }
+    ensures answer { λ r. ⌜ r ≡ reportOf (now (entries .entry)) l ⌝ }
 {
     let first = l.first as usize;
     let count = l.count as usize;
@@ -169,7 +169,7 @@ fn find_within(
     x: u32,
     y: u32,
 ) -> Answer
-    ensures { λ r. ⌜ r ≡ foundBy (treeLent plan areas xs ys head cells entries) (leafIn (treeLent plan areas xs ys head cells entries) x y) ⌝ }
+    ensures answer { λ r. ⌜ r ≡ foundBy (treeLent plan areas xs ys head cells entries) (leafIn (treeLent plan areas xs ys head cells entries) x y) ⌝ }
 {
     let f = leaf_at(plan, areas, xs, ys, head, cells, entries, x, y);
     match f {

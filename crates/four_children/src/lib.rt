@@ -26,7 +26,7 @@ pub struct Tally {
 }
 
 fn tally_of(k: Count) -> Tally
-    ensures { λ r. ⌜ r ≡ tallyN k ⌝ }
+    ensures answer { λ r. ⌜ r ≡ tallyN k ⌝ }
 {
     let n = k.weight;
     let z = k.starts;
@@ -52,7 +52,7 @@ fn count_one(
     requires { ⌜ Passed (now entries) first count (env (now areas) (now xs) (now ys) b) ⌝ }
     requires { ⌜ squareRange w ≡ true ⌝ }
     requires { ⌜ 1 < w .side ⌝ }
-    ensures { λ r. ⌜ r ≡ tally (rowsOfChild
+    ensures answer { λ r. ⌜ r ≡ tally (rowsOfChild
         (lent (now (areas .entry)) (now (xs .entry)) (now (ys .entry)) b) (cellOf w) (wordsFrom (now (entries .entry)) first count) q) ⌝ }
 {
     let s = celltable::quarter_of(w, q);
@@ -74,7 +74,7 @@ pub fn count_four(
     requires { ⌜ Passed (now entries) first count (env (now areas) (now xs) (now ys) b) ⌝ }
     requires { ⌜ squareRange w ≡ true ⌝ }
     requires { ⌜ 1 < w .side ⌝ }
-    ensures { λ r. ⌜ r ≡
+    ensures answer { λ r. ⌜ r ≡
         fourTallies (lent (now (areas .entry)) (now (xs .entry)) (now (ys .entry)) b) (cellOf w) (wordsFrom (now (entries .entry)) first count) ⌝ }
 {
     let t0 = count_one(entries, first, count, areas, xs, ys, b, w, 0);
@@ -104,7 +104,7 @@ fn write_child(
     requires { ⌜ first + count ≤ free ⌝ }
     requires { ⌜ (free + made) * 4 ≤ length (now entries) ⌝ }
     requires { ⌜ made ≡ entriesOfChild (lent (now areas) (now xs) (now ys) b) (cellOf w) (wordsFrom (now entries) first count) q ⌝ }
-    ensures { λ _. ⌜ now (entries .exit) ≡ written (now (entries .entry)) free (wordsOfChild
+    ensures entries { λ _. ⌜ now (entries .exit) ≡ written (now (entries .entry)) free (wordsOfChild
         (lent (now (areas .entry)) (now (xs .entry)) (now (ys .entry)) b) (cellOf w) (wordsFrom (now (entries .entry)) first count) q) ⌝ }
 {
     let s = celltable::quarter_of(w, q);
@@ -131,7 +131,7 @@ pub fn write_four(
     requires { ⌜ ts ≡ fourTallies (lent (now areas) (now xs) (now ys) b) (cellOf w) (wordsFrom (now entries) first count) ⌝ }
     requires { ⌜ (free + length (streamsTo (lent (now areas) (now xs) (now ys) b) (cellOf w) (wordsFrom (now entries) first count) 4)) * 4
         ≤ length (now entries) ⌝ }
-    ensures { λ _. ⌜ now (entries .exit) ≡ written (now (entries .entry)) free (streamsTo
+    ensures entries { λ _. ⌜ now (entries .exit) ≡ written (now (entries .entry)) free (streamsTo
         (lent (now (areas .entry)) (now (xs .entry)) (now (ys .entry)) b) (cellOf w) (wordsFrom (now (entries .entry)) first count) 4) ⌝ }
 {
     let mut at = free;
@@ -150,7 +150,7 @@ fn child_words(w: CellWords, q: u32, first: u32, t: Tally) -> CellWords
     requires { ⌜ squareRange w ≡ true ⌝ }
     requires { ⌜ 1 < w .side ⌝ }
     requires { ⌜ t .entries ≤ 4096 ⌝ }
-    ensures { λ r. ⌜ r ≡ wordsWith (child (cellOf w) (quarterAt q)) first (t .entries) ⌝ }
+    ensures answer { λ r. ⌜ r ≡ wordsWith (child (cellOf w) (quarterAt q)) first (t .entries) ⌝ }
 {
     let s = celltable::quarter_of(w, q);
     CellWords {
@@ -170,7 +170,7 @@ pub fn put_four(cells: &mut [u32], used: u32, free: u32, w: CellWords, ts: [Tall
     requires { ⌜ (used + 4) * 8 ≤ length (now cells) ⌝ }
     requires { ⌜ (used ≤ 4096) × (free ≤ 65536) ⌝ }
     requires { ⌜ FewEach ts ⌝ }
-    ensures { λ _. ⌜ now (cells .exit) ≡ cellsBy (cellOf w) ts (now (cells .entry)) used free 4 ⌝ }
+    ensures cells { λ _. ⌜ now (cells .exit) ≡ cellsBy (cellOf w) ts (now (cells .entry)) used free 4 ⌝ }
 {
     let mut at = free;
     let mut n: u32 = 0;

@@ -28,7 +28,7 @@ fn counts_in_neither(e: Edge, x: u32, first: u32, last: u32) -> bool
     requires { ⌜ EndsIn (e .x0) (e .y0) (e .x1) (e .y1) ⌝ }
     requires { ⌜ PositionIn x first ⌝ }
     requires { ⌜ PositionIn x last ⌝ }
-    ensures { λ r. ⌜ r ≡ not (counts e x first) && not (counts e x last) ⌝ }
+    ensures answer { λ r. ⌜ r ≡ not (counts e x first) && not (counts e x last) ⌝ }
 {
     if edge::edge_counts(e, x, first) {
         false
@@ -42,7 +42,7 @@ fn counts_in_both(e: Edge, x: u32, first: u32, last: u32) -> bool
     requires { ⌜ EndsIn (e .x0) (e .y0) (e .x1) (e .y1) ⌝ }
     requires { ⌜ PositionIn x first ⌝ }
     requires { ⌜ PositionIn x last ⌝ }
-    ensures { λ r. ⌜ r ≡ counts e x first && counts e x last ⌝ }
+    ensures answer { λ r. ⌜ r ≡ counts e x first && counts e x last ⌝ }
 {
     if edge::edge_counts(e, x, first) {
         edge::edge_counts(e, x, last)
@@ -52,13 +52,13 @@ fn counts_in_both(e: Edge, x: u32, first: u32, last: u32) -> bool
 }
 
 fn larger(a: u32, b: u32) -> u32
-    ensures { λ r. ⌜ r ≡ max a b ⌝ }
+    ensures answer { λ r. ⌜ r ≡ max a b ⌝ }
 {
     if a < b { b } else { a }
 }
 
 fn smaller(a: u32, b: u32) -> u32
-    ensures { λ r. ⌜ r ≡ min a b ⌝ }
+    ensures answer { λ r. ⌜ r ≡ min a b ⌝ }
 {
     if a < b { a } else { b }
 }
@@ -68,7 +68,7 @@ fn smaller(a: u32, b: u32) -> u32
 pub fn classify(e: Edge, s: Square) -> Class
     requires { ⌜ EndsIn (e .x0) (e .y0) (e .x1) (e .y1) ⌝ }
     requires { ⌜ SquareIn s ⌝ }
-    ensures { λ r. ⌜ r ≡ edgeClass e s ⌝ }
+    ensures answer { λ r. ⌜ r ≡ edgeClass e s ⌝ }
 {
     let rows = edge::rows_of(e);
     let top = s.y + s.side;
@@ -90,7 +90,7 @@ pub fn classify(e: Edge, s: Square) -> Class
 // Rows lo to hi - 1 in which every position counts, cut to a square's rows.
 pub fn cut_rows(lo: u32, hi: u32, s: Square) -> Class
     requires { ⌜ SquareIn s ⌝ }
-    ensures { λ r. ⌜ r ≡ cut lo hi (s .y) (s .side) ⌝ }
+    ensures answer { λ r. ⌜ r ≡ cut lo hi (s .y) (s .side) ⌝ }
 {
     let top = s.y + s.side;
     let first = larger(lo, s.y);

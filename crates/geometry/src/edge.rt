@@ -21,7 +21,7 @@ pub struct Rows {
 fn signed_product(a: u32, b: u32, c: u32, d: u32, x: u32, y: u32) -> i64
     requires { ⌜ EndsIn a b c d ⌝ }
     requires { ⌜ PositionIn x y ⌝ }
-    ensures { λ r. ⌜ r ≡ product a b c d x y ⌝ }
+    ensures answer { λ r. ⌜ r ≡ product a b c d x y ⌝ }
 {
     laws::difference(a, x) * laws::difference(d, b)
         + laws::difference(y, b) * laws::difference(c, a)
@@ -31,7 +31,7 @@ fn signed_product(a: u32, b: u32, c: u32, d: u32, x: u32, y: u32) -> i64
 fn line_counts(a: u32, b: u32, c: u32, d: u32, x: u32, y: u32) -> bool
     requires { ⌜ EndsIn a b c d ⌝ }
     requires { ⌜ PositionIn x y ⌝ }
-    ensures { λ r. ⌜ r ≡ lineCounts a b c d x y ⌝ }
+    ensures answer { λ r. ⌜ r ≡ lineCounts a b c d x y ⌝ }
 {
     if y < b {
         return false;
@@ -46,7 +46,7 @@ fn line_counts(a: u32, b: u32, c: u32, d: u32, x: u32, y: u32) -> bool
 pub fn edge_counts(e: Edge, x: u32, y: u32) -> bool
     requires { ⌜ EndsIn (e .x0) (e .y0) (e .x1) (e .y1) ⌝ }
     requires { ⌜ PositionIn x y ⌝ }
-    ensures { λ r. ⌜ r ≡ counts e x y ⌝ }
+    ensures answer { λ r. ⌜ r ≡ counts e x y ⌝ }
 {
     if e.y0 <= e.y1 {
         line_counts(e.x0, e.y0, e.x1, e.y1, x, y)
@@ -57,7 +57,7 @@ pub fn edge_counts(e: Edge, x: u32, y: u32) -> bool
 
 // +1 where it is drawn upward, -1 downward, 0 where it is level.
 pub fn edge_sign(e: Edge) -> i64
-    ensures { λ r. ⌜ r ≡ sign e ⌝ }
+    ensures answer { λ r. ⌜ r ≡ sign e ⌝ }
 {
     if e.y0 < e.y1 {
         1
@@ -70,8 +70,8 @@ pub fn edge_sign(e: Edge) -> i64
 
 // The rows of an edge.
 pub fn rows_of(e: Edge) -> Rows
-    ensures { λ r. ⌜ r .first ≡ firstRow e ⌝ }
-    ensures { λ r. ⌜ r .end ≡ endRow e ⌝ }
+    ensures first { λ r. ⌜ r .first ≡ firstRow e ⌝ }
+    ensures end { λ r. ⌜ r .end ≡ endRow e ⌝ }
 {
     if e.y0 < e.y1 {
         Rows {

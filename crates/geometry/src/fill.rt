@@ -9,7 +9,7 @@ pub enum FillRule {
 }
 
 pub fn fill_passes(rule: FillRule, winding: i64) -> bool
-    ensures { λ r. ⌜ r ≡ passes rule winding ⌝ }
+    ensures answer { λ r. ⌜ r ≡ passes rule winding ⌝ }
 {
     match rule {
         FillRule::NonZero => winding != 0,

@@ -265,14 +265,14 @@ const SPREAD: [u32; 256] = [
 
 fn spread_byte(b: u32) -> u32
     requires { ⌜ b < 256 ⌝ }
-    ensures { λ r. ⌜ r ≡ spread 8 b ⌝ }
+    ensures answer { λ r. ⌜ r ≡ spread 8 b ⌝ }
 {
     SPREAD[b as usize]
 }
 
 fn spread_half(x: u32) -> u32
     requires { ⌜ x < 65536 ⌝ }
-    ensures { λ r. ⌜ r ≡ spread 16 x ⌝ }
+    ensures answer { λ r. ⌜ r ≡ spread 16 x ⌝ }
 {
     spread_byte(x % 256) + 65536 * spread_byte(x / 256)
 }
@@ -281,7 +281,7 @@ fn spread_half(x: u32) -> u32
 pub fn key(x: u32, y: u32) -> u32
     requires { ⌜ x < 65536 ⌝ }
     requires { ⌜ y < 65536 ⌝ }
-    ensures { λ r. ⌜ r ≡ keyOf x y ⌝ }
+    ensures answer { λ r. ⌜ r ≡ keyOf x y ⌝ }
 {
     spread_half(x) + 2 * spread_half(y)
 }

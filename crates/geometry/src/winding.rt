@@ -14,7 +14,7 @@ pub fn edge_between(xs: &[u32], ys: &[u32], p: usize, q: usize) -> Edge
     requires { ⌜ p < length (now ys) ⌝ }
     requires { ⌜ q < length (now xs) ⌝ }
     requires { ⌜ q < length (now ys) ⌝ }
-    ensures { λ r. ⌜ r ≡ edgeBetween (now (xs .entry)) (now (ys .entry)) p q ⌝ }
+    ensures answer { λ r. ⌜ r ≡ edgeBetween (now (xs .entry)) (now (ys .entry)) p q ⌝ }
 {
     Edge {
         x0: xs[p],
@@ -28,7 +28,7 @@ pub fn edge_between(xs: &[u32], ys: &[u32], p: usize, q: usize) -> Edge
 pub fn edge_adds(e: Edge, x: u32, y: u32) -> i64
     requires { ⌜ EndsIn (e .x0) (e .y0) (e .x1) (e .y1) ⌝ }
     requires { ⌜ PositionIn x y ⌝ }
-    ensures { λ r. ⌜ r ≡ adds e x y ⌝ }
+    ensures answer { λ r. ⌜ r ≡ adds e x y ⌝ }
 {
     if edge::edge_counts(e, x, y) {
         edge::edge_sign(e)
@@ -41,8 +41,8 @@ pub fn edge_adds(e: Edge, x: u32, y: u32) -> i64
 fn next_corner(first: usize, end: usize, i: usize) -> usize
     requires { ⌜ first ≤ i ⌝ }
     requires { ⌜ i < end ⌝ }
-    ensures { λ r. ⌜ r ≡ nextCorner first end i ⌝ }
-    ensures { λ r. ⌜ r < end ⌝ }
+    ensures answer { λ r. ⌜ r ≡ nextCorner first end i ⌝ }
+    ensures range { λ r. ⌜ r < end ⌝ }
 {
     if i + 1 < end { i + 1 } else { first }
 }
@@ -54,7 +54,7 @@ fn corner_adds(xs: &[u32], ys: &[u32], first: usize, end: usize, i: usize, x: u3
     requires { ⌜ i < end ⌝ }
     requires { ⌜ end ≤ length (now xs) ⌝ }
     requires { ⌜ PositionIn x y ⌝ }
-    ensures { λ r. ⌜ r ≡ adds (edgeBetween (now (xs .entry)) (now (ys .entry)) i (nextCorner first end i)) x y ⌝ }
+    ensures answer { λ r. ⌜ r ≡ adds (edgeBetween (now (xs .entry)) (now (ys .entry)) i (nextCorner first end i)) x y ⌝ }
 {
     let next = next_corner(first, end, i);
     let e = edge_between(xs, ys, i, next);
@@ -67,7 +67,7 @@ fn contour_winding(xs: &[u32], ys: &[u32], first: usize, end: usize, x: u32, y: 
     requires { ⌜ first ≤ end ⌝ }
     requires { ⌜ end ≤ length (now xs) ⌝ }
     requires { ⌜ PositionIn x y ⌝ }
-    ensures { λ r. ⌜ r ≡ sumOf (now (xs .entry)) (now (ys .entry)) (linesFrom first first (end - first)) x y ⌝ }
+    ensures answer { λ r. ⌜ r ≡ sumOf (now (xs .entry)) (now (ys .entry)) (linesFrom first first (end - first)) x y ⌝ }
 {
     let mut sum: i64 = 0;
     let mut i = first;
@@ -84,7 +84,7 @@ pub fn area_winding(xs: &[u32], ys: &[u32], ends: &[u32], x: u32, y: u32) -> i64
     requires { ⌜ CornersIn (now xs) (now ys) ⌝ }
     requires { ⌜ T (follow 0 (length (now xs)) (now ends)) ⌝ }
     requires { ⌜ PositionIn x y ⌝ }
-    ensures { λ r. ⌜ r ≡ winding (now (xs .entry)) (now (ys .entry)) (contoursTo 0 (now (ends .entry))) x y ⌝ }
+    ensures answer { λ r. ⌜ r ≡ winding (now (xs .entry)) (now (ys .entry)) (contoursTo 0 (now (ends .entry))) x y ⌝ }
 {
     let mut sum: i64 = 0;
     let mut first = 0;

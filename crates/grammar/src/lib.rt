@@ -43,20 +43,20 @@ pub enum Verdict {
 
 // A contour of under 3 corners.
 fn is_short(run: u32) -> bool
-    ensures { λ r. ⌜ r ≡ isShort run ⌝ }
+    ensures answer { λ r. ⌜ r ≡ isShort run ⌝ }
 {
     (0 < run) & (run < 3)
 }
 
 // The role that fits the side.
 fn role_here(stack: u32) -> u32
-    ensures { λ r. ⌜ r ≡ roleN stack ⌝ }
+    ensures answer { λ r. ⌜ r ≡ roleN stack ⌝ }
 {
     if groups::on_paint(stack) { 0 } else { 1 }
 }
 
 fn fits(s: State, r: Record) -> bool
-    ensures { λ t. ⌜ t ≡ fitsN s r ⌝ }
+    ensures answer { λ t. ⌜ t ≡ fitsN s r ⌝ }
 {
     match r {
         Record::Area(f) => {
@@ -72,7 +72,7 @@ fn fits(s: State, r: Record) -> bool
 }
 
 fn ends_short(s: State, r: Record) -> bool
-    ensures { λ t. ⌜ t ≡ endsN s r ⌝ }
+    ensures answer { λ t. ⌜ t ≡ endsN s r ⌝ }
 {
     match r {
         Record::Area(_) => is_short(s.run),
@@ -85,7 +85,7 @@ fn ends_short(s: State, r: Record) -> bool
 }
 
 fn in_limit(s: State, r: Record) -> bool
-    ensures { λ t. ⌜ t ≡ limitN s r ⌝ }
+    ensures answer { λ t. ⌜ t ≡ limitN s r ⌝ }
 {
     match r {
         Record::Area(_) => s.areas < 64,
@@ -99,7 +99,7 @@ fn in_limit(s: State, r: Record) -> bool
 
 fn after_area(s: State) -> State
     requires { ⌜ s .areas < 64 ⌝ }
-    ensures { λ t. ⌜ t ≡ areaN s ⌝ }
+    ensures answer { λ t. ⌜ t ≡ areaN s ⌝ }
 {
     State {
         stack: s.stack,
@@ -112,7 +112,7 @@ fn after_area(s: State) -> State
 
 fn after_first(s: State) -> State
     requires { ⌜ s .corners < 2048 ⌝ }
-    ensures { λ t. ⌜ t ≡ firstN s ⌝ }
+    ensures answer { λ t. ⌜ t ≡ firstN s ⌝ }
 {
     State {
         stack: s.stack,
@@ -124,14 +124,14 @@ fn after_first(s: State) -> State
 }
 
 fn more(run: u32) -> u32
-    ensures { λ r. ⌜ r ≡ oneMore run ⌝ }
+    ensures answer { λ r. ⌜ r ≡ oneMore run ⌝ }
 {
     if run < 3 { run + 1 } else { run }
 }
 
 fn after_next(s: State) -> State
     requires { ⌜ s .corners < 2048 ⌝ }
-    ensures { λ t. ⌜ t ≡ nextN s ⌝ }
+    ensures answer { λ t. ⌜ t ≡ nextN s ⌝ }
 {
     let m = more(s.run);
     State {
@@ -145,7 +145,7 @@ fn after_next(s: State) -> State
 
 fn after_open(s: State) -> State
     requires { ⌜ roomN (s .stack) ≡ true ⌝ }
-    ensures { λ t. ⌜ t ≡ afterOpenN s ⌝ }
+    ensures answer { λ t. ⌜ t ≡ afterOpenN s ⌝ }
 {
     let n = groups::opened(s.stack);
     State {
@@ -158,7 +158,7 @@ fn after_open(s: State) -> State
 }
 
 fn after_bar(s: State) -> State
-    ensures { λ t. ⌜ t ≡ afterBarN s ⌝ }
+    ensures answer { λ t. ⌜ t ≡ afterBarN s ⌝ }
 {
     let n = groups::barred(s.stack);
     State {
@@ -171,7 +171,7 @@ fn after_bar(s: State) -> State
 }
 
 fn after_close(s: State) -> State
-    ensures { λ t. ⌜ t ≡ afterCloseN s ⌝ }
+    ensures answer { λ t. ⌜ t ≡ afterCloseN s ⌝ }
 {
     let n = groups::closed(s.stack);
     State {
@@ -185,7 +185,7 @@ fn after_close(s: State) -> State
 
 fn after(s: State, r: Record) -> State
     requires { ⌜ limitN s r ≡ true ⌝ }
-    ensures { λ t. ⌜ t ≡ afterN s r ⌝ }
+    ensures answer { λ t. ⌜ t ≡ afterN s r ⌝ }
 {
     match r {
         Record::Area(_) => after_area(s),
@@ -199,7 +199,7 @@ fn after(s: State, r: Record) -> State
 
 // One record more: 4, 5, 6, or on.
 fn stepped(s: State, r: Record) -> Step
-    ensures { λ t. ⌜ t ≡ stepN s r ⌝ }
+    ensures answer { λ t. ⌜ t ≡ stepN s r ⌝ }
 {
     let f = fits(s, r);
     if f {
@@ -218,7 +218,7 @@ fn stepped(s: State, r: Record) -> Step
 }
 
 fn settled(t: Step, i: usize) -> Scan
-    ensures { λ c. ⌜ c ≡ settledN t i ⌝ }
+    ensures answer { λ c. ⌜ c ≡ settledN t i ⌝ }
 {
     match t {
         Step::On(s) => Scan::At(s),
@@ -227,7 +227,7 @@ fn settled(t: Step, i: usize) -> Scan
 }
 
 fn advance_at(s: State, d: Decoded, i: usize) -> Scan
-    ensures { λ c. ⌜ c ≡ advanceAtN s d i ⌝ }
+    ensures answer { λ c. ⌜ c ≡ advanceAtN s d i ⌝ }
 {
     match d {
         Decoded::Good(r) => {
@@ -240,7 +240,7 @@ fn advance_at(s: State, d: Decoded, i: usize) -> Scan
 
 // What was decoded as record i, 2 and 3 among it.
 pub fn advance(c: Scan, d: Decoded, i: usize) -> Scan
-    ensures { λ r. ⌜ r ≡ advanceN c d i ⌝ }
+    ensures answer { λ r. ⌜ r ≡ advanceN c d i ⌝ }
 {
     match c {
         Scan::At(s) => advance_at(s, d, i),
@@ -250,7 +250,7 @@ pub fn advance(c: Scan, d: Decoded, i: usize) -> Scan
 
 // Whether a record was refused.
 pub fn is_stopped(c: Scan) -> bool
-    ensures { λ r. ⌜ r ≡ isStopped c ⌝ }
+    ensures answer { λ r. ⌜ r ≡ isStopped c ⌝ }
 {
     match c {
         Scan::At(_) => false,
@@ -260,7 +260,7 @@ pub fn is_stopped(c: Scan) -> bool
 
 // Before the first record.
 pub fn start() -> Scan
-    ensures { λ c. ⌜ c ≡ startN ⌝ }
+    ensures answer { λ c. ⌜ c ≡ startN ⌝ }
 {
     Scan::At(State {
         stack: 1,
@@ -272,7 +272,7 @@ pub fn start() -> Scan
 }
 
 fn end_state(s: State, n: usize) -> Verdict
-    ensures { λ v. ⌜ v ≡ endStateN s n ⌝ }
+    ensures answer { λ v. ⌜ v ≡ endStateN s n ⌝ }
 {
     if s.stack == 1 {
         let e = is_short(s.run);
@@ -290,7 +290,7 @@ fn end_state(s: State, n: usize) -> Verdict
 
 // The end, after n records: 4, then 5.
 pub fn ended(c: Scan, n: usize) -> Verdict
-    ensures { λ v. ⌜ v ≡ endedN c n ⌝ }
+    ensures answer { λ v. ⌜ v ≡ endedN c n ⌝ }
 {
     match c {
         Scan::At(s) => end_state(s, n),

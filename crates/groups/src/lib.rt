@@ -7,28 +7,28 @@ ghost use Rattle.groups.specs.code.Stack.{paintN, leftN, rightN, roomN, 
 
 // Whether what stands here stands on a paint side.
 pub fn on_paint(stack: u32) -> bool
-    ensures { λ r. ⌜ r ≡ paintN stack ⌝ }
+    ensures answer { λ r. ⌜ r ≡ paintN stack ⌝ }
 {
     stack % 4 == 1
 }
 
 // Whether this is the left side of the innermost open group.
 pub fn on_left(stack: u32) -> bool
-    ensures { λ r. ⌜ r ≡ leftN stack ⌝ }
+    ensures answer { λ r. ⌜ r ≡ leftN stack ⌝ }
 {
     stack % 2 == 0
 }
 
 // Whether this is the right side of the innermost open group.
 pub fn on_right(stack: u32) -> bool
-    ensures { λ r. ⌜ r ≡ rightN stack ⌝ }
+    ensures answer { λ r. ⌜ r ≡ rightN stack ⌝ }
 {
     (4 <= stack) & (stack % 2 == 1)
 }
 
 // Whether fewer than 8 groups are open.
 pub fn has_room(stack: u32) -> bool
-    ensures { λ r. ⌜ r ≡ roomN stack ⌝ }
+    ensures answer { λ r. ⌜ r ≡ roomN stack ⌝ }
 {
     stack < 65536
 }
@@ -36,7 +36,7 @@ pub fn has_room(stack: u32) -> bool
 // One group more is open, on its left side.
 pub fn opened(stack: u32) -> u32
     requires { ⌜ roomN stack ≡ true ⌝ }
-    ensures { λ r. ⌜ r ≡ openN stack ⌝ }
+    ensures answer { λ r. ⌜ r ≡ openN stack ⌝ }
 {
     if stack % 4 == 1 {
         stack * 4
@@ -47,14 +47,14 @@ pub fn opened(stack: u32) -> u32
 
 // The innermost open group is on its right side.
 pub fn barred(stack: u32) -> u32
-    ensures { λ r. ⌜ r ≡ barN stack ⌝ }
+    ensures answer { λ r. ⌜ r ≡ barN stack ⌝ }
 {
     stack / 2 * 2 + 1
 }
 
 // The innermost open group is closed.
 pub fn closed(stack: u32) -> u32
-    ensures { λ r. ⌜ r ≡ closeN stack ⌝ }
+    ensures answer { λ r. ⌜ r ≡ closeN stack ⌝ }
 {
     stack / 4
 }

@@ -48,7 +48,7 @@ pub enum Turn {
 // How many steps down from cell 0 a cell of this side lies.
 fn depth_of(side: u32) -> u32
     requires { ⌜ sideRange side ≡ true ⌝ }
-    ensures { λ r. ⌜ r ≡ depthAt side ⌝ }
+    ensures answer { λ r. ⌜ r ≡ depthAt side ⌝ }
 {
     let mut s = side;
     let mut d: u32 = 0;
@@ -64,7 +64,7 @@ fn is_wanted(entries: &[u32], w: CellWords, threshold: u32, limit: u32) -> bool
     requires { ⌜ (w .first + w .count) * 4 ≤ length (now entries) ⌝ }
     requires { ⌜ w .count ≤ 4096 ⌝ }
     requires { ⌜ sideRange (w .side) ≡ true ⌝ }
-    ensures { λ r. ⌜ r ≡ isWanted threshold limit w (wordsFrom (now (entries .entry)) (w .first) (w .count)) ⌝ }
+    ensures answer { λ r. ⌜ r ≡ isWanted threshold limit w (wordsFrom (now (entries .entry)) (w .first) (w .count)) ⌝ }
 {
     let first = w.first as usize;
     let count = w.count as usize;
@@ -86,7 +86,7 @@ fn try_leaf(
     limit: u32,
 ) -> Tried
     requires { ⌜ squareRange w ≡ true ⌝ }
-    ensures { λ r. ⌜ r ≡ triedLeaf threshold limit (now (entries .entry)) free (env (now (areas .entry)) (now (xs .entry)) (now (ys .entry)) b) w ⌝ }
+    ensures answer { λ r. ⌜ r ≡ triedLeaf threshold limit (now (entries .entry)) free (env (now (areas .entry)) (now (xs .entry)) (now (ys .entry)) b) w ⌝ }
 {
     let first = w.first as usize;
     let count = w.count as usize;
@@ -111,7 +111,7 @@ fn try_cell(
     threshold: u32,
     limit: u32,
 ) -> Tried
-    ensures { λ r. ⌜ r ≡
+    ensures answer { λ r. ⌜ r ≡
         triedCell threshold limit (now (entries .entry)) (s .cell) (s .used) (s .free)
         (env (now (areas .entry)) (now (xs .entry)) (now (ys .entry)) b) w ⌝ }
 {
@@ -128,7 +128,7 @@ fn try_cell(
 // The cell is passed over.
 fn past(s: Sweep) -> Sweep
     requires { ⌜ s .cell ≤ 4096 ⌝ }
-    ensures { λ r. ⌜ r ≡ pastN s ⌝ }
+    ensures answer { λ r. ⌜ r ≡ pastN s ⌝ }
 {
     Sweep {
         cell: s.cell + 1,
@@ -142,7 +142,7 @@ fn past(s: Sweep) -> Sweep
 fn split_past(s: Sweep, head: &[u32]) -> Sweep
     requires { ⌜ (s .cell ≤ 4096) × (s .used ≤ 4096) × (s .splits ≤ 4096) ⌝ }
     requires { ⌜ 2 ≤ length (now head) ⌝ }
-    ensures { λ r. ⌜ r ≡ splitN s (entriesUsed (now (head .entry))) ⌝ }
+    ensures answer { λ r. ⌜ r ≡ splitN s (entriesUsed (now (head .entry))) ⌝ }
 {
     let free = head[1];
     Sweep {
@@ -172,17 +172,17 @@ fn split_wanted(
     requires { ⌜ (s .used ≤ 4096) × (s .free ≤ 65536) ⌝ }
     requires { ⌜ (s .cell < s .used) × (2 ≤ length (now head)) ⌝ }
     requires { ⌜ s .splits ≤ s .cell ⌝ }
-    ensures { λ r. ⌜ r ≡
+    ensures answer { λ r. ⌜ r ≡
         byRoom (roomAnswer (length (now (cells .entry))) (length (now (entries .entry))) (s .used) (s .free) (madeLent areas xs ys b w entries)) s
         (now (head .exit)) ⌝ }
-    ensures { λ _. ⌜ now (head .exit) ≡
+    ensures head { λ _. ⌜ now (head .exit) ≡
         headBy (roomAnswer (length (now (cells .entry))) (length (now (entries .entry))) (s .used) (s .free) (madeLent areas xs ys b w entries))
         (now (head .entry)) (s .used) (s .free) (madeLent areas xs ys b w entries) ⌝ }
-    ensures { λ _. ⌜ now (cells .exit) ≡
+    ensures cells { λ _. ⌜ now (cells .exit) ≡
         cellsOf (roomAnswer (length (now (cells .entry))) (length (now (entries .entry))) (s .used) (s .free) (madeLent areas xs ys b w entries))
         (lent (now (areas .entry)) (now (xs .entry)) (now (ys .entry)) b) w (wordsFrom (now (entries .entry)) (w .first) (w .count))
         (now (cells .entry)) (s .cell) (s .used) (s .free) ⌝ }
-    ensures { λ _. ⌜ now (entries .exit) ≡
+    ensures entries { λ _. ⌜ now (entries .exit) ≡
         entriesBy (roomAnswer (length (now (cells .entry))) (length (now (entries .entry))) (s .used) (s .free) (madeLent areas xs ys b w entries))
         (now (entries .entry)) (s .free) (madeLent areas xs ys b w entries) ⌝ }
 {
@@ -217,13 +217,13 @@ fn take_turn(
     requires { ⌜ (s .used ≡ cellsUsed (now head)) × (s .free ≡ entriesUsed (now head)) ⌝ }
     requires { ⌜ (s .cell < s .used) × (s .splits ≤ s .cell) ⌝ }
     requires { ⌜ limit ≤ 16 ⌝ }
-    ensures { λ r. ⌜ r ≡ turnBy (tried (treeLent plan areas xs ys head cells entries) threshold limit (s .cell))
+    ensures answer { λ r. ⌜ r ≡ turnBy (tried (treeLent plan areas xs ys head cells entries) threshold limit (s .cell))
         (treeLent plan areas xs ys head cells entries) s ⌝ }
-    ensures { λ _. ⌜ now (head .exit) ≡ treeBy (tried (treeLent plan areas xs ys head cells entries) threshold limit (s .cell))
+    ensures head { λ _. ⌜ now (head .exit) ≡ treeBy (tried (treeLent plan areas xs ys head cells entries) threshold limit (s .cell))
         (treeLent plan areas xs ys head cells entries) (s .cell) .head ⌝ }
-    ensures { λ _. ⌜ now (cells .exit) ≡ treeBy (tried (treeLent plan areas xs ys head cells entries) threshold limit (s .cell))
+    ensures cells { λ _. ⌜ now (cells .exit) ≡ treeBy (tried (treeLent plan areas xs ys head cells entries) threshold limit (s .cell))
         (treeLent plan areas xs ys head cells entries) (s .cell) .cells ⌝ }
-    ensures { λ _. ⌜ now (entries .exit) ≡ treeBy (tried (treeLent plan areas xs ys head cells entries) threshold limit (s .cell))
+    ensures entries { λ _. ⌜ now (entries .exit) ≡ treeBy (tried (treeLent plan areas xs ys head cells entries) threshold limit (s .cell))
         (treeLent plan areas xs ys head cells entries) (s .cell) .entries ⌝ }
 {
     let i = s.cell as usize;
@@ -260,10 +260,10 @@ fn sweep_up(
     requires { ⌜ countsIn (tree (now plan) (now areas) (now xs) (now ys) (now head) (now cells) (now entries)) ≡ true ⌝ }
     requires { ⌜ length (now xs) ≡ length (now ys) ⌝ }
     requires { ⌜ limit ≤ 16 ⌝ }
-    ensures { λ r. ⌜ r ≡ answerOf (grown threshold limit (treeLent plan areas xs ys head cells entries)) ⌝ }
-    ensures { λ _. ⌜ now (head .exit) ≡ grown threshold limit (treeLent plan areas xs ys head cells entries) .after .head ⌝ }
-    ensures { λ _. ⌜ now (cells .exit) ≡ grown threshold limit (treeLent plan areas xs ys head cells entries) .after .cells ⌝ }
-    ensures { λ _. ⌜ now (entries .exit) ≡ grown threshold limit (treeLent plan areas xs ys head cells entries) .after .entries ⌝ }
+    ensures answer { λ r. ⌜ r ≡ answerOf (grown threshold limit (treeLent plan areas xs ys head cells entries)) ⌝ }
+    ensures head { λ _. ⌜ now (head .exit) ≡ grown threshold limit (treeLent plan areas xs ys head cells entries) .after .head ⌝ }
+    ensures cells { λ _. ⌜ now (cells .exit) ≡ grown threshold limit (treeLent plan areas xs ys head cells entries) .after .cells ⌝ }
+    ensures entries { λ _. ⌜ now (entries .exit) ≡ grown threshold limit (treeLent plan areas xs ys head cells entries) .after .entries ⌝ }
 {
     let used = head[0];
     let free = head[1];

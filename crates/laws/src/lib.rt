@@ -4,14 +4,14 @@ ghost use lib.IntN.{pos, _-ℤ_};
 
 // a - b, of two unsigned numbers.
 pub fn difference(a: u32, b: u32) -> i64
-    ensures { λ r. ⌜ r ≡ pos a -ℤ pos b ⌝ }
+    ensures answer { λ r. ⌜ r ≡ pos a -ℤ pos b ⌝ }
 {
     (a as i64) - (b as i64)
 }
 
 // A word as an index.
 pub fn wide(x: u32) -> usize
-    ensures { λ r. ⌜ r ≡ x ⌝ }
+    ensures answer { λ r. ⌜ r ≡ x ⌝ }
 {
     x as usize
 }

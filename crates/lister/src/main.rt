@@ -56,8 +56,8 @@ pub enum Outcome {
 
 fn outcome_of(a: grow::Answer, n: usize) -> Outcome
     requires { ⌜ n ≤ 256 ⌝ }
-    ensures { λ r. ⌜ r ≡ outcomeOf a n ⌝ }
-    ensures { λ r. ⌜ linesOf r ≤ 256 ⌝ }
+    ensures answer { λ r. ⌜ r ≡ outcomeOf a n ⌝ }
+    ensures range { λ r. ⌜ linesOf r ≤ 256 ⌝ }
 {
     match a {
         grow::Answer::Done(_) => Outcome::Done(n),
@@ -78,9 +78,9 @@ fn list_grown(
     rows: &mut [u32],
 ) -> Outcome
     requires { ⌜ 1280 ≤ length (now rows) ⌝ }
-    ensures { λ r. ⌜ r ≡ outcomeGrown (treeLent plan areas xs ys head cells entries) ⌝ }
-    ensures { λ r. ⌜ now (rows .exit) ≡ rowsGrown (treeLent plan areas xs ys head cells entries) (now (rows .entry)) ⌝ }
-    ensures { λ r. ⌜ linesOf r ≤ 256 ⌝ }
+    ensures answer { λ r. ⌜ r ≡ outcomeGrown (treeLent plan areas xs ys head cells entries) ⌝ }
+    ensures rows { λ r. ⌜ now (rows .exit) ≡ rowsGrown (treeLent plan areas xs ys head cells entries) (now (rows .entry)) ⌝ }
+    ensures range { λ r. ⌜ linesOf r ≤ 256 ⌝ }
 {
     let a = grow::grow(plan, areas, xs, ys, head, cells, entries, 0, 4);
     let n = listing::list_leaves(plan, areas, xs, ys, head, cells, entries, rows);
@@ -99,9 +99,9 @@ fn list_drawing(
     rows: &mut [u32],
 ) -> Outcome
     requires { ⌜ 1280 ≤ length (now rows) ⌝ }
-    ensures { λ r. ⌜ r ≡ outcome (treeLent plan areas xs ys head cells entries) ⌝ }
-    ensures { λ r. ⌜ now (rows .exit) ≡ rowsAfter (treeLent plan areas xs ys head cells entries) (now (rows .entry)) ⌝ }
-    ensures { λ r. ⌜ linesOf r ≤ 256 ⌝ }
+    ensures answer { λ r. ⌜ r ≡ outcome (treeLent plan areas xs ys head cells entries) ⌝ }
+    ensures rows { λ r. ⌜ now (rows .exit) ≡ rowsAfter (treeLent plan areas xs ys head cells entries) (now (rows .entry)) ⌝ }
+    ensures range { λ r. ⌜ linesOf r ≤ 256 ⌝ }
 {
     let a = open::open(plan, areas, xs, ys, head, cells, entries);
     match a {

@@ -27,24 +27,24 @@ pub enum Corner {
 // those of x and y together, so the key of corner k is k * 2^24, and counting k upward goes through the corners in key order.
 fn every_other(k: u32) -> u32
     requires { ⌜ k < 256 ⌝ }
-    ensures { λ r. ⌜ r ≡ everyOther k ⌝ }
-    ensures { λ r. ⌜ r < 16 ⌝ }
+    ensures answer { λ r. ⌜ r ≡ everyOther k ⌝ }
+    ensures range { λ r. ⌜ r < 16 ⌝ }
 {
     k % 2 + 2 * (k / 4 % 2) + (4 * (k / 16 % 2) + 8 * (k / 64 % 2))
 }
 
 fn corner_x(k: u32) -> u32
     requires { ⌜ k < 256 ⌝ }
-    ensures { λ r. ⌜ r ≡ cornerX k ⌝ }
-    ensures { λ r. ⌜ r < 65536 ⌝ }
+    ensures answer { λ r. ⌜ r ≡ cornerX k ⌝ }
+    ensures range { λ r. ⌜ r < 65536 ⌝ }
 {
     4096 * every_other(k)
 }
 
 fn corner_y(k: u32) -> u32
     requires { ⌜ k < 256 ⌝ }
-    ensures { λ r. ⌜ r ≡ cornerY k ⌝ }
-    ensures { λ r. ⌜ r < 65536 ⌝ }
+    ensures answer { λ r. ⌜ r ≡ cornerY k ⌝ }
+    ensures range { λ r. ⌜ r < 65536 ⌝ }
 {
     4096 * every_other(k / 2)
 }
@@ -52,7 +52,7 @@ fn corner_y(k: u32) -> u32
 // The line of a leaf, if (x, y) is its low corner.
 fn if_low(f: FoundLeaf, x: u32, y: u32) -> Corner
     requires { ⌜ (x < 65536) × (y < 65536) ⌝ }
-    ensures { λ r. ⌜ r ≡ ifLow x y f ⌝ }
+    ensures answer { λ r. ⌜ r ≡ ifLow x y f ⌝ }
 {
     if (f.x == x) & (f.y == y) {
         return Corner::Low(Line {
@@ -68,7 +68,7 @@ fn if_low(f: FoundLeaf, x: u32, y: u32) -> Corner
 
 fn of_answer(a: find_leaf::Answer, x: u32, y: u32) -> Corner
     requires { ⌜ (x < 65536) × (y < 65536) ⌝ }
-    ensures { λ r. ⌜ r ≡ ofAnswer x y a ⌝ }
+    ensures answer { λ r. ⌜ r ≡ ofAnswer x y a ⌝ }
 {
     match a {
         find_leaf::Answer::Found(f) => if_low(f, x, y),
@@ -88,7 +88,7 @@ fn corner_at(
     k: u32,
 ) -> Corner
     requires { ⌜ k < 256 ⌝ }
-    ensures { λ r. ⌜ r ≡ cornerAt (treeLent plan areas xs ys head cells entries) k ⌝ }
+    ensures answer { λ r. ⌜ r ≡ cornerAt (treeLent plan areas xs ys head cells entries) k ⌝ }
 {
     let x = corner_x(k);
     let y = corner_y(k);
@@ -98,7 +98,7 @@ fn corner_at(
 
 fn put_line(rows: &mut [u32], n: usize, l: Line)
     requires { ⌜ n * 5 + 5 ≤ length (now rows) ⌝ }
-    ensures { λ _. ⌜ now (rows .exit) ≡ putAt (now (rows .entry)) n l ⌝ }
+    ensures rows { λ _. ⌜ now (rows .exit) ≡ putAt (now (rows .entry)) n l ⌝ }
 {
     rows[n * 5] = l.cell;
     rows[n * 5 + 1] = l.key;
@@ -110,8 +110,8 @@ fn put_line(rows: &mut [u32], n: usize, l: Line)
 // One line more, or none.
 fn put_corner(rows: &mut [u32], n: usize, p: Corner) -> usize
     requires { ⌜ n * 5 + 5 ≤ length (now rows) ⌝ }
-    ensures { λ m. ⌜ m ≡ n + length (withCorner p []) ⌝ }
-    ensures { λ m. ⌜ now (rows .exit) ≡ written (now (rows .entry)) n (withCorner p []) ⌝ }
+    ensures answer { λ m. ⌜ m ≡ n + length (withCorner p []) ⌝ }
+    ensures rows { λ m. ⌜ now (rows .exit) ≡ written (now (rows .entry)) n (withCorner p []) ⌝ }
 {
     match p {
         Corner::Low(l) => {

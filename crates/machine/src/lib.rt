@@ -18,7 +18,7 @@ pub struct Machine {
 
 // Processing, with no group open and nothing shown.
 pub fn begun() -> Machine
-    ensures { λ r. ⌜ r ≡ machine 0 0 0 0 ⌝ }
+    ensures answer { λ r. ⌜ r ≡ machine 0 0 0 0 ⌝ }
 {
     Machine {
         state: 0,
@@ -32,7 +32,7 @@ pub fn begun() -> Machine
 fn paint_in_process(m: Machine, passes: bool, opaque: bool, n: u32) -> Machine
     requires { ⌜ m .state ≡ 0 ⌝ }
     requires { ⌜ n < 64 ⌝ }
-    ensures { λ r. ⌜ (meant r ≡ onItem paint passes opaque (λ s. withArea s n) (meant m)) × (r .depth ≡ m .depth) ⌝ }
+    ensures answer { λ r. ⌜ (meant r ≡ onItem paint passes opaque (λ s. withArea s n) (meant m)) × (r .depth ≡ m .depth) ⌝ }
 {
     if passes {
         let shown = set::with_area(m.set, n);
@@ -57,7 +57,7 @@ fn paint_in_process(m: Machine, passes: bool, opaque: bool, n: u32) -> Machine
 // After an area on a paint side: S and SA go over it, and so does a machine that has stopped.
 pub fn after_paint(m: Machine, passes: bool, opaque: bool, n: u32) -> Machine
     requires { ⌜ n < 64 ⌝ }
-    ensures { λ r. ⌜ (meant r ≡ onItem paint passes opaque (λ s. withArea s n) (meant m)) × (r .depth ≡ m .depth) ⌝ }
+    ensures answer { λ r. ⌜ (meant r ≡ onItem paint passes opaque (λ s. withArea s n) (meant m)) × (r .depth ≡ m .depth) ⌝ }
 {
     let state = m.state;
     match state {
@@ -71,7 +71,7 @@ pub fn after_paint(m: Machine, passes: bool, opaque: bool, n: u32) -> Machine
 // Processing, at an area or "passes" on a clip side: where it passes, the rest of the side is skipped.
 fn clip_in_process(m: Machine, passes: bool) -> Machine
     requires { ⌜ m .state ≡ 0 ⌝ }
-    ensures { λ r. ⌜ (meant r ≡ onItem clip passes true (λ s. s) (meant m)) × (r .depth ≡ m .depth) ⌝ }
+    ensures answer { λ r. ⌜ (meant r ≡ onItem clip passes true (λ s. s) (meant m)) × (r .depth ≡ m .depth) ⌝ }
 {
     if passes {
         return Machine {
@@ -86,7 +86,7 @@ fn clip_in_process(m: Machine, passes: bool) -> Machine
 
 // After an area, or the bare entry "passes", on a clip side: S and SA go over it, and so does a machine that has stopped.
 pub fn after_clip(m: Machine, passes: bool) -> Machine
-    ensures { λ r. ⌜ (meant r ≡ onItem clip passes true (λ s. s) (meant m)) × (r .depth ≡ m .depth) ⌝ }
+    ensures answer { λ r. ⌜ (meant r ≡ onItem clip passes true (λ s. s) (meant m)) × (r .depth ≡ m .depth) ⌝ }
 {
     let state = m.state;
     match state {
@@ -100,7 +100,7 @@ pub fn after_clip(m: Machine, passes: bool) -> Machine
 // One group deeper, in the given state.
 fn deeper(m: Machine, state: u32) -> Machine
     requires { ⌜ m .depth < 4096 ⌝ }
-    ensures { λ r. ⌜ r ≡ machine state (m .depth + 1) (m .stop) (m .set) ⌝ }
+    ensures answer { λ r. ⌜ r ≡ machine state (m .depth + 1) (m .stop) (m .set) ⌝ }
 {
     Machine {
         state: state,
@@ -113,7 +113,7 @@ fn deeper(m: Machine, state: u32) -> Machine
 // After `(`: every state stays.
 pub fn after_open(m: Machine) -> Machine
     requires { ⌜ m .depth < 4096 ⌝ }
-    ensures { λ r. ⌜ (meant r ≡ onPush (meant m)) × (r .depth ≡ m .depth + 1) ⌝ }
+    ensures answer { λ r. ⌜ (meant r ≡ onPush (meant m)) × (r .depth ≡ m .depth + 1) ⌝ }
 {
     let state = m.state;
     match state {
@@ -127,7 +127,7 @@ pub fn after_open(m: Machine) -> Machine
 // Skipping, at `|`: processing goes on if the left side that passed ends here.
 fn bar_in_skip(m: Machine) -> Machine
     requires { ⌜ m .state ≡ 1 ⌝ }
-    ensures { λ r. ⌜ (meant r ≡ onActivate (meant m)) × (r .depth ≡ m .depth) ⌝ }
+    ensures answer { λ r. ⌜ (meant r ≡ onActivate (meant m)) × (r .depth ≡ m .depth) ⌝ }
 {
     if m.depth <= m.stop {
         return Machine {
@@ -142,7 +142,7 @@ fn bar_in_skip(m: Machine) -> Machine
 
 // After `|`.
 pub fn after_bar(m: Machine) -> Machine
-    ensures { λ r. ⌜ (meant r ≡ onActivate (meant m)) × (r .depth ≡ m .depth) ⌝ }
+    ensures answer { λ r. ⌜ (meant r ≡ onActivate (meant m)) × (r .depth ≡ m .depth) ⌝ }
 {
     let state = m.state;
     match state {
@@ -161,7 +161,7 @@ pub fn after_bar(m: Machine) -> Machine
 }
 
 fn one_less(n: u32) -> u32
-    ensures { λ r. ⌜ r ≡ pred n ⌝ }
+    ensures answer { λ r. ⌜ r ≡ pred n ⌝ }
 {
     if n == 0 { 0 } else { n - 1 }
 }
@@ -169,7 +169,7 @@ fn one_less(n: u32) -> u32
 // Skipping, at `)`.
 fn close_in_skip(m: Machine) -> Machine
     requires { ⌜ m .state ≡ 1 ⌝ }
-    ensures { λ r. ⌜ (meant r ≡ onPop (meant m)) × (r .depth ≡ pred (m .depth)) ⌝ }
+    ensures answer { λ r. ⌜ (meant r ≡ onPop (meant m)) × (r .depth ≡ pred (m .depth)) ⌝ }
 {
     let outer = one_less(m.depth);
     if m.depth <= m.stop {
@@ -191,7 +191,7 @@ fn close_in_skip(m: Machine) -> Machine
 // Skipping a right side, at `)`: processing goes on behind the group whose left side failed.
 fn close_in_skip_all(m: Machine) -> Machine
     requires { ⌜ m .state ≡ 2 ⌝ }
-    ensures { λ r. ⌜ (meant r ≡ onPop (meant m)) × (r .depth ≡ pred (m .depth)) ⌝ }
+    ensures answer { λ r. ⌜ (meant r ≡ onPop (meant m)) × (r .depth ≡ pred (m .depth)) ⌝ }
 {
     let outer = one_less(m.depth);
     if m.depth <= m.stop {
@@ -212,7 +212,7 @@ fn close_in_skip_all(m: Machine) -> Machine
 
 // After `)`.
 pub fn after_close(m: Machine) -> Machine
-    ensures { λ r. ⌜ (meant r ≡ onPop (meant m)) × (r .depth ≡ pred (m .depth)) ⌝ }
+    ensures answer { λ r. ⌜ (meant r ≡ onPop (meant m)) × (r .depth ≡ pred (m .depth)) ⌝ }
 {
     let state = m.state;
     match state {

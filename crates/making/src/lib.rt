@@ -33,7 +33,7 @@ fn line_left(xs: &[u32], ys: &[u32], s: Square, w: Words) -> Left
     requires { ⌜ (w .p < length (now xs)) × (w .p < length (now ys)) × (w .q < length (now xs)) × (w .q < length (now ys)) ⌝ }
     requires { ⌜ EndsIn (getD (now xs) (w .p) 0) (getD (now ys) (w .p) 0) (getD (now xs) (w .q) 0) (getD (now ys) (w .q) 0) ⌝ }
     requires { ⌜ SquareIn s ⌝ }
-    ensures { λ r. ⌜ (r .sign ≡ sign (edgeBetween (now (xs .entry)) (now (ys .entry)) (w .p) (w .q)))
+    ensures answer { λ r. ⌜ (r .sign ≡ sign (edgeBetween (now (xs .entry)) (now (ys .entry)) (w .p) (w .q)))
         × (r .class ≡ edgeClass (edgeBetween (now (xs .entry)) (now (ys .entry)) (w .p) (w .q)) s) ⌝ }
 {
     let e = winding::edge_between(xs, ys, w.p as usize, w.q as usize);
@@ -45,7 +45,7 @@ fn line_left(xs: &[u32], ys: &[u32], s: Square, w: Words) -> Left
 fn shortcut_left(s: Square, w: Words) -> Left
     requires { ⌜ signRange (w .p) ≡ true ⌝ }
     requires { ⌜ SquareIn s ⌝ }
-    ensures { λ r. ⌜ (r .sign ≡ toZ w32 (w .p)) × (r .class ≡ cut (w .q) (w .r) (s .y) (s .side)) ⌝ }
+    ensures answer { λ r. ⌜ (r .sign ≡ toZ w32 (w .p)) × (r .class ≡ cut (w .q) (w .r) (s .y) (s .side)) ⌝ }
 {
     let k = class::cut_rows(w.q, w.r, s);
     if w.p == 1 {
@@ -59,7 +59,7 @@ pub fn left_of(xs: &[u32], ys: &[u32], corners: usize, s: Square, w: Words) -> L
     requires { ⌜ (corners ≤ length (now xs)) × (corners ≤ length (now ys)) ⌝ }
     requires { ⌜ leftRange (now xs) (now ys) corners w ≡ true ⌝ }
     requires { ⌜ SquareIn s ⌝ }
-    ensures { λ r. ⌜ (r .sign ≡ leftSign (now (xs .entry)) (now (ys .entry)) w) × (r .class ≡ leftClass (now (xs .entry)) (now (ys .entry)) s w) ⌝ }
+    ensures answer { λ r. ⌜ (r .sign ≡ leftSign (now (xs .entry)) (now (ys .entry)) w) × (r .class ≡ leftClass (now (xs .entry)) (now (ys .entry)) s w) ⌝ }
 {
     if w.kind == 5 {
         return line_left(xs, ys, s, w);
@@ -85,7 +85,7 @@ pub struct Waiting {
 
 // No area waits.
 pub fn rest() -> Waiting
-    ensures { λ r. ⌜ r ≡ resting ⌝ }
+    ensures answer { λ r. ⌜ r ≡ resting ⌝ }
 {
     Waiting {
         waits: false,
@@ -97,7 +97,7 @@ pub fn rest() -> Waiting
 
 fn named(w: Words) -> Waiting
     requires { ⌜ startRange (w .q) ≡ true ⌝ }
-    ensures { λ r. ⌜ r ≡ waiting true (w .p) (toZ w32 (w .q)) 4294967297 ⌝ }
+    ensures answer { λ r. ⌜ r ≡ waiting true (w .p) (toZ w32 (w .q)) 4294967297 ⌝ }
 {
     let z = evaluate::start_of(w);
     Waiting {
@@ -111,7 +111,7 @@ fn named(w: Words) -> Waiting
 // The same area with another weight.
 fn grown(a: Waiting, weight: u64) -> Waiting
     requires { ⌜ natAbs (a .start) ≤ 8192 ⌝ }
-    ensures { λ r. ⌜ r ≡ waiting true (a .number) (a .start) weight ⌝ }
+    ensures answer { λ r. ⌜ r ≡ waiting true (a .number) (a .start) weight ⌝ }
 {
     Waiting {
         waits: true,
@@ -124,7 +124,7 @@ fn grown(a: Waiting, weight: u64) -> Waiting
 // A line or a shortcut with this sign and class, of the area that waits.
 fn with_left(a: Waiting, k: Class, sign: i64) -> Waiting
     requires { ⌜ (natAbs (a .start) ≤ 8192) × (natAbs sign ≤ 1) × (a .weight < 2 ^ 60) ⌝ }
-    ensures { λ r. ⌜ r ≡ withLeft a k sign ⌝ }
+    ensures answer { λ r. ⌜ r ≡ withLeft a k sign ⌝ }
 {
     if a.waits {
         match k {
@@ -154,7 +154,7 @@ fn with_left(a: Waiting, k: Class, sign: i64) -> Waiting
 pub fn waiting_after(a: Waiting, l: Left, w: Words) -> Waiting
     requires { ⌜ (natAbs (a .start) ≤ 8192) × (natAbs (l .sign) ≤ 1) × (a .weight < 2 ^ 60) ⌝ }
     requires { ⌜ (w .kind ≡ 4 → startRange (w .q) ≡ true) ⌝ }
-    ensures { λ r. ⌜ r ≡ waitingN a (l .class) (l .sign) w ⌝ }
+    ensures answer { λ r. ⌜ r ≡ waitingN a (l .class) (l .sign) w ⌝ }
 {
     if w.kind == 4 {
         return named(w);
@@ -174,7 +174,7 @@ pub fn waiting_after(a: Waiting, l: Left, w: Words) -> Waiting
 pub fn class_of(areas: &[u32], a: Waiting) -> u32
     requires { ⌜ natAbs (a .start) ≤ 8192 ⌝ }
     requires { ⌜ a .number * 8 + 8 ≤ length (now areas) ⌝ }
-    ensures { λ r. ⌜ r ≡ classN (now (areas .entry)) a ⌝ }
+    ensures answer { λ r. ⌜ r ≡ classN (now (areas .entry)) a ⌝ }
 {
     if a.weight == 4294967297 {
         let at = (a.number as usize) * 8;
@@ -196,7 +196,7 @@ pub fn class_of(areas: &[u32], a: Waiting) -> u32
 pub fn settled(areas: &[u32], p: Pruner, a: Waiting) -> Pruner
     requires { ⌜ Inside (length (now areas)) a ⌝ }
     requires { ⌜ (p .weight + a .weight < 2 ^ 60) × (p .base < 2 ^ 60) ⌝ }
-    ensures { λ r. ⌜ counted r ≡ settledN (now (areas .entry)) (counted p) a ⌝ }
+    ensures answer { λ r. ⌜ counted r ≡ settledN (now (areas .entry)) (counted p) a ⌝ }
 {
     if a.waits {
         let k = class_of(areas, a);
@@ -211,7 +211,7 @@ pub fn settled(areas: &[u32], p: Pruner, a: Waiting) -> Pruner
 fn moved(p: Pruner, kind: u32) -> Pruner
     requires { ⌜ (p .weight < 2 ^ 61) × (p .base < 2 ^ 61) × (p .skip < 4096) × (p .depth ≤ 8) ⌝ }
     requires { ⌜ (kind ≡ 1 → p .skip ≡ 0 → p .depth < 8) ⌝ }
-    ensures { λ r. ⌜ counted r ≡ movedN kind (counted p) ⌝ }
+    ensures answer { λ r. ⌜ counted r ≡ movedN kind (counted p) ⌝ }
 {
     match kind {
         1 => pruner::after_open(p),
@@ -224,7 +224,7 @@ fn moved(p: Pruner, kind: u32) -> Pruner
 
 // Whether an entry of this kind is for the pruner: a line and a shortcut leave it as it is.
 pub fn prunes(kind: u32) -> bool
-    ensures { λ r. ⌜ r ≡ prunesN kind ⌝ }
+    ensures answer { λ r. ⌜ r ≡ prunesN kind ⌝ }
 {
     if kind == 5 {
         return false;
@@ -236,7 +236,7 @@ pub fn prunes(kind: u32) -> bool
 pub fn pruner_after(areas: &[u32], p: Pruner, a: Waiting, kind: u32) -> Pruner
     requires { ⌜ Inside (length (now areas)) a ⌝ }
     requires { ⌜ Room p a kind ⌝ }
-    ensures { λ r. ⌜ counted r ≡ prunedN (now (areas .entry)) (counted p) a kind ⌝ }
+    ensures answer { λ r. ⌜ counted r ≡ prunedN (now (areas .entry)) (counted p) a kind ⌝ }
 {
     if kind == 5 {
         return p;
@@ -259,7 +259,7 @@ pub struct Maker {
 pub fn made_weight(areas: &[u32], m: Maker) -> u64
     requires { ⌜ Inside (length (now areas)) (m .waiting) ⌝ }
     requires { ⌜ (m .pruner .weight + m .waiting .weight < 2 ^ 60) × (m .pruner .base < 2 ^ 60) ⌝ }
-    ensures { λ r. ⌜ r ≡ lengthOf (settledN (now (areas .entry)) (counted (m .pruner)) (m .waiting)) ⌝ }
+    ensures answer { λ r. ⌜ r ≡ lengthOf (settledN (now (areas .entry)) (counted (m .pruner)) (m .waiting)) ⌝ }
 {
     let p = m.pruner;
     let a = m.waiting;

@@ -24,7 +24,7 @@ pub enum Answer {
 
 // Whether a head, a table of cells and a table of entries of these lengths hold a new tree with n entries.
 fn has_room(head: usize, cells: usize, entries: usize, n: usize) -> bool
-    ensures { λ r. ⌜ r ≡ roomFor head cells entries n ⌝ }
+    ensures answer { λ r. ⌜ r ≡ roomFor head cells entries n ⌝ }
 {
     let c = tables::cells_held(1, cells);
     let e = tables::entries_held(n, entries);
@@ -33,7 +33,7 @@ fn has_room(head: usize, cells: usize, entries: usize, n: usize) -> bool
 
 // The number of entries in what the counting answers.
 fn entries_in(size: u64) -> usize
-    ensures { λ r. ⌜ r ≡ size % 65536 ⌝ }
+    ensures answer { λ r. ⌜ r ≡ size % 65536 ⌝ }
 {
     (size % 65536) as usize
 }
@@ -41,7 +41,7 @@ fn entries_in(size: u64) -> usize
 // Cell 0, a leaf of n entries.
 fn put_root(cells: &mut [u32], n: u32)
     requires { ⌜ 8 ≤ length (now cells) ⌝ }
-    ensures { λ _. ⌜ now (cells .exit) ≡ putCellAt (now (cells .entry)) 0 (rootWords n) ⌝ }
+    ensures cells { λ _. ⌜ now (cells .exit) ≡ putCellAt (now (cells .entry)) 0 (rootWords n) ⌝ }
 {
     let side = 65536;
     let w = CellWords {
@@ -72,9 +72,9 @@ fn put_opened(
     requires { ⌜ n ≡ length (rowsOpened (tables (now plan) (now areas) (now xs) (now ys))) ⌝ }
     requires { ⌜ n * 4 ≤ length (now entries) ⌝ }
     requires { ⌜ (2 ≤ length (now head)) × (8 ≤ length (now cells)) ⌝ }
-    ensures { λ _. ⌜ now (head .exit) ≡ set (set (now (head .entry)) 0 1) 1 n ⌝ }
-    ensures { λ _. ⌜ now (cells .exit) ≡ putCellAt (now (cells .entry)) 0 (rootWords n) ⌝ }
-    ensures { λ _. ⌜ now (entries .exit) ≡ written (now (entries .entry)) 0 (wordsOpened (drawingLent plan areas xs ys)) ⌝ }
+    ensures head { λ _. ⌜ now (head .exit) ≡ set (set (now (head .entry)) 0 1) 1 n ⌝ }
+    ensures cells { λ _. ⌜ now (cells .exit) ≡ putCellAt (now (cells .entry)) 0 (rootWords n) ⌝ }
+    ensures entries { λ _. ⌜ now (entries .exit) ≡ written (now (entries .entry)) 0 (wordsOpened (drawingLent plan areas xs ys)) ⌝ }
 {
     root_stream::write_open(entries, n as usize, plan, areas, xs, ys, records, b);
     put_root(cells, n);
@@ -93,10 +93,10 @@ fn open_accepted(
     k: Counts,
 ) -> Answer
     requires { ⌜ drawingVerdict (tables (now plan) (now areas) (now xs) (now ys)) ≡ Accepted k ⌝ }
-    ensures { λ r. ⌜ r ≡ roomAnswer (treeLent plan areas xs ys head cells entries) ⌝ }
-    ensures { λ r. ⌜ now (head .exit) ≡ headOpened (treeLent plan areas xs ys head cells entries) r ⌝ }
-    ensures { λ r. ⌜ now (cells .exit) ≡ cellsOpened (treeLent plan areas xs ys head cells entries) r ⌝ }
-    ensures { λ r. ⌜ now (entries .exit) ≡ entriesOpened (treeLent plan areas xs ys head cells entries) r ⌝ }
+    ensures answer { λ r. ⌜ r ≡ roomAnswer (treeLent plan areas xs ys head cells entries) ⌝ }
+    ensures head { λ r. ⌜ now (head .exit) ≡ headOpened (treeLent plan areas xs ys head cells entries) r ⌝ }
+    ensures cells { λ r. ⌜ now (cells .exit) ≡ cellsOpened (treeLent plan areas xs ys head cells entries) r ⌝ }
+    ensures entries { λ r. ⌜ now (entries .exit) ≡ entriesOpened (treeLent plan areas xs ys head cells entries) r ⌝ }
 {
     let b = Bounds {
         areas: k.areas,

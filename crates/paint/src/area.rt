@@ -17,7 +17,7 @@ pub struct Paint {
 // The paint of area n: words 2 to 6 of its row of 8.
 pub fn paint_at(areas: &[u32], n: usize) -> Paint
     requires { ⌜ n * 8 + 8 ≤ length (now areas) ⌝ }
-    ensures { λ r. ⌜ r ≡ paintAt (now (areas .entry)) n ⌝ }
+    ensures answer { λ r. ⌜ r ≡ paintAt (now (areas .entry)) n ⌝ }
 {
     Paint {
         alpha: areas[n * 8 + 2],
@@ -31,7 +31,7 @@ pub fn paint_at(areas: &[u32], n: usize) -> Paint
 // The material of the lowest numbered area of a set, or 0 if it is empty.
 pub fn material_of(areas: &[u32], shown: u64) -> u32
     requires { ⌜ Painted (now areas) shown ⌝ }
-    ensures { λ r. ⌜ r ≡ materialOf (paintAt (now (areas .entry))) shown ⌝ }
+    ensures answer { λ r. ⌜ r ≡ materialOf (paintAt (now (areas .entry))) shown ⌝ }
 {
     let n = set::lowest_area(shown);
     if n < 64 {

@@ -33,8 +33,8 @@ pub struct Colour {
 fn weight_of(left: u32, alpha: u32) -> u32
     requires { ⌜ left ≤ 255 ⌝ }
     requires { ⌜ alpha ≤ 255 ⌝ }
-    ensures { λ r. ⌜ r ≡ weight left alpha ⌝ }
-    ensures { λ r. ⌜ r ≤ left ⌝ }
+    ensures answer { λ r. ⌜ r ≡ weight left alpha ⌝ }
+    ensures range { λ r. ⌜ r ≤ left ⌝ }
 {
     (left * alpha + 127) / 255
 }
@@ -44,7 +44,7 @@ fn add_channel(sum: u32, w: u32, channel: u32) -> u32
     requires { ⌜ sum ≤ 65025 ⌝ }
     requires { ⌜ w ≤ 255 ⌝ }
     requires { ⌜ channel ≤ 255 ⌝ }
-    ensures { λ r. ⌜ r ≡ sum + w * channel ⌝ }
+    ensures answer { λ r. ⌜ r ≡ sum + w * channel ⌝ }
 {
     sum + w * channel
 }
@@ -53,8 +53,8 @@ fn add_channel(sum: u32, w: u32, channel: u32) -> u32
 fn add_area(m: Mix, p: Paint) -> Mix
     requires { ⌜ MixIn m ⌝ }
     requires { ⌜ PaintIn p ⌝ }
-    ensures { λ r. ⌜ r ≡ add p m ⌝ }
-    ensures { λ r. ⌜ MixIn r ⌝ }
+    ensures answer { λ r. ⌜ r ≡ add p m ⌝ }
+    ensures range { λ r. ⌜ MixIn r ⌝ }
 {
     let w = weight_of(m.left, p.alpha);
     Mix {
@@ -68,8 +68,8 @@ fn add_area(m: Mix, p: Paint) -> Mix
 // The ground is white.
 fn over_white(m: Mix) -> Channels
     requires { ⌜ MixIn m ⌝ }
-    ensures { λ r. ⌜ r ≡ over m ⌝ }
-    ensures { λ r. ⌜ ChannelsIn r ⌝ }
+    ensures answer { λ r. ⌜ r ≡ over m ⌝ }
+    ensures range { λ r. ⌜ ChannelsIn r ⌝ }
 {
     let white = m.left * 255;
     Channels {
@@ -82,8 +82,8 @@ fn over_white(m: Mix) -> Channels
 // The three unrounded channel sums of a shown set.
 pub fn channel_sums(areas: &[u32], shown: u64) -> Channels
     requires { ⌜ Painted (now areas) shown ⌝ }
-    ensures { λ r. ⌜ r ≡ sumsOf (paintAt (now (areas .entry))) shown ⌝ }
-    ensures { λ r. ⌜ ChannelsIn r ⌝ }
+    ensures answer { λ r. ⌜ r ≡ sumsOf (paintAt (now (areas .entry))) shown ⌝ }
+    ensures range { λ r. ⌜ ChannelsIn r ⌝ }
 {
     let mut rest = shown;
     let mut first = 0;
@@ -107,8 +107,8 @@ pub fn channel_sums(areas: &[u32], shown: u64) -> Channels
 // Channel sums, rounded to a colour.
 pub fn rounded_sums(c: Channels) -> Colour
     requires { ⌜ ChannelsIn c ⌝ }
-    ensures { λ r. ⌜ r ≡ rounded c ⌝ }
-    ensures { λ r. ⌜ ColourIn r ⌝ }
+    ensures answer { λ r. ⌜ r ≡ rounded c ⌝ }
+    ensures range { λ r. ⌜ ColourIn r ⌝ }
 {
     Colour {
         red: (c.red + 127) / 255,
@@ -120,8 +120,8 @@ pub fn rounded_sums(c: Channels) -> Colour
 // The colour of a shown set.
 pub fn colour_of(areas: &[u32], shown: u64) -> Colour
     requires { ⌜ Painted (now areas) shown ⌝ }
-    ensures { λ r. ⌜ r ≡ colourOf (paintAt (now (areas .entry))) shown ⌝ }
-    ensures { λ r. ⌜ ColourIn r ⌝ }
+    ensures answer { λ r. ⌜ r ≡ colourOf (paintAt (now (areas .entry))) shown ⌝ }
+    ensures range { λ r. ⌜ ColourIn r ⌝ }
 {
     let sums = channel_sums(areas, shown);
     rounded_sums(sums)

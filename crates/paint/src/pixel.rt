@@ -17,8 +17,8 @@ pub struct Sample {
 
 fn row_offset(i: u32) -> u32
     requires { ⌜ i < 16 ⌝ }
-    ensures { λ r. ⌜ r ≡ rowOffset i ⌝ }
-    ensures { λ r. ⌜ r < 16 ⌝ }
+    ensures answer { λ r. ⌜ r ≡ rowOffset i ⌝ }
+    ensures range { λ r. ⌜ r < 16 ⌝ }
 {
     ROW_OFFSETS[i as usize]
 }
@@ -28,10 +28,10 @@ pub fn sample_at(row: u32, pixel: u32, i: u32) -> Sample
     requires { ⌜ row ≤ 4095 ⌝ }
     requires { ⌜ pixel ≤ 4095 ⌝ }
     requires { ⌜ i < 16 ⌝ }
-    ensures { λ r. ⌜ r .x ≡ sampleX pixel i ⌝ }
-    ensures { λ r. ⌜ r .y ≡ sampleY row i ⌝ }
-    ensures { λ r. ⌜ r .x < 65536 ⌝ }
-    ensures { λ r. ⌜ r .y < 65536 ⌝ }
+    ensures x { λ r. ⌜ r .x ≡ sampleX pixel i ⌝ }
+    ensures y { λ r. ⌜ r .y ≡ sampleY row i ⌝ }
+    ensures x_range { λ r. ⌜ r .x < 65536 ⌝ }
+    ensures y_range { λ r. ⌜ r .y < 65536 ⌝ }
 {
     Sample {
         x: 16 * pixel + i,
@@ -43,7 +43,7 @@ pub fn sample_at(row: u32, pixel: u32, i: u32) -> Sample
 pub fn add_sample(sum: Channels, c: Colour) -> Channels
     requires { ⌜ SamplesIn 15 sum ⌝ }
     requires { ⌜ ColourIn c ⌝ }
-    ensures { λ r. ⌜ r ≡ plus sum c ⌝ }
+    ensures answer { λ r. ⌜ r ≡ plus sum c ⌝ }
 {
     Channels {
         red: sum.red + c.red,
@@ -55,8 +55,8 @@ pub fn add_sample(sum: Channels, c: Colour) -> Channels
 // The pixel of sixteen samples.
 pub fn pixel_of(sum: Channels) -> Colour
     requires { ⌜ SamplesIn 16 sum ⌝ }
-    ensures { λ r. ⌜ r ≡ sixteenth sum ⌝ }
-    ensures { λ r. ⌜ ColourIn r ⌝ }
+    ensures answer { λ r. ⌜ r ≡ sixteenth sum ⌝ }
+    ensures range { λ r. ⌜ ColourIn r ⌝ }
 {
     Colour {
         red: (sum.red + 8) / 16,

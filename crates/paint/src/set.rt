@@ -7,14 +7,14 @@ ghost use Rattle.paint.specs.Sets.{withArea};
 // The set with area n.
 pub fn with_area(set: u64, n: u32) -> u64
     requires { ⌜ n < 64 ⌝ }
-    ensures { λ r. ⌜ r ≡ withArea set n ⌝ }
+    ensures answer { λ r. ⌜ r ≡ withArea set n ⌝ }
 {
     set | (1 << n)
 }
 
 // The number of the lowest area of a set; 64 if it is empty.
 pub fn lowest_area(set: u64) -> u32
-    ensures { λ r. ⌜ r ≡ trailingZeros 64 set ⌝ }
+    ensures answer { λ r. ⌜ r ≡ trailingZeros 64 set ⌝ }
 {
     u64::trailing_zeros(set)
 }

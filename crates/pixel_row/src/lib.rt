@@ -43,8 +43,8 @@ fn pixel_at(
 ) -> Pixel
     requires { ⌜ LastIn (tree (now plan) (now areas) (now xs) (now ys) (now head) (now cells) (now entries)) before ⌝ }
     requires { ⌜ (row ≤ 4095) × (column ≤ 4095) ⌝ }
-    ensures { λ r. ⌜ r ≡ pixelTold (treeLent plan areas xs ys head cells entries) row column ⌝ }
-    ensures { λ r. ⌜ PixelBytes r ⌝ }
+    ensures answer { λ r. ⌜ r ≡ pixelTold (treeLent plan areas xs ys head cells entries) row column ⌝ }
+    ensures range { λ r. ⌜ PixelBytes r ⌝ }
 {
     let mut last = before;
     let mut sum = Channels {
@@ -76,7 +76,7 @@ fn pixel_at(
 fn put_pixel(out: &mut [u8], i: usize, c: Colour)
     requires { ⌜ i * 3 + 3 ≤ length (now out) ⌝ }
     requires { ⌜ ColourIn c ⌝ }
-    ensures { λ _. ⌜ now (out .exit) ≡ putPixel (now (out .entry)) i c ⌝ }
+    ensures out { λ _. ⌜ now (out .exit) ≡ putPixel (now (out .entry)) i c ⌝ }
 {
     let at = i * 3;
     out[at] = c.red as u8;
@@ -99,8 +99,8 @@ fn fill_row(
     out: &mut [u8],
 ) -> RowAnswer
     requires { ⌜ (row ≤ 4095) × (first + length (now out) / 3 ≤ 4096) ⌝ }
-    ensures { λ r. ⌜ r ≡ fillFrom (treeLent plan areas xs ys head cells entries) row first 0 (length (now (out .entry)) / 3) (now (out .entry)) .answer ⌝ }
-    ensures { λ _. ⌜ now (out .exit) ≡
+    ensures answer { λ r. ⌜ r ≡ fillFrom (treeLent plan areas xs ys head cells entries) row first 0 (length (now (out .entry)) / 3) (now (out .entry)) .answer ⌝ }
+    ensures out { λ _. ⌜ now (out .exit) ≡
         fillFrom (treeLent plan areas xs ys head cells entries) row first 0 (length (now (out .entry)) / 3) (now (out .entry)) .bytes ⌝ }
 {
     let n = out.len() / 3;
@@ -137,8 +137,8 @@ fn row_spanned(
     out: &mut [u8],
 ) -> RowAnswer
     requires { ⌜ row ≤ 4095 ⌝ }
-    ensures { λ r. ⌜ r ≡ rowSpan (treeLent plan areas xs ys head cells entries) row first (now (out .entry)) .answer ⌝ }
-    ensures { λ _. ⌜ now (out .exit) ≡ rowSpan (treeLent plan areas xs ys head cells entries) row first (now (out .entry)) .bytes ⌝ }
+    ensures answer { λ r. ⌜ r ≡ rowSpan (treeLent plan areas xs ys head cells entries) row first (now (out .entry)) .answer ⌝ }
+    ensures out { λ _. ⌜ now (out .exit) ≡ rowSpan (treeLent plan areas xs ys head cells entries) row first (now (out .entry)) .bytes ⌝ }
 {
     if (first as usize) + out.len() / 3 <= 4096 {
         return fill_row(plan, areas, xs, ys, head, cells, entries, row, first, out);

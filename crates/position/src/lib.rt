@@ -65,7 +65,7 @@ pub fn set_in(
 // A set with its material and its colour.
 fn spot_of(areas: &[u32], set: u64) -> Spot
     requires { ⌜ Painted (now areas) set ⌝ }
-    ensures { λ r. ⌜ r ≡ spotOf (now (areas .entry)) set ⌝ }
+    ensures answer { λ r. ⌜ r ≡ spotOf (now (areas .entry)) set ⌝ }
 {
     let material = area::material_of(areas, set);
     let c = colour::colour_of(areas, set);
@@ -80,7 +80,7 @@ fn spot_of(areas: &[u32], set: u64) -> Spot
 
 // Whether v is one of the side's numbers from low on.
 fn is_between(low: u32, side: u32, v: u32) -> bool
-    ensures { λ r. ⌜ r ≡ between low side v ⌝ }
+    ensures answer { λ r. ⌜ r ≡ between low side v ⌝ }
 {
     if low <= v {
         return v - low < side;
@@ -90,7 +90,7 @@ fn is_between(low: u32, side: u32, v: u32) -> bool
 
 // Whether (x, y) lies in the square of a leaf.
 fn is_inside(l: Leaf, x: u32, y: u32) -> bool
-    ensures { λ r. ⌜ r ≡ inSquare l x y ⌝ }
+    ensures answer { λ r. ⌜ r ≡ inSquare l x y ⌝ }
 {
     if is_between(l.x, l.side, x) {
         return is_between(l.y, l.side, y);
@@ -166,7 +166,7 @@ fn spot_at(
     y: u32,
 ) -> Answer
     requires { ⌜ (x < 65536) × (y < 65536) ⌝ }
-    ensures { λ r. ⌜ r ≡ spotIn (treeLent plan areas xs ys head cells entries) x y ⌝ }
+    ensures answer { λ r. ⌜ r ≡ spotIn (treeLent plan areas xs ys head cells entries) x y ⌝ }
 {
     let f = find_leaf::leaf_at(plan, areas, xs, ys, head, cells, entries, x, y);
     match f {

@@ -83,7 +83,7 @@ pub extern "C" fn probe_read(
 // ---- the making of a child's stream
 // Whether this is the square of a cell: its side a power of two up to 65,536, its corner on the grid of that side, all of it below 65,536.
 fn square_fits(s: Square) -> bool
-    ensures { λ r. ⌜ r ≡ squareFits s ⌝ }
+    ensures answer { λ r. ⌜ r ≡ squareFits s ⌝ }
 {
     // a leaf that is not the first cell, with an empty stream: the square alone is left to try
     let w = CellWords {
@@ -110,8 +110,8 @@ fn entries_made(
 ) -> usize
     requires { ⌜ Passed (now entries) first count (env (now areas) (now xs) (now ys) b) ⌝ }
     requires { ⌜ squareFits s ≡ true ⌝ }
-    ensures { λ r. ⌜ r ≡ length (childRows (now (entries .entry)) first count (env (now (areas .entry)) (now (xs .entry)) (now (ys .entry)) b) s) ⌝ }
-    ensures { λ r. ⌜ r < 65536 ⌝ }
+    ensures answer { λ r. ⌜ r ≡ length (childRows (now (entries .entry)) first count (env (now (areas .entry)) (now (xs .entry)) (now (ys .entry)) b) s) ⌝ }
+    ensures range { λ r. ⌜ r < 65536 ⌝ }
 {
     let k = child_stream::count_child(entries, first, count, areas, xs, ys, b, s);
     (k.weight % 65536) as usize
@@ -131,10 +131,10 @@ fn write_if_room(
 ) -> u64
     requires { ⌜ checkStream (now entries) first count used (env (now areas) (now xs) (now ys) b) ≡ true ⌝ }
     requires { ⌜ squareFits s ≡ true ⌝ }
-    ensures { λ r. ⌜ r ≡
+    ensures answer { λ r. ⌜ r ≡
         answerBy (childRoom (now (entries .entry)) first count used (env (now (areas .entry)) (now (xs .entry)) (now (ys .entry)) b) s)
         (now (entries .entry)) first count (env (now (areas .entry)) (now (xs .entry)) (now (ys .entry)) b) s ⌝ }
-    ensures { λ r. ⌜ now (entries .exit) ≡
+    ensures entries { λ r. ⌜ now (entries .exit) ≡
         tableBy (childRoom (now (entries .entry)) first count used (env (now (areas .entry)) (now (xs .entry)) (now (ys .entry)) b) s)
         (now (entries .entry)) first count used (env (now (areas .entry)) (now (xs .entry)) (now (ys .entry)) b) s ⌝ }
 {

@@ -30,7 +30,7 @@ pub struct Pruner {
 
 // Nothing is written, and no group is open.
 pub fn begun() -> Pruner
-    ensures { λ r. ⌜ counted r ≡ ct 0 0 going [] ⌝ }
+    ensures answer { λ r. ⌜ counted r ≡ ct 0 0 going [] ⌝ }
 {
     let none = Frame {
         mode: 0,
@@ -50,7 +50,7 @@ pub fn begun() -> Pruner
 // Frame d.
 fn frame_at(p: Pruner, d: usize) -> Frame
     requires { ⌜ d < 8 ⌝ }
-    ensures { λ f. ⌜ f ≡ getD (p .frames) d noFrame ⌝ }
+    ensures answer { λ f. ⌜ f ≡ getD (p .frames) d noFrame ⌝ }
 {
     let frames = p.frames;
     frames[d]
@@ -59,7 +59,7 @@ fn frame_at(p: Pruner, d: usize) -> Frame
 // Frame d is the innermost, and is f.
 fn framed(p: Pruner, d: usize, f: Frame, weight: u64, base: u64, skip: u32) -> Pruner
     requires { ⌜ d < 8 ⌝ }
-    ensures { λ r. ⌜ counted r ≡ ct weight base (skipOf skip) (frameOf f ∷ framesOf (p .frames) d) ⌝ }
+    ensures answer { λ r. ⌜ counted r ≡ ct weight base (skipOf skip) (frameOf f ∷ framesOf (p .frames) d) ⌝ }
 {
     let mut frames = p.frames;
     frames[d] = f;
@@ -74,7 +74,7 @@ fn framed(p: Pruner, d: usize, f: Frame, weight: u64, base: u64, skip: u32) -> P
 
 // The first d frames are in use.
 fn unframed(p: Pruner, d: usize, weight: u64, base: u64, skip: u32) -> Pruner
-    ensures { λ r. ⌜ counted r ≡ ct weight base (skipOf skip) (framesOf (p .frames) d) ⌝ }
+    ensures answer { λ r. ⌜ counted r ≡ ct weight base (skipOf skip) (framesOf (p .frames) d) ⌝ }
 {
     let frames = p.frames;
     Pruner {
@@ -90,7 +90,7 @@ fn unframed(p: Pruner, d: usize, weight: u64, base: u64, skip: u32) -> Pruner
 pub fn after_item(p: Pruner, paint: bool, class: u32, weight: u64) -> Pruner
     requires { ⌜ p .weight + weight < 2 ^ 62 ⌝ }
     requires { ⌜ p .base < 2 ^ 62 ⌝ }
-    ensures { λ r. ⌜ counted r ≡ countStep sizedItems sizeOf (counted p) (item (kindOf paint) (sized (classOf class) weight)) ⌝ }
+    ensures answer { λ r. ⌜ counted r ≡ countStep sizedItems sizeOf (counted p) (item (kindOf paint) (sized (classOf class) weight)) ⌝ }
 {
     if p.skip == 0 {
         if class == 0 {
@@ -112,7 +112,7 @@ pub fn after_open(p: Pruner) -> Pruner
     requires { ⌜ p .weight < 2 ^ 62 ⌝ }
     requires { ⌜ p .skip < 4096 ⌝ }
     requires { ⌜ (p .skip ≡ 0 → p .depth < 8) ⌝ }
-    ensures { λ r. ⌜ counted r ≡ countStep sizedItems sizeOf (counted p) push ⌝ }
+    ensures answer { λ r. ⌜ counted r ≡ countStep sizedItems sizeOf (counted p) push ⌝ }
 {
     if p.skip == 0 {
         let f = Frame {
@@ -129,7 +129,7 @@ pub fn after_open(p: Pruner) -> Pruner
 fn at_bar(p: Pruner, d: usize, f: Frame) -> Pruner
     requires { ⌜ p .weight < 2 ^ 62 ⌝ }
     requires { ⌜ d < 8 ⌝ }
-    ensures { λ r. ⌜ counted r ≡ barN p d f ⌝ }
+    ensures answer { λ r. ⌜ counted r ≡ barN p d f ⌝ }
 {
     if f.mode == 0 {
         if p.skip == 1 {
@@ -161,7 +161,7 @@ fn at_bar(p: Pruner, d: usize, f: Frame) -> Pruner
 // `)` of the innermost group, frame d.
 fn at_close(p: Pruner, d: usize, f: Frame) -> Pruner
     requires { ⌜ p .weight < 2 ^ 62 ⌝ }
-    ensures { λ r. ⌜ counted r ≡ closeN p d f ⌝ }
+    ensures answer { λ r. ⌜ counted r ≡ closeN p d f ⌝ }
 {
     if f.mode == 0 {
         return p;
@@ -182,7 +182,7 @@ fn at_close(p: Pruner, d: usize, f: Frame) -> Pruner
 pub fn after_bar(p: Pruner) -> Pruner
     requires { ⌜ p .weight < 2 ^ 62 ⌝ }
     requires { ⌜ p .depth ≤ 8 ⌝ }
-    ensures { λ r. ⌜ counted r ≡ countStep sizedItems sizeOf (counted p) activate ⌝ }
+    ensures answer { λ r. ⌜ counted r ≡ countStep sizedItems sizeOf (counted p) activate ⌝ }
 {
     if p.skip <= 1 {
         if p.depth == 0 {
@@ -199,7 +199,7 @@ pub fn after_bar(p: Pruner) -> Pruner
 pub fn after_close(p: Pruner) -> Pruner
     requires { ⌜ p .weight < 2 ^ 62 ⌝ }
     requires { ⌜ p .depth ≤ 8 ⌝ }
-    ensures { λ r. ⌜ counted r ≡ countStep sizedItems sizeOf (counted p) pop ⌝ }
+    ensures answer { λ r. ⌜ counted r ≡ countStep sizedItems sizeOf (counted p) pop ⌝ }
 {
     if p.skip <= 1 {
         if p.depth == 0 {

@@ -21,7 +21,7 @@ ghost use Rattle.read.specs.Reading.{decodedFrom, recordsLent, verdictOf
 // ---- the file
 fn read_record(records: &[u8], i: usize) -> Decoded
     requires { ⌜ i * 16 + 16 ≤ length (now records) ⌝ }
-    ensures { λ d. ⌜ d ≡ decodedRaw (rawAt (now (records .entry)) i) ⌝ }
+    ensures answer { λ d. ⌜ d ≡ decodedRaw (rawAt (now (records .entry)) i) ⌝ }
 {
     let r = records::read_raw(records, i);
     records::decoded_raw(r)
@@ -29,7 +29,7 @@ fn read_record(records: &[u8], i: usize) -> Decoded
 
 fn scan_records(records: &[u8], n: usize) -> Scan
     requires { ⌜ n * 16 ≤ length (now records) ⌝ }
-    ensures { λ c. ⌜ c ≡ scanN startN 0 (decodedFrom (now (records .entry)) 0 n) ⌝ }
+    ensures answer { λ c. ⌜ c ≡ scanN startN 0 (decodedFrom (now (records .entry)) 0 n) ⌝ }
 {
     let mut s = grammar::start();
     let mut i = 0;
@@ -61,7 +61,7 @@ pub fn check_records(records: &[u8]) -> Verdict
 
 // ---- a record into a table
 fn kind_of(r: Record) -> u32
-    ensures { λ k. ⌜ k ≡ kindOf r ⌝ }
+    ensures answer { λ k. ⌜ k ≡ kindOf r ⌝ }
 {
     match r {
         Record::Area(_) => 1,
@@ -75,8 +75,8 @@ fn kind_of(r: Record) -> u32
 
 fn put_word(table: &mut [u32], at: usize, w: u32) -> usize
     requires { ⌜ at + 1 ≤ length (now table) ⌝ }
-    ensures { λ n. ⌜ n ≡ at + 1 ⌝ }
-    ensures { λ n. ⌜ now (table .exit) ≡ set (now (table .entry)) at w ⌝ }
+    ensures answer { λ n. ⌜ n ≡ at + 1 ⌝ }
+    ensures table { λ n. ⌜ now (table .exit) ≡ set (now (table .entry)) at w ⌝ }
 {
     table[at] = w;
     at + 1
@@ -84,8 +84,8 @@ fn put_word(table: &mut [u32], at: usize, w: u32) -> usize
 
 fn put_kind(table: &mut [u32], at: usize, r: Record) -> usize
     requires { ⌜ at + length (kindW r) ≤ length (now table) ⌝ }
-    ensures { λ n. ⌜ n ≡ at + length (kindW r) ⌝ }
-    ensures { λ n. ⌜ now (table .exit) ≡ sets (now (table .entry)) at (kindW r) ⌝ }
+    ensures answer { λ n. ⌜ n ≡ at + length (kindW r) ⌝ }
+    ensures table { λ n. ⌜ now (table .exit) ≡ sets (now (table .entry)) at (kindW r) ⌝ }
 {
     let k = kind_of(r);
     put_word(table, at, k)
@@ -93,8 +93,8 @@ fn put_kind(table: &mut [u32], at: usize, r: Record) -> usize
 
 fn put_row(table: &mut [u32], at: usize, f: Fields) -> usize
     requires { ⌜ at + 8 ≤ length (now table) ⌝ }
-    ensures { λ n. ⌜ n ≡ at + 8 ⌝ }
-    ensures { λ n. ⌜ now (table .exit) ≡
+    ensures answer { λ n. ⌜ n ≡ at + 8 ⌝ }
+    ensures table { λ n. ⌜ now (table .exit) ≡
         set (set (set (set (set (set (set (set (now (table .entry)) at (f .role)) (at + 1) (f .rule)) (at + 2) (f .alpha)) (at + 3) (f .red))
         (at + 4) (f .green)) (at + 5) (f .blue)) (at + 6) (f .material)) (at + 7) 0 ⌝ }
 {
@@ -111,8 +111,8 @@ fn put_row(table: &mut [u32], at: usize, f: Fields) -> usize
 
 fn put_area(table: &mut [u32], at: usize, r: Record) -> usize
     requires { ⌜ at + length (areaW r) ≤ length (now table) ⌝ }
-    ensures { λ n. ⌜ n ≡ at + length (areaW r) ⌝ }
-    ensures { λ n. ⌜ now (table .exit) ≡ sets (now (table .entry)) at (areaW r) ⌝ }
+    ensures answer { λ n. ⌜ n ≡ at + length (areaW r) ⌝ }
+    ensures table { λ n. ⌜ now (table .exit) ≡ sets (now (table .entry)) at (areaW r) ⌝ }
 {
     match r {
         Record::Area(f) => put_row(table, at, f),
@@ -126,8 +126,8 @@ fn put_area(table: &mut [u32], at: usize, r: Record) -> usize
 
 fn put_x(table: &mut [u32], at: usize, r: Record) -> usize
     requires { ⌜ at + length (xW r) ≤ length (now table) ⌝ }
-    ensures { λ n. ⌜ n ≡ at + length (xW r) ⌝ }
-    ensures { λ n. ⌜ now (table .exit) ≡ sets (now (table .entry)) at (xW r) ⌝ }
+    ensures answer { λ n. ⌜ n ≡ at + length (xW r) ⌝ }
+    ensures table { λ n. ⌜ now (table .exit) ≡ sets (now (table .entry)) at (xW r) ⌝ }
 {
     match r {
         Record::Area(_) => at,
@@ -141,8 +141,8 @@ fn put_x(table: &mut [u32], at: usize, r: Record) -> usize
 
 fn put_y(table: &mut [u32], at: usize, r: Record) -> usize
     requires { ⌜ at + length (yW r) ≤ length (now table) ⌝ }
-    ensures { λ n. ⌜ n ≡ at + length (yW r) ⌝ }
-    ensures { λ n. ⌜ now (table .exit) ≡ sets (now (table .entry)) at (yW r) ⌝ }
+    ensures answer { λ n. ⌜ n ≡ at + length (yW r) ⌝ }
+    ensures table { λ n. ⌜ now (table .exit) ≡ sets (now (table .entry)) at (yW r) ⌝ }
 {
     match r {
         Record::Area(_) => at,
@@ -156,8 +156,8 @@ fn put_y(table: &mut [u32], at: usize, r: Record) -> usize
 
 fn put_record(table: &mut [u32], at: usize, which: u32, r: Record) -> usize
     requires { ⌜ at + length (wordsOf which r) ≤ length (now table) ⌝ }
-    ensures { λ n. ⌜ n ≡ at + length (wordsOf which r) ⌝ }
-    ensures { λ n. ⌜ now (table .exit) ≡ sets (now (table .entry)) at (wordsOf which r) ⌝ }
+    ensures answer { λ n. ⌜ n ≡ at + length (wordsOf which r) ⌝ }
+    ensures table { λ n. ⌜ now (table .exit) ≡ sets (now (table .entry)) at (wordsOf which r) ⌝ }
 {
     if which == 0 {
         return put_kind(table, at, r);
@@ -173,8 +173,8 @@ fn put_record(table: &mut [u32], at: usize, which: u32, r: Record) -> usize
 
 fn put_decoded(table: &mut [u32], at: usize, which: u32, d: Decoded) -> usize
     requires { ⌜ at + length (onGood (wordsOf which) d) ≤ length (now table) ⌝ }
-    ensures { λ n. ⌜ n ≡ at + length (onGood (wordsOf which) d) ⌝ }
-    ensures { λ n. ⌜ now (table .exit) ≡ sets (now (table .entry)) at (onGood (wordsOf which) d) ⌝ }
+    ensures answer { λ n. ⌜ n ≡ at + length (onGood (wordsOf which) d) ⌝ }
+    ensures table { λ n. ⌜ now (table .exit) ≡ sets (now (table .entry)) at (onGood (wordsOf which) d) ⌝ }
 {
     match d {
         Decoded::Good(r) => put_record(table, at, which, r),
@@ -196,10 +196,10 @@ fn fill(
     requires { ⌜ 0 + length (spread (wordsOf 1) (goods (decodedFrom (now records) 0 n))) ≤ length (now areas) ⌝ }
     requires { ⌜ 0 + length (spread (wordsOf 2) (goods (decodedFrom (now records) 0 n))) ≤ length (now xs) ⌝ }
     requires { ⌜ 0 + length (spread (wordsOf 3) (goods (decodedFrom (now records) 0 n))) ≤ length (now ys) ⌝ }
-    ensures { λ _. ⌜ now (plan .exit) ≡ sets (now (plan .entry)) 3 (spread (wordsOf 0) (goods (decodedFrom (now (records .entry)) 0 n))) ⌝ }
-    ensures { λ _. ⌜ now (areas .exit) ≡ sets (now (areas .entry)) 0 (spread (wordsOf 1) (goods (decodedFrom (now (records .entry)) 0 n))) ⌝ }
-    ensures { λ _. ⌜ now (xs .exit) ≡ sets (now (xs .entry)) 0 (spread (wordsOf 2) (goods (decodedFrom (now (records .entry)) 0 n))) ⌝ }
-    ensures { λ _. ⌜ now (ys .exit) ≡ sets (now (ys .entry)) 0 (spread (wordsOf 3) (goods (decodedFrom (now (records .entry)) 0 n))) ⌝ }
+    ensures plan { λ _. ⌜ now (plan .exit) ≡ sets (now (plan .entry)) 3 (spread (wordsOf 0) (goods (decodedFrom (now (records .entry)) 0 n))) ⌝ }
+    ensures areas { λ _. ⌜ now (areas .exit) ≡ sets (now (areas .entry)) 0 (spread (wordsOf 1) (goods (decodedFrom (now (records .entry)) 0 n))) ⌝ }
+    ensures xs { λ _. ⌜ now (xs .exit) ≡ sets (now (xs .entry)) 0 (spread (wordsOf 2) (goods (decodedFrom (now (records .entry)) 0 n))) ⌝ }
+    ensures ys { λ _. ⌜ now (ys .exit) ≡ sets (now (ys .entry)) 0 (spread (wordsOf 3) (goods (decodedFrom (now (records .entry)) 0 n))) ⌝ }
 {
     let mut kind = 3;
     let mut area = 0;
@@ -219,7 +219,7 @@ fn fill(
 // ---- reading
 // Tables of these lengths hold a drawing of this size.
 pub fn tables_hold(p: usize, a: usize, d: usize, k: Counts) -> bool
-    ensures { λ r. ⌜ r ≡ holds p a d k ⌝ }
+    ensures answer { λ r. ⌜ r ≡ holds p a d k ⌝ }
 {
     if 3 <= p {
         return (k.records <= p - 3) & ((k.areas <= a / 8) & (k.corners <= d));
@@ -229,7 +229,7 @@ pub fn tables_hold(p: usize, a: usize, d: usize, k: Counts) -> bool
 
 fn put_header(plan: &mut [u32], k: Counts)
     requires { ⌜ (3 ≤ length (now plan)) × (k .records ≤ 4096) × (k .areas ≤ 64) × (k .corners ≤ 2048) ⌝ }
-    ensures { λ _. ⌜ now (plan .exit) ≡ set (set (set (now (plan .entry)) 0 (k .records)) 1 (k .areas)) 2 (k .corners) ⌝ }
+    ensures plan { λ _. ⌜ now (plan .exit) ≡ set (set (set (now (plan .entry)) 0 (k .records)) 1 (k .areas)) 2 (k .corners) ⌝ }
 {
     plan[0] = k.records as u32;
     plan[1] = k.areas as u32;
@@ -247,10 +247,10 @@ fn fill_all(
     requires { ⌜ Filed (now records) k ⌝ }
     requires { ⌜ (k .records + 3 ≤ length (now plan)) × (k .areas * 8 ≤ length (now areas))
         × (k .corners ≤ length (now xs)) × (k .corners ≤ length (now ys)) ⌝ }
-    ensures { λ _. ⌜ now (plan .exit) ≡ sets (now (plan .entry)) 0 (planWords (recordsLent records)) ⌝ }
-    ensures { λ _. ⌜ now (areas .exit) ≡ sets (now (areas .entry)) 0 (areaWords (recordsLent records)) ⌝ }
-    ensures { λ _. ⌜ now (xs .exit) ≡ sets (now (xs .entry)) 0 (xWords (recordsLent records)) ⌝ }
-    ensures { λ _. ⌜ now (ys .exit) ≡ sets (now (ys .entry)) 0 (yWords (recordsLent records)) ⌝ }
+    ensures plan { λ _. ⌜ now (plan .exit) ≡ sets (now (plan .entry)) 0 (planWords (recordsLent records)) ⌝ }
+    ensures areas { λ _. ⌜ now (areas .exit) ≡ sets (now (areas .entry)) 0 (areaWords (recordsLent records)) ⌝ }
+    ensures xs { λ _. ⌜ now (xs .exit) ≡ sets (now (xs .entry)) 0 (xWords (recordsLent records)) ⌝ }
+    ensures ys { λ _. ⌜ now (ys .exit) ≡ sets (now (ys .entry)) 0 (yWords (recordsLent records)) ⌝ }
 {
     let n = k.records;
     put_header(plan, k);
@@ -267,11 +267,11 @@ fn fill_if_room(
 ) -> Verdict
     requires { ⌜ Filed (now records) k ⌝ }
     requires { ⌜ length (now xs) ≡ length (now ys) ⌝ }
-    ensures { λ v. ⌜ v ≡ ifRoom (Accepted k) (length (now (plan .entry))) (length (now (areas .entry))) (length (now (xs .entry))) ⌝ }
-    ensures { λ v. ⌜ now (plan .exit) ≡ leftBy v (now (plan .entry)) (planWords (recordsLent records)) ⌝ }
-    ensures { λ v. ⌜ now (areas .exit) ≡ leftBy v (now (areas .entry)) (areaWords (recordsLent records)) ⌝ }
-    ensures { λ v. ⌜ now (xs .exit) ≡ leftBy v (now (xs .entry)) (xWords (recordsLent records)) ⌝ }
-    ensures { λ v. ⌜ now (ys .exit) ≡ leftBy v (now (ys .entry)) (yWords (recordsLent records)) ⌝ }
+    ensures answer { λ v. ⌜ v ≡ ifRoom (Accepted k) (length (now (plan .entry))) (length (now (areas .entry))) (length (now (xs .entry))) ⌝ }
+    ensures plan { λ v. ⌜ now (plan .exit) ≡ leftBy v (now (plan .entry)) (planWords (recordsLent records)) ⌝ }
+    ensures areas { λ v. ⌜ now (areas .exit) ≡ leftBy v (now (areas .entry)) (areaWords (recordsLent records)) ⌝ }
+    ensures xs { λ v. ⌜ now (xs .exit) ≡ leftBy v (now (xs .entry)) (xWords (recordsLent records)) ⌝ }
+    ensures ys { λ v. ⌜ now (ys .exit) ≡ leftBy v (now (ys .entry)) (yWords (recordsLent records)) ⌝ }
 {
     let h = tables_hold(plan.len(), areas.len(), xs.len(), k);
     if h {
@@ -291,11 +291,11 @@ fn read_checked(
 ) -> Verdict
     requires { ⌜ v ≡ verdictOf (now records) ⌝ }
     requires { ⌜ length (now xs) ≡ length (now ys) ⌝ }
-    ensures { λ r. ⌜ r ≡ ifRoom v (length (now (plan .entry))) (length (now (areas .entry))) (length (now (xs .entry))) ⌝ }
-    ensures { λ r. ⌜ now (plan .exit) ≡ leftBy r (now (plan .entry)) (planWords (recordsLent records)) ⌝ }
-    ensures { λ r. ⌜ now (areas .exit) ≡ leftBy r (now (areas .entry)) (areaWords (recordsLent records)) ⌝ }
-    ensures { λ r. ⌜ now (xs .exit) ≡ leftBy r (now (xs .entry)) (xWords (recordsLent records)) ⌝ }
-    ensures { λ r. ⌜ now (ys .exit) ≡ leftBy r (now (ys .entry)) (yWords (recordsLent records)) ⌝ }
+    ensures answer { λ r. ⌜ r ≡ ifRoom v (length (now (plan .entry))) (length (now (areas .entry))) (length (now (xs .entry))) ⌝ }
+    ensures plan { λ r. ⌜ now (plan .exit) ≡ leftBy r (now (plan .entry)) (planWords (recordsLent records)) ⌝ }
+    ensures areas { λ r. ⌜ now (areas .exit) ≡ leftBy r (now (areas .entry)) (areaWords (recordsLent records)) ⌝ }
+    ensures xs { λ r. ⌜ now (xs .exit) ≡ leftBy r (now (xs .entry)) (xWords (recordsLent records)) ⌝ }
+    ensures ys { λ r. ⌜ now (ys .exit) ≡ leftBy r (now (ys .entry)) (yWords (recordsLent records)) ⌝ }
 {
     match v {
         Verdict::Accepted(k) => fill_if_room(records, plan, areas, xs, ys, k),

@@ -55,7 +55,7 @@ pub struct Raw {
 // The sixteen bytes of record i.
 pub fn read_raw(records: &[u8], i: usize) -> Raw
     requires { ⌜ i * 16 + 16 ≤ length (now records) ⌝ }
-    ensures { λ r. ⌜ r ≡ rawAt (now (records .entry)) i ⌝ }
+    ensures answer { λ r. ⌜ r ≡ rawAt (now (records .entry)) i ⌝ }
 {
     let at = i * 16;
     Raw {
@@ -81,7 +81,7 @@ pub fn read_raw(records: &[u8], i: usize) -> Raw
 // Writes sixteen bytes.
 pub fn put_raw(out: &mut [u8], at: usize, r: Raw)
     requires { ⌜ at + 16 ≤ length (now out) ⌝ }
-    ensures { λ _. ⌜ now (out .exit) ≡ putRaw (now (out .entry)) at r ⌝ }
+    ensures out { λ _. ⌜ now (out .exit) ≡ putRaw (now (out .entry)) at r ⌝ }
 {
     out[at] = r.b0;
     out[at + 1] = r.b1;
@@ -102,28 +102,28 @@ pub fn put_raw(out: &mut [u8], at: usize, r: Raw)
 }
 
 fn wide(x: u8) -> u32
-    ensures { λ r. ⌜ r ≡ x ⌝ }
+    ensures answer { λ r. ⌜ r ≡ x ⌝ }
 {
     x as u32
 }
 
 // Two bytes, the low one first.
 fn two_bytes(a: u8, b: u8) -> u32
-    ensures { λ r. ⌜ r ≡ number2 a b ⌝ }
+    ensures answer { λ r. ⌜ r ≡ number2 a b ⌝ }
 {
     (a as u32) + 256 * (b as u32)
 }
 
 // Four bytes, the lowest first.
 fn four_bytes(a: u8, b: u8, d: u8, e: u8) -> u32
-    ensures { λ r. ⌜ r ≡ number4 a b d e ⌝ }
+    ensures answer { λ r. ⌜ r ≡ number4 a b d e ⌝ }
 {
     (a as u32) + 256 * (b as u32) + 65536 * (d as u32) + 16777216 * (e as u32)
 }
 
 // ---- ranges
 fn paint_range(f: Fields) -> bool
-    ensures { λ r. ⌜ r ≡ paintRange f ⌝ }
+    ensures answer { λ r. ⌜ r ≡ paintRange f ⌝ }
 {
     (f.alpha <= 255)
         & ((f.red <= 255)
@@ -131,13 +131,13 @@ fn paint_range(f: Fields) -> bool
 }
 
 fn clip_range(f: Fields) -> bool
-    ensures { λ r. ⌜ r ≡ clipRange f ⌝ }
+    ensures answer { λ r. ⌜ r ≡ clipRange f ⌝ }
 {
     (f.alpha == 0) & ((f.red == 0) & ((f.green == 0) & ((f.blue == 0) & (f.material == 0))))
 }
 
 fn area_range(f: Fields) -> bool
-    ensures { λ r. ⌜ r ≡ areaRange f ⌝ }
+    ensures answer { λ r. ⌜ r ≡ areaRange f ⌝ }
 {
     if f.rule <= 1 {
         if f.role == 0 {
@@ -152,13 +152,13 @@ fn area_range(f: Fields) -> bool
 }
 
 fn corner_range(x: u32, y: u32) -> bool
-    ensures { λ r. ⌜ r ≡ cornerRange x y ⌝ }
+    ensures answer { λ r. ⌜ r ≡ cornerRange x y ⌝ }
 {
     (x <= 65536) & (y <= 65536)
 }
 
 fn in_range(r: Record) -> bool
-    ensures { λ t. ⌜ t ≡ inRange r ⌝ }
+    ensures answer { λ t. ⌜ t ≡ inRange r ⌝ }
 {
     match r {
         Record::Area(f) => area_range(f),
@@ -172,7 +172,7 @@ fn in_range(r: Record) -> bool
 
 // A record whose fields are in range.
 pub fn ranged_of(r: Record) -> Decoded
-    ensures { λ d. ⌜ d ≡ ranged r ⌝ }
+    ensures answer { λ d. ⌜ d ≡ ranged r ⌝ }
 {
     let t = in_range(r);
     if t {
@@ -183,7 +183,7 @@ pub fn ranged_of(r: Record) -> Decoded
 
 // ---- from bytes
 pub fn corner_of(k: u32, x: u32, y: u32) -> Record
-    ensures { λ r. ⌜ r ≡ cornerOf k x y ⌝ }
+    ensures answer { λ r. ⌜ r ≡ cornerOf k x y ⌝ }
 {
     if k == 2 {
         return Record::First(x, y);
@@ -192,7 +192,7 @@ pub fn corner_of(k: u32, x: u32, y: u32) -> Record
 }
 
 pub fn delimiter_of(k: u32) -> Record
-    ensures { λ r. ⌜ r ≡ delimiterOf k ⌝ }
+    ensures answer { λ r. ⌜ r ≡ delimiterOf k ⌝ }
 {
     if k == 4 {
         return Record::Open;
@@ -204,7 +204,7 @@ pub fn delimiter_of(k: u32) -> Record
 }
 
 fn area_unnamed(r: Raw) -> bool
-    ensures { λ t. ⌜ t ≡ areaUnnamed r ⌝ }
+    ensures answer { λ t. ⌜ t ≡ areaUnnamed r ⌝ }
 {
     (r.b7 == 0)
         & ((r.b10 == 0)
@@ -212,7 +212,7 @@ fn area_unnamed(r: Raw) -> bool
 }
 
 fn corner_unnamed(r: Raw) -> bool
-    ensures { λ t. ⌜ t ≡ cornerUnnamed r ⌝ }
+    ensures answer { λ t. ⌜ t ≡ cornerUnnamed r ⌝ }
 {
     (r.b1 == 0)
         & ((r.b2 == 0)
@@ -220,7 +220,7 @@ fn corner_unnamed(r: Raw) -> bool
 }
 
 fn delimiter_unnamed(r: Raw) -> bool
-    ensures { λ t. ⌜ t ≡ delimiterUnnamed r ⌝ }
+    ensures answer { λ t. ⌜ t ≡ delimiterUnnamed r ⌝ }
 {
     (r.b1 == 0)
         & ((r.b2 == 0)
@@ -239,7 +239,7 @@ fn delimiter_unnamed(r: Raw) -> bool
 }
 
 fn unnamed_zero(r: Raw) -> bool
-    ensures { λ t. ⌜ t ≡ unnamed r ⌝ }
+    ensures answer { λ t. ⌜ t ≡ unnamed r ⌝ }
 {
     if r.b0 == 1 {
         return area_unnamed(r);
@@ -251,7 +251,7 @@ fn unnamed_zero(r: Raw) -> bool
 }
 
 fn fields_of(r: Raw) -> Fields
-    ensures { λ f. ⌜ f ≡ fieldsOf r ⌝ }
+    ensures answer { λ f. ⌜ f ≡ fieldsOf r ⌝ }
 {
     let m = two_bytes(r.b8, r.b9);
     Fields {
@@ -266,7 +266,7 @@ fn fields_of(r: Raw) -> Fields
 }
 
 fn named_of(r: Raw) -> Record
-    ensures { λ t. ⌜ t ≡ named r ⌝ }
+    ensures answer { λ t. ⌜ t ≡ named r ⌝ }
 {
     if r.b0 == 1 {
         let f = fields_of(r);
@@ -284,7 +284,7 @@ fn named_of(r: Raw) -> Record
 
 // What sixteen bytes say.
 pub fn decoded_raw(r: Raw) -> Decoded
-    ensures { λ d. ⌜ d ≡ decodedRaw r ⌝ }
+    ensures answer { λ d. ⌜ d ≡ decodedRaw r ⌝ }
 {
     if 1 <= r.b0 {
         if r.b0 <= 6 {
@@ -302,7 +302,7 @@ pub fn decoded_raw(r: Raw) -> Decoded
 
 // ---- to bytes
 fn raw_area(f: Fields) -> Raw
-    ensures { λ r. ⌜ r ≡ rawArea f ⌝ }
+    ensures answer { λ r. ⌜ r ≡ rawArea f ⌝ }
 {
     Raw {
         b0: 1,
@@ -325,7 +325,7 @@ fn raw_area(f: Fields) -> Raw
 }
 
 fn raw_corner(k: u8, x: u32, y: u32) -> Raw
-    ensures { λ r. ⌜ r ≡ rawCorner k x y ⌝ }
+    ensures answer { λ r. ⌜ r ≡ rawCorner k x y ⌝ }
 {
     Raw {
         b0: k,
@@ -348,7 +348,7 @@ fn raw_corner(k: u8, x: u32, y: u32) -> Raw
 }
 
 fn raw_delimiter(k: u8) -> Raw
-    ensures { λ r. ⌜ r ≡ rawDelimiter k ⌝ }
+    ensures answer { λ r. ⌜ r ≡ rawDelimiter k ⌝ }
 {
     Raw {
         b0: k,
@@ -372,7 +372,7 @@ fn raw_delimiter(k: u8) -> Raw
 
 // The bytes of a record.
 pub fn raw_of(r: Record) -> Raw
-    ensures { λ b. ⌜ b ≡ rawOf r ⌝ }
+    ensures answer { λ b. ⌜ b ≡ rawOf r ⌝ }
 {
     match r {
         Record::Area(f) => raw_area(f),

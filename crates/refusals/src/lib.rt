@@ -20,7 +20,7 @@ pub enum Refusal {
 
 // Document 01's number of a refusal.
 pub fn number(r: Refusal) -> u32
-    ensures { λ n. ⌜ n ≡ numberOf r ⌝ }
+    ensures answer { λ n. ⌜ n ≡ numberOf r ⌝ }
 {
     match r {
         Refusal::Length => 1,

@@ -24,7 +24,7 @@ pub struct Source {
 
 // Before the first record.
 pub fn source_begin() -> Source
-    ensures { λ r. ⌜ r ≡ sourceAt 0 0 0 ⌝ }
+    ensures answer { λ r. ⌜ r ≡ sourceAt 0 0 0 ⌝ }
 {
     Source {
         area: 0,
@@ -36,7 +36,7 @@ pub fn source_begin() -> Source
 // Where the edge from the corner of record i ends: at the next corner where record i + 1 is one, or at the first corner of the contour.
 fn edge_end(plan: &[u32], i: usize, records: usize, corner: u32, first: u32) -> u32
     requires { ⌜ (records + 3 ≤ length (now plan)) × (i < records) × (corner ≤ 2048) ⌝ }
-    ensures { λ r. ⌜ r ≡ endN (now (plan .entry)) i records corner first ⌝ }
+    ensures answer { λ r. ⌜ r ≡ endN (now (plan .entry)) i records corner first ⌝ }
 {
     if i + 1 < records {
         if plan[i + 4] == 3 {
@@ -49,7 +49,7 @@ fn edge_end(plan: &[u32], i: usize, records: usize, corner: u32, first: u32) -> 
 
 fn edge_from(plan: &[u32], i: usize, records: usize, corner: u32, first: u32) -> Words
     requires { ⌜ (records + 3 ≤ length (now plan)) × (i < records) × (corner ≤ 2048) ⌝ }
-    ensures { λ r. ⌜ r ≡ edgeN (now (plan .entry)) i records corner first ⌝ }
+    ensures answer { λ r. ⌜ r ≡ edgeN (now (plan .entry)) i records corner first ⌝ }
 {
     let end = edge_end(plan, i, records, corner, first);
     Words {
@@ -61,7 +61,7 @@ fn edge_from(plan: &[u32], i: usize, records: usize, corner: u32, first: u32) ->
 }
 
 fn mark(kind: u32) -> Words
-    ensures { λ r. ⌜ r ≡ words kind 0 0 0 ⌝ }
+    ensures answer { λ r. ⌜ r ≡ words kind 0 0 0 ⌝ }
 {
     Words {
         kind: kind,
@@ -72,7 +72,7 @@ fn mark(kind: u32) -> Words
 }
 
 fn delimiter(kind: u32) -> Words
-    ensures { λ r. ⌜ r ≡ markN kind ⌝ }
+    ensures answer { λ r. ⌜ r ≡ markN kind ⌝ }
 {
     if kind == 4 {
         return mark(1);
@@ -86,7 +86,7 @@ fn delimiter(kind: u32) -> Words
 // The entry of record i: the area, the edge from its corner, or the delimiter.
 pub fn source_entry(plan: &[u32], i: usize, records: usize, c: Source) -> Words
     requires { ⌜ (records + 3 ≤ length (now plan)) × (i < records) × (c .corner ≤ 2048) ⌝ }
-    ensures { λ r. ⌜ r ≡ entryN (now (plan .entry)) i records c ⌝ }
+    ensures answer { λ r. ⌜ r ≡ entryN (now (plan .entry)) i records c ⌝ }
 {
     let kind = plan[i + 3];
     if kind == 1 {
@@ -109,7 +109,7 @@ pub fn source_entry(plan: &[u32], i: usize, records: usize, c: Source) -> Words
 // Behind a record of this kind.
 pub fn source_after(c: Source, kind: u32) -> Source
     requires { ⌜ (c .area ≤ 64) × (c .corner ≤ 2048) ⌝ }
-    ensures { λ r. ⌜ r ≡ afterN c kind ⌝ }
+    ensures answer { λ r. ⌜ r ≡ afterN c kind ⌝ }
 {
     if kind == 1 {
         return Source {
@@ -137,7 +137,7 @@ pub fn source_after(c: Source, kind: u32) -> Source
 
 // ---- the stream of cell 0
 fn root_square() -> Square
-    ensures { λ r. ⌜ r ≡ squareOf root ⌝ }
+    ensures answer { λ r. ⌜ r ≡ squareOf root ⌝ }
 {
     Square {
         x: 0,
@@ -156,7 +156,7 @@ pub fn count_open(
     b: Bounds,
 ) -> u64
     requires { ⌜ Opened (tables (now plan) (now areas) (now xs) (now ys)) records b ⌝ }
-    ensures { λ r. ⌜ r ≡ total rowSize (rowsOpened (drawingLent plan areas xs ys)) ⌝ }
+    ensures answer { λ r. ⌜ r ≡ total rowSize (rowsOpened (drawingLent plan areas xs ys)) ⌝ }
 {
     let s = root_square();
     let mut p = pruner::begun();
@@ -198,7 +198,7 @@ pub fn write_open(
     requires { ⌜ Opened (tables (now plan) (now areas) (now xs) (now ys)) records b ⌝ }
     requires { ⌜ made ≡ length (rowsOpened (tables (now plan) (now areas) (now xs) (now ys))) ⌝ }
     requires { ⌜ made * 4 ≤ length (now entries) ⌝ }
-    ensures { λ _. ⌜ now (entries .exit) ≡ written (now (entries .entry)) 0 (wordsOpened (drawingLent plan areas xs ys)) ⌝ }
+    ensures entries { λ _. ⌜ now (entries .exit) ≡ written (now (entries .entry)) 0 (wordsOpened (drawingLent plan areas xs ys)) ⌝ }
 {
     let s = root_square();
     let mut p = pruner::begun();

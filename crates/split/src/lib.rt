@@ -27,7 +27,7 @@ pub enum Answer {
 // The entries of all four children.
 fn entries_of(ts: [Tally; 4]) -> usize
     requires { ⌜ FewEach ts ⌝ }
-    ensures { λ r. ⌜ r ≡ getD ts 0 noTally .entries + getD ts 1 noTally .entries + getD ts 2 noTally .entries + getD ts 3 noTally .entries ⌝ }
+    ensures answer { λ r. ⌜ r ≡ getD ts 0 noTally .entries + getD ts 1 noTally .entries + getD ts 2 noTally .entries + getD ts 3 noTally .entries ⌝ }
 {
     let a = ts[0];
     let b = ts[1];
@@ -44,7 +44,7 @@ fn put_cells(cells: &mut [u32], i: usize, used: u32, free: u32, w: CellWords, ts
     requires { ⌜ (used ≤ 4096) × (free ≤ 65536) ⌝ }
     requires { ⌜ FewEach ts ⌝ }
     requires { ⌜ i * 8 + 8 ≤ length (now cells) ⌝ }
-    ensures { λ _. ⌜ now (cells .exit) ≡ putChildAt (cellsBy (cellOf w) ts (now (cells .entry)) used free 4) i used ⌝ }
+    ensures cells { λ _. ⌜ now (cells .exit) ≡ putChildAt (cellsBy (cellOf w) ts (now (cells .entry)) used free 4) i used ⌝ }
 {
     four_children::put_four(cells, used, free, w, ts);
     celltable::put_child(cells, i, used);
@@ -77,9 +77,9 @@ fn put_split(
     requires { ⌜ (used + 4) * 8 ≤ length (now cells) ⌝ }
     requires { ⌜ (used ≤ 4096) × (free ≤ 65536) × (n ≤ 65536) ⌝ }
     requires { ⌜ (i * 8 + 8 ≤ length (now cells)) × (2 ≤ length (now head)) ⌝ }
-    ensures { λ _. ⌜ now (head .exit) ≡ set (set (now (head .entry)) 0 (used + 4)) 1 (free + n) ⌝ }
-    ensures { λ _. ⌜ now (cells .exit) ≡ putChildAt (cellsBy (cellOf w) ts (now (cells .entry)) used free 4) i used ⌝ }
-    ensures { λ _. ⌜ now (entries .exit) ≡ written (now (entries .entry)) free (streamsTo
+    ensures head { λ _. ⌜ now (head .exit) ≡ set (set (now (head .entry)) 0 (used + 4)) 1 (free + n) ⌝ }
+    ensures cells { λ _. ⌜ now (cells .exit) ≡ putChildAt (cellsBy (cellOf w) ts (now (cells .entry)) used free 4) i used ⌝ }
+    ensures entries { λ _. ⌜ now (entries .exit) ≡ written (now (entries .entry)) free (streamsTo
         (lent (now (areas .entry)) (now (xs .entry)) (now (ys .entry)) b) (cellOf w) (wordsFrom (now (entries .entry)) (w .first) (w .count)) 4) ⌝ }
 {
     let first = w.first as usize;
@@ -174,13 +174,13 @@ fn split_leaf(
     requires { ⌜ w .first + w .count ≤ free ⌝ }
     requires { ⌜ (used ≤ 4096) × (free ≤ 65536) ⌝ }
     requires { ⌜ (i < used) × (2 ≤ length (now head)) ⌝ }
-    ensures { λ r. ⌜ r ≡
+    ensures answer { λ r. ⌜ r ≡
         leafAnswer (now (areas .entry)) (now (xs .entry)) (now (ys .entry)) b w (now (entries .entry)) (length (now (cells .entry))) used free ⌝ }
-    ensures { λ r. ⌜ now (head .exit) ≡ headBy r (now (head .entry)) used free (madeLent areas xs ys b w entries) ⌝ }
-    ensures { λ r. ⌜ now (cells .exit) ≡
+    ensures head { λ r. ⌜ now (head .exit) ≡ headBy r (now (head .entry)) used free (madeLent areas xs ys b w entries) ⌝ }
+    ensures cells { λ r. ⌜ now (cells .exit) ≡
         cellsOf r (lent (now (areas .entry)) (now (xs .entry)) (now (ys .entry)) b) w (wordsFrom (now (entries .entry)) (w .first) (w .count))
         (now (cells .entry)) i used free ⌝ }
-    ensures { λ r. ⌜ now (entries .exit) ≡ entriesBy r (now (entries .entry)) free (madeLent areas xs ys b w entries) ⌝ }
+    ensures entries { λ r. ⌜ now (entries .exit) ≡ entriesBy r (now (entries .entry)) free (madeLent areas xs ys b w entries) ⌝ }
 {
     let first = w.first as usize;
     let count = w.count as usize;
@@ -209,13 +209,13 @@ fn split_cell(
 ) -> Answer
     requires { ⌜ (used ≤ 4096) × (free ≤ 65536) ⌝ }
     requires { ⌜ (i < used) × (2 ≤ length (now head)) ⌝ }
-    ensures { λ r. ⌜ r ≡
+    ensures answer { λ r. ⌜ r ≡
         cellAnswer (now (areas .entry)) (now (xs .entry)) (now (ys .entry)) b w (now (entries .entry)) (length (now (cells .entry))) i used free ⌝ }
-    ensures { λ r. ⌜ now (head .exit) ≡ headBy r (now (head .entry)) used free (madeLent areas xs ys b w entries) ⌝ }
-    ensures { λ r. ⌜ now (cells .exit) ≡
+    ensures head { λ r. ⌜ now (head .exit) ≡ headBy r (now (head .entry)) used free (madeLent areas xs ys b w entries) ⌝ }
+    ensures cells { λ r. ⌜ now (cells .exit) ≡
         cellsOf r (lent (now (areas .entry)) (now (xs .entry)) (now (ys .entry)) b) w (wordsFrom (now (entries .entry)) (w .first) (w .count))
         (now (cells .entry)) i used free ⌝ }
-    ensures { λ r. ⌜ now (entries .exit) ≡ entriesBy r (now (entries .entry)) free (madeLent areas xs ys b w entries) ⌝ }
+    ensures entries { λ r. ⌜ now (entries .exit) ≡ entriesBy r (now (entries .entry)) free (madeLent areas xs ys b w entries) ⌝ }
 {
     if celltable::cell_fits(w, i, used as usize, free as usize) {
         if w.child == 0 {
@@ -243,10 +243,10 @@ fn split_counted(
     requires { ⌜ (i < used) × (2 ≤ length (now head)) ⌝ }
     requires { ⌜ 3 ≤ length (now plan) ⌝ }
     requires { ⌜ (used ≡ cellsUsed (now head)) × (free ≡ entriesUsed (now head)) ⌝ }
-    ensures { λ r. ⌜ r ≡ drawingSplit (treeLent plan areas xs ys head cells entries) i ⌝ }
-    ensures { λ r. ⌜ now (head .exit) ≡ headAfter (treeLent plan areas xs ys head cells entries) i r ⌝ }
-    ensures { λ r. ⌜ now (cells .exit) ≡ cellsAfter (treeLent plan areas xs ys head cells entries) i r ⌝ }
-    ensures { λ r. ⌜ now (entries .exit) ≡ entriesAfter (treeLent plan areas xs ys head cells entries) i r ⌝ }
+    ensures answer { λ r. ⌜ r ≡ drawingSplit (treeLent plan areas xs ys head cells entries) i ⌝ }
+    ensures head { λ r. ⌜ now (head .exit) ≡ headAfter (treeLent plan areas xs ys head cells entries) i r ⌝ }
+    ensures cells { λ r. ⌜ now (cells .exit) ≡ cellsAfter (treeLent plan areas xs ys head cells entries) i r ⌝ }
+    ensures entries { λ r. ⌜ now (entries .exit) ≡ entriesAfter (treeLent plan areas xs ys head cells entries) i r ⌝ }
 {
     let w = celltable::read_cell(cells, i);
     let b = tables::bounds_in(plan, w.y, w.side);
@@ -271,10 +271,10 @@ fn split_headed(
 ) -> Answer
     requires { ⌜ i < used ⌝ }
     requires { ⌜ used ≡ cellsUsed (now head) ⌝ }
-    ensures { λ r. ⌜ r ≡ countsSplit (treeLent plan areas xs ys head cells entries) i ⌝ }
-    ensures { λ r. ⌜ now (head .exit) ≡ headAfter (treeLent plan areas xs ys head cells entries) i r ⌝ }
-    ensures { λ r. ⌜ now (cells .exit) ≡ cellsAfter (treeLent plan areas xs ys head cells entries) i r ⌝ }
-    ensures { λ r. ⌜ now (entries .exit) ≡ entriesAfter (treeLent plan areas xs ys head cells entries) i r ⌝ }
+    ensures answer { λ r. ⌜ r ≡ countsSplit (treeLent plan areas xs ys head cells entries) i ⌝ }
+    ensures head { λ r. ⌜ now (head .exit) ≡ headAfter (treeLent plan areas xs ys head cells entries) i r ⌝ }
+    ensures cells { λ r. ⌜ now (cells .exit) ≡ cellsAfter (treeLent plan areas xs ys head cells entries) i r ⌝ }
+    ensures entries { λ r. ⌜ now (entries .exit) ≡ entriesAfter (treeLent plan areas xs ys head cells entries) i r ⌝ }
 {
     let n = cells.len();
     let k = entries.len();

@@ -38,7 +38,7 @@ pub struct Scan {
 // ---- the table of entries
 pub fn read_entry(entries: &[u32], i: usize) -> Words
     requires { ⌜ i * 4 + 4 ≤ length (now entries) ⌝ }
-    ensures { λ w. ⌜ w ≡ wordsAt (now (entries .entry)) i ⌝ }
+    ensures answer { λ w. ⌜ w ≡ wordsAt (now (entries .entry)) i ⌝ }
 {
     let at = i * 4;
     Words {
@@ -52,7 +52,7 @@ pub fn read_entry(entries: &[u32], i: usize) -> Words
 // Writes the four words of entry i.
 pub fn put_entry(table: &mut [u32], i: usize, w: Words)
     requires { ⌜ i * 4 + 4 ≤ length (now table) ⌝ }
-    ensures { λ _. ⌜ now (table .exit) ≡ putAt (now (table .entry)) i w ⌝ }
+    ensures table { λ _. ⌜ now (table .exit) ≡ putAt (now (table .entry)) i w ⌝ }
 {
     let at = i * 4;
     table[at] = w.kind;
@@ -65,7 +65,7 @@ pub fn put_entry(table: &mut [u32], i: usize, w: Words)
 // Whether corner i is in use and its coordinates are in range.
 fn corner_met(xs: &[u32], ys: &[u32], used: usize, i: usize) -> bool
     requires { ⌜ (used ≤ length (now xs)) × (used ≤ length (now ys)) ⌝ }
-    ensures { λ r. ⌜ r ≡ cornerMet (now (xs .entry)) (now (ys .entry)) used i ⌝ }
+    ensures answer { λ r. ⌜ r ≡ cornerMet (now (xs .entry)) (now (ys .entry)) used i ⌝ }
 {
     if i < used {
         return (xs[i] <= 65536) & (ys[i] <= 65536);
@@ -75,7 +75,7 @@ fn corner_met(xs: &[u32], ys: &[u32], used: usize, i: usize) -> bool
 
 // Whether an area's role fits a paint side, or a clip side.
 fn record_fits(r: Record, paint: bool) -> bool
-    ensures { λ t. ⌜ t ≡ recordFits r paint ⌝ }
+    ensures answer { λ t. ⌜ t ≡ recordFits r paint ⌝ }
 {
     match r {
         Record::Area(f) => { if paint { f.role == 0 } else { f.role == 1 } }
@@ -88,7 +88,7 @@ fn record_fits(r: Record, paint: bool) -> bool
 }
 
 fn role_fits(d: Decoded, paint: bool) -> bool
-    ensures { λ t. ⌜ t ≡ roleFits d paint ⌝ }
+    ensures answer { λ t. ⌜ t ≡ roleFits d paint ⌝ }
 {
     match d {
         Decoded::Good(r) => record_fits(r, paint),
@@ -99,7 +99,7 @@ fn role_fits(d: Decoded, paint: bool) -> bool
 // Whether the area that is named is in range and fits here, and its start number is in range.
 fn area_fits(areas: &[u32], used: usize, stack: u32, w: Words) -> bool
     requires { ⌜ used * 8 ≤ length (now areas) ⌝ }
-    ensures { λ r. ⌜ r ≡ areaFitsN (now (areas .entry)) used stack w ⌝ }
+    ensures answer { λ r. ⌜ r ≡ areaFitsN (now (areas .entry)) used stack w ⌝ }
 {
     let d = drawing::area_row(areas, used, w.p as usize);
     let paint = groups::on_paint(stack);
@@ -110,7 +110,7 @@ fn area_fits(areas: &[u32], used: usize, stack: u32, w: Words) -> bool
 // Whether both corners of a line are in use and in range.
 fn line_range(xs: &[u32], ys: &[u32], used: usize, w: Words) -> bool
     requires { ⌜ (used ≤ length (now xs)) × (used ≤ length (now ys)) ⌝ }
-    ensures { λ r. ⌜ r ≡ lineRange (now (xs .entry)) (now (ys .entry)) used (w .p) (w .q) ⌝ }
+    ensures answer { λ r. ⌜ r ≡ lineRange (now (xs .entry)) (now (ys .entry)) used (w .p) (w .q) ⌝ }
 {
     let a = corner_met(xs, ys, used, w.p as usize);
     let b = corner_met(xs, ys, used, w.q as usize);
@@ -119,7 +119,7 @@ fn line_range(xs: &[u32], ys: &[u32], used: usize, w: Words) -> bool
 
 // Whether a shortcut has the sign 1 or -1, and rows, all of them inside the cell.
 fn shortcut_range(low: u32, side: u32, w: Words) -> bool
-    ensures { λ r. ⌜ r ≡ shortcutRange low side (w .p) (w .q) (w .r) ⌝ }
+    ensures answer { λ r. ⌜ r ≡ shortcutRange low side (w .p) (w .q) (w .r) ⌝ }
 {
     let beyond = (low as u64) + (side as u64);
     ((w.p == 1) | (w.p == 4294967295)) & ((low <= w.q) & ((w.q < w.r) & ((w.r as u64) <= beyond)))
@@ -128,7 +128,7 @@ fn shortcut_range(low: u32, side: u32, w: Words) -> bool
 // ---- one entry more
 // An entry out of range, or one that does not fit.
 fn off() -> Scan
-    ensures { λ r. ⌜ r ≡ offN ⌝ }
+    ensures answer { λ r. ⌜ r ≡ offN ⌝ }
 {
     Scan {
         stack: 0,
@@ -140,7 +140,7 @@ fn off() -> Scan
 
 // The same areas and lines, in other groups.
 fn in_groups(s: Scan, n: u32) -> Scan
-    ensures { λ r. ⌜ r ≡ inGroups s n ⌝ }
+    ensures answer { λ r. ⌜ r ≡ inGroups s n ⌝ }
 {
     Scan {
         stack: n,
@@ -151,7 +151,7 @@ fn in_groups(s: Scan, n: u32) -> Scan
 }
 
 fn after_open(s: Scan) -> Scan
-    ensures { λ r. ⌜ r ≡ afterOpenN s ⌝ }
+    ensures answer { λ r. ⌜ r ≡ afterOpenN s ⌝ }
 {
     if groups::has_room(s.stack) {
         let n = groups::opened(s.stack);
@@ -161,7 +161,7 @@ fn after_open(s: Scan) -> Scan
 }
 
 fn after_bar(s: Scan) -> Scan
-    ensures { λ r. ⌜ r ≡ afterBarN s ⌝ }
+    ensures answer { λ r. ⌜ r ≡ afterBarN s ⌝ }
 {
     if groups::on_left(s.stack) {
         let n = groups::barred(s.stack);
@@ -171,7 +171,7 @@ fn after_bar(s: Scan) -> Scan
 }
 
 fn after_close(s: Scan) -> Scan
-    ensures { λ r. ⌜ r ≡ afterCloseN s ⌝ }
+    ensures answer { λ r. ⌜ r ≡ afterCloseN s ⌝ }
 {
     if groups::on_right(s.stack) {
         let n = groups::closed(s.stack);
@@ -181,7 +181,7 @@ fn after_close(s: Scan) -> Scan
 }
 
 fn after_passes(s: Scan) -> Scan
-    ensures { λ r. ⌜ r ≡ afterPassesN s ⌝ }
+    ensures answer { λ r. ⌜ r ≡ afterPassesN s ⌝ }
 {
     if groups::on_paint(s.stack) {
         return off();
@@ -191,7 +191,7 @@ fn after_passes(s: Scan) -> Scan
 
 // An area, if it may stand here: at most 64.
 fn with_area(s: Scan, ok: bool) -> Scan
-    ensures { λ r. ⌜ r ≡ withAreaN s ok ⌝ }
+    ensures answer { λ r. ⌜ r ≡ withAreaN s ok ⌝ }
 {
     if ok {
         if s.areas < 64 {
@@ -209,7 +209,7 @@ fn with_area(s: Scan, ok: bool) -> Scan
 
 // A line or a shortcut whose numbers are in range: straight after an area, a line or a shortcut, and at most 2,048.
 fn with_line(s: Scan, ok: bool) -> Scan
-    ensures { λ r. ⌜ r ≡ withLineN s ok ⌝ }
+    ensures answer { λ r. ⌜ r ≡ withLineN s ok ⌝ }
 {
     if ok {
         if s.held {
@@ -231,7 +231,7 @@ fn with_line(s: Scan, ok: bool) -> Scan
 // One entry more.
 fn step(areas: &[u32], xs: &[u32], ys: &[u32], b: Bounds, s: Scan, w: Words) -> Scan
     requires { ⌜ Ready (now areas) (now xs) (now ys) b ⌝ }
-    ensures { λ r. ⌜ r ≡ stepN (env (now (areas .entry)) (now (xs .entry)) (now (ys .entry)) b) s w ⌝ }
+    ensures answer { λ r. ⌜ r ≡ stepN (env (now (areas .entry)) (now (xs .entry)) (now (ys .entry)) b) s w ⌝ }
 {
     if s.stack == 0 {
         return s;
@@ -261,7 +261,7 @@ fn step(areas: &[u32], xs: &[u32], ys: &[u32], b: Bounds, s: Scan, w: Words) -> 
 // ---- lines and shortcuts in a row
 // Whether an entry of this kind is a line or a shortcut.
 pub fn is_segment(kind: u32) -> bool
-    ensures { λ r. ⌜ r ≡ isSegment kind ⌝ }
+    ensures answer { λ r. ⌜ r ≡ isSegment kind ⌝ }
 {
     (kind == 5) | (kind == 6)
 }
@@ -269,7 +269,7 @@ pub fn is_segment(kind: u32) -> bool
 // Whether the numbers of a line or a shortcut are in range.
 fn segment_fits(xs: &[u32], ys: &[u32], b: Bounds, w: Words) -> bool
     requires { ⌜ (b .corners ≤ length (now xs)) × (b .corners ≤ length (now ys)) ⌝ }
-    ensures { λ r. ⌜ r ≡ segmentFits (now (xs .entry)) (now (ys .entry)) b w ⌝ }
+    ensures answer { λ r. ⌜ r ≡ segmentFits (now (xs .entry)) (now (ys .entry)) b w ⌝ }
 {
     if w.kind == 5 {
         return line_range(xs, ys, b.corners, w);
@@ -297,9 +297,9 @@ fn scan_run(
     requires { ⌜ (from ≤ end) × (end ≤ from + 4096) × (end * 4 ≤ length (now entries)) ⌝ }
     requires { ⌜ (b .corners ≤ length (now xs)) × (b .corners ≤ length (now ys)) ⌝ }
     requires { ⌜ lines < 4294967296 ⌝ }
-    ensures { λ r. ⌜ r .fits ≡ runFits (now (xs .entry)) (now (ys .entry)) b lines (wordsFrom (now (entries .entry)) from (end - from)) ⌝ }
-    ensures { λ r. ⌜ r .lines ≡ lines + segmentsIn (wordsFrom (now (entries .entry)) from (end - from)) ⌝ }
-    ensures { λ r. ⌜ r .next ≡ from + segmentsIn (wordsFrom (now (entries .entry)) from (end - from)) ⌝ }
+    ensures fits { λ r. ⌜ r .fits ≡ runFits (now (xs .entry)) (now (ys .entry)) b lines (wordsFrom (now (entries .entry)) from (end - from)) ⌝ }
+    ensures lines { λ r. ⌜ r .lines ≡ lines + segmentsIn (wordsFrom (now (entries .entry)) from (end - from)) ⌝ }
+    ensures next { λ r. ⌜ r .next ≡ from + segmentsIn (wordsFrom (now (entries .entry)) from (end - from)) ⌝ }
 {
     let mut fits = true;
     let mut n = lines;
@@ -329,7 +329,7 @@ fn scan_run(
 // After a run of lines and shortcuts that stands straight after an area, a line or a shortcut.
 fn after_run(s: Scan, r: Run) -> Scan
     requires { ⌜ (r .fits ≡ true → r .lines < 4294967296) ⌝ }
-    ensures { λ t. ⌜ t ≡ afterRunN s (r .fits) (r .lines) ⌝ }
+    ensures answer { λ t. ⌜ t ≡ afterRunN s (r .fits) (r .lines) ⌝ }
 {
     if r.fits {
         return Scan {
@@ -362,7 +362,7 @@ fn scan_next(
 ) -> Scanned
     requires { ⌜ (i < end) × (end ≤ i + 4096) × (end * 4 ≤ length (now entries)) ⌝ }
     requires { ⌜ Ready (now areas) (now xs) (now ys) b ⌝ }
-    ensures { λ r. ⌜ Onward (env (now (areas .entry)) (now (xs .entry)) (now (ys .entry)) b) (now (entries .entry)) i end s r ⌝ }
+    ensures onward { λ r. ⌜ Onward (env (now (areas .entry)) (now (xs .entry)) (now (ys .entry)) b) (now (entries .entry)) i end s r ⌝ }
 {
     let w = read_entry(entries, i);
     let n = step(areas, xs, ys, b, s, w);
@@ -399,7 +399,7 @@ fn scan_all(
     requires { ⌜ (first + count) * 4 ≤ length (now entries) ⌝ }
     requires { ⌜ count ≤ 4096 ⌝ }
     requires { ⌜ Ready (now areas) (now xs) (now ys) b ⌝ }
-    ensures { λ r. ⌜ r ≡ scanN (env (now (areas .entry)) (now (xs .entry)) (now (ys .entry)) b) startN (wordsFrom (now (entries .entry)) first count) ⌝ }
+    ensures answer { λ r. ⌜ r ≡ scanN (env (now (areas .entry)) (now (xs .entry)) (now (ys .entry)) b) startN (wordsFrom (now (entries .entry)) first count) ⌝ }
 {
     let end = first + count;
     let mut s = Scan {
@@ -428,7 +428,7 @@ pub fn used_range(
     ys: usize,
     b: Bounds,
 ) -> bool
-    ensures { λ r. ⌜ r ≡ usedRange entries used areas xs ys b ⌝ }
+    ensures answer { λ r. ⌜ r ≡ usedRange entries used areas xs ys b ⌝ }
 {
     ((used <= entries / 4) & (used <= 65536))
         & (((b.areas <= areas / 8) & (b.areas <= 64))
@@ -446,7 +446,7 @@ pub fn check_stream(
     ys: &[u32],
     b: Bounds,
 ) -> bool
-    ensures { λ r. ⌜ r ≡ checkStream (now (entries .entry)) first count used (env (now (areas .entry)) (now (xs .entry)) (now (ys .entry)) b) ⌝ }
+    ensures answer { λ r. ⌜ r ≡ checkStream (now (entries .entry)) first count used (env (now (areas .entry)) (now (xs .entry)) (now (ys .entry)) b) ⌝ }
 {
     let u = used_range(entries.len(), used, areas.len(), xs.len(), ys.len(), b);
     if u {

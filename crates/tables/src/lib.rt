@@ -8,7 +8,7 @@ ghost use Rattle.celltable.specs.Ranges.{cellsHeld, entriesHeld};
 ghost use Rattle.tables.specs.Tables.{cellsUsed};
 
 pub fn cells_used(head: &[u32]) -> u32
-    ensures { λ r. ⌜ r ≡ cellsUsed (now (head .entry)) ⌝ }
+    ensures answer { λ r. ⌜ r ≡ cellsUsed (now (head .entry)) ⌝ }
 {
     if 2 <= head.len() {
         return head[0];
@@ -17,13 +17,13 @@ pub fn cells_used(head: &[u32]) -> u32
 }
 
 pub fn cells_held(n: u32, len: usize) -> bool
-    ensures { λ r. ⌜ r ≡ cellsHeld n len ⌝ }
+    ensures answer { λ r. ⌜ r ≡ cellsHeld n len ⌝ }
 {
     (1 <= n) & (((n as usize) <= len / 8) & (n <= 4096))
 }
 
 pub fn entries_held(n: usize, len: usize) -> bool
-    ensures { λ r. ⌜ r ≡ entriesHeld n len ⌝ }
+    ensures answer { λ r. ⌜ r ≡ entriesHeld n len ⌝ }
 {
     (n <= len / 4) & (n <= 65536)
 }
@@ -31,7 +31,7 @@ pub fn entries_held(n: usize, len: usize) -> bool
 // The numbers in use.
 pub fn put_head(head: &mut [u32], cells: u32, entries: u32)
     requires { ⌜ 2 ≤ length (now head) ⌝ }
-    ensures { λ _. ⌜ now (head .exit) ≡ set (set (now (head .entry)) 0 cells) 1 entries ⌝ }
+    ensures head { λ _. ⌜ now (head .exit) ≡ set (set (now (head .entry)) 0 cells) 1 entries ⌝ }
 {
     head[0] = cells;
     head[1] = entries;
@@ -40,7 +40,7 @@ pub fn put_head(head: &mut [u32], cells: u32, entries: u32)
 // The areas and corners in use, and the rows of a cell.
 pub fn bounds_in(plan: &[u32], low: u32, side: u32) -> Bounds
     requires { ⌜ 3 ≤ length (now plan) ⌝ }
-    ensures { λ r. ⌜ r ≡ bounds (getD (now (plan .entry)) 1 0) (getD (now (plan .entry)) 2 0) low side ⌝ }
+    ensures answer { λ r. ⌜ r ≡ bounds (getD (now (plan .entry)) 1 0) (getD (now (plan .entry)) 2 0) low side ⌝ }
 {
     Bounds {
         areas: laws::wide(plan[1]),

@@ -19,7 +19,7 @@ ghost use Rattle.writing.specs.code.Numbers.{putBelow, placeOf, keptPut,
 // A signed number as a word in two's complement.
 fn word_of(z: i64) -> u32
     requires { ⌜ natAbs z ≤ 8192 ⌝ }
-    ensures { λ r. ⌜ r ≡ ofZ w32 z ⌝ }
+    ensures answer { λ r. ⌜ r ≡ ofZ w32 z ⌝ }
 {
     if z < 0 {
         return (z + 4294967296) as u32;
@@ -29,7 +29,7 @@ fn word_of(z: i64) -> u32
 
 fn put_below(out: &mut [u32], limit: usize, at: usize, w: Words)
     requires { ⌜ limit * 4 ≤ length (now out) ⌝ }
-    ensures { λ _. ⌜ now (out .exit) ≡ putBelow limit (now (out .entry)) at w ⌝ }
+    ensures out { λ _. ⌜ now (out .exit) ≡ putBelow limit (now (out .entry)) at w ⌝ }
 {
     if at < limit {
         stream::put_entry(out, at, w);
@@ -37,7 +37,7 @@ fn put_below(out: &mut [u32], limit: usize, at: usize, w: Words)
 }
 
 fn place_of(n: u64) -> usize
-    ensures { λ r. ⌜ r ≡ placeOf n ⌝ }
+    ensures answer { λ r. ⌜ r ≡ placeOf n ⌝ }
 {
     (n % 65536) as usize
 }
@@ -46,7 +46,7 @@ fn place_of(n: u64) -> usize
 fn put_kept(out: &mut [u32], limit: usize, at: usize, l: Left, w: Words)
     requires { ⌜ limit * 4 ≤ length (now out) ⌝ }
     requires { ⌜ natAbs (l .sign) ≤ 1 ⌝ }
-    ensures { λ _. ⌜ now (out .exit) ≡ keptPut (l .class) limit (now (out .entry)) at (l .sign) w ⌝ }
+    ensures out { λ _. ⌜ now (out .exit) ≡ keptPut (l .class) limit (now (out .entry)) at (l .sign) w ⌝ }
 {
     let k = l.class;
     match k {
@@ -86,7 +86,7 @@ fn put_kept(out: &mut [u32], limit: usize, at: usize, l: Left, w: Words)
 pub fn put_segment(out: &mut [u32], limit: usize, p: Pruner, a: Waiting, l: Left, w: Words)
     requires { ⌜ limit * 4 ≤ length (now out) ⌝ }
     requires { ⌜ natAbs (l .sign) ≤ 1 ⌝ }
-    ensures { λ _. ⌜ now (out .exit) ≡ segmentPut limit (now (out .entry)) (maker p a) (l .class) (l .sign) w ⌝ }
+    ensures out { λ _. ⌜ now (out .exit) ≡ segmentPut limit (now (out .entry)) (maker p a) (l .class) (l .sign) w ⌝ }
 {
     if p.skip == 0 {
         if a.waits {
@@ -100,7 +100,7 @@ pub fn put_segment(out: &mut [u32], limit: usize, p: Pruner, a: Waiting, l: Left
 // The bare "passes", where the side begins.
 fn put_bare(out: &mut [u32], limit: usize, p: Pruner)
     requires { ⌜ limit * 4 ≤ length (now out) ⌝ }
-    ensures { λ _. ⌜ now (out .exit) ≡ barePut limit (now (out .entry)) p ⌝ }
+    ensures out { λ _. ⌜ now (out .exit) ≡ barePut limit (now (out .entry)) p ⌝ }
 {
     let at = place_of(p.base);
     put_below(
@@ -120,7 +120,7 @@ fn put_bare(out: &mut [u32], limit: usize, p: Pruner)
 fn put_named(out: &mut [u32], limit: usize, m: Maker)
     requires { ⌜ limit * 4 ≤ length (now out) ⌝ }
     requires { ⌜ natAbs (m .waiting .start) ≤ 8192 ⌝ }
-    ensures { λ _. ⌜ now (out .exit) ≡ namedPut limit (now (out .entry)) m ⌝ }
+    ensures out { λ _. ⌜ now (out .exit) ≡ namedPut limit (now (out .entry)) m ⌝ }
 {
     let p = m.pruner;
     let a = m.waiting;
@@ -144,7 +144,7 @@ fn put_class(out: &mut [u32], limit: usize, areas: &[u32], m: Maker, k: u32)
     requires { ⌜ limit * 4 ≤ length (now out) ⌝ }
     requires { ⌜ natAbs (m .waiting .start) ≤ 8192 ⌝ }
     requires { ⌜ m .waiting .number * 8 + 8 ≤ length (now areas) ⌝ }
-    ensures { λ _. ⌜ now (out .exit) ≡ classPut limit (now (areas .entry)) (now (out .entry)) m k ⌝ }
+    ensures out { λ _. ⌜ now (out .exit) ≡ classPut limit (now (areas .entry)) (now (out .entry)) m k ⌝ }
 {
     if k == 0 {
         return;
@@ -167,7 +167,7 @@ fn put_class(out: &mut [u32], limit: usize, areas: &[u32], m: Maker, k: u32)
 pub fn put_settled(out: &mut [u32], limit: usize, areas: &[u32], m: Maker)
     requires { ⌜ limit * 4 ≤ length (now out) ⌝ }
     requires { ⌜ Inside (length (now areas)) (m .waiting) ⌝ }
-    ensures { λ _. ⌜ now (out .exit) ≡ settledPut limit (now (areas .entry)) (now (out .entry)) m ⌝ }
+    ensures out { λ _. ⌜ now (out .exit) ≡ settledPut limit (now (areas .entry)) (now (out .entry)) m ⌝ }
 {
     let p = m.pruner;
     let a = m.waiting;
@@ -182,7 +182,7 @@ pub fn put_settled(out: &mut [u32], limit: usize, areas: &[u32], m: Maker)
 // A delimiter or "passes", after which what is made has this weight.
 fn put_mark(out: &mut [u32], limit: usize, q: Pruner, weight: u64, kind: u32)
     requires { ⌜ limit * 4 ≤ length (now out) ⌝ }
-    ensures { λ _. ⌜ now (out .exit) ≡ markPut limit (now (out .entry)) q weight kind ⌝ }
+    ensures out { λ _. ⌜ now (out .exit) ≡ markPut limit (now (out .entry)) q weight kind ⌝ }
 {
     if kind == 7 {
         if q.skip == 0 {
@@ -211,7 +211,7 @@ fn put_other(out: &mut [u32], limit: usize, areas: &[u32], m: Maker, weight: u64
     requires { ⌜ limit * 4 ≤ length (now out) ⌝ }
     requires { ⌜ Inside (length (now areas)) (m .waiting) ⌝ }
     requires { ⌜ (m .pruner .weight + m .waiting .weight < 2 ^ 60) × (m .pruner .base < 2 ^ 60) ⌝ }
-    ensures { λ _. ⌜ now (out .exit) ≡
+    ensures out { λ _. ⌜ now (out .exit) ≡
         markOn limit (settledPut limit (now (areas .entry)) (now (out .entry)) m) (settledN (now (areas .entry)) (counted (m .pruner)) (m .waiting))
         weight kind ⌝ }
 {
@@ -234,8 +234,8 @@ pub fn write_other(
     requires { ⌜ limit * 4 ≤ length (now out) ⌝ }
     requires { ⌜ Inside (length (now areas)) a ⌝ }
     requires { ⌜ Room p a kind ⌝ }
-    ensures { λ r. ⌜ counted r ≡ prunedN (now (areas .entry)) (counted p) a kind ⌝ }
-    ensures { λ r. ⌜ now (out .exit) ≡
+    ensures answer { λ r. ⌜ counted r ≡ prunedN (now (areas .entry)) (counted p) a kind ⌝ }
+    ensures out { λ r. ⌜ now (out .exit) ≡
         markOn limit (settledPut limit (now (areas .entry)) (now (out .entry)) (maker p a)) (settledN (now (areas .entry)) (counted p) a) (r .weight)
         kind ⌝ }
 {

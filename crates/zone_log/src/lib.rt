@@ -33,7 +33,7 @@ pub enum Count {
 
 // ---- the positions
 fn in_range(x: u32, y: u32) -> bool
-    ensures { λ r. ⌜ r ≡ positionRange x y ⌝ }
+    ensures answer { λ r. ⌜ r ≡ positionRange x y ⌝ }
 {
     (x < 65536) & (y < 65536)
 }
@@ -41,7 +41,7 @@ fn in_range(x: u32, y: u32) -> bool
 // The lowest index whose position is out of range; the length of the run where there is none.
 fn first_outside(px: &[u32], py: &[u32]) -> usize
     requires { ⌜ length (now px) ≡ length (now py) ⌝ }
-    ensures { λ r. ⌜ r ≡ outsideFrom (now (px .entry)) (now (py .entry)) 0 (length (now (px .entry))) ⌝ }
+    ensures answer { λ r. ⌜ r ≡ outsideFrom (now (px .entry)) (now (py .entry)) 0 (length (now (px .entry))) ⌝ }
 {
     let n = px.len();
     let mut i: usize = 0;
@@ -57,14 +57,14 @@ fn first_outside(px: &[u32], py: &[u32]) -> usize
 
 // ---- one index
 fn is_logged(i: usize, before: u32, m: u32) -> bool
-    ensures { λ r. ⌜ r ≡ loggedN i before m ⌝ }
+    ensures answer { λ r. ⌜ r ≡ loggedN i before m ⌝ }
 {
     (i == 0) | (m != before)
 }
 
 fn tallied(c: Tally, i: usize, logged: bool) -> Tally
     requires { ⌜ c .count < 9223372036854775808 ⌝ }
-    ensures { λ r. ⌜ r ≡ talliedN c i logged ⌝ }
+    ensures answer { λ r. ⌜ r ≡ talliedN c i logged ⌝ }
 {
     if logged {
         return Tally {
@@ -78,8 +78,8 @@ fn tallied(c: Tally, i: usize, logged: bool) -> Tally
 // Writes index i at place k, where it is in the log, and gives the place behind.
 fn put_logged(out: &mut [u32], k: usize, i: usize, logged: bool) -> usize
     requires { ⌜ (logged ≡ true → (k < length (now out)) × (i < 4294967296)) ⌝ }
-    ensures { λ r. ⌜ r ≡ cond logged (k + 1) k ⌝ }
-    ensures { λ _. ⌜ now (out .exit) ≡ cond logged (set (now (out .entry)) k i) (now (out .entry)) ⌝ }
+    ensures answer { λ r. ⌜ r ≡ cond logged (k + 1) k ⌝ }
+    ensures out { λ _. ⌜ now (out .exit) ≡ cond logged (set (now (out .entry)) k i) (now (out .entry)) ⌝ }
 {
     if logged {
         out[k] = i as u32;
@@ -102,7 +102,7 @@ fn count_log(
     py: &[u32],
 ) -> Count
     requires { ⌜ RunIn (now px) (now py) ⌝ }
-    ensures { λ r. ⌜ r ≡ countIn (treeLent plan areas xs ys head cells entries) (now (px .entry)) (now (py .entry)) ⌝ }
+    ensures answer { λ r. ⌜ r ≡ countIn (treeLent plan areas xs ys head cells entries) (now (px .entry)) (now (py .entry)) ⌝ }
 {
     let n = px.len();
     let mut last = Found::Broken;
@@ -159,7 +159,7 @@ fn write_log(
     requires { ⌜ knownFrom (tree (now plan) (now areas) (now xs) (now ys) (now head) (now cells) (now entries)) (now px) (now py) 0 (length (now px)) ≡ true ⌝ }
     requires { ⌜ length (zoneLog (tree (now plan) (now areas) (now xs) (now ys) (now head) (now cells) (now entries)) (now px) (now py)) ≤ length (now out) ⌝ }
     requires { ⌜ eachWord (zoneLog (tree (now plan) (now areas) (now xs) (now ys) (now head) (now cells) (now entries)) (now px) (now py)) ≡ true ⌝ }
-    ensures { λ _. ⌜ now (out .exit) ≡
+    ensures out { λ _. ⌜ now (out .exit) ≡
         sets (now (out .entry)) 0 (zoneLog (treeLent plan areas xs ys head cells entries) (now (px .entry)) (now (py .entry))) ⌝ }
 {
     let n = px.len();
@@ -211,8 +211,8 @@ fn log_known(
     out: &mut [u32],
 ) -> LogAnswer
     requires { ⌜ RunIn (now px) (now py) ⌝ }
-    ensures { λ r. ⌜ r ≡ logKnown (treeLent plan areas xs ys head cells entries) (now (px .entry)) (now (py .entry)) (length (now (out .entry))) ⌝ }
-    ensures { λ r. ⌜ now (out .exit) ≡ outAfter (treeLent plan areas xs ys head cells entries) (now (px .entry)) (now (py .entry)) r (now (out .entry)) ⌝ }
+    ensures answer { λ r. ⌜ r ≡ logKnown (treeLent plan areas xs ys head cells entries) (now (px .entry)) (now (py .entry)) (length (now (out .entry))) ⌝ }
+    ensures out { λ r. ⌜ now (out .exit) ≡ outAfter (treeLent plan areas xs ys head cells entries) (now (px .entry)) (now (py .entry)) r (now (out .entry)) ⌝ }
 {
     let c = count_log(plan, areas, xs, ys, head, cells, entries, px, py);
     match c {
@@ -241,8 +241,8 @@ fn log_ranged(
     out: &mut [u32],
 ) -> LogAnswer
     requires { ⌜ length (now px) ≡ length (now py) ⌝ }
-    ensures { λ r. ⌜ r ≡ logRange (treeLent plan areas xs ys head cells entries) (now (px .entry)) (now (py .entry)) (length (now (out .entry))) ⌝ }
-    ensures { λ r. ⌜ now (out .exit) ≡ outAfter (treeLent plan areas xs ys head cells entries) (now (px .entry)) (now (py .entry)) r (now (out .entry)) ⌝ }
+    ensures answer { λ r. ⌜ r ≡ logRange (treeLent plan areas xs ys head cells entries) (now (px .entry)) (now (py .entry)) (length (now (out .entry))) ⌝ }
+    ensures out { λ r. ⌜ now (out .exit) ≡ outAfter (treeLent plan areas xs ys head cells entries) (now (px .entry)) (now (py .entry)) r (now (out .entry)) ⌝ }
 {
     let place = first_outside(px, py);
     if place < px.len() {
