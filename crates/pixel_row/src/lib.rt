@@ -99,7 +99,8 @@ fn fill_row(
     out: &mut [u8],
 ) -> RowAnswer
     requires { ⌜ (row ≤ 4095) × (first + length (now out) / 3 ≤ 4096) ⌝ }
-    ensures answer { λ r. ⌜ r ≡ fillFrom (treeLent plan areas xs ys head cells entries) row first 0 (length (now (out .entry)) / 3) (now (out .entry)) .answer ⌝ }
+    ensures answer { λ r. ⌜ r ≡
+        fillFrom (treeLent plan areas xs ys head cells entries) row first 0 (length (now (out .entry)) / 3) (now (out .entry)) .answer ⌝ }
     ensures out { λ _. ⌜ now (out .exit) ≡
         fillFrom (treeLent plan areas xs ys head cells entries) row first 0 (length (now (out .entry)) / 3) (now (out .entry)) .bytes ⌝ }
 {
