@@ -5,6 +5,12 @@ ghost use mathlib.Core.Bool.{true};
 ghost use Prim.Native.Nat.{_<_};
 ghost use Rattle.groups.specs.code.Stack.{paintN, leftN, rightN, roomN, openN, barN, closeN};
 
+// No group is open.
+pub const NONE_OPEN: u32 = 1;
+
+// 8 groups are open from this number on: 4 to the 8.
+const FULL: u32 = 65536;
+
 // Whether what stands here stands on a paint side.
 pub fn on_paint(stack: u32) -> bool
     ensures answer { λ r. ⌜ r ≡ paintN stack ⌝ }
@@ -30,7 +36,7 @@ pub fn on_right(stack: u32) -> bool
 pub fn has_room(stack: u32) -> bool
     ensures answer { λ r. ⌜ r ≡ roomN stack ⌝ }
 {
-    stack < 65536
+    stack < FULL
 }
 
 // One group more is open, on its left side.
