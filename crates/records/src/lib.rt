@@ -7,6 +7,77 @@ ghost use Rattle.records.specs.Record.{paintRange, clipRange, areaRange,
 ghost use Rattle.records.specs.Bytes.{rawAt, putRaw, number2, number4, areaUnnamed, cornerUnnamed, delimiterUnnamed, unnamed, fieldsOf, named};
 ghost use Rattle.records.specs.Bytes.{decodedRaw, rawArea, rawCorner, rawDelimiter, rawOf};
 
+// The limits of a drawing.
+pub const MOST_RECORDS: usize = 4096;
+
+pub const MOST_AREAS: usize = 64;
+
+pub const MOST_CORNERS: usize = 2048;
+
+// A record: its bytes, and its kinds, a number and as byte 0. The corners are the kinds below `(`.
+pub const RECORD_BYTES: usize = 16;
+
+pub const KIND_AREA: u32 = 1;
+
+pub const KIND_FIRST: u32 = 2;
+
+pub const KIND_NEXT: u32 = 3;
+
+pub const KIND_OPEN: u32 = 4;
+
+pub const KIND_BAR: u32 = 5;
+
+pub const KIND_CLOSE: u32 = 6;
+
+const BYTE_AREA: u8 = KIND_AREA as u8;
+
+const BYTE_FIRST: u8 = KIND_FIRST as u8;
+
+const BYTE_NEXT: u8 = KIND_NEXT as u8;
+
+const BYTE_OPEN: u8 = KIND_OPEN as u8;
+
+const BYTE_BAR: u8 = KIND_BAR as u8;
+
+const BYTE_CLOSE: u8 = KIND_CLOSE as u8;
+
+// The roles, the fill rules, and the ranges of an area's other fields.
+pub const PAINT: u32 = 0;
+
+pub const CLIP: u32 = 1;
+
+pub const NON_ZERO: u32 = 0;
+
+pub const EVEN_ODD: u32 = 1;
+
+pub const OPAQUE: u32 = 255;
+
+const MOST_CHANNEL: u32 = 255;
+
+const LEAST_MATERIAL: u32 = 1;
+
+const MOST_MATERIAL: u32 = 65535;
+
+// The side of the grid, the largest coordinate of a corner.
+pub const GRID: u32 = 65536;
+
+// An area in the table of areas: its words, of which word 0 is its role.
+pub const AREA_WORDS: usize = 8;
+
+pub const RULE: usize = 1;
+
+pub const ALPHA: usize = 2;
+
+pub const RED: usize = 3;
+
+pub const GREEN: usize = 4;
+
+pub const BLUE: usize = 5;
+
+pub const MATERIAL: usize = 6;
+
+pub const UNNAMED: usize = 7;
+
 // The fields of an area.
 pub struct Fields {
     pub role: u32,
@@ -57,7 +128,7 @@ pub fn read_raw(records: &[u8], i: usize) -> Raw
     requires { ⌜ i * 16 + 16 ≤ length (now records) ⌝ }
     ensures answer { λ r. ⌜ r ≡ rawAt (now (records .entry)) i ⌝ }
 {
-    let at = i * 16;
+    let at = i * RECORD_BYTES;
     Raw {
         b0: records[at],
         b1: records[at + 1],
@@ -125,9 +196,11 @@ fn four_bytes(a: u8, b: u8, d: u8, e: u8) -> u32
 fn paint_range(f: Fields) -> bool
     ensures answer { λ r. ⌜ r ≡ paintRange f ⌝ }
 {
-    (f.alpha <= 255)
-        & ((f.red <= 255)
-            & ((f.green <= 255) & ((f.blue <= 255) & ((1 <= f.material) & (f.material <= 65535)))))
+    (f.alpha <= OPAQUE)
+        & ((f.red <= MOST_CHANNEL)
+            & ((f.green <= MOST_CHANNEL)
+                & ((f.blue <= MOST_CHANNEL)
+                    & ((LEAST_MATERIAL <= f.material) & (f.material <= MOST_MATERIAL)))))
 }
 
 fn clip_range(f: Fields) -> bool
@@ -139,11 +212,11 @@ fn clip_range(f: Fields) -> bool
 fn area_range(f: Fields) -> bool
     ensures answer { λ r. ⌜ r ≡ areaRange f ⌝ }
 {
-    if f.rule <= 1 {
-        if f.role == 0 {
+    if f.rule <= EVEN_ODD {
+        if f.role == PAINT {
             return paint_range(f);
         }
-        if f.role == 1 {
+        if f.role == CLIP {
             return clip_range(f);
         }
         return false;
@@ -154,7 +227,7 @@ fn area_range(f: Fields) -> bool
 fn corner_range(x: u32, y: u32) -> bool
     ensures answer { λ r. ⌜ r ≡ cornerRange x y ⌝ }
 {
-    (x <= 65536) & (y <= 65536)
+    (x <= GRID) & (y <= GRID)
 }
 
 fn in_range(r: Record) -> bool
@@ -185,7 +258,7 @@ pub fn ranged_of(r: Record) -> Decoded
 pub fn corner_of(k: u32, x: u32, y: u32) -> Record
     ensures answer { λ r. ⌜ r ≡ cornerOf k x y ⌝ }
 {
-    if k == 2 {
+    if k == KIND_FIRST {
         return Record::First(x, y);
     }
     Record::Next(x, y)
@@ -194,10 +267,10 @@ pub fn corner_of(k: u32, x: u32, y: u32) -> Record
 pub fn delimiter_of(k: u32) -> Record
     ensures answer { λ r. ⌜ r ≡ delimiterOf k ⌝ }
 {
-    if k == 4 {
+    if k == KIND_OPEN {
         return Record::Open;
     }
-    if k == 5 {
+    if k == KIND_BAR {
         return Record::Bar;
     }
     Record::Close
@@ -241,10 +314,10 @@ fn delimiter_unnamed(r: Raw) -> bool
 fn unnamed_zero(r: Raw) -> bool
     ensures answer { λ t. ⌜ t ≡ unnamed r ⌝ }
 {
-    if r.b0 == 1 {
+    if r.b0 == BYTE_AREA {
         return area_unnamed(r);
     }
-    if r.b0 < 4 {
+    if r.b0 < BYTE_OPEN {
         return corner_unnamed(r);
     }
     delimiter_unnamed(r)
@@ -268,11 +341,11 @@ fn fields_of(r: Raw) -> Fields
 fn named_of(r: Raw) -> Record
     ensures answer { λ t. ⌜ t ≡ named r ⌝ }
 {
-    if r.b0 == 1 {
+    if r.b0 == BYTE_AREA {
         let f = fields_of(r);
         return Record::Area(f);
     }
-    if r.b0 < 4 {
+    if r.b0 < BYTE_OPEN {
         let x = four_bytes(r.b4, r.b5, r.b6, r.b7);
         let y = four_bytes(r.b8, r.b9, r.b10, r.b11);
         let k = wide(r.b0);
@@ -286,8 +359,8 @@ fn named_of(r: Raw) -> Record
 pub fn decoded_raw(r: Raw) -> Decoded
     ensures answer { λ d. ⌜ d ≡ decodedRaw r ⌝ }
 {
-    if 1 <= r.b0 {
-        if r.b0 <= 6 {
+    if BYTE_AREA <= r.b0 {
+        if r.b0 <= BYTE_CLOSE {
             let z = unnamed_zero(r);
             if z {
                 let t = named_of(r);
@@ -305,7 +378,7 @@ fn raw_area(f: Fields) -> Raw
     ensures answer { λ r. ⌜ r ≡ rawArea f ⌝ }
 {
     Raw {
-        b0: 1,
+        b0: BYTE_AREA,
         b1: (f.role % 256) as u8,
         b2: (f.rule % 256) as u8,
         b3: (f.alpha % 256) as u8,
@@ -376,10 +449,10 @@ pub fn raw_of(r: Record) -> Raw
 {
     match r {
         Record::Area(f) => raw_area(f),
-        Record::First(x, y) => raw_corner(2, x, y),
-        Record::Next(x, y) => raw_corner(3, x, y),
-        Record::Open => raw_delimiter(4),
-        Record::Bar => raw_delimiter(5),
-        Record::Close => raw_delimiter(6),
+        Record::First(x, y) => raw_corner(BYTE_FIRST, x, y),
+        Record::Next(x, y) => raw_corner(BYTE_NEXT, x, y),
+        Record::Open => raw_delimiter(BYTE_OPEN),
+        Record::Bar => raw_delimiter(BYTE_BAR),
+        Record::Close => raw_delimiter(BYTE_CLOSE),
     }
 }
