@@ -5,6 +5,19 @@ ghost use Prim.Native.Nat.{_+_, _*_, _≤_};
 ghost use lib.ListN.{length};
 ghost use Rattle.paint.specs.Areas.{paintAt, materialOf, Painted};
 
+// The words of an area's row that say its paint.
+const AREA_WORDS: usize = 8;
+
+const ALPHA: usize = 2;
+
+const RED: usize = 3;
+
+const GREEN: usize = 4;
+
+const BLUE: usize = 5;
+
+const MATERIAL: usize = 6;
+
 // The paint of an area. The material of no area is 0.
 pub struct Paint {
     pub alpha: u32,
@@ -20,11 +33,11 @@ pub fn paint_at(areas: &[u32], n: usize) -> Paint
     ensures answer { λ r. ⌜ r ≡ paintAt (now (areas .entry)) n ⌝ }
 {
     Paint {
-        alpha: areas[n * 8 + 2],
-        red: areas[n * 8 + 3],
-        green: areas[n * 8 + 4],
-        blue: areas[n * 8 + 5],
-        material: areas[n * 8 + 6],
+        alpha: areas[n * AREA_WORDS + ALPHA],
+        red: areas[n * AREA_WORDS + RED],
+        green: areas[n * AREA_WORDS + GREEN],
+        blue: areas[n * AREA_WORDS + BLUE],
+        material: areas[n * AREA_WORDS + MATERIAL],
     }
 }
 
@@ -34,7 +47,7 @@ pub fn material_of(areas: &[u32], shown: u64) -> u32
     ensures answer { λ r. ⌜ r ≡ materialOf (paintAt (now (areas .entry))) shown ⌝ }
 {
     let n = set::lowest_area(shown);
-    if n < 64 {
+    if n < set::MOST_AREAS {
         let p = paint_at(areas, n as usize);
         return p.material;
     }

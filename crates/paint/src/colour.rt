@@ -7,6 +7,14 @@ ghost use Prim.Native.Nat.{_+_, _*_, _≤_};
 ghost use Rattle.paint.specs.Areas.{paintAt, PaintIn, Painted};
 ghost use Rattle.paint.specs.Colours.{weight, add, over, sumsOf, rounded, colourOf, MixIn, ChannelsIn, ColourIn};
 
+// What the weights and what is left always make, and its half, for rounding.
+const WHOLE: u32 = 255;
+
+const HALF: u32 = 127;
+
+// Each channel of the ground.
+pub const WHITE: u32 = 255;
+
 // What is left of 255 behind some areas, and the sums of their weights times their channels.
 pub struct Mix {
     pub left: u32,
@@ -36,7 +44,7 @@ fn weight_of(left: u32, alpha: u32) -> u32
     ensures answer { λ r. ⌜ r ≡ weight left alpha ⌝ }
     ensures range { λ r. ⌜ r ≤ left ⌝ }
 {
-    (left * alpha + 127) / 255
+    (left * alpha + HALF) / WHOLE
 }
 
 // A channel's sum with one area more.
@@ -71,7 +79,7 @@ fn over_white(m: Mix) -> Channels
     ensures answer { λ r. ⌜ r ≡ over m ⌝ }
     ensures range { λ r. ⌜ ChannelsIn r ⌝ }
 {
-    let white = m.left * 255;
+    let white = m.left * WHITE;
     Channels {
         red: m.red + white,
         green: m.green + white,
@@ -88,7 +96,7 @@ pub fn channel_sums(areas: &[u32], shown: u64) -> Channels
     let mut rest = shown;
     let mut first = 0;
     let mut m = Mix {
-        left: 255,
+        left: WHOLE,
         red: 0,
         green: 0,
         blue: 0,
@@ -111,9 +119,9 @@ pub fn rounded_sums(c: Channels) -> Colour
     ensures range { λ r. ⌜ ColourIn r ⌝ }
 {
     Colour {
-        red: (c.red + 127) / 255,
-        green: (c.green + 127) / 255,
-        blue: (c.blue + 127) / 255,
+        red: (c.red + HALF) / WHOLE,
+        green: (c.green + HALF) / WHOLE,
+        blue: (c.blue + HALF) / WHOLE,
     }
 }
 

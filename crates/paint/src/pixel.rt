@@ -6,6 +6,13 @@ ghost use Prim.Native.Nat.{_≤_, _<_};
 ghost use Rattle.paint.specs.Colours.{ColourIn};
 ghost use Rattle.paint.specs.Pixels.{rowOffset, sampleX, sampleY, plus, sixteenth, SamplesIn};
 
+// The side of a pixel in units, and its samples, one in each column; their half, for rounding.
+pub const PIXEL_SIDE: u32 = 16;
+
+pub const SAMPLES: u32 = 16;
+
+const HALF: u32 = 8;
+
 // The row offsets, for column offsets 0 to 15.
 const ROW_OFFSETS: [u32; 16] = [3, 8, 13, 2, 7, 12, 1, 6, 11, 0, 5, 10, 15, 4, 9, 14];
 
@@ -34,8 +41,8 @@ pub fn sample_at(row: u32, pixel: u32, i: u32) -> Sample
     ensures y_range { λ r. ⌜ r .y < 65536 ⌝ }
 {
     Sample {
-        x: 16 * pixel + i,
-        y: 16 * row + row_offset(i),
+        x: PIXEL_SIDE * pixel + i,
+        y: PIXEL_SIDE * row + row_offset(i),
     }
 }
 
@@ -59,8 +66,8 @@ pub fn pixel_of(sum: Channels) -> Colour
     ensures range { λ r. ⌜ ColourIn r ⌝ }
 {
     Colour {
-        red: (sum.red + 8) / 16,
-        green: (sum.green + 8) / 16,
-        blue: (sum.blue + 8) / 16,
+        red: (sum.red + HALF) / SAMPLES,
+        green: (sum.green + HALF) / SAMPLES,
+        blue: (sum.blue + HALF) / SAMPLES,
     }
 }

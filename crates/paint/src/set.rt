@@ -4,6 +4,9 @@ ghost use Prim.Native.Nat.{_<_};
 ghost use lib.Count.{trailingZeros};
 ghost use Rattle.paint.specs.Sets.{withArea};
 
+// The areas that a set can name.
+pub const MOST_AREAS: u32 = 64;
+
 // The set with area n.
 pub fn with_area(set: u64, n: u32) -> u64
     requires { ⌜ n < 64 ⌝ }
