@@ -2,8 +2,12 @@
 use grammar::Counts;
 use grammar::Scan;
 use grammar::Verdict;
+use read::PLAN_COUNTS;
+use records::AREA_WORDS;
 use records::Decoded;
 use records::Fields;
+use records::KIND_AREA;
+use records::RECORD_BYTES;
 use records::Record;
 use refusals::Refusal;
 ghost use mathlib.Core.Path.{_≡_};
@@ -34,15 +38,15 @@ fn fields_at(areas: &[u32], i: usize) -> Fields
     requires { ⌜ i * 8 + 8 ≤ length (now areas) ⌝ }
     ensures answer { λ f. ⌜ f ≡ fieldsAt (now (areas .entry)) i ⌝ }
 {
-    let at = i * 8;
+    let at = i * AREA_WORDS;
     Fields {
         role: areas[at],
-        rule: areas[at + 1],
-        alpha: areas[at + 2],
-        red: areas[at + 3],
-        green: areas[at + 4],
-        blue: areas[at + 5],
-        material: areas[at + 6],
+        rule: areas[at + records::RULE],
+        alpha: areas[at + records::ALPHA],
+        red: areas[at + records::RED],
+        green: areas[at + records::GREEN],
+        blue: areas[at + records::BLUE],
+        material: areas[at + records::MATERIAL],
     }
 }
 
@@ -52,7 +56,7 @@ pub fn area_row(areas: &[u32], used: usize, i: usize) -> Decoded
     ensures answer { λ d. ⌜ d ≡ areaRow (now (areas .entry)) used i ⌝ }
 {
     if i < used {
-        if areas[i * 8 + 7] == 0 {
+        if areas[i * AREA_WORDS + records::UNNAMED] == 0 {
             let f = fields_at(areas, i);
             return records::ranged_of(Record::Area(f));
         }
@@ -76,10 +80,10 @@ fn kind_row(areas: &[u32], xs: &[u32], ys: &[u32], used: Counts, k: u32, c: Curs
     requires { ⌜ (used .areas * 8 ≤ length (now areas)) × (used .corners ≤ length (now xs)) × (used .corners ≤ length (now ys)) ⌝ }
     ensures answer { λ d. ⌜ d ≡ kindRow (now (areas .entry)) (now (xs .entry)) (now (ys .entry)) used k c ⌝ }
 {
-    if k == 1 {
+    if k == KIND_AREA {
         return area_row(areas, used.areas, c.area);
     }
-    if k < 4 {
+    if k < records::KIND_OPEN {
         return corner_row(xs, ys, used.corners, k, c.corner);
     }
     let r = records::delimiter_of(k);
@@ -100,9 +104,9 @@ fn row(
     requires { ⌜ i < used .records ⌝ }
     ensures answer { λ d. ⌜ d ≡ rowOf (drawingLent plan areas xs ys) used i c ⌝ }
 {
-    let k = plan[i + 3];
-    if 1 <= k {
-        if k <= 6 {
+    let k = plan[i + PLAN_COUNTS];
+    if KIND_AREA <= k {
+        if k <= records::KIND_CLOSE {
             return kind_row(areas, xs, ys, used, k, c);
         }
         return Decoded::Bad(Refusal::Kind);
@@ -201,7 +205,7 @@ fn check_counts(plan: &[u32], areas: &[u32], xs: &[u32], ys: &[u32], used: Count
     requires { ⌜ length (now xs) ≡ length (now ys) ⌝ }
     ensures answer { λ v. ⌜ v ≡ countsJudged (drawingLent plan areas xs ys) used ⌝ }
 {
-    if used.records <= 4096 {
+    if used.records <= records::MOST_RECORDS {
         let h = read::tables_hold(plan.len(), areas.len(), xs.len(), used);
         if h {
             let s = scan_tables(plan, areas, xs, ys, used);
@@ -218,10 +222,10 @@ pub fn check_drawing(plan: &[u32], areas: &[u32], xs: &[u32], ys: &[u32]) -> Ver
     ensures answer { λ v. ⌜ v ≡ drawingVerdict (drawingLent plan areas xs ys) ⌝ }
 {
     if xs.len() == ys.len() {
-        if 3 <= plan.len() {
-            let n = laws::wide(plan[0]);
-            let a = laws::wide(plan[1]);
-            let b = laws::wide(plan[2]);
+        if PLAN_COUNTS <= plan.len() {
+            let n = laws::wide(plan[read::RECORDS]);
+            let a = laws::wide(plan[read::AREAS]);
+            let b = laws::wide(plan[read::CORNERS]);
             return check_counts(
                 plan,
                 areas,
@@ -249,7 +253,7 @@ fn put_bytes(out: &mut [u8], at: usize, d: Decoded) -> usize
         Decoded::Good(r) => {
             let b = records::raw_of(r);
             records::put_raw(out, at, b);
-            at + 16
+            at + RECORD_BYTES
         }
         Decoded::Bad(_) => at,
     }
@@ -285,9 +289,9 @@ fn write_if_room(
     ensures answer { λ w. ⌜ w ≡ writtenOf (Accepted k) (length (now (out .entry))) ⌝ }
     ensures out { λ w. ⌜ now (out .exit) ≡ outAfter w (now (out .entry)) (fileOf (drawnIn (drawingLent plan areas xs ys))) ⌝ }
 {
-    if k.records <= out.len() / 16 {
+    if k.records <= out.len() / RECORD_BYTES {
         write_all(plan, areas, xs, ys, k, out);
-        return Written::Bytes(k.records * 16);
+        return Written::Bytes(k.records * RECORD_BYTES);
     }
     Written::Not(Refusal::Room)
 }

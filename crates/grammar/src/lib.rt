@@ -10,6 +10,9 @@ ghost use Rattle.grammar.specs.Grammar.{isShort, oneMore};
 ghost use Rattle.grammar.specs.code.Machine.{roleN, fitsN, endsN, limitN, areaN, firstN, nextN, afterOpenN, afterBarN, afterCloseN, afterN, stepN};
 ghost use Rattle.grammar.specs.code.Machine.{settledN, advanceAtN, advanceN, startN, endStateN, endedN, isStopped};
 
+// The corners that a contour has at least.
+const LEAST_CORNERS: u32 = 3;
+
 // Where a reader stands. `stack`: the open groups (crate `groups`). `held`: an area or a corner stands straight before. `run`: the corners of
 // the contour in progress, 3 for more than 3.
 pub struct State {
@@ -45,14 +48,18 @@ pub enum Verdict {
 fn is_short(run: u32) -> bool
     ensures answer { λ r. ⌜ r ≡ isShort run ⌝ }
 {
-    (0 < run) & (run < 3)
+    (0 < run) & (run < LEAST_CORNERS)
 }
 
 // The role that fits the side.
 fn role_here(stack: u32) -> u32
     ensures answer { λ r. ⌜ r ≡ roleN stack ⌝ }
 {
-    if groups::on_paint(stack) { 0 } else { 1 }
+    if groups::on_paint(stack) {
+        records::PAINT
+    } else {
+        records::CLIP
+    }
 }
 
 fn fits(s: State, r: Record) -> bool
@@ -88,9 +95,9 @@ fn in_limit(s: State, r: Record) -> bool
     ensures answer { λ t. ⌜ t ≡ limitN s r ⌝ }
 {
     match r {
-        Record::Area(_) => s.areas < 64,
-        Record::First(_, _) => s.corners < 2048,
-        Record::Next(_, _) => s.corners < 2048,
+        Record::Area(_) => s.areas < records::MOST_AREAS,
+        Record::First(_, _) => s.corners < records::MOST_CORNERS,
+        Record::Next(_, _) => s.corners < records::MOST_CORNERS,
         Record::Open => groups::has_room(s.stack),
         Record::Bar => true,
         Record::Close => true,
@@ -126,7 +133,7 @@ fn after_first(s: State) -> State
 fn more(run: u32) -> u32
     ensures answer { λ r. ⌜ r ≡ oneMore run ⌝ }
 {
-    if run < 3 { run + 1 } else { run }
+    if run < LEAST_CORNERS { run + 1 } else { run }
 }
 
 fn after_next(s: State) -> State
@@ -263,7 +270,7 @@ pub fn start() -> Scan
     ensures answer { λ c. ⌜ c ≡ startN ⌝ }
 {
     Scan::At(State {
-        stack: 1,
+        stack: groups::NONE_OPEN,
         held: false,
         run: 0,
         areas: 0,
@@ -274,7 +281,7 @@ pub fn start() -> Scan
 fn end_state(s: State, n: usize) -> Verdict
     ensures answer { λ v. ⌜ v ≡ endStateN s n ⌝ }
 {
-    if s.stack == 1 {
+    if s.stack == groups::NONE_OPEN {
         let e = is_short(s.run);
         if e {
             return Verdict::Refused(Refusal::Short, n);

@@ -8,7 +8,16 @@ ghost use Rattle.pruning.specs.Registers.{onItem, onPush, onActivate, onPop};
 ghost use Rattle.paint.specs.Sets.{withArea};
 ghost use Rattle.machine.specs.code.Registers.{meant, machine};
 
-// The state (0 P, 1 S, 2 SA, 3 stopped on an alpha of 255), the depth, the stopping depth, and the shown set.
+// The states: P processes, S skips what is left of a clip side, SA skips a right side; STOPPED on an alpha of 255.
+pub const P: u32 = 0;
+
+pub const S: u32 = 1;
+
+pub const SA: u32 = 2;
+
+pub const STOPPED: u32 = 3;
+
+// The state, the depth, the stopping depth, and the shown set.
 pub struct Machine {
     pub state: u32,
     pub depth: u32,
@@ -21,7 +30,7 @@ pub fn begun() -> Machine
     ensures answer { λ r. ⌜ r ≡ machine 0 0 0 0 ⌝ }
 {
     Machine {
-        state: 0,
+        state: P,
         depth: 0,
         stop: 0,
         set: 0,
@@ -38,14 +47,14 @@ fn paint_in_process(m: Machine, passes: bool, opaque: bool, n: u32) -> Machine
         let shown = set::with_area(m.set, n);
         if opaque {
             return Machine {
-                state: 3,
+                state: STOPPED,
                 depth: m.depth,
                 stop: m.stop,
                 set: shown,
             };
         }
         return Machine {
-            state: 0,
+            state: P,
             depth: m.depth,
             stop: m.stop,
             set: shown,
@@ -61,9 +70,9 @@ pub fn after_paint(m: Machine, passes: bool, opaque: bool, n: u32) -> Machine
 {
     let state = m.state;
     match state {
-        0 => paint_in_process(m, passes, opaque, n),
-        1 => m,
-        2 => m,
+        P => paint_in_process(m, passes, opaque, n),
+        S => m,
+        SA => m,
         _ => m,
     }
 }
@@ -75,7 +84,7 @@ fn clip_in_process(m: Machine, passes: bool) -> Machine
 {
     if passes {
         return Machine {
-            state: 1,
+            state: S,
             depth: m.depth,
             stop: m.depth,
             set: m.set,
@@ -90,9 +99,9 @@ pub fn after_clip(m: Machine, passes: bool) -> Machine
 {
     let state = m.state;
     match state {
-        0 => clip_in_process(m, passes),
-        1 => m,
-        2 => m,
+        P => clip_in_process(m, passes),
+        S => m,
+        SA => m,
         _ => m,
     }
 }
@@ -117,10 +126,10 @@ pub fn after_open(m: Machine) -> Machine
 {
     let state = m.state;
     match state {
-        0 => deeper(m, 0),
-        1 => deeper(m, 1),
-        2 => deeper(m, 2),
-        _ => deeper(m, 3),
+        P => deeper(m, P),
+        S => deeper(m, S),
+        SA => deeper(m, SA),
+        _ => deeper(m, STOPPED),
     }
 }
 
@@ -131,7 +140,7 @@ fn bar_in_skip(m: Machine) -> Machine
 {
     if m.depth <= m.stop {
         return Machine {
-            state: 0,
+            state: P,
             depth: m.depth,
             stop: m.stop,
             set: m.set,
@@ -146,16 +155,16 @@ pub fn after_bar(m: Machine) -> Machine
 {
     let state = m.state;
     match state {
-        0 => {
+        P => {
             Machine {
-                state: 2,
+                state: SA,
                 depth: m.depth,
                 stop: m.depth,
                 set: m.set,
             }
         }
-        1 => bar_in_skip(m),
-        2 => m,
+        S => bar_in_skip(m),
+        SA => m,
         _ => m,
     }
 }
@@ -174,14 +183,14 @@ fn close_in_skip(m: Machine) -> Machine
     let outer = one_less(m.depth);
     if m.depth <= m.stop {
         return Machine {
-            state: 1,
+            state: S,
             depth: outer,
             stop: outer,
             set: m.set,
         };
     }
     Machine {
-        state: 1,
+        state: S,
         depth: outer,
         stop: m.stop,
         set: m.set,
@@ -196,14 +205,14 @@ fn close_in_skip_all(m: Machine) -> Machine
     let outer = one_less(m.depth);
     if m.depth <= m.stop {
         return Machine {
-            state: 0,
+            state: P,
             depth: outer,
             stop: m.stop,
             set: m.set,
         };
     }
     Machine {
-        state: 2,
+        state: SA,
         depth: outer,
         stop: m.stop,
         set: m.set,
@@ -216,16 +225,16 @@ pub fn after_close(m: Machine) -> Machine
 {
     let state = m.state;
     match state {
-        0 => {
+        P => {
             Machine {
-                state: 0,
+                state: P,
                 depth: one_less(m.depth),
                 stop: m.stop,
                 set: m.set,
             }
         }
-        1 => close_in_skip(m),
-        2 => close_in_skip_all(m),
+        S => close_in_skip(m),
+        SA => close_in_skip_all(m),
         _ => {
             Machine {
                 state: state,

@@ -2,8 +2,10 @@
 use grammar::Counts;
 use grammar::Scan;
 use grammar::Verdict;
+use records::AREA_WORDS;
 use records::Decoded;
 use records::Fields;
+use records::RECORD_BYTES;
 use records::Record;
 use refusals::Refusal;
 ghost use mathlib.Core.Path.{_≡_};
@@ -17,6 +19,24 @@ ghost use Rattle.records.specs.Record.{kindOf};
 ghost use Rattle.records.specs.Bytes.{rawAt, decodedRaw};
 ghost use Rattle.read.specs.Words.{kindW, areaW, xW, yW, wordsOf, spread, planWords, areaWords, xWords, yWords, onGood};
 ghost use Rattle.read.specs.Reading.{decodedFrom, recordsLent, verdictOf, holds, ifRoom, readLent, leftBy, Filed};
+
+// The plan: its first words, the counts in use; the kinds of the records follow.
+pub const RECORDS: usize = 0;
+
+pub const AREAS: usize = 1;
+
+pub const CORNERS: usize = 2;
+
+pub const PLAN_COUNTS: usize = 3;
+
+// The four tables, by number.
+const TO_PLAN: u32 = 0;
+
+const TO_AREAS: u32 = 1;
+
+const TO_XS: u32 = 2;
+
+const TO_YS: u32 = 3;
 
 // ---- the file
 fn read_record(records: &[u8], i: usize) -> Decoded
@@ -48,9 +68,9 @@ fn scan_records(records: &[u8], n: usize) -> Scan
 pub fn check_records(records: &[u8]) -> Verdict
     ensures answer { λ v. ⌜ v ≡ verdictOf (now (records .entry)) ⌝ }
 {
-    if records.len() % 16 == 0 {
-        let n = records.len() / 16;
-        if n <= 4096 {
+    if records.len() % RECORD_BYTES == 0 {
+        let n = records.len() / RECORD_BYTES;
+        if n <= records::MOST_RECORDS {
             let s = scan_records(records, n);
             return grammar::ended(s, n);
         }
@@ -64,12 +84,12 @@ fn kind_of(r: Record) -> u32
     ensures answer { λ k. ⌜ k ≡ kindOf r ⌝ }
 {
     match r {
-        Record::Area(_) => 1,
-        Record::First(_, _) => 2,
-        Record::Next(_, _) => 3,
-        Record::Open => 4,
-        Record::Bar => 5,
-        Record::Close => 6,
+        Record::Area(_) => records::KIND_AREA,
+        Record::First(_, _) => records::KIND_FIRST,
+        Record::Next(_, _) => records::KIND_NEXT,
+        Record::Open => records::KIND_OPEN,
+        Record::Bar => records::KIND_BAR,
+        Record::Close => records::KIND_CLOSE,
     }
 }
 
@@ -99,14 +119,14 @@ fn put_row(table: &mut [u32], at: usize, f: Fields) -> usize
         (at + 4) (f .green)) (at + 5) (f .blue)) (at + 6) (f .material)) (at + 7) 0 ⌝ }
 {
     table[at] = f.role;
-    table[at + 1] = f.rule;
-    table[at + 2] = f.alpha;
-    table[at + 3] = f.red;
-    table[at + 4] = f.green;
-    table[at + 5] = f.blue;
-    table[at + 6] = f.material;
-    table[at + 7] = 0;
-    at + 8
+    table[at + records::RULE] = f.rule;
+    table[at + records::ALPHA] = f.alpha;
+    table[at + records::RED] = f.red;
+    table[at + records::GREEN] = f.green;
+    table[at + records::BLUE] = f.blue;
+    table[at + records::MATERIAL] = f.material;
+    table[at + records::UNNAMED] = 0;
+    at + AREA_WORDS
 }
 
 fn put_area(table: &mut [u32], at: usize, r: Record) -> usize
@@ -159,13 +179,13 @@ fn put_record(table: &mut [u32], at: usize, which: u32, r: Record) -> usize
     ensures answer { λ n. ⌜ n ≡ at + length (wordsOf which r) ⌝ }
     ensures table { λ n. ⌜ now (table .exit) ≡ sets (now (table .entry)) at (wordsOf which r) ⌝ }
 {
-    if which == 0 {
+    if which == TO_PLAN {
         return put_kind(table, at, r);
     }
-    if which == 1 {
+    if which == TO_AREAS {
         return put_area(table, at, r);
     }
-    if which == 2 {
+    if which == TO_XS {
         return put_x(table, at, r);
     }
     put_y(table, at, r)
@@ -201,17 +221,17 @@ fn fill(
     ensures xs { λ _. ⌜ now (xs .exit) ≡ sets (now (xs .entry)) 0 (spread (wordsOf 2) (goods (decodedFrom (now (records .entry)) 0 n))) ⌝ }
     ensures ys { λ _. ⌜ now (ys .exit) ≡ sets (now (ys .entry)) 0 (spread (wordsOf 3) (goods (decodedFrom (now (records .entry)) 0 n))) ⌝ }
 {
-    let mut kind = 3;
+    let mut kind = PLAN_COUNTS;
     let mut area = 0;
     let mut x = 0;
     let mut y = 0;
     let mut i = 0;
     while i < n {
         let d = read_record(records, i);
-        kind = put_decoded(plan, kind, 0, d);
-        area = put_decoded(areas, area, 1, d);
-        x = put_decoded(xs, x, 2, d);
-        y = put_decoded(ys, y, 3, d);
+        kind = put_decoded(plan, kind, TO_PLAN, d);
+        area = put_decoded(areas, area, TO_AREAS, d);
+        x = put_decoded(xs, x, TO_XS, d);
+        y = put_decoded(ys, y, TO_YS, d);
         i += 1;
     }
 }
@@ -221,8 +241,8 @@ fn fill(
 pub fn tables_hold(p: usize, a: usize, d: usize, k: Counts) -> bool
     ensures answer { λ r. ⌜ r ≡ holds p a d k ⌝ }
 {
-    if 3 <= p {
-        return (k.records <= p - 3) & ((k.areas <= a / 8) & (k.corners <= d));
+    if PLAN_COUNTS <= p {
+        return (k.records <= p - PLAN_COUNTS) & ((k.areas <= a / AREA_WORDS) & (k.corners <= d));
     }
     false
 }
@@ -231,9 +251,9 @@ fn put_header(plan: &mut [u32], k: Counts)
     requires { ⌜ (3 ≤ length (now plan)) × (k .records ≤ 4096) × (k .areas ≤ 64) × (k .corners ≤ 2048) ⌝ }
     ensures plan { λ _. ⌜ now (plan .exit) ≡ set (set (set (now (plan .entry)) 0 (k .records)) 1 (k .areas)) 2 (k .corners) ⌝ }
 {
-    plan[0] = k.records as u32;
-    plan[1] = k.areas as u32;
-    plan[2] = k.corners as u32;
+    plan[RECORDS] = k.records as u32;
+    plan[AREAS] = k.areas as u32;
+    plan[CORNERS] = k.corners as u32;
 }
 
 fn fill_all(
