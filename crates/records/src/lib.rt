@@ -14,7 +14,7 @@ pub const MOST_AREAS: usize = 64;
 
 pub const MOST_CORNERS: usize = 2048;
 
-// A record: its bytes, and its kinds, a number and as byte 0. The corners are the kinds below `(`.
+// How many bytes a record has, and its kinds, as numbers and as byte 0. 2 and 3, the kinds below `(` but for the area's, are corners.
 pub const RECORD_BYTES: usize = 16;
 
 pub const KIND_AREA: u32 = 1;
@@ -41,7 +41,7 @@ const BYTE_BAR: u8 = KIND_BAR as u8;
 
 const BYTE_CLOSE: u8 = KIND_CLOSE as u8;
 
-// The roles, the fill rules, and the ranges of an area's other fields.
+// The roles, the fill rules, the largest alpha and channel, and the range of a material.
 pub const PAINT: u32 = 0;
 
 pub const CLIP: u32 = 1;
@@ -61,7 +61,7 @@ const MOST_MATERIAL: u32 = 65535;
 // The side of the grid, the largest coordinate of a corner.
 pub const GRID: u32 = 65536;
 
-// An area in the table of areas: its words, of which word 0 is its role.
+// How many words an area has in the table of areas, and which is which; word 0 is its role.
 pub const AREA_WORDS: usize = 8;
 
 pub const RULE: usize = 1;
