@@ -10,8 +10,31 @@ ghost use Rattle.pruning.specs.code.Counters.{ct, countStep};
 ghost use Rattle.pruning.specs.code.Weights.{sized, sizedItems, sizeOf};
 ghost use Rattle.pruner.specs.code.Numbers.{counted, skipOf, frameOf, framesOf, noFrame, classOf, kindOf, barN, closeN};
 
-// An open group. `mode`: 0 on its left side, 1 on its right side, 2 on its right side where its left always passes, 3 on its right side where its
-// left is empty. `start`: the weight of what was written at its `(`. `outer`: where the side around it begins.
+// The groups that can be open.
+const MOST_GROUPS: usize = 8;
+
+// Where an open group stands: on its left side, or on its right side, THROUGH where its left always passes, DEAD where its left is empty.
+const LEFT: u32 = 0;
+
+const RIGHT: u32 = 1;
+
+const THROUGH: u32 = 2;
+
+const DEAD: u32 = 3;
+
+// A side that is read on, and one that is skipped, with no group opened since.
+const GOING: u32 = 0;
+
+const SHUT: u32 = 1;
+
+// The class of an item: it fails or passes wherever it is read, or neither.
+pub const FAILS: u32 = 0;
+
+pub const PASSES: u32 = 1;
+
+pub const NEITHER: u32 = 2;
+
+// An open group. `mode`: LEFT, RIGHT, THROUGH or DEAD. `start`: the weight of what was written at its `(`. `outer`: where the side around it begins.
 pub struct Frame {
     pub mode: u32,
     pub start: u64,
@@ -25,7 +48,7 @@ pub struct Pruner {
     pub base: u64,
     pub skip: u32,
     pub depth: usize,
-    pub frames: [Frame; 8],
+    pub frames: [Frame; MOST_GROUPS],
 }
 
 // Nothing is written, and no group is open.
@@ -33,15 +56,15 @@ pub fn begun() -> Pruner
     ensures answer { λ r. ⌜ counted r ≡ ct 0 0 going [] ⌝ }
 {
     let none = Frame {
-        mode: 0,
+        mode: LEFT,
         start: 0,
         outer: 0,
     };
-    let frames = [none; 8];
+    let frames = [none; MOST_GROUPS];
     Pruner {
         weight: 0,
         base: 0,
-        skip: 0,
+        skip: GOING,
         depth: 0,
         frames: frames,
     }
@@ -86,23 +109,23 @@ fn unframed(p: Pruner, d: usize, weight: u64, base: u64, skip: u32) -> Pruner
     }
 }
 
-// An item of a paint side or of a clip side, of this class (0 fails, 1 passes, 2 neither) and weight.
+// An item of a paint side or of a clip side, of this class (FAILS, PASSES or NEITHER) and weight.
 pub fn after_item(p: Pruner, paint: bool, class: u32, weight: u64) -> Pruner
     requires { ⌜ p .weight + weight < 2 ^ 62 ⌝ }
     requires { ⌜ p .base < 2 ^ 62 ⌝ }
     ensures answer { λ r. ⌜ counted r ≡ countStep sizedItems sizeOf (counted p) (item (kindOf paint) (sized (classOf class) weight)) ⌝ }
 {
-    if p.skip == 0 {
-        if class == 0 {
+    if p.skip == GOING {
+        if class == FAILS {
             return p;
         }
-        if class == 1 {
+        if class == PASSES {
             if paint {
-                return unframed(p, p.depth, p.weight + weight, p.base, 1);
+                return unframed(p, p.depth, p.weight + weight, p.base, SHUT);
             }
-            return unframed(p, p.depth, p.base + 1, p.base, 1);
+            return unframed(p, p.depth, p.base + 1, p.base, SHUT);
         }
-        return unframed(p, p.depth, p.weight + weight, p.base, 0);
+        return unframed(p, p.depth, p.weight + weight, p.base, GOING);
     }
     p
 }
@@ -114,13 +137,13 @@ pub fn after_open(p: Pruner) -> Pruner
     requires { ⌜ (p .skip ≡ 0 → p .depth < 8) ⌝ }
     ensures answer { λ r. ⌜ counted r ≡ countStep sizedItems sizeOf (counted p) push ⌝ }
 {
-    if p.skip == 0 {
+    if p.skip == GOING {
         let f = Frame {
-            mode: 0,
+            mode: LEFT,
             start: p.weight,
             outer: p.base,
         };
-        return framed(p, p.depth, f, p.weight + 1, p.weight + 1, 0);
+        return framed(p, p.depth, f, p.weight + 1, p.weight + 1, GOING);
     }
     unframed(p, p.depth, p.weight, p.base, p.skip + 1)
 }
@@ -131,29 +154,29 @@ fn at_bar(p: Pruner, d: usize, f: Frame) -> Pruner
     requires { ⌜ d < 8 ⌝ }
     ensures answer { λ r. ⌜ counted r ≡ barN p d f ⌝ }
 {
-    if f.mode == 0 {
-        if p.skip == 1 {
+    if f.mode == LEFT {
+        if p.skip == SHUT {
             let through = Frame {
-                mode: 2,
+                mode: THROUGH,
                 start: f.outer,
                 outer: f.outer,
             };
-            return framed(p, d, through, f.start, f.outer, 0);
+            return framed(p, d, through, f.start, f.outer, GOING);
         }
         if p.weight == p.base {
             let dead = Frame {
-                mode: 3,
+                mode: DEAD,
                 start: f.outer,
                 outer: f.outer,
             };
-            return framed(p, d, dead, f.start, f.outer, 1);
+            return framed(p, d, dead, f.start, f.outer, SHUT);
         }
         let right = Frame {
-            mode: 1,
+            mode: RIGHT,
             start: f.start,
             outer: f.outer,
         };
-        return framed(p, d, right, p.weight + 1, p.weight + 1, 0);
+        return framed(p, d, right, p.weight + 1, p.weight + 1, GOING);
     }
     p
 }
@@ -163,19 +186,19 @@ fn at_close(p: Pruner, d: usize, f: Frame) -> Pruner
     requires { ⌜ p .weight < 2 ^ 62 ⌝ }
     ensures answer { λ r. ⌜ counted r ≡ closeN p d f ⌝ }
 {
-    if f.mode == 0 {
+    if f.mode == LEFT {
         return p;
     }
-    if f.mode == 1 {
+    if f.mode == RIGHT {
         if p.weight == p.base {
-            return unframed(p, d, f.start, f.outer, 0);
+            return unframed(p, d, f.start, f.outer, GOING);
         }
-        return unframed(p, d, p.weight + 1, f.outer, 0);
+        return unframed(p, d, p.weight + 1, f.outer, GOING);
     }
-    if f.mode == 2 {
+    if f.mode == THROUGH {
         return unframed(p, d, p.weight, p.base, p.skip);
     }
-    unframed(p, d, p.weight, f.outer, 0)
+    unframed(p, d, p.weight, f.outer, GOING)
 }
 
 // `|`
@@ -184,7 +207,7 @@ pub fn after_bar(p: Pruner) -> Pruner
     requires { ⌜ p .depth ≤ 8 ⌝ }
     ensures answer { λ r. ⌜ counted r ≡ countStep sizedItems sizeOf (counted p) activate ⌝ }
 {
-    if p.skip <= 1 {
+    if p.skip <= SHUT {
         if p.depth == 0 {
             return p;
         }
@@ -201,7 +224,7 @@ pub fn after_close(p: Pruner) -> Pruner
     requires { ⌜ p .depth ≤ 8 ⌝ }
     ensures answer { λ r. ⌜ counted r ≡ countStep sizedItems sizeOf (counted p) pop ⌝ }
 {
-    if p.skip <= 1 {
+    if p.skip <= SHUT {
         if p.depth == 0 {
             return p;
         }
