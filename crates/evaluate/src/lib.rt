@@ -4,6 +4,7 @@ use geometry::fill;
 use geometry::fill::FillRule;
 use geometry::winding;
 use machine::Machine;
+use records::AREA_WORDS;
 use stream::Bounds;
 use stream::Words;
 ghost use mathlib.Core.Path.{_≡_};
@@ -32,7 +33,7 @@ fn shortcut_adds(w: Words, y: u32) -> i64
     ensures answer { λ r. ⌜ r ≡ cond (isRow (w .q) (w .r) y) (toZ w32 (w .p)) (pos 0) ⌝ }
 {
     if (w.q <= y) & (y < w.r) {
-        if w.p == 1 {
+        if w.p == stream::PLUS_ONE {
             return 1;
         }
         return -1;
@@ -56,7 +57,7 @@ pub fn area_passes(areas: &[u32], n: usize, sum: i64) -> bool
     requires { ⌜ n * 8 + 8 ≤ length (now areas) ⌝ }
     ensures answer { λ r. ⌜ r ≡ passAt (now (areas .entry)) n sum ⌝ }
 {
-    if areas[n * 8 + 1] == 0 {
+    if areas[n * AREA_WORDS + records::RULE] == records::NON_ZERO {
         return fill::fill_passes(FillRule::NonZero, sum);
     }
     fill::fill_passes(FillRule::EvenOdd, sum)
@@ -70,10 +71,10 @@ fn after_area(areas: &[u32], m: Machine, n: u32, sum: i64) -> Machine
         onItem (roleAt (now (areas .entry)) n) (passAt (now (areas .entry)) n sum) (opaqueAt (now (areas .entry)) n) (λ s. withArea s n) (meant m))
         × (r .depth ≡ m .depth) ⌝ }
 {
-    let at = (n as usize) * 8;
+    let at = (n as usize) * AREA_WORDS;
     let passes = area_passes(areas, n as usize, sum);
-    if areas[at] == 0 {
-        let opaque = areas[at + 2] == 255;
+    if areas[at] == records::PAINT {
+        let opaque = areas[at + records::ALPHA] == records::OPAQUE;
         return machine::after_paint(m, passes, opaque, n);
     }
     machine::after_clip(m, passes)
@@ -84,10 +85,10 @@ pub fn start_of(w: Words) -> i64
     requires { ⌜ startRange (w .q) ≡ true ⌝ }
     ensures answer { λ r. ⌜ r ≡ toZ w32 (w .q) ⌝ }
 {
-    if w.q <= 2048 {
+    if w.q <= stream::MOST_START {
         return laws::difference(w.q, 0);
     }
-    laws::difference(w.q, 4294967295) + laws::difference(0, 1)
+    laws::difference(w.q, stream::MINUS_ONE) + laws::difference(0, 1)
 }
 
 // ---- an area and its lines and shortcuts
@@ -98,7 +99,7 @@ fn segment_adds(xs: &[u32], ys: &[u32], corners: usize, w: Words, x: u32, y: u32
     requires { ⌜ PositionIn x y ⌝ }
     ensures answer { λ r. ⌜ (r ≡ segmentAdds (now (xs .entry)) (now (ys .entry)) x y w) × (natAbs r ≤ 1) ⌝ }
 {
-    if w.kind == 5 {
+    if w.kind == stream::ENTRY_LINE {
         return line_adds(xs, ys, w, x, y);
     }
     shortcut_adds(w, y)
@@ -156,11 +157,11 @@ fn moved(m: Machine, kind: u32) -> Machine
     ensures answer { λ r. ⌜ (meant r ≡ movedBy kind (meant m)) × (r .depth ≤ m .depth + 1) ⌝ }
 {
     match kind {
-        1 => machine::after_open(m),
-        2 => machine::after_bar(m),
-        3 => machine::after_close(m),
-        5 => m,
-        6 => m,
+        stream::ENTRY_OPEN => machine::after_open(m),
+        stream::ENTRY_BAR => machine::after_bar(m),
+        stream::ENTRY_CLOSE => machine::after_close(m),
+        stream::ENTRY_LINE => m,
+        stream::ENTRY_SHORTCUT => m,
         _ => machine::after_clip(m, true),
     }
 }
@@ -184,7 +185,7 @@ fn read_area(
     requires { ⌜ PositionIn x y ⌝ }
     ensures onward { λ r. ⌜ Onward (now (areas .entry)) (now (xs .entry)) (now (ys .entry)) x y (now (entries .entry)) i end m r ⌝ }
 {
-    if m.state == 0 {
+    if m.state == machine::P {
         let z = start_of(w);
         let s = winding_from(entries, i + 1, end, xs, ys, b, z, x, y);
         let n = after_area(areas, m, w.p, s.sum);
@@ -218,7 +219,7 @@ fn read_next(
     ensures onward { λ r. ⌜ Onward (now (areas .entry)) (now (xs .entry)) (now (ys .entry)) x y (now (entries .entry)) i end m r ⌝ }
 {
     let w = stream::read_entry(entries, i);
-    if w.kind == 4 {
+    if w.kind == stream::ENTRY_AREA {
         return read_area(entries, i, end, areas, xs, ys, b, m, w, x, y);
     }
     let n = moved(m, w.kind);
@@ -249,7 +250,7 @@ pub fn read_stream(
     let mut m = machine::begun();
     let mut i = first;
     while i < end {
-        if m.state == 3 {
+        if m.state == machine::STOPPED {
             return m.set;
         }
         let r = read_next(entries, i, end, areas, xs, ys, b, m, x, y);

@@ -10,6 +10,45 @@ ghost use Rattle.stream.specs.Grammar.{env, cornerMet, lineRange, shortc
 ghost use Rattle.stream.specs.code.Machine.{offN, startN, inGroups, afterOpenN, afterBarN, afterCloseN, afterPassesN, withAreaN, areaFitsN};
 ghost use Rattle.stream.specs.code.Machine.{withLineN, stepN, scanN, isSegment, segmentFits, segmentsIn, runFits, afterRunN, Onward};
 
+// How many words an entry has, and the kinds, its first word.
+pub const ENTRY_WORDS: usize = 4;
+
+pub const ENTRY_OPEN: u32 = 1;
+
+pub const ENTRY_BAR: u32 = 2;
+
+pub const ENTRY_CLOSE: u32 = 3;
+
+pub const ENTRY_AREA: u32 = 4;
+
+pub const ENTRY_LINE: u32 = 5;
+
+pub const ENTRY_SHORTCUT: u32 = 6;
+
+pub const ENTRY_PASSES: u32 = 7;
+
+// Signed words: the start numbers 2,048 and -2,048, which all others lie between, and the signs 1 and -1.
+pub const MOST_START: u32 = 2048;
+
+pub const LEAST_START: u32 = 4294965248;
+
+pub const PLUS_ONE: u32 = 1;
+
+pub const MINUS_ONE: u32 = 4294967295;
+
+// Entries in a table, and in one stream, which has at most one for each record.
+pub const MOST_ENTRIES: usize = 65536;
+
+pub const MOST_IN_STREAM: usize = records::MOST_RECORDS;
+
+// Areas in a stream; its lines and shortcuts, at most one for each corner.
+const MOST_AREAS: u32 = records::MOST_AREAS as u32;
+
+const MOST_LINES: u32 = records::MOST_CORNERS as u32;
+
+// The open groups of a reader that an entry has stopped.
+const OFF: u32 = 0;
+
 // The four words of an entry.
 pub struct Words {
     pub kind: u32,
@@ -40,7 +79,7 @@ pub fn read_entry(entries: &[u32], i: usize) -> Words
     requires { ⌜ i * 4 + 4 ≤ length (now entries) ⌝ }
     ensures answer { λ w. ⌜ w ≡ wordsAt (now (entries .entry)) i ⌝ }
 {
-    let at = i * 4;
+    let at = i * ENTRY_WORDS;
     Words {
         kind: entries[at],
         p: entries[at + 1],
@@ -54,7 +93,7 @@ pub fn put_entry(table: &mut [u32], i: usize, w: Words)
     requires { ⌜ i * 4 + 4 ≤ length (now table) ⌝ }
     ensures table { λ _. ⌜ now (table .exit) ≡ putAt (now (table .entry)) i w ⌝ }
 {
-    let at = i * 4;
+    let at = i * ENTRY_WORDS;
     table[at] = w.kind;
     table[at + 1] = w.p;
     table[at + 2] = w.q;
@@ -68,7 +107,7 @@ fn corner_met(xs: &[u32], ys: &[u32], used: usize, i: usize) -> bool
     ensures answer { λ r. ⌜ r ≡ cornerMet (now (xs .entry)) (now (ys .entry)) used i ⌝ }
 {
     if i < used {
-        return (xs[i] <= 65536) & (ys[i] <= 65536);
+        return (xs[i] <= records::GRID) & (ys[i] <= records::GRID);
     }
     false
 }
@@ -78,7 +117,13 @@ fn record_fits(r: Record, paint: bool) -> bool
     ensures answer { λ t. ⌜ t ≡ recordFits r paint ⌝ }
 {
     match r {
-        Record::Area(f) => { if paint { f.role == 0 } else { f.role == 1 } }
+        Record::Area(f) => {
+            if paint {
+                f.role == records::PAINT
+            } else {
+                f.role == records::CLIP
+            }
+        }
         Record::First(_, _) => false,
         Record::Next(_, _) => false,
         Record::Open => false,
@@ -104,7 +149,7 @@ fn area_fits(areas: &[u32], used: usize, stack: u32, w: Words) -> bool
     let d = drawing::area_row(areas, used, w.p as usize);
     let paint = groups::on_paint(stack);
     let fits = role_fits(d, paint);
-    fits & ((w.q <= 2048) | (4294965248 <= w.q))
+    fits & ((w.q <= MOST_START) | (LEAST_START <= w.q))
 }
 
 // Whether both corners of a line are in use and in range.
@@ -122,7 +167,8 @@ fn shortcut_range(low: u32, side: u32, w: Words) -> bool
     ensures answer { λ r. ⌜ r ≡ shortcutRange low side (w .p) (w .q) (w .r) ⌝ }
 {
     let beyond = (low as u64) + (side as u64);
-    ((w.p == 1) | (w.p == 4294967295)) & ((low <= w.q) & ((w.q < w.r) & ((w.r as u64) <= beyond)))
+    ((w.p == PLUS_ONE) | (w.p == MINUS_ONE))
+        & ((low <= w.q) & ((w.q < w.r) & ((w.r as u64) <= beyond)))
 }
 
 // ---- one entry more
@@ -131,7 +177,7 @@ fn off() -> Scan
     ensures answer { λ r. ⌜ r ≡ offN ⌝ }
 {
     Scan {
-        stack: 0,
+        stack: OFF,
         held: false,
         areas: 0,
         lines: 0,
@@ -194,7 +240,7 @@ fn with_area(s: Scan, ok: bool) -> Scan
     ensures answer { λ r. ⌜ r ≡ withAreaN s ok ⌝ }
 {
     if ok {
-        if s.areas < 64 {
+        if s.areas < MOST_AREAS {
             return Scan {
                 stack: s.stack,
                 held: true,
@@ -213,7 +259,7 @@ fn with_line(s: Scan, ok: bool) -> Scan
 {
     if ok {
         if s.held {
-            if s.lines < 2048 {
+            if s.lines < MOST_LINES {
                 return Scan {
                     stack: s.stack,
                     held: true,
@@ -233,27 +279,27 @@ fn step(areas: &[u32], xs: &[u32], ys: &[u32], b: Bounds, s: Scan, w: Words) -> 
     requires { ⌜ Ready (now areas) (now xs) (now ys) b ⌝ }
     ensures answer { λ r. ⌜ r ≡ stepN (env (now (areas .entry)) (now (xs .entry)) (now (ys .entry)) b) s w ⌝ }
 {
-    if s.stack == 0 {
+    if s.stack == OFF {
         return s;
     }
     let k = w.kind;
     match k {
-        1 => after_open(s),
-        2 => after_bar(s),
-        3 => after_close(s),
-        4 => {
+        ENTRY_OPEN => after_open(s),
+        ENTRY_BAR => after_bar(s),
+        ENTRY_CLOSE => after_close(s),
+        ENTRY_AREA => {
             let ok = area_fits(areas, b.areas, s.stack, w);
             with_area(s, ok)
         }
-        5 => {
+        ENTRY_LINE => {
             let ok = line_range(xs, ys, b.corners, w);
             with_line(s, ok)
         }
-        6 => {
+        ENTRY_SHORTCUT => {
             let ok = shortcut_range(b.low, b.side, w);
             with_line(s, ok)
         }
-        7 => after_passes(s),
+        ENTRY_PASSES => after_passes(s),
         _ => off(),
     }
 }
@@ -263,7 +309,7 @@ fn step(areas: &[u32], xs: &[u32], ys: &[u32], b: Bounds, s: Scan, w: Words) -> 
 pub fn is_segment(kind: u32) -> bool
     ensures answer { λ r. ⌜ r ≡ isSegment kind ⌝ }
 {
-    (kind == 5) | (kind == 6)
+    (kind == ENTRY_LINE) | (kind == ENTRY_SHORTCUT)
 }
 
 // Whether the numbers of a line or a shortcut are in range.
@@ -271,7 +317,7 @@ fn segment_fits(xs: &[u32], ys: &[u32], b: Bounds, w: Words) -> bool
     requires { ⌜ (b .corners ≤ length (now xs)) × (b .corners ≤ length (now ys)) ⌝ }
     ensures answer { λ r. ⌜ r ≡ segmentFits (now (xs .entry)) (now (ys .entry)) b w ⌝ }
 {
-    if w.kind == 5 {
+    if w.kind == ENTRY_LINE {
         return line_range(xs, ys, b.corners, w);
     }
     shortcut_range(b.low, b.side, w)
@@ -308,7 +354,7 @@ fn scan_run(
         let w = read_entry(entries, i);
         if is_segment(w.kind) {
             let g = segment_fits(xs, ys, b, w);
-            fits = fits & (g & (n < 2048));
+            fits = fits & (g & (n < records::MOST_CORNERS));
             n += 1;
             i += 1;
         } else {
@@ -366,7 +412,7 @@ fn scan_next(
 {
     let w = read_entry(entries, i);
     let n = step(areas, xs, ys, b, s, w);
-    if n.stack == 0 {
+    if n.stack == OFF {
         return Scanned {
             scan: n,
             next: i + 1,
@@ -403,7 +449,7 @@ fn scan_all(
 {
     let end = first + count;
     let mut s = Scan {
-        stack: 1,
+        stack: groups::NONE_OPEN,
         held: false,
         areas: 0,
         lines: 0,
@@ -430,9 +476,9 @@ pub fn used_range(
 ) -> bool
     ensures answer { λ r. ⌜ r ≡ usedRange entries used areas xs ys b ⌝ }
 {
-    ((used <= entries / 4) & (used <= 65536))
-        & (((b.areas <= areas / 8) & (b.areas <= 64))
-            & ((b.corners <= xs) & ((b.corners <= ys) & (b.corners <= 2048))))
+    ((used <= entries / ENTRY_WORDS) & (used <= MOST_ENTRIES))
+        & (((b.areas <= areas / records::AREA_WORDS) & (b.areas <= records::MOST_AREAS))
+            & ((b.corners <= xs) & ((b.corners <= ys) & (b.corners <= records::MOST_CORNERS))))
 }
 
 // Whether the count entries from first on are a stream of the cell with this low row and this side. Any tables and numbers may be handed in.
@@ -452,9 +498,9 @@ pub fn check_stream(
     if u {
         if count <= used {
             if first <= used - count {
-                if count <= 4096 {
+                if count <= MOST_IN_STREAM {
                     let s = scan_all(entries, first, count, areas, xs, ys, b);
-                    return s.stack == 1;
+                    return s.stack == groups::NONE_OPEN;
                 }
                 return false;
             }
