@@ -11,6 +11,46 @@ ghost use Rattle.celltable.specs.Ranges.{sideRange, squareRange, rootRan
 ghost use Rattle.celltable.specs.Descent.{quarterAt, descendIn};
 ghost use Rattle.celltable.specs.code.Numbers.{halfN, deeperN, standsN, stepN, CursorIn};
 
+// The side of cell 0, one past the last position.
+pub const GRID: u32 = 65536;
+
+// The cells and the entries of a tree at most.
+pub const MOST_CELLS: usize = 4096;
+
+pub const MOST_ENTRIES: usize = 65536;
+
+// The depth of the smallest cells.
+pub const DEEPEST: u32 = 16;
+
+// The cells on the longest way down: cell 0, and one for each step.
+const LONGEST_WAY: u32 = DEEPEST + 1;
+
+// The children of a cell.
+pub const CHILDREN: u32 = 4;
+
+// The words of the head.
+pub const CELLS: usize = 0;
+
+pub const ENTRIES: usize = 1;
+
+pub const HEAD_WORDS: usize = 2;
+
+// The words of a cell behind the first, which is x.
+const Y: usize = 1;
+
+const SIDE: usize = 2;
+
+const CHILD: usize = 3;
+
+const FIRST: usize = 4;
+
+const COUNT: usize = 5;
+
+pub const CELL_WORDS: usize = 8;
+
+// The words of an entry.
+pub const ENTRY_WORDS: usize = 4;
+
 // The words of a cell that have a name. `child` is the first of its four children, or 0 for a leaf.
 pub struct CellWords {
     pub x: u32,
@@ -65,14 +105,14 @@ pub fn read_cell(cells: &[u32], i: usize) -> CellWords
     requires { ⌜ i * 8 + 8 ≤ length (now cells) ⌝ }
     ensures answer { λ w. ⌜ w ≡ cellAt (now (cells .entry)) i ⌝ }
 {
-    let at = i * 8;
+    let at = i * CELL_WORDS;
     CellWords {
         x: cells[at],
-        y: cells[at + 1],
-        side: cells[at + 2],
-        child: cells[at + 3],
-        first: cells[at + 4],
-        count: cells[at + 5],
+        y: cells[at + Y],
+        side: cells[at + SIDE],
+        child: cells[at + CHILD],
+        first: cells[at + FIRST],
+        count: cells[at + COUNT],
     }
 }
 
@@ -81,13 +121,13 @@ pub fn put_cell(cells: &mut [u32], i: usize, w: CellWords)
     requires { ⌜ i * 8 + 8 ≤ length (now cells) ⌝ }
     ensures cells { λ _. ⌜ now (cells .exit) ≡ putCellAt (now (cells .entry)) i w ⌝ }
 {
-    let at = i * 8;
+    let at = i * CELL_WORDS;
     cells[at] = w.x;
-    cells[at + 1] = w.y;
-    cells[at + 2] = w.side;
-    cells[at + 3] = w.child;
-    cells[at + 4] = w.first;
-    cells[at + 5] = w.count;
+    cells[at + Y] = w.y;
+    cells[at + SIDE] = w.side;
+    cells[at + CHILD] = w.child;
+    cells[at + FIRST] = w.first;
+    cells[at + COUNT] = w.count;
     cells[at + 6] = 0;
     cells[at + 7] = 0;
 }
@@ -97,8 +137,8 @@ pub fn put_child(cells: &mut [u32], i: usize, child: u32)
     requires { ⌜ i * 8 + 8 ≤ length (now cells) ⌝ }
     ensures cells { λ _. ⌜ now (cells .exit) ≡ putChildAt (now (cells .entry)) i child ⌝ }
 {
-    let at = i * 8;
-    cells[at + 3] = child;
+    let at = i * CELL_WORDS;
+    cells[at + CHILD] = child;
 }
 
 // ---- the check of a cell
@@ -109,7 +149,7 @@ fn side_fits(s: u32) -> bool
     if s == 0 {
         return false;
     }
-    65536 % s == 0
+    GRID % s == 0
 }
 
 // Whether a cell's side is a power of two, and its low corner is on the grid of that side.
@@ -117,7 +157,7 @@ fn square_fits(w: CellWords) -> bool
     ensures answer { λ r. ⌜ r ≡ squareRange w ⌝ }
 {
     if side_fits(w.side) {
-        return ((w.x % w.side == 0) & (w.x < 65536)) & ((w.y % w.side == 0) & (w.y < 65536));
+        return ((w.x % w.side == 0) & (w.x < GRID)) & ((w.y % w.side == 0) & (w.y < GRID));
     }
     false
 }
@@ -135,7 +175,7 @@ fn root_fits(w: CellWords, i: usize) -> bool
     ensures answer { λ r. ⌜ r ≡ rootRange w i ⌝ }
 {
     if i == 0 {
-        return (w.x == 0) & ((w.y == 0) & (w.side == 65536));
+        return (w.x == 0) & ((w.y == 0) & (w.side == GRID));
     }
     true
 }
@@ -154,10 +194,11 @@ pub fn cell_fits(w: CellWords, i: usize, used: usize, entries: usize) -> bool
 pub fn head_fits(head: &[u32], cells: usize, entries: usize) -> bool
     ensures answer { λ r. ⌜ r ≡ headRange (now (head .entry)) cells entries ⌝ }
 {
-    if 2 <= head.len() {
-        let n = laws::wide(head[0]);
-        let m = laws::wide(head[1]);
-        return ((1 <= n) & ((n <= cells / 8) & (n <= 4096))) & ((m <= entries / 4) & (m <= 65536));
+    if HEAD_WORDS <= head.len() {
+        let n = laws::wide(head[CELLS]);
+        let m = laws::wide(head[ENTRIES]);
+        return ((1 <= n) & ((n <= cells / CELL_WORDS) & (n <= MOST_CELLS)))
+            & ((m <= entries / ENTRY_WORDS) & (m <= MOST_ENTRIES));
     }
     false
 }
@@ -260,10 +301,10 @@ pub fn descend(cells: &[u32], used: usize, entries: usize, x: u32, y: u32) -> Fo
         cell: 0,
         x: 0,
         y: 0,
-        side: 65536,
+        side: GRID,
         steps: 0,
     };
-    let mut left: u32 = 17;
+    let mut left: u32 = LONGEST_WAY;
     while 0 < left {
         let d = c.step(cells, used, entries, x, y);
         match d {
