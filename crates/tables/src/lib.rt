@@ -7,11 +7,21 @@ ghost use Rattle.stream.specs.Grammar.{bounds};
 ghost use Rattle.celltable.specs.Ranges.{cellsHeld, entriesHeld};
 ghost use Rattle.tables.specs.Tables.{cellsUsed};
 
+// The counts at the head of a plan: the areas and the corners in use, behind the records.
+pub const AREAS: usize = 1;
+
+pub const CORNERS: usize = 2;
+
+pub const PLAN_COUNTS: usize = 3;
+
+// The limit of the cells, as a word.
+const MOST_CELLS: u32 = celltable::MOST_CELLS as u32;
+
 pub fn cells_used(head: &[u32]) -> u32
     ensures answer { λ r. ⌜ r ≡ cellsUsed (now (head .entry)) ⌝ }
 {
-    if 2 <= head.len() {
-        return head[0];
+    if celltable::HEAD_WORDS <= head.len() {
+        return head[celltable::CELLS];
     }
     0
 }
@@ -19,13 +29,13 @@ pub fn cells_used(head: &[u32]) -> u32
 pub fn cells_held(n: u32, len: usize) -> bool
     ensures answer { λ r. ⌜ r ≡ cellsHeld n len ⌝ }
 {
-    (1 <= n) & (((n as usize) <= len / 8) & (n <= 4096))
+    (1 <= n) & (((n as usize) <= len / celltable::CELL_WORDS) & (n <= MOST_CELLS))
 }
 
 pub fn entries_held(n: usize, len: usize) -> bool
     ensures answer { λ r. ⌜ r ≡ entriesHeld n len ⌝ }
 {
-    (n <= len / 4) & (n <= 65536)
+    (n <= len / celltable::ENTRY_WORDS) & (n <= celltable::MOST_ENTRIES)
 }
 
 // The numbers in use.
@@ -33,8 +43,8 @@ pub fn put_head(head: &mut [u32], cells: u32, entries: u32)
     requires { ⌜ 2 ≤ length (now head) ⌝ }
     ensures head { λ _. ⌜ now (head .exit) ≡ set (set (now (head .entry)) 0 cells) 1 entries ⌝ }
 {
-    head[0] = cells;
-    head[1] = entries;
+    head[celltable::CELLS] = cells;
+    head[celltable::ENTRIES] = entries;
 }
 
 // The areas and corners in use, and the rows of a cell.
@@ -43,8 +53,8 @@ pub fn bounds_in(plan: &[u32], low: u32, side: u32) -> Bounds
     ensures answer { λ r. ⌜ r ≡ bounds (getD (now (plan .entry)) 1 0) (getD (now (plan .entry)) 2 0) low side ⌝ }
 {
     Bounds {
-        areas: laws::wide(plan[1]),
-        corners: laws::wide(plan[2]),
+        areas: laws::wide(plan[AREAS]),
+        corners: laws::wide(plan[CORNERS]),
         low: low,
         side: side,
     }
