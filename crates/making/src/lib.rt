@@ -23,6 +23,32 @@ ghost use Rattle.pruner.specs.code.Numbers.{counted};
 ghost use Rattle.making.specs.code.Numbers.{leftSign, leftClass, leftRange, waiting, resting, withLeft, waitingN, classN, settledN, movedN, prunesN};
 ghost use Rattle.making.specs.code.Numbers.{prunedN, Room, Inside};
 
+// The kinds of entries.
+pub const OPEN: u32 = 1;
+
+pub const BAR: u32 = 2;
+
+pub const CLOSE: u32 = 3;
+
+pub const AREA: u32 = 4;
+
+pub const LINE: u32 = 5;
+
+pub const SHORTCUT: u32 = 6;
+
+pub const PASSES: u32 = 7;
+
+// The words of an area behind the first, which is its role.
+const ALPHA: usize = 2;
+
+pub const AREA_WORDS: usize = 8;
+
+// The role of a paint area.
+pub const PAINT: u32 = 0;
+
+// The alpha of an area that hides what is behind it.
+const OPAQUE: u32 = 255;
+
 // ---- what is left of a line or a shortcut in a square
 pub struct Left {
     pub sign: i64,
@@ -61,10 +87,10 @@ pub fn left_of(xs: &[u32], ys: &[u32], corners: usize, s: Square, w: Words) -> L
     requires { ⌜ SquareIn s ⌝ }
     ensures answer { λ r. ⌜ (r .sign ≡ leftSign (now (xs .entry)) (now (ys .entry)) w) × (r .class ≡ leftClass (now (xs .entry)) (now (ys .entry)) s w) ⌝ }
 {
-    if w.kind == 5 {
+    if w.kind == LINE {
         return line_left(xs, ys, s, w);
     }
-    if w.kind == 6 {
+    if w.kind == SHORTCUT {
         return shortcut_left(s, w);
     }
     Left {
@@ -156,14 +182,14 @@ pub fn waiting_after(a: Waiting, l: Left, w: Words) -> Waiting
     requires { ⌜ (w .kind ≡ 4 → startRange (w .q) ≡ true) ⌝ }
     ensures answer { λ r. ⌜ r ≡ waitingN a (l .class) (l .sign) w ⌝ }
 {
-    if w.kind == 4 {
+    if w.kind == AREA {
         return named(w);
     }
     let k = l.class;
-    if w.kind == 5 {
+    if w.kind == LINE {
         return with_left(a, k, l.sign);
     }
-    if w.kind == 6 {
+    if w.kind == SHORTCUT {
         return with_left(a, k, l.sign);
     }
     rest()
@@ -177,10 +203,10 @@ pub fn class_of(areas: &[u32], a: Waiting) -> u32
     ensures answer { λ r. ⌜ r ≡ classN (now (areas .entry)) a ⌝ }
 {
     if a.weight == 4294967297 {
-        let at = (a.number as usize) * 8;
+        let at = (a.number as usize) * AREA_WORDS;
         if evaluate::area_passes(areas, a.number as usize, a.start) {
-            if areas[at] == 0 {
-                if areas[at + 2] == 255 {
+            if areas[at] == PAINT {
+                if areas[at + ALPHA] == OPAQUE {
                     return 1;
                 }
                 return 2;
@@ -200,8 +226,8 @@ pub fn settled(areas: &[u32], p: Pruner, a: Waiting) -> Pruner
 {
     if a.waits {
         let k = class_of(areas, a);
-        let at = (a.number as usize) * 8;
-        let paint = areas[at] == 0;
+        let at = (a.number as usize) * AREA_WORDS;
+        let paint = areas[at] == PAINT;
         return pruner::after_item(p, paint, k, a.weight);
     }
     p
@@ -214,10 +240,10 @@ fn moved(p: Pruner, kind: u32) -> Pruner
     ensures answer { λ r. ⌜ counted r ≡ movedN kind (counted p) ⌝ }
 {
     match kind {
-        1 => pruner::after_open(p),
-        2 => pruner::after_bar(p),
-        3 => pruner::after_close(p),
-        7 => pruner::after_item(p, false, 1, 1),
+        OPEN => pruner::after_open(p),
+        BAR => pruner::after_bar(p),
+        CLOSE => pruner::after_close(p),
+        PASSES => pruner::after_item(p, false, 1, 1),
         _ => p,
     }
 }
@@ -226,10 +252,10 @@ fn moved(p: Pruner, kind: u32) -> Pruner
 pub fn prunes(kind: u32) -> bool
     ensures answer { λ r. ⌜ r ≡ prunesN kind ⌝ }
 {
-    if kind == 5 {
+    if kind == LINE {
         return false;
     }
-    kind != 6
+    kind != SHORTCUT
 }
 
 // After an entry.
@@ -238,10 +264,10 @@ pub fn pruner_after(areas: &[u32], p: Pruner, a: Waiting, kind: u32) -> Pruner
     requires { ⌜ Room p a kind ⌝ }
     ensures answer { λ r. ⌜ counted r ≡ prunedN (now (areas .entry)) (counted p) a kind ⌝ }
 {
-    if kind == 5 {
+    if kind == LINE {
         return p;
     }
-    if kind == 6 {
+    if kind == SHORTCUT {
         return p;
     }
     let q = settled(areas, p, a);
