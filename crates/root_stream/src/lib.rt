@@ -15,6 +15,25 @@ ghost use Rattle.evaluate.specs.Words.{words};
 ghost use Rattle.root_stream.specs.code.Numbers.{sourceAt, endN, edgeN, markN, entryN, afterN, Opened};
 ghost use Rattle.root_stream.specs.Opened.{rowsOpened, wordsOpened};
 
+// The kinds of records, but for the last, `)`.
+const AREA: u32 = 1;
+
+const FIRST_CORNER: u32 = 2;
+
+const NEXT_CORNER: u32 = 3;
+
+const OPEN: u32 = 4;
+
+const BAR: u32 = 5;
+
+// Where the plan has the kind of record 0 and that of record 1: its three counts stand before them.
+const KINDS: usize = 3;
+
+const NEXT_KIND: usize = KINDS + 1;
+
+// The side of cell 0.
+const GRID: u32 = 65536;
+
 // The areas and the corners before a record, and the first corner of the contour in progress.
 pub struct Source {
     pub area: u32,
@@ -39,7 +58,7 @@ fn edge_end(plan: &[u32], i: usize, records: usize, corner: u32, first: u32) -> 
     ensures answer { λ r. ⌜ r ≡ endN (now (plan .entry)) i records corner first ⌝ }
 {
     if i + 1 < records {
-        if plan[i + 4] == 3 {
+        if plan[i + NEXT_KIND] == NEXT_CORNER {
             return corner + 1;
         }
         return first;
@@ -53,7 +72,7 @@ fn edge_from(plan: &[u32], i: usize, records: usize, corner: u32, first: u32) ->
 {
     let end = edge_end(plan, i, records, corner, first);
     Words {
-        kind: 5,
+        kind: making::LINE,
         p: corner,
         q: end,
         r: 0,
@@ -74,13 +93,13 @@ fn mark(kind: u32) -> Words
 fn delimiter(kind: u32) -> Words
     ensures answer { λ r. ⌜ r ≡ markN kind ⌝ }
 {
-    if kind == 4 {
-        return mark(1);
+    if kind == OPEN {
+        return mark(making::OPEN);
     }
-    if kind == 5 {
-        return mark(2);
+    if kind == BAR {
+        return mark(making::BAR);
     }
-    mark(3)
+    mark(making::CLOSE)
 }
 
 // The entry of record i: the area, the edge from its corner, or the delimiter.
@@ -88,19 +107,19 @@ pub fn source_entry(plan: &[u32], i: usize, records: usize, c: Source) -> Words
     requires { ⌜ (records + 3 ≤ length (now plan)) × (i < records) × (c .corner ≤ 2048) ⌝ }
     ensures answer { λ r. ⌜ r ≡ entryN (now (plan .entry)) i records c ⌝ }
 {
-    let kind = plan[i + 3];
-    if kind == 1 {
+    let kind = plan[i + KINDS];
+    if kind == AREA {
         return Words {
-            kind: 4,
+            kind: making::AREA,
             p: c.area,
             q: 0,
             r: 0,
         };
     }
-    if kind == 2 {
+    if kind == FIRST_CORNER {
         return edge_from(plan, i, records, c.corner, c.corner);
     }
-    if kind == 3 {
+    if kind == NEXT_CORNER {
         return edge_from(plan, i, records, c.corner, c.first);
     }
     delimiter(kind)
@@ -111,21 +130,21 @@ pub fn source_after(c: Source, kind: u32) -> Source
     requires { ⌜ (c .area ≤ 64) × (c .corner ≤ 2048) ⌝ }
     ensures answer { λ r. ⌜ r ≡ afterN c kind ⌝ }
 {
-    if kind == 1 {
+    if kind == AREA {
         return Source {
             area: c.area + 1,
             corner: c.corner,
             first: c.first,
         };
     }
-    if kind == 2 {
+    if kind == FIRST_CORNER {
         return Source {
             area: c.area,
             corner: c.corner + 1,
             first: c.corner,
         };
     }
-    if kind == 3 {
+    if kind == NEXT_CORNER {
         return Source {
             area: c.area,
             corner: c.corner + 1,
@@ -142,7 +161,7 @@ fn root_square() -> Square
     Square {
         x: 0,
         y: 0,
-        side: 65536,
+        side: GRID,
     }
 }
 
@@ -172,7 +191,7 @@ pub fn count_open(
         }
         let n = making::waiting_after(a, l, w);
         a = n;
-        c = source_after(c, plan[i + 3]);
+        c = source_after(c, plan[i + KINDS]);
         i += 1;
     }
     making::made_weight(
@@ -216,7 +235,7 @@ pub fn write_open(
         }
         let n = making::waiting_after(a, l, w);
         a = n;
-        c = source_after(c, plan[i + 3]);
+        c = source_after(c, plan[i + KINDS]);
         i += 1;
     }
     let last = Maker {
