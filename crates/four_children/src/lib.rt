@@ -136,7 +136,7 @@ pub fn write_four(
 {
     let mut at = free;
     let mut q: u32 = 0;
-    while q < 4 {
+    while q < celltable::CHILDREN {
         let k = q as usize;
         let t = ts[k];
         write_child(entries, first, count, at, t.entries, areas, xs, ys, b, w, q);
@@ -174,7 +174,7 @@ pub fn put_four(cells: &mut [u32], used: u32, free: u32, w: CellWords, ts: [Tall
 {
     let mut at = free;
     let mut n: u32 = 0;
-    while n < 4 {
+    while n < celltable::CHILDREN {
         let k = n as usize;
         let t = ts[k];
         let c = child_words(w, n, at, t);
