@@ -12,6 +12,9 @@ ghost use Rattle.stream.specs.Grammar.{env, bounds, checkStream};
 ghost use Rattle.tables.specs.Tables.{treeLent, countsIn};
 ghost use Rattle.find_leaf.specs.Leaf.{linesIn, leafIn, reportOf, foundBy, findAnswer};
 
+// The kind of an entry that is a line.
+const LINE: u32 = 5;
+
 // A leaf as it is reported: its number, low corner, side, depth, and how many entries and lines it has.
 pub struct FoundLeaf {
     pub cell: u32,
@@ -43,8 +46,8 @@ pub fn counts_fit(
 {
     let n = entries.len();
     if celltable::head_fits(head, cells.len(), n) {
-        if 3 <= plan.len() {
-            let free = laws::wide(head[1]);
+        if tables::PLAN_COUNTS <= plan.len() {
+            let free = laws::wide(head[celltable::ENTRIES]);
             let b = tables::bounds_in(plan, 0, 0);
             return stream::used_range(n, free, areas.len(), xs.len(), ys.len(), b);
         }
@@ -58,7 +61,7 @@ fn line_of(kind: u32) -> u32
     ensures answer { λ r. ⌜ r ≡ cond (eqb kind 5) 1 0 ⌝ }
     ensures range { λ r. ⌜ r ≤ 1 ⌝ }
 {
-    if kind == 5 {
+    if kind == LINE {
         return 1;
     }
     0
@@ -119,8 +122,8 @@ pub fn leaf_at(
     ensures answer { λ r. ⌜ r ≡ leafIn (treeLent plan areas xs ys head cells entries) x y ⌝ }
 {
     if counts_fit(plan, areas, xs, ys, head, cells, entries) {
-        let used = laws::wide(head[0]);
-        let free = laws::wide(head[1]);
+        let used = laws::wide(head[celltable::CELLS]);
+        let free = laws::wide(head[celltable::ENTRIES]);
         let f = celltable::descend(cells, used, free, x, y);
         match f {
             Found::At(l) => {
@@ -198,7 +201,7 @@ pub fn find_leaf(
     ensures answer { λ r. ⌜ r ≡ findAnswer (treeLent plan areas xs ys head cells entries) x y ⌝ }
 {
     if xs.len() == ys.len() {
-        if (x < 65536) & (y < 65536) {
+        if (x < celltable::GRID) & (y < celltable::GRID) {
             return find_within(plan, areas, xs, ys, head, cells, entries, x, y);
         }
         return Answer::Not(Refusal::Argument);
