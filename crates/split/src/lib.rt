@@ -97,7 +97,7 @@ fn put_split(
         ts,
     );
     put_cells(cells, i, used, free, w, ts);
-    tables::put_head(head, used + 4, free + n);
+    tables::put_head(head, used + celltable::CHILDREN, free + n);
 }
 
 // 11, and then the split.
@@ -132,7 +132,7 @@ pub fn split_in_room(
     let ts = four_children::count_four(entries, first, count, areas, xs, ys, b, w);
     let n = entries_of(ts);
     let all = (free as usize) + n;
-    if tables::cells_held(used + 4, cells.len()) {
+    if tables::cells_held(used + celltable::CHILDREN, cells.len()) {
         if tables::entries_held(all, entries.len()) {
             put_split(
                 head,
@@ -279,8 +279,8 @@ fn split_headed(
     let n = cells.len();
     let k = entries.len();
     if celltable::head_fits(head, n, k) {
-        if 3 <= plan.len() {
-            let free = head[1];
+        if tables::PLAN_COUNTS <= plan.len() {
+            let free = head[celltable::ENTRIES];
             return split_counted(plan, areas, xs, ys, head, cells, entries, i, used, free);
         }
         return Answer::Not(Refusal::Broken);
