@@ -28,7 +28,7 @@ fn has_room(head: usize, cells: usize, entries: usize, n: usize) -> bool
 {
     let c = tables::cells_held(1, cells);
     let e = tables::entries_held(n, entries);
-    (2 <= head) & (c & e)
+    (celltable::HEAD_WORDS <= head) & (c & e)
 }
 
 // The number of entries in what the counting answers.
@@ -43,7 +43,7 @@ fn put_root(cells: &mut [u32], n: u32)
     requires { ⌜ 8 ≤ length (now cells) ⌝ }
     ensures cells { λ _. ⌜ now (cells .exit) ≡ putCellAt (now (cells .entry)) 0 (rootWords n) ⌝ }
 {
-    let side = 65536;
+    let side = celltable::GRID;
     let w = CellWords {
         x: 0,
         y: 0,
@@ -102,7 +102,7 @@ fn open_accepted(
         areas: k.areas,
         corners: k.corners,
         low: 0,
-        side: 65536,
+        side: celltable::GRID,
     };
     let size = root_stream::count_open(plan, areas, xs, ys, k.records, b);
     let n = entries_in(size);
