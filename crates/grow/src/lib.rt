@@ -52,7 +52,7 @@ fn depth_of(side: u32) -> u32
 {
     let mut s = side;
     let mut d: u32 = 0;
-    while s < 65536 {
+    while s < celltable::GRID {
         s = s * 2;
         d += 1;
     }
@@ -144,10 +144,10 @@ fn split_past(s: Sweep, head: &[u32]) -> Sweep
     requires { ⌜ 2 ≤ length (now head) ⌝ }
     ensures answer { λ r. ⌜ r ≡ splitN s (entriesUsed (now (head .entry))) ⌝ }
 {
-    let free = head[1];
+    let free = head[celltable::ENTRIES];
     Sweep {
         cell: s.cell + 1,
-        used: s.used + 4,
+        used: s.used + celltable::CHILDREN,
         free,
         splits: s.splits + 1,
     }
@@ -265,8 +265,8 @@ fn sweep_up(
     ensures cells { λ _. ⌜ now (cells .exit) ≡ grown threshold limit (treeLent plan areas xs ys head cells entries) .after .cells ⌝ }
     ensures entries { λ _. ⌜ now (entries .exit) ≡ grown threshold limit (treeLent plan areas xs ys head cells entries) .after .entries ⌝ }
 {
-    let used = head[0];
-    let free = head[1];
+    let used = head[celltable::CELLS];
+    let free = head[celltable::ENTRIES];
     let mut s = Sweep {
         cell: 0,
         used,
@@ -321,7 +321,7 @@ pub fn grow(
     ensures entries { λ _. ⌜ now (entries .exit) ≡ growTree (treeLent plan areas xs ys head cells entries) threshold limit .entries ⌝ }
 {
     if xs.len() == ys.len() {
-        if limit <= 16 {
+        if limit <= celltable::DEEPEST {
             if find_leaf::counts_fit(plan, areas, xs, ys, head, cells, entries) {
                 return sweep_up(plan, areas, xs, ys, head, cells, entries, threshold, limit);
             }
