@@ -15,6 +15,18 @@ ghost use Rattle.position.specs.code.Numbers.{LastIn};
 ghost use Rattle.pixel_row.specs.Rows.{putPixel, fillFrom, rowSpan, rowFilled};
 ghost use Rattle.pixel_row.specs.code.Numbers.{pixelTold, PixelBytes};
 
+// The last row of pixels.
+const LAST_ROW: u32 = 4095;
+
+// The pixels of a row.
+const PIXELS: usize = 4096;
+
+// The samples of a pixel.
+const SAMPLES: u32 = 16;
+
+// The bytes of a pixel: red, green, blue.
+const CHANNELS: usize = 3;
+
 // The row is filled, or why the call was refused and where.
 pub enum RowAnswer {
     Done,
@@ -53,7 +65,7 @@ fn pixel_at(
         blue: 0,
     };
     let mut i: u32 = 0;
-    while i < 16 {
+    while i < SAMPLES {
         let p = pixel::sample_at(row, column, i);
         let s = position::shown_at(plan, areas, xs, ys, head, cells, entries, last, p.x, p.y);
         match s {
@@ -78,7 +90,7 @@ fn put_pixel(out: &mut [u8], i: usize, c: Colour)
     requires { ⌜ ColourIn c ⌝ }
     ensures out { λ _. ⌜ now (out .exit) ≡ putPixel (now (out .entry)) i c ⌝ }
 {
-    let at = i * 3;
+    let at = i * CHANNELS;
     out[at] = c.red as u8;
     out[at + 1] = c.green as u8;
     out[at + 2] = c.blue as u8;
@@ -104,7 +116,7 @@ fn fill_row(
     ensures out { λ _. ⌜ now (out .exit) ≡
         fillFrom (treeLent plan areas xs ys head cells entries) row first 0 (length (now (out .entry)) / 3) (now (out .entry)) .bytes ⌝ }
 {
-    let n = out.len() / 3;
+    let n = out.len() / CHANNELS;
     let mut last = Found::Broken;
     let mut i: usize = 0;
     while i < n {
@@ -141,7 +153,7 @@ fn row_spanned(
     ensures answer { λ r. ⌜ r ≡ rowSpan (treeLent plan areas xs ys head cells entries) row first (now (out .entry)) .answer ⌝ }
     ensures out { λ _. ⌜ now (out .exit) ≡ rowSpan (treeLent plan areas xs ys head cells entries) row first (now (out .entry)) .bytes ⌝ }
 {
-    if (first as usize) + out.len() / 3 <= 4096 {
+    if (first as usize) + out.len() / CHANNELS <= PIXELS {
         return fill_row(plan, areas, xs, ys, head, cells, entries, row, first, out);
     }
     RowAnswer::Not(Refusal::Argument, 0)
@@ -165,8 +177,8 @@ pub fn pixel_row(
     ensures out { λ _. ⌜ now (out .exit) ≡ rowFilled (treeLent plan areas xs ys head cells entries) row first (now (out .entry)) .bytes ⌝ }
 {
     if xs.len() == ys.len() {
-        if row <= 4095 {
-            if out.len() % 3 == 0 {
+        if row <= LAST_ROW {
+            if out.len() % CHANNELS == 0 {
                 return row_spanned(plan, areas, xs, ys, head, cells, entries, row, first, out);
             }
             return RowAnswer::Not(Refusal::Argument, 0);
