@@ -13,6 +13,9 @@ ghost use Rattle.find_leaf.specs.Leaf.{positionRange};
 ghost use Rattle.zone_log.specs.Logs.{outsideFrom, eachWord, knownFrom, zoneLog, logKnown, logRange, logAnswer, outAfter};
 ghost use Rattle.zone_log.specs.code.Numbers.{RunIn, loggedN, talliedN, countIn};
 
+// One past the largest number that a word holds.
+const WORD_END: usize = 4294967296;
+
 // How many indices a log has, or why the call was refused and where.
 pub enum LogAnswer {
     Indices(usize),
@@ -35,7 +38,7 @@ pub enum Count {
 fn in_range(x: u32, y: u32) -> bool
     ensures answer { λ r. ⌜ r ≡ positionRange x y ⌝ }
 {
-    (x < 65536) & (y < 65536)
+    (x < celltable::GRID) & (y < celltable::GRID)
 }
 
 // The lowest index whose position is out of range; the length of the run where there is none.
@@ -69,7 +72,7 @@ fn tallied(c: Tally, i: usize, logged: bool) -> Tally
     if logged {
         return Tally {
             count: c.count + 1,
-            fits: c.fits & (i < 4294967296),
+            fits: c.fits & (i < WORD_END),
         };
     }
     c
