@@ -9,6 +9,26 @@ ghost use Rattle.tables.specs.Tables.{treeLent};
 ghost use Rattle.listing.specs.Listed.{everyOther, cornerX, cornerY, ifLow, ofAnswer, cornerAt, withCorner, listed};
 ghost use Rattle.listing.specs.Numbers.{putAt, written, lineAt};
 
+// The places that a low corner can have at a depth of at most 4.
+const CORNERS: u32 = 256;
+
+// The step from one of them to the next, in x and in y.
+const STEP: u32 = 4096;
+
+// The words of a line behind the first, which is the cell.
+const KEY: usize = 1;
+
+const SIDE: usize = 2;
+
+const ENTRIES: usize = 3;
+
+const LINES: usize = 4;
+
+const LINE_WORDS: usize = 5;
+
+// The words of the longest list.
+pub const LIST_WORDS: usize = CORNERS as usize * LINE_WORDS;
+
 // A line: a leaf that is listed.
 pub struct Line {
     pub cell: u32,
@@ -38,7 +58,7 @@ fn corner_x(k: u32) -> u32
     ensures answer { λ r. ⌜ r ≡ cornerX k ⌝ }
     ensures range { λ r. ⌜ r < 65536 ⌝ }
 {
-    4096 * every_other(k)
+    STEP * every_other(k)
 }
 
 fn corner_y(k: u32) -> u32
@@ -46,7 +66,7 @@ fn corner_y(k: u32) -> u32
     ensures answer { λ r. ⌜ r ≡ cornerY k ⌝ }
     ensures range { λ r. ⌜ r < 65536 ⌝ }
 {
-    4096 * every_other(k / 2)
+    STEP * every_other(k / 2)
 }
 
 // The line of a leaf, if (x, y) is its low corner.
@@ -100,11 +120,11 @@ fn put_line(rows: &mut [u32], n: usize, l: Line)
     requires { ⌜ n * 5 + 5 ≤ length (now rows) ⌝ }
     ensures rows { λ _. ⌜ now (rows .exit) ≡ putAt (now (rows .entry)) n l ⌝ }
 {
-    rows[n * 5] = l.cell;
-    rows[n * 5 + 1] = l.key;
-    rows[n * 5 + 2] = l.side;
-    rows[n * 5 + 3] = l.entries;
-    rows[n * 5 + 4] = l.lines;
+    rows[n * LINE_WORDS] = l.cell;
+    rows[n * LINE_WORDS + KEY] = l.key;
+    rows[n * LINE_WORDS + SIDE] = l.side;
+    rows[n * LINE_WORDS + ENTRIES] = l.entries;
+    rows[n * LINE_WORDS + LINES] = l.lines;
 }
 
 // One line more, or none.
@@ -141,7 +161,7 @@ pub fn list_leaves(
 {
     let mut n = 0;
     let mut k = 0;
-    while k < 256 {
+    while k < CORNERS {
         let p = corner_at(plan, areas, xs, ys, head, cells, entries, k);
         n = put_corner(rows, n, p);
         k += 1;
@@ -155,10 +175,10 @@ pub fn read_line(rows: &[u32], n: usize) -> Line
     ensures answer { λ l. ⌜ l ≡ lineAt (now (rows .entry)) n ⌝ }
 {
     Line {
-        cell: rows[n * 5],
-        key: rows[n * 5 + 1],
-        side: rows[n * 5 + 2],
-        entries: rows[n * 5 + 3],
-        lines: rows[n * 5 + 4],
+        cell: rows[n * LINE_WORDS],
+        key: rows[n * LINE_WORDS + KEY],
+        side: rows[n * LINE_WORDS + SIDE],
+        entries: rows[n * LINE_WORDS + ENTRIES],
+        lines: rows[n * LINE_WORDS + LINES],
     }
 }
