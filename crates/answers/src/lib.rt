@@ -17,6 +17,12 @@ ghost use Rattle.answers.specs.Answers.{packed, readNumber, writeNumber,
 ghost use Rattle.answers.specs.Answers.{leafPut, findRoom, findNumber, leafWritten};
 ghost use Rattle.answers.specs.Readings.{spotPut, spotRoom, spotNumber, spotWritten, lowHalf, logNumber, rowPlace, rowNumber};
 
+// The words of a leaf that is found.
+const LEAF_WORDS: usize = 7;
+
+// The words of what shows at a position.
+const SHOWN_WORDS: usize = 6;
+
 // The refusal's number, or 0, and what goes with it.
 fn pack(number: u32, low: usize) -> u64
     requires { ⌜ low ≤ 4294967295 ⌝ }
@@ -107,7 +113,7 @@ pub fn put_found(out: &mut [u32], a: find_leaf::Answer) -> u64
 {
     match a {
         find_leaf::Answer::Found(l) => {
-            if 7 <= out.len() {
+            if LEAF_WORDS <= out.len() {
                 put_leaf(out, l);
                 return pack(0, l.cell as usize);
             }
@@ -140,7 +146,7 @@ pub fn put_shown(out: &mut [u32], a: position::Answer) -> u64
 {
     match a {
         position::Answer::At(s) => {
-            if 6 <= out.len() {
+            if SHOWN_WORDS <= out.len() {
                 put_spot(out, s);
                 return pack(0, s.material as usize);
             }
