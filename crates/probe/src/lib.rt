@@ -11,6 +11,9 @@ ghost use lib.ListN.{length};
 ghost use Rattle.stream.specs.Grammar.{env, bounds, checkStream, Passed};
 ghost use Rattle.probe.specs.Answers.{readAnswer, square, squareFits, childRows, childRoom, answerBy, tableBy, childFits};
 
+// The last position, in x and in y.
+const LAST: u32 = celltable::GRID - 1;
+
 // 1 if the count entries from first on are a stream of the cell with this low row and this side, else 0.
 #[no_mangle]
 pub extern "C" fn probe_check(
@@ -72,7 +75,7 @@ pub extern "C" fn probe_read(
     };
     let passes = stream::check_stream(entries, first, count, used, areas, xs, ys, b);
     if passes {
-        if (x <= 65535) & (y <= 65535) {
+        if (x <= LAST) & (y <= LAST) {
             return evaluate::read_stream(entries, first, count, areas, xs, ys, b, x, y);
         }
         return 0;
@@ -139,7 +142,7 @@ fn write_if_room(
         (now (entries .entry)) first count used (env (now (areas .entry)) (now (xs .entry)) (now (ys .entry)) b) s ⌝ }
 {
     let n = entries_made(entries, first, count, areas, xs, ys, b, s);
-    if used + n <= entries.len() / 4 {
+    if used + n <= entries.len() / celltable::ENTRY_WORDS {
         child_stream::write_child(entries, first, count, used, n, areas, xs, ys, b, s);
         return (n as u64) + 1;
     }
