@@ -8,6 +8,27 @@ ghost use lib.ListN.{length};
 ghost use Rattle.tables.specs.Tables.{treeLent};
 ghost use Rattle.lister.specs.Printed.{linesOf, outcomeOf, outcomeGrown, rowsGrown, outcome, rowsAfter};
 
+// The records, areas and corners of a drawing at most, and the size of a record and of an area.
+const RECORDS: usize = 4096;
+
+const AREAS: usize = 64;
+
+const CORNERS: usize = 2048;
+
+const RECORD_BYTES: usize = 16;
+
+const AREA_WORDS: usize = 8;
+
+// "Its tables hold 1,024 cells and 4,096 entries"
+const CELLS: usize = 1024;
+
+const ENTRIES: usize = 4096;
+
+// "threshold 0 and depth limit 4"
+const THRESHOLD: u32 = 0;
+
+const DEPTH_LIMIT: u32 = 4;
+
 fn print_number(n: u32) {
     io::print_decimal(1, n as u64);
 }
@@ -82,7 +103,17 @@ fn list_grown(
     ensures rows { λ r. ⌜ now (rows .exit) ≡ rowsGrown (treeLent plan areas xs ys head cells entries) (now (rows .entry)) ⌝ }
     ensures range { λ r. ⌜ linesOf r ≤ 256 ⌝ }
 {
-    let a = grow::grow(plan, areas, xs, ys, head, cells, entries, 0, 4);
+    let a = grow::grow(
+        plan,
+        areas,
+        xs,
+        ys,
+        head,
+        cells,
+        entries,
+        THRESHOLD,
+        DEPTH_LIMIT,
+    );
     let n = listing::list_leaves(plan, areas, xs, ys, head, cells, entries, rows);
     outcome_of(a, n)
 }
@@ -110,13 +141,12 @@ fn list_drawing(
     }
 }
 
-// "Its tables hold 1,024 cells and 4,096 entries": eight words a cell, four words an entry. The lines are 256 at most, of five words each.
 // "if growing ends on "full", a last line `full` follows"
 fn print_drawing(plan: &[u32], areas: &[u32], xs: &[u32], ys: &[u32]) {
-    let mut head = [0u32; 2];
-    let mut cells = [0u32; 8192];
-    let mut entries = [0u32; 16384];
-    let mut rows = [0u32; 1280];
+    let mut head = [0u32; celltable::HEAD_WORDS];
+    let mut cells = [0u32; CELLS * celltable::CELL_WORDS];
+    let mut entries = [0u32; ENTRIES * celltable::ENTRY_WORDS];
+    let mut rows = [0u32; listing::LIST_WORDS];
     let a = list_drawing(
         plan,
         areas,
@@ -143,12 +173,12 @@ fn print_drawing(plan: &[u32], areas: &[u32], xs: &[u32], ys: &[u32]) {
 
 // A file may have 4,096 records of 16 bytes, which is 65,536: one byte more shows that it is longer, and is refused for its length.
 fn main() {
-    let mut records = [0u8; 65537];
+    let mut records = [0u8; RECORDS * RECORD_BYTES + 1];
     let n = io::read_full(0, &mut records);
-    let mut plan = [0u32; 4099];
-    let mut areas = [0u32; 512];
-    let mut xs = [0u32; 2048];
-    let mut ys = [0u32; 2048];
+    let mut plan = [0u32; tables::PLAN_COUNTS + RECORDS];
+    let mut areas = [0u32; AREAS * AREA_WORDS];
+    let mut xs = [0u32; CORNERS];
+    let mut ys = [0u32; CORNERS];
     let v = read::read(&records[..n], &mut plan, &mut areas, &mut xs, &mut ys);
     match v {
         Verdict::Accepted(_) => {
