@@ -19,18 +19,12 @@ ghost use Rattle.making.specs.Made.{rowsMade, wordsMade};
 ghost use Rattle.making.specs.code.Numbers.{cellIn};
 ghost use Rattle.child_stream.specs.code.Numbers.{starts, notedN, firstOf, startsIn};
 
-// The areas of a drawing at most.
-const MOST_AREAS: usize = 64;
-
-// The words of an entry.
-const ENTRY_WORDS: usize = 4;
-
 // ---- the start numbers of the areas
 // How many, and the numbers, with zeros behind them: the `starts` of document 01's "child tallies (entries, lines, starts)". They are proved to be those
 // of the child's stream (`count_child`: `startsIn`), which is written from its parent's stream and not from them.
 pub struct Starts {
     pub count: usize,
-    pub at: [i64; MOST_AREAS],
+    pub at: [i64; records::MOST_AREAS],
 }
 
 // The start number of the area that waits, behind those of the areas that stand. An area that goes again makes place for the next.
@@ -41,18 +35,18 @@ fn note(at: &mut [i64], p: Pruner, a: Waiting)
 {
     let k = (p.weight / 4294967296) as usize;
     let z = a.start;
-    if k < MOST_AREAS {
+    if k < records::MOST_AREAS {
         at[k] = z;
     }
 }
 
 // The first `count` of them, with zeros behind them.
-fn ended(zs: [i64; MOST_AREAS], count: usize) -> Starts
+fn ended(zs: [i64; records::MOST_AREAS], count: usize) -> Starts
     ensures answer { λ r. ⌜ r ≡ starts count (firstOf count zs) ⌝ }
 {
     let mut at = zs;
     let mut i = count;
-    while i < MOST_AREAS {
+    while i < records::MOST_AREAS {
         at[i] = 0;
         i += 1;
     }
@@ -91,7 +85,7 @@ pub fn count_child(
     let end = first + count;
     let mut p = pruner::begun();
     let mut a = making::rest();
-    let mut at = [0i64; MOST_AREAS];
+    let mut at = [0i64; records::MOST_AREAS];
     let mut i = first;
     while i < end {
         let w = stream::read_entry(entries, i);
@@ -143,7 +137,7 @@ pub fn write_child(
         (lent (now (areas .entry)) (now (xs .entry)) (now (ys .entry)) b) (cellIn s) (wordsFrom (now (entries .entry)) first count)) ⌝ }
 {
     let end = first + count;
-    let base = free * ENTRY_WORDS;
+    let base = free * stream::ENTRY_WORDS;
     let mut p = pruner::begun();
     let mut a = making::rest();
     let mut i = first;

@@ -12,9 +12,6 @@ ghost use Rattle.stream.specs.Grammar.{env, bounds, checkStream};
 ghost use Rattle.tables.specs.Tables.{treeLent, countsIn};
 ghost use Rattle.find_leaf.specs.Leaf.{linesIn, leafIn, reportOf, foundBy, findAnswer};
 
-// The kind of an entry that is a line.
-const LINE: u32 = 5;
-
 // A leaf as it is reported: its number, low corner, side, depth, and how many entries and lines it has.
 pub struct FoundLeaf {
     pub cell: u32,
@@ -46,7 +43,7 @@ pub fn counts_fit(
 {
     let n = entries.len();
     if celltable::head_fits(head, cells.len(), n) {
-        if tables::PLAN_COUNTS <= plan.len() {
+        if read::PLAN_COUNTS <= plan.len() {
             let free = laws::wide(head[celltable::ENTRIES]);
             let b = tables::bounds_in(plan, 0, 0);
             return stream::used_range(n, free, areas.len(), xs.len(), ys.len(), b);
@@ -61,7 +58,7 @@ fn line_of(kind: u32) -> u32
     ensures answer { λ r. ⌜ r ≡ cond (eqb kind 5) 1 0 ⌝ }
     ensures range { λ r. ⌜ r ≤ 1 ⌝ }
 {
-    if kind == LINE {
+    if kind == stream::ENTRY_LINE {
         return 1;
     }
     0

@@ -8,17 +8,6 @@ ghost use lib.ListN.{length};
 ghost use Rattle.tables.specs.Tables.{treeLent};
 ghost use Rattle.lister.specs.Printed.{linesOf, outcomeOf, outcomeGrown, rowsGrown, outcome, rowsAfter};
 
-// The records, areas and corners of a drawing at most, and the size of a record and of an area.
-const RECORDS: usize = 4096;
-
-const AREAS: usize = 64;
-
-const CORNERS: usize = 2048;
-
-const RECORD_BYTES: usize = 16;
-
-const AREA_WORDS: usize = 8;
-
 // "Its tables hold 1,024 cells and 4,096 entries"
 const CELLS: usize = 1024;
 
@@ -173,12 +162,12 @@ fn print_drawing(plan: &[u32], areas: &[u32], xs: &[u32], ys: &[u32]) {
 
 // A file may have 4,096 records of 16 bytes, which is 65,536: one byte more shows that it is longer, and is refused for its length.
 fn main() {
-    let mut records = [0u8; RECORDS * RECORD_BYTES + 1];
+    let mut records = [0u8; records::MOST_RECORDS * records::RECORD_BYTES + 1];
     let n = io::read_full(0, &mut records);
-    let mut plan = [0u32; tables::PLAN_COUNTS + RECORDS];
-    let mut areas = [0u32; AREAS * AREA_WORDS];
-    let mut xs = [0u32; CORNERS];
-    let mut ys = [0u32; CORNERS];
+    let mut plan = [0u32; read::PLAN_COUNTS + records::MOST_RECORDS];
+    let mut areas = [0u32; records::MOST_AREAS * records::AREA_WORDS];
+    let mut xs = [0u32; records::MOST_CORNERS];
+    let mut ys = [0u32; records::MOST_CORNERS];
     let v = read::read(&records[..n], &mut plan, &mut areas, &mut xs, &mut ys);
     match v {
         Verdict::Accepted(_) => {

@@ -23,32 +23,6 @@ ghost use Rattle.pruner.specs.code.Numbers.{counted};
 ghost use Rattle.making.specs.code.Numbers.{leftSign, leftClass, leftRange, waiting, resting, withLeft, waitingN, classN, settledN, movedN, prunesN};
 ghost use Rattle.making.specs.code.Numbers.{prunedN, Room, Inside};
 
-// The kinds of entries.
-pub const OPEN: u32 = 1;
-
-pub const BAR: u32 = 2;
-
-pub const CLOSE: u32 = 3;
-
-pub const AREA: u32 = 4;
-
-pub const LINE: u32 = 5;
-
-pub const SHORTCUT: u32 = 6;
-
-pub const PASSES: u32 = 7;
-
-// The words of an area behind the first, which is its role.
-const ALPHA: usize = 2;
-
-pub const AREA_WORDS: usize = 8;
-
-// The role of a paint area.
-pub const PAINT: u32 = 0;
-
-// The alpha of an area that hides what is behind it.
-const OPAQUE: u32 = 255;
-
 // ---- what is left of a line or a shortcut in a square
 pub struct Left {
     pub sign: i64,
@@ -87,10 +61,10 @@ pub fn left_of(xs: &[u32], ys: &[u32], corners: usize, s: Square, w: Words) -> L
     requires { ⌜ SquareIn s ⌝ }
     ensures answer { λ r. ⌜ (r .sign ≡ leftSign (now (xs .entry)) (now (ys .entry)) w) × (r .class ≡ leftClass (now (xs .entry)) (now (ys .entry)) s w) ⌝ }
 {
-    if w.kind == LINE {
+    if w.kind == stream::ENTRY_LINE {
         return line_left(xs, ys, s, w);
     }
-    if w.kind == SHORTCUT {
+    if w.kind == stream::ENTRY_SHORTCUT {
         return shortcut_left(s, w);
     }
     Left {
@@ -182,14 +156,14 @@ pub fn waiting_after(a: Waiting, l: Left, w: Words) -> Waiting
     requires { ⌜ (w .kind ≡ 4 → startRange (w .q) ≡ true) ⌝ }
     ensures answer { λ r. ⌜ r ≡ waitingN a (l .class) (l .sign) w ⌝ }
 {
-    if w.kind == AREA {
+    if w.kind == stream::ENTRY_AREA {
         return named(w);
     }
     let k = l.class;
-    if w.kind == LINE {
+    if w.kind == stream::ENTRY_LINE {
         return with_left(a, k, l.sign);
     }
-    if w.kind == SHORTCUT {
+    if w.kind == stream::ENTRY_SHORTCUT {
         return with_left(a, k, l.sign);
     }
     rest()
@@ -203,10 +177,10 @@ pub fn class_of(areas: &[u32], a: Waiting) -> u32
     ensures answer { λ r. ⌜ r ≡ classN (now (areas .entry)) a ⌝ }
 {
     if a.weight == 4294967297 {
-        let at = (a.number as usize) * AREA_WORDS;
+        let at = (a.number as usize) * records::AREA_WORDS;
         if evaluate::area_passes(areas, a.number as usize, a.start) {
-            if areas[at] == PAINT {
-                if areas[at + ALPHA] == OPAQUE {
+            if areas[at] == records::PAINT {
+                if areas[at + records::ALPHA] == records::OPAQUE {
                     return 1;
                 }
                 return 2;
@@ -226,8 +200,8 @@ pub fn settled(areas: &[u32], p: Pruner, a: Waiting) -> Pruner
 {
     if a.waits {
         let k = class_of(areas, a);
-        let at = (a.number as usize) * AREA_WORDS;
-        let paint = areas[at] == PAINT;
+        let at = (a.number as usize) * records::AREA_WORDS;
+        let paint = areas[at] == records::PAINT;
         return pruner::after_item(p, paint, k, a.weight);
     }
     p
@@ -240,10 +214,10 @@ fn moved(p: Pruner, kind: u32) -> Pruner
     ensures answer { λ r. ⌜ counted r ≡ movedN kind (counted p) ⌝ }
 {
     match kind {
-        OPEN => pruner::after_open(p),
-        BAR => pruner::after_bar(p),
-        CLOSE => pruner::after_close(p),
-        PASSES => pruner::after_item(p, false, 1, 1),
+        stream::ENTRY_OPEN => pruner::after_open(p),
+        stream::ENTRY_BAR => pruner::after_bar(p),
+        stream::ENTRY_CLOSE => pruner::after_close(p),
+        stream::ENTRY_PASSES => pruner::after_item(p, false, 1, 1),
         _ => p,
     }
 }
@@ -252,10 +226,10 @@ fn moved(p: Pruner, kind: u32) -> Pruner
 pub fn prunes(kind: u32) -> bool
     ensures answer { λ r. ⌜ r ≡ prunesN kind ⌝ }
 {
-    if kind == LINE {
+    if kind == stream::ENTRY_LINE {
         return false;
     }
-    kind != SHORTCUT
+    kind != stream::ENTRY_SHORTCUT
 }
 
 // After an entry.
@@ -264,10 +238,10 @@ pub fn pruner_after(areas: &[u32], p: Pruner, a: Waiting, kind: u32) -> Pruner
     requires { ⌜ Room p a kind ⌝ }
     ensures answer { λ r. ⌜ counted r ≡ prunedN (now (areas .entry)) (counted p) a kind ⌝ }
 {
-    if kind == LINE {
+    if kind == stream::ENTRY_LINE {
         return p;
     }
-    if kind == SHORTCUT {
+    if kind == stream::ENTRY_SHORTCUT {
         return p;
     }
     let q = settled(areas, p, a);

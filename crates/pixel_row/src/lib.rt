@@ -21,9 +21,6 @@ const LAST_ROW: u32 = 4095;
 // The pixels of a row.
 const PIXELS: usize = 4096;
 
-// The samples of a pixel.
-const SAMPLES: u32 = 16;
-
 // The bytes of a pixel: red, green, blue.
 const CHANNELS: usize = 3;
 
@@ -65,7 +62,7 @@ fn pixel_at(
         blue: 0,
     };
     let mut i: u32 = 0;
-    while i < SAMPLES {
+    while i < pixel::SAMPLES {
         let p = pixel::sample_at(row, column, i);
         let s = position::shown_at(plan, areas, xs, ys, head, cells, entries, last, p.x, p.y);
         match s {

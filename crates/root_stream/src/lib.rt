@@ -15,24 +15,7 @@ ghost use Rattle.evaluate.specs.Words.{words};
 ghost use Rattle.root_stream.specs.code.Numbers.{sourceAt, endN, edgeN, markN, entryN, afterN, Opened};
 ghost use Rattle.root_stream.specs.Opened.{rowsOpened, wordsOpened};
 
-// The kinds of records, but for the last, `)`.
-const AREA: u32 = 1;
-
-const FIRST_CORNER: u32 = 2;
-
-const NEXT_CORNER: u32 = 3;
-
-const OPEN: u32 = 4;
-
-const BAR: u32 = 5;
-
-// Where the plan has the kind of record 0 and that of record 1: its three counts stand before them.
-const KINDS: usize = 3;
-
-const NEXT_KIND: usize = KINDS + 1;
-
-// The side of cell 0.
-const GRID: u32 = 65536;
+const NEXT_KIND: usize = read::PLAN_COUNTS + 1;
 
 // The areas and the corners before a record, and the first corner of the contour in progress.
 pub struct Source {
@@ -58,7 +41,7 @@ fn edge_end(plan: &[u32], i: usize, records: usize, corner: u32, first: u32) -> 
     ensures answer { λ r. ⌜ r ≡ endN (now (plan .entry)) i records corner first ⌝ }
 {
     if i + 1 < records {
-        if plan[i + NEXT_KIND] == NEXT_CORNER {
+        if plan[i + NEXT_KIND] == records::KIND_NEXT {
             return corner + 1;
         }
         return first;
@@ -72,7 +55,7 @@ fn edge_from(plan: &[u32], i: usize, records: usize, corner: u32, first: u32) ->
 {
     let end = edge_end(plan, i, records, corner, first);
     Words {
-        kind: making::LINE,
+        kind: stream::ENTRY_LINE,
         p: corner,
         q: end,
         r: 0,
@@ -93,13 +76,13 @@ fn mark(kind: u32) -> Words
 fn delimiter(kind: u32) -> Words
     ensures answer { λ r. ⌜ r ≡ markN kind ⌝ }
 {
-    if kind == OPEN {
-        return mark(making::OPEN);
+    if kind == records::KIND_OPEN {
+        return mark(stream::ENTRY_OPEN);
     }
-    if kind == BAR {
-        return mark(making::BAR);
+    if kind == records::KIND_BAR {
+        return mark(stream::ENTRY_BAR);
     }
-    mark(making::CLOSE)
+    mark(stream::ENTRY_CLOSE)
 }
 
 // The entry of record i: the area, the edge from its corner, or the delimiter.
@@ -107,19 +90,19 @@ pub fn source_entry(plan: &[u32], i: usize, records: usize, c: Source) -> Words
     requires { ⌜ (records + 3 ≤ length (now plan)) × (i < records) × (c .corner ≤ 2048) ⌝ }
     ensures answer { λ r. ⌜ r ≡ entryN (now (plan .entry)) i records c ⌝ }
 {
-    let kind = plan[i + KINDS];
-    if kind == AREA {
+    let kind = plan[i + read::PLAN_COUNTS];
+    if kind == records::KIND_AREA {
         return Words {
-            kind: making::AREA,
+            kind: stream::ENTRY_AREA,
             p: c.area,
             q: 0,
             r: 0,
         };
     }
-    if kind == FIRST_CORNER {
+    if kind == records::KIND_FIRST {
         return edge_from(plan, i, records, c.corner, c.corner);
     }
-    if kind == NEXT_CORNER {
+    if kind == records::KIND_NEXT {
         return edge_from(plan, i, records, c.corner, c.first);
     }
     delimiter(kind)
@@ -130,21 +113,21 @@ pub fn source_after(c: Source, kind: u32) -> Source
     requires { ⌜ (c .area ≤ 64) × (c .corner ≤ 2048) ⌝ }
     ensures answer { λ r. ⌜ r ≡ afterN c kind ⌝ }
 {
-    if kind == AREA {
+    if kind == records::KIND_AREA {
         return Source {
             area: c.area + 1,
             corner: c.corner,
             first: c.first,
         };
     }
-    if kind == FIRST_CORNER {
+    if kind == records::KIND_FIRST {
         return Source {
             area: c.area,
             corner: c.corner + 1,
             first: c.corner,
         };
     }
-    if kind == NEXT_CORNER {
+    if kind == records::KIND_NEXT {
         return Source {
             area: c.area,
             corner: c.corner + 1,
@@ -161,7 +144,7 @@ fn root_square() -> Square
     Square {
         x: 0,
         y: 0,
-        side: GRID,
+        side: records::GRID,
     }
 }
 
@@ -191,7 +174,7 @@ pub fn count_open(
         }
         let n = making::waiting_after(a, l, w);
         a = n;
-        c = source_after(c, plan[i + KINDS]);
+        c = source_after(c, plan[i + read::PLAN_COUNTS]);
         i += 1;
     }
     making::made_weight(
@@ -235,7 +218,7 @@ pub fn write_open(
         }
         let n = making::waiting_after(a, l, w);
         a = n;
-        c = source_after(c, plan[i + KINDS]);
+        c = source_after(c, plan[i + read::PLAN_COUNTS]);
         i += 1;
     }
     let last = Maker {

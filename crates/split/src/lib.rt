@@ -279,7 +279,7 @@ fn split_headed(
     let n = cells.len();
     let k = entries.len();
     if celltable::head_fits(head, n, k) {
-        if tables::PLAN_COUNTS <= plan.len() {
+        if read::PLAN_COUNTS <= plan.len() {
             let free = head[celltable::ENTRIES];
             return split_counted(plan, areas, xs, ys, head, cells, entries, i, used, free);
         }

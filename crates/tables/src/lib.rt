@@ -7,13 +7,6 @@ ghost use Rattle.stream.specs.Grammar.{bounds};
 ghost use Rattle.celltable.specs.Ranges.{cellsHeld, entriesHeld};
 ghost use Rattle.tables.specs.Tables.{cellsUsed};
 
-// The counts at the head of a plan: the areas and the corners in use, behind the records.
-pub const AREAS: usize = 1;
-
-pub const CORNERS: usize = 2;
-
-pub const PLAN_COUNTS: usize = 3;
-
 // The limit of the cells, as a word.
 const MOST_CELLS: u32 = celltable::MOST_CELLS as u32;
 
@@ -53,8 +46,8 @@ pub fn bounds_in(plan: &[u32], low: u32, side: u32) -> Bounds
     ensures answer { λ r. ⌜ r ≡ bounds (getD (now (plan .entry)) 1 0) (getD (now (plan .entry)) 2 0) low side ⌝ }
 {
     Bounds {
-        areas: laws::wide(plan[AREAS]),
-        corners: laws::wide(plan[CORNERS]),
+        areas: laws::wide(plan[read::AREAS]),
+        corners: laws::wide(plan[read::CORNERS]),
         low: low,
         side: side,
     }

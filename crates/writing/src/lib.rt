@@ -57,7 +57,7 @@ fn put_kept(out: &mut [u32], limit: usize, at: usize, l: Left, w: Words)
                 limit,
                 at,
                 Words {
-                    kind: making::SHORTCUT,
+                    kind: stream::ENTRY_SHORTCUT,
                     p: z,
                     q: lo,
                     r: hi,
@@ -70,7 +70,7 @@ fn put_kept(out: &mut [u32], limit: usize, at: usize, l: Left, w: Words)
                 limit,
                 at,
                 Words {
-                    kind: making::LINE,
+                    kind: stream::ENTRY_LINE,
                     p: w.p,
                     q: w.q,
                     r: 0,
@@ -108,7 +108,7 @@ fn put_bare(out: &mut [u32], limit: usize, p: Pruner)
         limit,
         at,
         Words {
-            kind: making::PASSES,
+            kind: stream::ENTRY_PASSES,
             p: 0,
             q: 0,
             r: 0,
@@ -131,7 +131,7 @@ fn put_named(out: &mut [u32], limit: usize, m: Maker)
         limit,
         at,
         Words {
-            kind: making::AREA,
+            kind: stream::ENTRY_AREA,
             p: a.number,
             q: z,
             r: 0,
@@ -152,8 +152,8 @@ fn put_class(out: &mut [u32], limit: usize, areas: &[u32], m: Maker, k: u32)
     if k == 1 {
         let p = m.pruner;
         let a = m.waiting;
-        let at = (a.number as usize) * making::AREA_WORDS;
-        if areas[at] == making::PAINT {
+        let at = (a.number as usize) * records::AREA_WORDS;
+        if areas[at] == records::PAINT {
             put_named(out, limit, m);
             return;
         }
@@ -184,7 +184,7 @@ fn put_mark(out: &mut [u32], limit: usize, q: Pruner, weight: u64, kind: u32)
     requires { ⌜ limit * 4 ≤ length (now out) ⌝ }
     ensures out { λ _. ⌜ now (out .exit) ≡ markPut limit (now (out .entry)) q weight kind ⌝ }
 {
-    if kind == making::PASSES {
+    if kind == stream::ENTRY_PASSES {
         if q.skip == 0 {
             put_bare(out, limit, q);
         }
