@@ -270,6 +270,7 @@ fn spread_byte(b: u32) -> u32
     SPREAD[b as usize]
 }
 
+// A half word with its bits spread: its low byte's, and its high byte's 16 places up.
 fn spread_half(x: u32) -> u32
     requires { ⌜ x < 65536 ⌝ }
     ensures answer { λ r. ⌜ r ≡ spread 16 x ⌝ }
