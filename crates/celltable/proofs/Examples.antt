@@ -7,7 +7,7 @@ use Rattle.cells.specs.Cells.{at, cell}
 use Rattle.celltable.specs.declared.CellWords.{CellWords}
 use Rattle.celltable.specs.declared.Found.{Found}
 use Rattle.celltable.specs.declared.Found.the-variants.{At, Broken}
-use Rattle.celltable.specs.Table.{rowOf}
+use Rattle.celltable.specs.Table.{cellRow}
 use Rattle.celltable.specs.Ranges.{powerUpTo, sideRange, cellRange, headRange}
 use Rattle.celltable.specs.Descent.{downFrom, descendIn}
 
@@ -15,7 +15,7 @@ abbrev words : (x y side child first count : ℕ) → CellWords
 words x y side child first count = record { x = x; y = y; side = side; child = child; first = first; count = count }
 
 abbrev row : (x y side child first count : ℕ) → List ℕ
-row x y side child first count = rowOf (words x y side child first count)
+row x y side child first count = cellRow (words x y side child first count)
 
 abbrev leaf : (i x y side steps first count : ℕ) → Found
 leaf i x y side steps first count = At (record { cell = i; x = x; y = y; side = side; steps = steps; first = first; count = count })

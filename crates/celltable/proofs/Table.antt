@@ -8,7 +8,7 @@ use native.Mathlib.Numerals.{towards-suc}
 use lib.ListN.{length, getD, take, drop, length-set}
 use lib.Seq.{getD-set-same, getD-set-other, getD-take, getD-drop, take-set-le, drop-set-lt, length-take-le, getD-append-add, sets, sets-eq}
 use Rattle.celltable.specs.declared.CellWords.{CellWords}
-use Rattle.celltable.specs.Table.{cellAt, rowOf, putCellAt, putChildAt, withChild}
+use Rattle.celltable.specs.Table.{cellAt, cellRow, putCellAt, putChildAt, withChild}
 
 -- ---- a cell goes by its own eight words
 
@@ -86,24 +86,24 @@ put-cell-beyond t m i w h =
     simp drop-set-lt
 
 -- the whole table: what stands before, the eight words, and what stands after
-pub put-cell-eq : (t : List ℕ) (i : ℕ) (w : CellWords) → i * 8 + 8 ≤ length t → putCellAt t i w ≡ take (i * 8) t ++ rowOf w ++ drop (i * 8 + 8) t
-put-cell-eq t i w h = stores ∙ sets-eq (rowOf w) t (i * 8) h
+pub put-cell-eq : (t : List ℕ) (i : ℕ) (w : CellWords) → i * 8 + 8 ≤ length t → putCellAt t i w ≡ take (i * 8) t ++ cellRow w ++ drop (i * 8 + 8) t
+put-cell-eq t i w h = stores ∙ sets-eq (cellRow w) t (i * 8) h
   where
-    stores : putCellAt t i w ≡ sets t (i * 8) (rowOf w)
+    stores : putCellAt t i w ≡ sets t (i * 8) (cellRow w)
     stores = simp towards-suc
 
 -- what was written is read back
 pub put-cell-same : (t : List ℕ) (i : ℕ) (w : CellWords) → i * 8 + 8 ≤ length t → cellAt (putCellAt t i w) i ≡ w
 put-cell-same t i w h =
-    rw (put-cell-eq t i w h, append-assoc (take (i * 8) t) (rowOf w) (drop (i * 8 + 8) t))
+    rw (put-cell-eq t i w h, append-assoc (take (i * 8) t) (cellRow w) (drop (i * 8 + 8) t))
     (λ d. record { x = at-zero d; y = at 1 d; side = at 2 d; child = at 3 d; first = at 4 d; count = at 5 d })
   where
     whole : List ℕ
-    whole = take (i * 8) t ++ (rowOf w ++ drop (i * 8 + 8) t)
+    whole = take (i * 8) t ++ (cellRow w ++ drop (i * 8 + 8) t)
 
-    at : (k : ℕ) → getD whole (i * 8 + k) 0 ≡ getD (rowOf w ++ drop (i * 8 + 8) t) k 0
+    at : (k : ℕ) → getD whole (i * 8 + k) 0 ≡ getD (cellRow w ++ drop (i * 8 + 8) t) k 0
     at k =
-        rw (length-take-le (i * 8) t (omega arith)) at (getD-append-add (take (i * 8) t) (rowOf w ++ drop (i * 8 + 8) t) k 0)
+        rw (length-take-le (i * 8) t (omega arith)) at (getD-append-add (take (i * 8) t) (cellRow w ++ drop (i * 8 + 8) t) k 0)
 
     at-zero : getD whole (i * 8) 0 ≡ w .x
     at-zero = ap (λ (k : ℕ). getD whole k 0) (omega arith) ∙ at 0

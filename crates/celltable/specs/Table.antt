@@ -18,8 +18,8 @@ cellAt t i =
     }
 
 -- the eight words of a cell; document 01 leaves words 6 and 7 free
-abbrev pub rowOf : CellWords → List ℕ
-rowOf w = w .x ∷ w .y ∷ w .side ∷ w .child ∷ w .first ∷ w .count ∷ 0 ∷ 0 ∷ []
+abbrev pub cellRow : CellWords → List ℕ
+cellRow w = w .x ∷ w .y ∷ w .side ∷ w .child ∷ w .first ∷ w .count ∷ 0 ∷ 0 ∷ []
 
 -- the table with w at cell i, as eight stores
 abbrev pub putCellAt : List ℕ → ℕ → CellWords → List ℕ

@@ -14,11 +14,11 @@ use Rattle.refusals.specs.declared.Refusal.the-variants as Refusals
 use Rattle.records.specs.declared.Record.{Record}
 use Rattle.records.specs.declared.Record.the-variants.{Area, First, Next}
 use Rattle.records.specs.Record.{areaRange, cornerOf, delimiterOf}
-use Rattle.records.specs.Bytes.{decodedRaw, unnamed, named, fieldsOf}
+use Rattle.records.specs.Bytes.{decodedRaw, unnamedZero, named, fieldsOf}
 use Rattle.grammar.specs.declared.Verdict.the-variants.{Accepted}
 use Rattle.grammar.specs.Grammar as Grammar
 use Rattle.read.specs.Reading.{decodedFrom, recordsIn, verdictOf, holds, readAnswer}
-use Rattle.read.specs.Words.{spread}
+use Rattle.read.specs.Words.{joined}
 use Rattle.paint.specs.Sets.{each}
 use Rattle.paint.specs.Areas.{materialOf}
 use Rattle.paint.specs.Colours.{mixOf}
@@ -67,7 +67,7 @@ unfolding areaRange Grammar.checked Grammar.course
 accepted = record { range = refl; below = omega arith; fold = refl }
 
 held : Holding (drawingTables example) triangle
-unfolding spread
+unfolding joined
 held =
     record {
       plan = record { room = omega arith; same = refl };
@@ -103,11 +103,11 @@ example-opened =
 
 -- ---- "winding 1 at (5,5)", "0 at (4,5)": what shows there, with no tree
 spot : (D : Drawing) → D ≡ drawingFrom triangle → spotShown D (at 5 5) ≡ record { set = 1; material = 6; red = 9; green = 8; blue = 7 }
-unfolding materialOf mixOf each sumOf adds counts sign lineCounts product spread
+unfolding materialOf mixOf each sumOf adds counts sign lineCounts product joined
 spot D e = ap (λ (E : Drawing). spotShown E (at 5 5)) e
 
 ground : (D : Drawing) → D ≡ drawingFrom triangle → spotShown D (at 4 5) ≡ record { set = 0; material = 0; red = 255; green = 255; blue = 255 }
-unfolding materialOf mixOf each sumOf adds counts sign lineCounts product spread
+unfolding materialOf mixOf each sumOf adds counts sign lineCounts product joined
 ground D e = ap (λ (E : Drawing). spotShown E (at 4 5)) e
 
 -- ---- the file of the triangle, read into empty tables and opened
@@ -122,15 +122,15 @@ abbrev blank : Tree
 blank = tree (zeros 7) (zeros 8) (zeros 3) (zeros 3) (zeros 2) (zeros 72) (zeros 160)
 
 file-read : readAnswer file (zeros 7) (zeros 8) (zeros 3) (zeros 3) ≡ Accepted (Grammar.counts 4 1 3)
-unfolding readAnswer verdictOf holds decodedFrom decodedRaw unnamed named fieldsOf areaRange cornerOf delimiterOf Grammar.checked Grammar.course
+unfolding readAnswer verdictOf holds decodedFrom decodedRaw unnamedZero named fieldsOf areaRange cornerOf delimiterOf Grammar.checked Grammar.course
 file-read = refl
 
 file-records : recordsIn file ≡ triangle
-unfolding decodedFrom decodedRaw unnamed named fieldsOf areaRange cornerOf delimiterOf
+unfolding decodedFrom decodedRaw unnamedZero named fieldsOf areaRange cornerOf delimiterOf
 file-records = refl
 
 read-example : readTree file blank ≡ example
-unfolding readAnswer verdictOf holds decodedFrom decodedRaw unnamed named fieldsOf areaRange cornerOf delimiterOf Grammar.checked Grammar.course spread
+unfolding readAnswer verdictOf holds decodedFrom decodedRaw unnamedZero named fieldsOf areaRange cornerOf delimiterOf Grammar.checked Grammar.course joined
 read-example = refl
 
 pub file-opened : FileOpened file blank

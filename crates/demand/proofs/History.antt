@@ -10,7 +10,7 @@ use Rattle.cells.specs.Cells.{Position, Cell, cell, level, root, Holds, Quarter
 use Rattle.cells.proofs.Cells.{root-holds, child-holds, holds-up}
 use Rattle.celltable.specs.Descent.{placeOf}
 use Rattle.celltable.proofs.Grid.{Gridded, root-gridded, child-gridded}
-use Rattle.demand.specs.History.{Node, node, cellOf, firstOf, begun, cellIn, firstIn, quarters, splitAt, afterSplits, LeafAt, Tiled}
+use Rattle.demand.specs.History.{Node, node, nodeCell, nodeFirst, begun, cellIn, firstIn, quarters, splitAt, afterSplits, LeafAt, Tiled}
 
 -- a cell that was split: it had more than one position, and its four cells are its quarters, numbered in a row
 pub record Divided (H : List Node) (i j : ℕ) : Type 0 where
@@ -134,20 +134,20 @@ module _ (H : List Node) (i : ℕ) (h : i < length H) where
   cell-old m g = go (ℕ-discrete m i)
     where
       go : Dec (m ≡ i) → cellIn K m ≡ cellIn H m
-      go (yes e) = rw e (ap cellOf at-split)
-      go (no e) = ap cellOf (at-other m g e)
+      go (yes e) = rw e (ap nodeCell at-split)
+      go (no e) = ap nodeCell (at-other m g e)
 
   pub cell-new : (q : Quarter) → cellIn K (n + placeOf q) ≡ child c q
-  cell-new q = ap cellOf (at-quarter q)
+  cell-new q = ap nodeCell (at-quarter q)
 
   pub first-other : (m : ℕ) → m < n → (m ≡ i → ⊥) → firstIn K m ≡ firstIn H m
-  first-other m g e = ap firstOf (at-other m g e)
+  first-other m g e = ap nodeFirst (at-other m g e)
 
   pub first-split : firstIn K i ≡ n
-  first-split = ap firstOf at-split
+  first-split = ap nodeFirst at-split
 
   pub first-new : (q : Quarter) → firstIn K (n + placeOf q) ≡ 0
-  first-new q = ap firstOf (at-quarter q)
+  first-new q = ap nodeFirst (at-quarter q)
 
   -- where a cell of the split history comes from
   pub data From (m : ℕ) : Type 0 where

@@ -10,21 +10,21 @@ use Rattle.cells.specs.Cells.{Position, OnGrid, Cell, root, Holds, lowLow, high
 pub data Node : Type 0 where
   node : Cell → (first : ℕ) → Node
 
-abbrev pub cellOf : Node → Cell
-cellOf (node c j) = c
+abbrev pub nodeCell : Node → Cell
+nodeCell (node c j) = c
 
-abbrev pub firstOf : Node → ℕ
-firstOf (node c j) = j
+abbrev pub nodeFirst : Node → ℕ
+nodeFirst (node c j) = j
 
 -- "Cell 0 is the square of side 65,536 at (0, 0)."
 abbrev pub begun : List Node
 begun = node root 0 ∷ []
 
 abbrev pub cellIn : List Node → ℕ → Cell
-cellIn H i = cellOf (getD H i (node root 0))
+cellIn H i = nodeCell (getD H i (node root 0))
 
 abbrev pub firstIn : List Node → ℕ → ℕ
-firstIn H i = firstOf (getD H i (node root 0))
+firstIn H i = nodeFirst (getD H i (node root 0))
 
 -- "A split makes four cells of half the side, ...: low x low y, high x low y, low x high y, high x high y."
 abbrev pub quarters : Cell → List Node

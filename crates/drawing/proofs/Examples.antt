@@ -5,10 +5,10 @@ use Rattle.refusals.specs.declared.Refusal.the-variants.{Length, Field, Unfit, 
 use Rattle.records.specs.declared.Record.{Record}
 use Rattle.records.specs.declared.Record.the-variants.{Area, First, Next, Open, Bar, Close}
 use Rattle.records.specs.Record.{areaRange, cornerOf, delimiterOf}
-use Rattle.records.specs.Bytes.{decodedRaw, unnamed, named, fieldsOf}
+use Rattle.records.specs.Bytes.{decodedRaw, unnamedZero, named, fieldsOf}
 use Rattle.grammar.specs.declared.Verdict.the-variants.{Accepted, Refused}
 use Rattle.grammar.specs.Grammar.{course, checked, counts}
-use Rattle.read.specs.Words.{spread, fileOf}
+use Rattle.read.specs.Words.{joined, fileOf}
 use Rattle.read.specs.Reading.{decodedFrom, verdictOf}
 
 paint : Record
@@ -27,37 +27,37 @@ module _ where
   empty = refl
 
   triangle : verdictOf (fileOf (paint ∷ First 0 0 ∷ Next 10 0 ∷ Next 10 65536 ∷ [])) ≡ Accepted (counts 4 1 3)
-  unfolding paint verdictOf decodedFrom course checked spread decodedRaw unnamed named fieldsOf areaRange cornerOf delimiterOf
+  unfolding paint verdictOf decodedFrom course checked joined decodedRaw unnamedZero named fieldsOf areaRange cornerOf delimiterOf
   triangle = refl
 
   group : verdictOf (fileOf (Open ∷ clip ∷ Bar ∷ paint ∷ Close ∷ [])) ≡ Accepted (counts 5 2 0)
-  unfolding paint clip verdictOf decodedFrom course checked spread decodedRaw unnamed named fieldsOf areaRange cornerOf delimiterOf
+  unfolding paint clip verdictOf decodedFrom course checked joined decodedRaw unnamedZero named fieldsOf areaRange cornerOf delimiterOf
   group = refl
 
   short-end : verdictOf (fileOf (paint ∷ First 0 0 ∷ Next 10 0 ∷ [])) ≡ Refused Short 3
-  unfolding paint verdictOf decodedFrom course checked spread decodedRaw unnamed named fieldsOf areaRange cornerOf delimiterOf
+  unfolding paint verdictOf decodedFrom course checked joined decodedRaw unnamedZero named fieldsOf areaRange cornerOf delimiterOf
   short-end = refl
 
   -- a first corner straight after a first corner fits, and then ends a contour of one
   twice : verdictOf (fileOf (paint ∷ First 0 0 ∷ First 10 0 ∷ [])) ≡ Refused Short 2
-  unfolding paint verdictOf decodedFrom course checked spread decodedRaw unnamed named fieldsOf areaRange cornerOf delimiterOf
+  unfolding paint verdictOf decodedFrom course checked joined decodedRaw unnamedZero named fieldsOf areaRange cornerOf delimiterOf
   twice = refl
 
   alone : verdictOf (fileOf (First 0 0 ∷ [])) ≡ Refused Unfit 0
-  unfolding verdictOf decodedFrom course checked spread decodedRaw unnamed named fieldsOf areaRange cornerOf delimiterOf
+  unfolding verdictOf decodedFrom course checked joined decodedRaw unnamedZero named fieldsOf areaRange cornerOf delimiterOf
   alone = refl
 
   -- open at the end, and short: 4 before 5
   unclosed : verdictOf (fileOf (Open ∷ clip ∷ First 0 0 ∷ [])) ≡ Refused Unfit 3
-  unfolding clip verdictOf decodedFrom course checked spread decodedRaw unnamed named fieldsOf areaRange cornerOf delimiterOf
+  unfolding clip verdictOf decodedFrom course checked joined decodedRaw unnamedZero named fieldsOf areaRange cornerOf delimiterOf
   unclosed = refl
 
   ninth : verdictOf (fileOf (deep (Open ∷ []))) ≡ Refused Limit 8
-  unfolding deep verdictOf decodedFrom course checked spread decodedRaw unnamed named fieldsOf areaRange cornerOf delimiterOf
+  unfolding deep verdictOf decodedFrom course checked joined decodedRaw unnamedZero named fieldsOf areaRange cornerOf delimiterOf
   ninth = refl
 
   far : verdictOf (fileOf (paint ∷ First 0 65537 ∷ [])) ≡ Refused Field 1
-  unfolding paint verdictOf decodedFrom course checked spread decodedRaw unnamed named fieldsOf areaRange cornerOf delimiterOf
+  unfolding paint verdictOf decodedFrom course checked joined decodedRaw unnamedZero named fieldsOf areaRange cornerOf delimiterOf
   far = refl
 
   odd : verdictOf (0 ∷ []) ≡ Refused Length 0

@@ -14,15 +14,15 @@ use Rattle.records.specs.Bytes.{rawAt, decodedRaw, bytesOf}
 use Rattle.laws.proofs.Booleans.{and-left, and-right, and-both}
 use Rattle.records.proofs.Laws.{told}
 use Rattle.grammar.specs.declared.Counts.{Counts}
-use Rattle.grammar.specs.Lists.{goods, areaOne, cornerOne, areasIn, cornersIn}
+use Rattle.grammar.specs.Lists.{goodRecords, areaOne, cornerOne, areasIn, cornersIn}
 use Rattle.drawing.specs.declared.Cursor.{Cursor}
-use Rattle.read.specs.Words.{kindW, areaW, xW, yW, spread, Has, allRange, fileOf}
+use Rattle.read.specs.Words.{kindW, areaW, xW, yW, joined, Has, allRange, fileOf}
 use Rattle.read.specs.Reading.{decodedFrom}
-use Rattle.drawing.specs.Tables.{Tables, rowOf, pastRecord, pastOf, rebuilt}
+use Rattle.drawing.specs.Tables.{Tables, recordAt, pastRecord, pastOf, rebuilt}
 use Rattle.drawing.proofs.Has.{has-left, has-right, has-join, has-nil, has-at, has-first, has-one}
 use Rattle.drawing.proofs.Rowlaws.{byte-read, byte-told, row-read, row-told, RowTold}
 
-pub goods-map : (rs : List Record) → goods (map Good rs) ≡ rs
+pub goods-map : (rs : List Record) → goodRecords (map Good rs) ≡ rs
 goods-map [] = refl
 goods-map (r ∷ rs) = ap (λ (l : List Record). r ∷ l) (goods-map rs)
 
@@ -40,7 +40,7 @@ not-cons d ds h = absurd (let z : _≡_ {A = ℕ} 0 1 = cc in omega arith)
 
 -- ---- a file
 pub file-read : (b : List ℕ) (i : ℕ) (rs : List Record) → allRange rs ≡ true → Has b (i * 16) (fileOf rs) → decodedFrom b i (length rs) ≡ map Good rs
-unfolding decodedFrom spread
+unfolding decodedFrom joined
 file-read b i [] g h = refl
 file-read b i (r ∷ rs) g h =
     let n : i * 16 + 16 ≡ (i + 1) * 16 = omega arith in
@@ -54,7 +54,7 @@ pub file-told : (b : List ℕ) (i n : ℕ) (rs : List Record)
     → (i + n) * 16 ≤ length b
     → decodedFrom b i n ≡ map Good rs
     → Has b (i * 16) (fileOf rs)
-unfolding decodedFrom spread
+unfolding decodedFrom joined
 file-told b i zero [] s h e = has-nil b (i * 16) (omega arith)
 file-told b i zero (r ∷ rs) s h e = not-nil (Good r) (map Good rs) e
 file-told b i (suc n) [] s h e = not-cons (decodedRaw (rawAt b i)) (decodedFrom b (i + 1) n) e
@@ -101,20 +101,20 @@ y-long Close n = refl
 
 -- the four tables hold the words of these records, from record i and the cursor on
 pub record From (t : Tables) (i : ℕ) (c : Cursor) (rs : List Record) : Type 0 where
-  pub plan : Has (t .plan) (i + 3) (spread kindW rs)
-  pub areas : Has (t .areas) (c .area * 8) (spread areaW rs)
-  pub xs : Has (t .xs) (c .corner) (spread xW rs)
-  pub ys : Has (t .ys) (c .corner) (spread yW rs)
+  pub plan : Has (t .plan) (i + 3) (joined kindW rs)
+  pub areas : Has (t .areas) (c .area * 8) (joined areaW rs)
+  pub xs : Has (t .xs) (c .corner) (joined xW rs)
+  pub ys : Has (t .ys) (c .corner) (joined yW rs)
 
 from-rest : (t : Tables) (i : ℕ) (c : Cursor) (r : Record) (rs : List Record) → From t i c (r ∷ rs) → From t (i + 1) (pastRecord c r) rs
-unfolding spread
+unfolding joined
 from-rest t i c r rs h =
     let n : i + 3 + 1 ≡ i + 1 + 3 = omega arith in
     record {
-      plan = has-at (t .plan) (i + 3 + 1) (i + 1 + 3) (spread kindW rs) n (has-right (t .plan) (i + 3) (kindW r) (spread kindW rs) (h .plan));
-      areas = has-at (t .areas) _ _ (spread areaW rs) (area-long r (c .area)) (has-right (t .areas) (c .area * 8) (areaW r) (spread areaW rs) (h .areas));
-      xs = has-at (t .xs) _ _ (spread xW rs) (x-long r (c .corner)) (has-right (t .xs) (c .corner) (xW r) (spread xW rs) (h .xs));
-      ys = has-at (t .ys) _ _ (spread yW rs) (y-long r (c .corner)) (has-right (t .ys) (c .corner) (yW r) (spread yW rs) (h .ys));
+      plan = has-at (t .plan) (i + 3 + 1) (i + 1 + 3) (joined kindW rs) n (has-right (t .plan) (i + 3) (kindW r) (joined kindW rs) (h .plan));
+      areas = has-at (t .areas) _ _ (joined areaW rs) (area-long r (c .area)) (has-right (t .areas) (c .area * 8) (areaW r) (joined areaW rs) (h .areas));
+      xs = has-at (t .xs) _ _ (joined xW rs) (x-long r (c .corner)) (has-right (t .xs) (c .corner) (xW r) (joined xW rs) (h .xs));
+      ys = has-at (t .ys) _ _ (joined yW rs) (y-long r (c .corner)) (has-right (t .ys) (c .corner) (yW r) (joined yW rs) (h .ys));
     }
 
 pub tables-read : (t : Tables) (u : Counts) (i : ℕ) (c : Cursor) (rs : List Record)
@@ -123,7 +123,7 @@ pub tables-read : (t : Tables) (u : Counts) (i : ℕ) (c : Cursor) (rs : List Re
     → c .area + areasIn rs ≤ u .areas
     → c .corner + cornersIn rs ≤ u .corners
     → rebuilt t u i c (length rs) ≡ map Good rs
-unfolding rebuilt spread
+unfolding rebuilt joined
 tables-read t u i c [] g h p q = refl
 tables-read t u i c (r ∷ rs) g h p q =
     rw here
@@ -131,11 +131,11 @@ tables-read t u i c (r ∷ rs) g h p q =
     (tables-read t u (i + 1) (pastRecord c r) rs (and-right (inRange r) (allRange rs) g) (from-rest t i c r rs h) (omega arith)
     (omega arith)))
   where
-    here : rowOf t u i c ≡ Good r
+    here : recordAt t u i c ≡ Good r
     here =
-        row-read t u i c r (and-left (inRange r) (allRange rs) g) (has-first (t .plan) (i + 3) (kindOf r) (spread kindW rs) (h .plan))
-        (has-left (t .areas) (c .area * 8) (areaW r) (spread areaW rs) (h .areas))
-        (has-left (t .xs) (c .corner) (xW r) (spread xW rs) (h .xs)) (has-left (t .ys) (c .corner) (yW r) (spread yW rs) (h .ys))
+        row-read t u i c r (and-left (inRange r) (allRange rs) g) (has-first (t .plan) (i + 3) (kindOf r) (joined kindW rs) (h .plan))
+        (has-left (t .areas) (c .area * 8) (areaW r) (joined areaW rs) (h .areas))
+        (has-left (t .xs) (c .corner) (xW r) (joined xW rs) (h .xs)) (has-left (t .ys) (c .corner) (yW r) (joined yW rs) (h .ys))
         (omega arith) (omega arith)
 
 -- lengths of the tables against the counts in use
@@ -166,23 +166,23 @@ told-more : (t : Tables) (u : Counts) (i : ℕ) (c : Cursor) (r : Record) (rs : 
     → RowTold t u (getD (t .plan) (i + 3) 0) c r
     → TablesTold t u (i + 1) (pastRecord c r) rs
     → TablesTold t u i c (r ∷ rs)
-unfolding spread
+unfolding joined
 told-more t u i c r rs w l la lc k h =
     let n : i + 1 + 3 ≡ i + 3 + 1 = omega arith in
     record {
       there = record {
-        plan = has-join (t .plan) (i + 3) (kindW r) (spread kindW rs)
+        plan = has-join (t .plan) (i + 3) (kindW r) (joined kindW rs)
             (has-one (t .plan) (i + 3) (kindOf r) (omega (arith, w .plan)) (k .kind))
-            (has-at (t .plan) (i + 1 + 3) (i + 3 + 1) (spread kindW rs) n (h .there .plan));
-        areas = has-join (t .areas) (c .area * 8) (areaW r) (spread areaW rs)
+            (has-at (t .plan) (i + 1 + 3) (i + 3 + 1) (joined kindW rs) n (h .there .plan));
+        areas = has-join (t .areas) (c .area * 8) (areaW r) (joined areaW rs)
             (record { room = area-room r (c .area) (u .areas) _ (k .few la) (w .areas); same = k .areas })
-            (has-at (t .areas) _ _ (spread areaW rs) (sym (area-long r (c .area))) (h .there .areas));
-        xs = has-join (t .xs) (c .corner) (xW r) (spread xW rs)
+            (has-at (t .areas) _ _ (joined areaW rs) (sym (area-long r (c .area))) (h .there .areas));
+        xs = has-join (t .xs) (c .corner) (xW r) (joined xW rs)
             (record { room = x-room r (c .corner) (u .corners) _ (k .many lc) (w .xs); same = k .xs })
-            (has-at (t .xs) _ _ (spread xW rs) (sym (x-long r (c .corner))) (h .there .xs));
-        ys = has-join (t .ys) (c .corner) (yW r) (spread yW rs)
+            (has-at (t .xs) _ _ (joined xW rs) (sym (x-long r (c .corner))) (h .there .xs));
+        ys = has-join (t .ys) (c .corner) (yW r) (joined yW rs)
             (record { room = y-room r (c .corner) (u .corners) _ (k .many lc) (w .ys); same = k .ys })
-            (has-at (t .ys) _ _ (spread yW rs) (sym (y-long r (c .corner))) (h .there .ys));
+            (has-at (t .ys) _ _ (joined yW rs) (sym (y-long r (c .corner))) (h .there .ys));
       };
       range = and-both (inRange r) (allRange rs) (k .range) (h .range);
     }
@@ -194,7 +194,7 @@ pub tables-told : (t : Tables) (u : Counts) (i : ℕ) (c : Cursor) (n : ℕ) (rs
     → c .corner ≤ u .corners
     → rebuilt t u i c n ≡ map Good rs
     → TablesTold t u i c rs
-unfolding rebuilt spread
+unfolding rebuilt joined
 tables-told t u i c zero [] w l la lc e =
     record {
       there = record {
@@ -206,11 +206,11 @@ tables-told t u i c zero [] w l la lc e =
       range = refl;
     }
 tables-told t u i c zero (r ∷ rs) w l la lc e = not-nil (Good r) (map Good rs) e
-tables-told t u i c (suc n) [] w l la lc e = not-cons (rowOf t u i c) (rebuilt t u (i + 1) (pastOf c (rowOf t u i c)) n) e
+tables-told t u i c (suc n) [] w l la lc e = not-cons (recordAt t u i c) (rebuilt t u (i + 1) (pastOf c (recordAt t u i c)) n) e
 tables-told t u i c (suc n) (r ∷ rs) w l la lc e =
-    let q : rowOf t u i c ≡ Good r = head-is (rowOf t u i c) (Good r) (rebuilt t u (i + 1) (pastOf c (rowOf t u i c)) n) (map Good rs) e in
+    let q : recordAt t u i c ≡ Good r = head-is (recordAt t u i c) (Good r) (rebuilt t u (i + 1) (pastOf c (recordAt t u i c)) n) (map Good rs) e in
     let k : RowTold t u (getD (t .plan) (i + 3) 0) c r = row-told t u c r i q in
     let f : rebuilt t u (i + 1) (pastRecord c r) n ≡ map Good rs = subst (λ (d : Decoded). rebuilt t u (i + 1) (pastOf c d) n ≡ map Good rs)
-    q (tail-is (rowOf t u i c) (Good r) (rebuilt t u (i + 1) (pastOf c (rowOf t u i c)) n) (map Good rs) e) in
+    q (tail-is (recordAt t u i c) (Good r) (rebuilt t u (i + 1) (pastOf c (recordAt t u i c)) n) (map Good rs) e) in
     told-more t u i c r rs w (omega arith) la lc k
     (tables-told t u (i + 1) (pastRecord c r) n rs w (omega arith) (k .few la) (k .many lc) f)

@@ -22,7 +22,7 @@ use Rattle.grammar.specs.declared.Counts.{Counts}
 use Rattle.grammar.specs.Lists.{areaOne, cornerOne}
 use Rattle.drawing.specs.declared.Cursor.{Cursor}
 use Rattle.read.specs.Words.{rowW, areaW, xW, yW, wordsFrom, Has}
-use Rattle.drawing.specs.Tables.{Tables, fieldsAt, areaRow, cornerRow, kindRow, rowOf}
+use Rattle.drawing.specs.Tables.{Tables, fieldsAt, areaRow, cornerRow, kindRow, recordAt}
 use Rattle.drawing.proofs.Has.{has-first}
 
 -- ---- a file's sixteen bytes
@@ -204,8 +204,8 @@ module _ (t : Tables) (u : Counts) (i : ℕ) (c : Cursor) where
       → Has (t .ys) (c .corner) (yW r)
       → c .area + areaOne r ≤ u .areas
       → c .corner + cornerOne r ≤ u .corners
-      → rowOf t u i c ≡ Good r
-  unfolding rowOf kindRow cornerOf delimiterOf
+      → recordAt t u i c ≡ Good r
+  unfolding recordAt kindRow cornerOf delimiterOf
   row-read (Area f) g k a x y p q = rw k (area-read f g a (omega arith))
   row-read (First m n) g k a x y p q = rw k (corner-read 2 m n (First m n) refl g (has-first _ _ m [] x) (has-first _ _ n [] y) (omega arith))
   row-read (Next m n) g k a x y p q = rw k (corner-read 3 m n (Next m n) refl g (has-first _ _ m [] x) (has-first _ _ n [] y) (omega arith))
@@ -311,8 +311,8 @@ module _ (t : Tables) (u : Counts) (c : Cursor) (r : Record) where
   unfolding kindRow delimiterOf
   told-kind = kinds (λ k. kindRow (t .areas) (t .xs) (t .ys) u k c ≡ Good r → RowTold t u k c r) told-area told-first told-next told-open told-bar told-close
 
-  pub row-told : (i : ℕ) → rowOf t u i c ≡ Good r → RowTold t u (getD (t .plan) (i + 3) 0) c r
-  unfolding rowOf
+  pub row-told : (i : ℕ) → recordAt t u i c ≡ Good r → RowTold t u (getD (t .plan) (i + 3) 0) c r
+  unfolding recordAt
   row-told i e₀ = go (leb 1 k) (leb k 6) refl refl e₀
     where
       k : ℕ

@@ -23,18 +23,18 @@ use Rattle.grammar.specs.declared.Verdict.{Verdict}
 use Rattle.grammar.specs.declared.Verdict.the-variants.{Accepted, Refused}
 use Rattle.grammar.specs.Grammar.{checked}
 use Rattle.grammar.specs.code.Machine.{advanceN, startN, scanN, isStopped}
-use Rattle.grammar.specs.Lists.{goods, areaOne, cornerOne}
+use Rattle.grammar.specs.Lists.{goodRecords, areaOne, cornerOne}
 use Rattle.grammar.proofs.Laws.{sound, stopped-stays, refused-not}
 use Rattle.drawing.specs.declared.Cursor.{Cursor}
-use Rattle.read.specs.Words.{spread, onGood, fileOf}
+use Rattle.read.specs.Words.{joined, onGood, fileOf}
 use Rattle.read.specs.Reading.{holds}
-use Rattle.drawing.specs.Tables.{Tables, Ready, cursor, rowOf, pastOf, rebuilt, usedOf, rebuiltIn, agreed, countsJudged, drawingVerdict}
+use Rattle.drawing.specs.Tables.{Tables, Ready, cursor, recordAt, pastOf, rebuilt, usedOf, rebuiltIn, agreed, countsJudged, drawingVerdict}
 use Rattle.read.proofs.Writes.{length-on, turn-table}
 use Rattle.read.proofs.Files.{file-length, Holds, held}
 
 pub re-step : (t : Tables) (u : Counts) (i e : ℕ) (c : Cursor)
     → i < e
-    → rebuilt t u i c (e - i) ≡ rowOf t u i c ∷ rebuilt t u (i + 1) (pastOf c (rowOf t u i c)) (e - (i + 1))
+    → rebuilt t u i c (e - i) ≡ recordAt t u i c ∷ rebuilt t u (i + 1) (pastOf c (recordAt t u i c)) (e - (i + 1))
 unfolding rebuilt
 re-step t u i e c h =
     let q : e - i ≡ suc (e - (i + 1)) = omega arith in
@@ -52,7 +52,7 @@ re-zero t u c n = ap (rebuilt t u 0 c) (omega arith)
 pub re-length : (t : Tables) (u : Counts) (i : ℕ) (c : Cursor) (n : ℕ) → length (rebuilt t u i c n) ≡ n
 unfolding rebuilt
 re-length t u i c zero = refl
-re-length t u i c (suc n) = ap suc (re-length t u (i + 1) (pastOf c (rowOf t u i c)) n)
+re-length t u i c (suc n) = ap suc (re-length t u (i + 1) (pastOf c (recordAt t u i c)) n)
 
 area-one : (r : Record) → areaOne r ≤ 1
 area-one (Area f) = omega arith
@@ -86,7 +86,7 @@ walk-begin t u n s e = rw (e, re-zero t u (cursor 0 0) n)
 
 pub walk-turn : (t : Tables) (u : Counts) (i e : ℕ) (s s′ whole : Scan) (d : Decoded) (c c′ : Cursor)
     → i < e
-    → d ≡ rowOf t u i c
+    → d ≡ recordAt t u i c
     → s′ ≡ advanceN s d i
     → c′ ≡ pastOf c d
     → scanN s i (rebuilt t u i c (e - i)) ≡ whole
@@ -96,7 +96,7 @@ walk-turn t u i e s s′ whole d c c′ h p q r inv = rw (q, r, p) (rw (re-step 
 
 pub walk-stops : (t : Tables) (u : Counts) (i e : ℕ) (s s′ whole : Scan) (d : Decoded) (c : Cursor) (b : Bool)
     → i < e
-    → d ≡ rowOf t u i c
+    → d ≡ recordAt t u i c
     → s′ ≡ advanceN s d i
     → b ≡ isStopped s′
     → b ≡ true
@@ -113,10 +113,10 @@ walk-done t u i e s whole c h inv = rw (re-none t u i e c h) at inv
 -- ---- the bytes: the buffer is b and was b₀; the records from i to n are to come, and their bytes go to `at`
 pub record Copying (t : Tables) (u : Counts) (n : ℕ) (b₀ b : List ℕ) (i at : ℕ) (c : Cursor) : Type 0 where
   pub size : length b ≡ length b₀
-  pub room : at + length (spread bytesOf (goods (rebuilt t u i c (n - i)))) ≤ length b
-  pub rest : sets b at (spread bytesOf (goods (rebuilt t u i c (n - i)))) ≡ sets b₀ 0 (spread bytesOf (goods (rebuilt t u 0 (cursor 0 0) n)))
+  pub room : at + length (joined bytesOf (goodRecords (rebuilt t u i c (n - i)))) ≤ length b
+  pub rest : sets b at (joined bytesOf (goodRecords (rebuilt t u i c (n - i)))) ≡ sets b₀ 0 (joined bytesOf (goodRecords (rebuilt t u 0 (cursor 0 0) n)))
 
-goods-length : (ds : List Decoded) → length (goods ds) ≤ length ds
+goods-length : (ds : List Decoded) → length (goodRecords ds) ≤ length ds
 goods-length [] = le-refl _
 goods-length (Good r ∷ ds) = omega (arith, goods-length ds)
 goods-length (Bad x ∷ ds) = omega (arith, goods-length ds)
@@ -126,7 +126,7 @@ copy-begin t u n b h =
     let ds : List Decoded = rebuilt t u 0 (cursor 0 0) n in
     record {
       size = refl;
-      room = rw (re-zero t u (cursor 0 0) n) (omega (arith, file-length (goods ds), goods-length ds, re-length t u 0 (cursor 0 0) n));
+      room = rw (re-zero t u (cursor 0 0) n) (omega (arith, file-length (goodRecords ds), goods-length ds, re-length t u 0 (cursor 0 0) n));
       rest = rw (re-zero t u (cursor 0 0) n);
     }
 
@@ -135,31 +135,31 @@ coming t u n i c d = rebuilt t u (i + 1) (pastOf c d) (n - (i + 1))
 
 now-room : (t : Tables) (u : Counts) (n : ℕ) (b₀ b : List ℕ) (i at : ℕ) (c : Cursor) (d : Decoded)
     → i < n
-    → d ≡ rowOf t u i c
+    → d ≡ recordAt t u i c
     → Copying t u n b₀ b i at c
-    → at + length (spread bytesOf (goods (d ∷ coming t u n i c d))) ≤ length b
+    → at + length (joined bytesOf (goodRecords (d ∷ coming t u n i c d))) ≤ length b
 now-room t u n b₀ b i at c d h p k =
-    subst (λ (x : Decoded). at + length (spread bytesOf (goods (x ∷ coming t u n i c x))) ≤ length b) (sym p)
+    subst (λ (x : Decoded). at + length (joined bytesOf (goodRecords (x ∷ coming t u n i c x))) ≤ length b) (sym p)
     (rw (re-step t u i n c h) at (k .room))
 
-now-rest : (t : Tables) (u : Counts) (n : ℕ) (b₀ b : List ℕ) (i at : ℕ) (c : Cursor) (d : Decoded) → i < n → d ≡ rowOf t u i c → Copying t u n b₀ b i at c
-    → sets b at (spread bytesOf (goods (d ∷ coming t u n i c d))) ≡ sets b₀ 0 (spread bytesOf (goods (rebuilt t u 0 (cursor 0 0) n)))
+now-rest : (t : Tables) (u : Counts) (n : ℕ) (b₀ b : List ℕ) (i at : ℕ) (c : Cursor) (d : Decoded) → i < n → d ≡ recordAt t u i c → Copying t u n b₀ b i at c
+    → sets b at (joined bytesOf (goodRecords (d ∷ coming t u n i c d))) ≡ sets b₀ 0 (joined bytesOf (goodRecords (rebuilt t u 0 (cursor 0 0) n)))
 now-rest t u n b₀ b i at c d h p k =
     subst
     (λ (x : Decoded).
-    sets b at (spread bytesOf (goods (x ∷ coming t u n i c x))) ≡ sets b₀ 0 (spread bytesOf (goods (rebuilt t u 0 (cursor 0 0) n))))
+    sets b at (joined bytesOf (goodRecords (x ∷ coming t u n i c x))) ≡ sets b₀ 0 (joined bytesOf (goodRecords (rebuilt t u 0 (cursor 0 0) n))))
     (sym p) (rw (re-step t u i n c h) at (k .rest))
 
 pub copy-room : (t : Tables) (u : Counts) (n : ℕ) (b₀ b : List ℕ) (i at : ℕ) (c : Cursor) (d : Decoded)
     → i < n
-    → d ≡ rowOf t u i c
+    → d ≡ recordAt t u i c
     → Copying t u n b₀ b i at c
     → at + length (onGood bytesOf d) ≤ length b
 copy-room t u n b₀ b i at c d h p k = omega (arith, now-room t u n b₀ b i at c d h p k, length-on bytesOf d (coming t u n i c d))
 
 pub copy-turn : (t : Tables) (u : Counts) (n : ℕ) (b₀ b b′ : List ℕ) (i at at′ : ℕ) (c c′ : Cursor) (d : Decoded)
     → i < n
-    → d ≡ rowOf t u i c
+    → d ≡ recordAt t u i c
     → at′ ≡ at + length (onGood bytesOf d)
     → b′ ≡ sets b at (onGood bytesOf d)
     → c′ ≡ pastOf c d
@@ -178,8 +178,8 @@ copy-turn t u n b₀ b b′ i at at′ c c′ d h p q r s k =
 pub copy-done : (t : Tables) (u : Counts) (n : ℕ) (b₀ b : List ℕ) (i at : ℕ) (c : Cursor)
     → n ≤ i
     → Copying t u n b₀ b i at c
-    → b ≡ sets b₀ 0 (spread bytesOf (goods (rebuilt t u 0 (cursor 0 0) n)))
-unfolding spread
+    → b ≡ sets b₀ 0 (joined bytesOf (goodRecords (rebuilt t u 0 (cursor 0 0) n)))
+unfolding joined
 copy-done t u n b₀ b i at c h k = rw (re-none t u i n c h) at (k .rest)
 
 -- ---- one record's bytes
@@ -273,6 +273,6 @@ holds-ready p a x y u f h e =
 pub drawn-left : (t : Tables) (k : Counts)
     → drawingVerdict t ≡ Accepted k
     → (o o′ : List ℕ)
-    → o′ ≡ sets o 0 (fileOf (goods (rebuilt t k 0 (cursor 0 0) (k .records))))
-    → o′ ≡ sets o 0 (fileOf (goods (rebuiltIn t)))
-drawn-left t k e o o′ h = h ∙ ap (λ (u : Counts). sets o 0 (fileOf (goods (rebuilt t u 0 (cursor 0 0) (u .records))))) (drawn t k e .used)
+    → o′ ≡ sets o 0 (fileOf (goodRecords (rebuilt t k 0 (cursor 0 0) (k .records))))
+    → o′ ≡ sets o 0 (fileOf (goodRecords (rebuiltIn t)))
+drawn-left t k e o o′ h = h ∙ ap (λ (u : Counts). sets o 0 (fileOf (goodRecords (rebuilt t u 0 (cursor 0 0) (u .records))))) (drawn t k e .used)

@@ -18,9 +18,9 @@ use Rattle.grammar.specs.declared.Counts.{Counts}
 use Rattle.grammar.specs.declared.Verdict.{Verdict}
 use Rattle.grammar.specs.declared.Verdict.the-variants.{Accepted, Refused}
 use Rattle.grammar.specs.Grammar.{checked, counts}
-use Rattle.grammar.specs.Lists.{goods, areasIn, cornersIn}
+use Rattle.grammar.specs.Lists.{goodRecords, areasIn, cornersIn}
 use Rattle.grammar.proofs.Laws.{sound, refused-not}
-use Rattle.read.specs.Words.{spread, planWords, areaWords, xWords, yWords, fileOf, Has, allRange}
+use Rattle.read.specs.Words.{joined, planWords, areaWords, xWords, yWords, fileOf, Has, allRange}
 use Rattle.read.specs.Reading.{decodedFrom, decodedIn, recordsIn, verdictOf, holds, ifRoom, readAnswer, leftBy}
 use Rattle.drawing.specs.Tables.{Tables, tables, cursor, rebuilt, usedOf, rebuiltIn, drawnIn, agreed, countsJudged, drawingVerdict, writtenOf}
 use Rattle.drawing.specs.Tables.{writeAnswer}
@@ -75,7 +75,7 @@ file-again rs k a =
     (a .fold)
 
 pub file-records : (rs : List Record) (k : Counts) → Acceptable rs k → recordsIn (fileOf rs) ≡ rs
-file-records rs k a = ap goods (again-decoded rs (a .range)) ∙ goods-map rs
+file-records rs k a = ap goodRecords (again-decoded rs (a .range)) ∙ goods-map rs
 
 -- ---- tables
 counted : (rs : List Record) (k : Counts) → Acceptable rs k → k ≡ counts (length rs) (areasIn rs) (cornersIn rs)
@@ -111,7 +111,7 @@ decoded-encoded t rs g h =
     ∙ tables-read t (counts (length rs) (areasIn rs) (cornersIn rs)) 0 (cursor 0 0) rs g (from-start t rs h) (omega arith) (omega arith)
 
 pub drawn-records : (t : Tables) (rs : List Record) → allRange rs ≡ true → Holding t rs → drawnIn t ≡ rs
-drawn-records t rs g h = ap goods (decoded-encoded t rs g h) ∙ goods-map rs
+drawn-records t rs g h = ap goodRecords (decoded-encoded t rs g h) ∙ goods-map rs
 
 room-for : (p a d : ℕ) (k : Counts) → 3 ≤ p → k .records ≤ p - 3 → k .areas ≤ a / 8 → k .corners ≤ d → holds p a d k ≡ true
 unfolding holds
@@ -351,7 +351,7 @@ record-bytes Bar = delimiter-bytes 5 (omega arith)
 record-bytes Close = delimiter-bytes 6 (omega arith)
 
 file-bytes : (rs : List Record) → Bytes (fileOf rs)
-unfolding spread
+unfolding joined
 file-bytes [] = none
 file-bytes (r ∷ rs) = bytes-join (bytesOf r) (fileOf rs) (record-bytes r) (file-bytes rs)
 

@@ -18,7 +18,7 @@ use Rattle.grammar.specs.declared.Counts.{Counts}
 use Rattle.grammar.specs.declared.Verdict.{Verdict}
 use Rattle.grammar.specs.declared.Verdict.the-variants.{Accepted, Refused}
 use Rattle.grammar.specs.Grammar.{checked, counts}
-use Rattle.grammar.specs.Lists.{goods, areaOne, cornerOne}
+use Rattle.grammar.specs.Lists.{goodRecords, areaOne, cornerOne}
 use Rattle.drawing.specs.declared.Cursor.{Cursor}
 use Rattle.drawing.specs.declared.Written.{Written}
 use Rattle.drawing.specs.declared.Written.the-variants.{Bytes, Not}
@@ -73,8 +73,8 @@ kindRow areas xs ys u k c =
     cond (eqb k 1) (areaRow areas (u .areas) (c .area)) (cond (ltb k 4) (cornerRow xs ys (u .corners) k (c .corner)) (Good (delimiterOf k)))
 
 -- record i, with the areas and the corners before it
-unfoldable pub rowOf : Tables → Counts → ℕ → Cursor → Decoded
-rowOf t u i c =
+unfoldable pub recordAt : Tables → Counts → ℕ → Cursor → Decoded
+recordAt t u i c =
     cond (leb 1 (getD (t .plan) (i + 3) 0))
     (cond (leb (getD (t .plan) (i + 3) 0) 6) (kindRow (t .areas) (t .xs) (t .ys) u (getD (t .plan) (i + 3) 0) c) (Bad Kind)) (Bad Kind)
 
@@ -88,7 +88,7 @@ pastOf c (Bad x) = c
 -- the n records from record i on
 unfoldable pub rebuilt : Tables → Counts → ℕ → Cursor → ℕ → List Decoded
 rebuilt t u i c zero = []
-rebuilt t u i c (suc n) = rowOf t u i c ∷ rebuilt t u (i + 1) (pastOf c (rowOf t u i c)) n
+rebuilt t u i c (suc n) = recordAt t u i c ∷ rebuilt t u (i + 1) (pastOf c (recordAt t u i c)) n
 
 abbrev pub usedOf : List ℕ → Counts
 usedOf plan = counts (getD plan 0 0) (getD plan 1 0) (getD plan 2 0)
@@ -98,7 +98,7 @@ rebuiltIn t = rebuilt t (usedOf (t .plan)) 0 (cursor 0 0) (usedOf (t .plan) .rec
 
 -- the abstract drawing of tables
 abbrev pub drawnIn : Tables → List Record
-drawnIn t = goods (rebuiltIn t)
+drawnIn t = goodRecords (rebuiltIn t)
 
 -- 12, "a number met in the tables used ... is outside its range, or that drawing ... breaks the grammar": all that is wrong with the records of lent
 -- tables is 12; so is a number of areas or of corners that is not that of the kinds

@@ -16,10 +16,10 @@ ghost use lib.ListN.{length};
 ghost use lib.Seq.{sets};
 ghost use Rattle.grammar.specs.declared.Verdict.the-variants.{Accepted};
 ghost use Rattle.grammar.specs.code.Machine.{scanN, startN};
-ghost use Rattle.grammar.specs.Lists.{goods, areaOne, cornerOne};
+ghost use Rattle.grammar.specs.Lists.{goodRecords, areaOne, cornerOne};
 ghost use Rattle.records.specs.Bytes.{bytesOf};
 ghost use Rattle.read.specs.Words.{fileOf, onGood};
-ghost use Rattle.drawing.specs.Tables.{tables, drawingLent, Ready, cursor, fieldsAt, areaRow, cornerRow, kindRow, rowOf, pastRecord, pastOf};
+ghost use Rattle.drawing.specs.Tables.{tables, drawingLent, Ready, cursor, fieldsAt, areaRow, cornerRow, kindRow, recordAt, pastRecord, pastOf};
 ghost use Rattle.drawing.specs.Tables.{rebuilt, drawnIn, agreed, countsJudged, drawingVerdict, writtenOf, writeAnswer, outAfter};
 
 // The areas and the corners before a record.
@@ -102,7 +102,7 @@ fn row(
 ) -> Decoded
     requires { ⌜ Ready (now plan) (now areas) (now xs) (now ys) used ⌝ }
     requires { ⌜ i < used .records ⌝ }
-    ensures answer { λ d. ⌜ d ≡ rowOf (drawingLent plan areas xs ys) used i c ⌝ }
+    ensures answer { λ d. ⌜ d ≡ recordAt (drawingLent plan areas xs ys) used i c ⌝ }
 {
     let k = plan[i + PLAN_COUNTS];
     if KIND_AREA <= k {
@@ -263,7 +263,7 @@ fn write_all(plan: &[u32], areas: &[u32], xs: &[u32], ys: &[u32], used: Counts, 
     requires { ⌜ Ready (now plan) (now areas) (now xs) (now ys) used ⌝ }
     requires { ⌜ used .records * 16 ≤ length (now out) ⌝ }
     ensures out { λ _. ⌜ now (out .exit) ≡
-        sets (now (out .entry)) 0 (fileOf (goods (rebuilt (drawingLent plan areas xs ys) used 0 (cursor 0 0) (used .records)))) ⌝ }
+        sets (now (out .entry)) 0 (fileOf (goodRecords (rebuilt (drawingLent plan areas xs ys) used 0 (cursor 0 0) (used .records)))) ⌝ }
 {
     let n = used.records;
     let mut c = Cursor { area: 0, corner: 0 };

@@ -21,8 +21,8 @@ use Rattle.grammar.specs.Grammar.{
   progress,
   fits,
   isShort,
-  ends,
-  limit,
+  endsShort,
+  inLimit,
   after,
   Course,
   at,
@@ -39,12 +39,12 @@ use Rattle.grammar.specs.Grammar.{
 use Rattle.grammar.specs.declared.Scan.{Scan}
 use Rattle.grammar.specs.declared.Scan.the-variants.{At, Stopped}
 use Rattle.grammar.specs.code.Machine.{scanN, isStopped}
-use Rattle.grammar.specs.Lists.{goods, areaOne, cornerOne, areasIn, cornersIn}
+use Rattle.grammar.specs.Lists.{goodRecords, areaOne, cornerOne, areasIn, cornersIn}
 
 pub record Ran (p q : Progress) (ds : List Decoded) : Type 0 where
-  pub good : ds ≡ map Good (goods ds)
-  pub areas : q .areas ≡ p .areas + areasIn (goods ds)
-  pub corners : q .corners ≡ p .corners + cornersIn (goods ds)
+  pub good : ds ≡ map Good (goodRecords ds)
+  pub areas : q .areas ≡ p .areas + areasIn (goodRecords ds)
+  pub corners : q .corners ≡ p .corners + cornersIn (goodRecords ds)
   pub few : p .areas ≤ 64 → q .areas ≤ 64
   pub many : p .corners ≤ 2048 → q .corners ≤ 2048
 
@@ -65,7 +65,7 @@ record Moved (p q : Progress) (r : Record) : Type 0 where
   few : p .areas ≤ 64 → q .areas ≤ 64
   many : p .corners ≤ 2048 → q .corners ≤ 2048
 
-moved : (p : Progress) (r : Record) → limit p r ≡ true → Moved p (after p r) r
+moved : (p : Progress) (r : Record) → inLimit p r ≡ true → Moved p (after p r) r
 moved p (Area f) h = record { areas = refl; corners = omega arith; few = λ l. omega (arith, ltb-true (p .areas) 64 h); many = λ l. l }
 moved p (First x y) h = record { areas = omega arith; corners = refl; few = λ l. l; many = λ l. omega (arith, ltb-true (p .corners) 2048 h) }
 moved p (Next x y) h = record { areas = omega arith; corners = refl; few = λ l. l; many = λ l. omega (arith, ltb-true (p .corners) 2048 h) }
@@ -75,9 +75,10 @@ moved p Close h = record { areas = omega arith; corners = omega arith; few = λ 
 
 -- a step that goes on
 went : (p p′ : Progress) (r : Record) (i : ℕ) → next p r i ≡ at p′ → Moved p p′ r
-went p p′ r i = go (fits p r) (ends p r) (limit p r) refl
+went p p′ r i = go (fits p r) (endsShort p r) (inLimit p r) refl
   where
-    go : (a b d : Bool) → limit p r ≡ d → cond a (cond b (stopped Short i) (cond d (at (after p r)) (stopped Limit i))) (stopped Unfit i) ≡ at p′ → Moved p p′ r
+    go : (a b d : Bool) → inLimit p r ≡ d
+        → cond a (cond b (stopped Short i) (cond d (at (after p r)) (stopped Limit i))) (stopped Unfit i) ≡ at p′ → Moved p p′ r
     go false b d h e = halted Unfit i p′ e
     go true true d h e = halted Short i p′ e
     go true false false h e = halted Limit i p′ e
@@ -108,10 +109,10 @@ ran p q i (Good r ∷ ds) e = by-course p q r i ds (next p r i) refl (λ p′. r
 ran p q i (Bad x ∷ ds) e = halted x i q (sym (stays x i (i + 1) ds) ∙ e)
 
 pub record Sound (ds : List Decoded) (k : Counts) : Type 0 where
-  pub good : ds ≡ map Good (goods ds)
+  pub good : ds ≡ map Good (goodRecords ds)
   pub records : k .records ≡ length ds
-  pub areas : k .areas ≡ areasIn (goods ds)
-  pub corners : k .corners ≡ cornersIn (goods ds)
+  pub areas : k .areas ≡ areasIn (goodRecords ds)
+  pub corners : k .corners ≡ cornersIn (goodRecords ds)
   pub few : k .areas ≤ 64
   pub many : k .corners ≤ 2048
 
@@ -162,7 +163,7 @@ placeOf (at p) = 0
 placeOf (stopped x i) = i
 
 next-place : (p : Progress) (r : Record) (i : ℕ) → placeOf (next p r i) ≤ i
-next-place p r i = go (fits p r) (ends p r) (limit p r)
+next-place p r i = go (fits p r) (endsShort p r) (inLimit p r)
   where
     go : (a b d : Bool) → placeOf (cond a (cond b (stopped Short i) (cond d (at (after p r)) (stopped Limit i))) (stopped Unfit i)) ≤ i
     go false b d = omega arith

@@ -15,8 +15,8 @@ use Rattle.grammar.specs.declared.State.{State}
 use Rattle.grammar.specs.declared.Step.the-variants.{On, Off}
 use Rattle.grammar.specs.declared.Scan.{Scan}
 use Rattle.grammar.specs.declared.Scan.the-variants.{At, Stopped}
-use Rattle.grammar.specs.Grammar.{Progress, fits, ends, limit, after, Course, at, stopped, next, met, course, begin, final, checked}
-use Rattle.grammar.specs.code.Machine.{mk, fitsN, endsN, limitN, afterN, stepN, settledN, advanceN, startN, endedN, scanN}
+use Rattle.grammar.specs.Grammar.{Progress, fits, endsShort, inLimit, after, Course, at, stopped, next, met, course, begin, final, checked}
+use Rattle.grammar.specs.code.Machine.{mk, fitsN, endsShortN, inLimitN, afterN, stepN, settledN, advanceN, startN, endedN, scanN}
 
 abbrev enc : Progress → State
 enc p = mk (num (p .groups)) (p .held) (p .run) (p .areas) (p .corners)
@@ -34,7 +34,7 @@ fits-is p Open = refl
 fits-is p Bar = left-is (p .groups)
 fits-is p Close = right-is (p .groups)
 
-ends-is : (p : Progress) (r : Record) → endsN (enc p) r ≡ ends p r
+ends-is : (p : Progress) (r : Record) → endsShortN (enc p) r ≡ endsShort p r
 ends-is p (Area f) = refl
 ends-is p (First x y) = refl
 ends-is p (Next x y) = refl
@@ -42,7 +42,7 @@ ends-is p Open = refl
 ends-is p Bar = refl
 ends-is p Close = refl
 
-limit-is : (p : Progress) (r : Record) → limitN (enc p) r ≡ limit p r
+limit-is : (p : Progress) (r : Record) → inLimitN (enc p) r ≡ inLimit p r
 limit-is p (Area f) = refl
 limit-is p (First x y) = refl
 limit-is p (Next x y) = refl
@@ -59,7 +59,7 @@ after-is p Bar h = rw (bar-is (p .groups))
 after-is p Close h = rw (close-is (p .groups) h)
 
 next-is : (p : Progress) (r : Record) (i : ℕ) → settledN (stepN (enc p) r) i ≡ encC (next p r i)
-next-is p r i = rw (fits-is p r, ends-is p r, limit-is p r) (go (fits p r) (ends p r) (limit p r) refl)
+next-is p r i = rw (fits-is p r, ends-is p r, limit-is p r) (go (fits p r) (endsShort p r) (inLimit p r) refl)
   where
     go : (a b d : Bool) → fits p r ≡ a
         → settledN (cond a (cond b (Off Short) (cond d (On (afterN (enc p) r)) (Off Limit))) (Off Unfit)) i

@@ -41,22 +41,22 @@ fits p Close = onRight (p .groups)
 abbrev pub isShort : ℕ → Bool
 isShort run = ltb 0 run && ltb run 3
 
-abbrev pub ends : Progress → Record → Bool
-ends p (Area f) = isShort (p .run)
-ends p (First x y) = isShort (p .run)
-ends p (Next x y) = false
-ends p Open = isShort (p .run)
-ends p Bar = isShort (p .run)
-ends p Close = isShort (p .run)
+abbrev pub endsShort : Progress → Record → Bool
+endsShort p (Area f) = isShort (p .run)
+endsShort p (First x y) = isShort (p .run)
+endsShort p (Next x y) = false
+endsShort p Open = isShort (p .run)
+endsShort p Bar = isShort (p .run)
+endsShort p Close = isShort (p .run)
 
 -- 6, "65th area, 2,049th corner, 9th open group"
-abbrev pub limit : Progress → Record → Bool
-limit p (Area f) = ltb (p .areas) 64
-limit p (First x y) = ltb (p .corners) 2048
-limit p (Next x y) = ltb (p .corners) 2048
-limit p Open = ltb (length (p .groups)) 8
-limit p Bar = true
-limit p Close = true
+abbrev pub inLimit : Progress → Record → Bool
+inLimit p (Area f) = ltb (p .areas) 64
+inLimit p (First x y) = ltb (p .corners) 2048
+inLimit p (Next x y) = ltb (p .corners) 2048
+inLimit p Open = ltb (length (p .groups)) 8
+inLimit p Bar = true
+inLimit p Close = true
 
 abbrev pub oneMore : ℕ → ℕ
 oneMore run = cond (ltb run 3) (run + 1) run
@@ -76,7 +76,7 @@ pub data Course : Type 0 where
 
 -- "Records go in order, each tried 2 to 6": record i is tried 4, 5, 6
 abbrev pub next : Progress → Record → ℕ → Course
-next p r i = cond (fits p r) (cond (ends p r) (stopped Short i) (cond (limit p r) (at (after p r)) (stopped Limit i))) (stopped Unfit i)
+next p r i = cond (fits p r) (cond (endsShort p r) (stopped Short i) (cond (inLimit p r) (at (after p r)) (stopped Limit i))) (stopped Unfit i)
 
 -- 2 and 3 stand in what was decoded; the first refusal stays
 abbrev pub met : Course → Decoded → ℕ → Course

@@ -7,10 +7,10 @@ use Rattle.records.specs.declared.Decoded.{Decoded}
 use Rattle.records.specs.declared.Decoded.the-variants.{Good, Bad}
 
 -- the records among what was decoded: all of it where nothing is refused
-abbrev pub goods : List Decoded → List Record
-goods [] = []
-goods (Good r ∷ ds) = r ∷ goods ds
-goods (Bad x ∷ ds) = goods ds
+abbrev pub goodRecords : List Decoded → List Record
+goodRecords [] = []
+goodRecords (Good r ∷ ds) = r ∷ goodRecords ds
+goodRecords (Bad x ∷ ds) = goodRecords ds
 
 abbrev pub areaOne : Record → ℕ
 areaOne (Area f) = 1

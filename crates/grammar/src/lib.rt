@@ -7,7 +7,7 @@ ghost use mathlib.Core.Bool.{true};
 ghost use Prim.Native.Nat.{_+_, _<_};
 ghost use Rattle.groups.specs.code.Stack.{roomN};
 ghost use Rattle.grammar.specs.Grammar.{isShort, oneMore};
-ghost use Rattle.grammar.specs.code.Machine.{roleN, fitsN, endsN, limitN, areaN, firstN, nextN, afterOpenN, afterBarN, afterCloseN, afterN, stepN};
+ghost use Rattle.grammar.specs.code.Machine.{roleN, fitsN, endsShortN, inLimitN, areaN, firstN, nextN, afterOpenN, afterBarN, afterCloseN, afterN, stepN};
 ghost use Rattle.grammar.specs.code.Machine.{settledN, advanceAtN, advanceN, startN, endStateN, endedN, isStopped};
 
 // The corners that a contour has at least.
@@ -79,7 +79,7 @@ fn fits(s: State, r: Record) -> bool
 }
 
 fn ends_short(s: State, r: Record) -> bool
-    ensures answer { λ t. ⌜ t ≡ endsN s r ⌝ }
+    ensures answer { λ t. ⌜ t ≡ endsShortN s r ⌝ }
 {
     match r {
         Record::Area(_) => is_short(s.run),
@@ -92,7 +92,7 @@ fn ends_short(s: State, r: Record) -> bool
 }
 
 fn in_limit(s: State, r: Record) -> bool
-    ensures answer { λ t. ⌜ t ≡ limitN s r ⌝ }
+    ensures answer { λ t. ⌜ t ≡ inLimitN s r ⌝ }
 {
     match r {
         Record::Area(_) => s.areas < records::MOST_AREAS,
@@ -191,7 +191,7 @@ fn after_close(s: State) -> State
 }
 
 fn after(s: State, r: Record) -> State
-    requires { ⌜ limitN s r ≡ true ⌝ }
+    requires { ⌜ inLimitN s r ≡ true ⌝ }
     ensures answer { λ t. ⌜ t ≡ afterN s r ⌝ }
 {
     match r {

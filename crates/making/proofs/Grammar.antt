@@ -25,7 +25,7 @@ use Rattle.stream.specs.declared.Words.{Words}
 use Rattle.stream.specs.Entry as Entries
 use Rattle.stream.specs.Entry.{area, line, shortcut, bad, startRange}
 use Rattle.stream.specs.Grammar as Stream
-use Rattle.stream.specs.Grammar.{Env, Place, at, isGood, off, areaMet, recordFits, roleFits, fits, limit, after, course, isWhole, accepts}
+use Rattle.stream.specs.Grammar.{Env, Place, at, isGood, off, areaMet, recordFits, roleFits, fits, inLimit, after, course, isWhole, accepts}
 use Rattle.stream.proofs.Passed.{off-stays}
 use Rattle.cells.specs.Streams.{Item}
 use Rattle.cells.specs.Segments as Segments
@@ -42,12 +42,12 @@ use Rattle.ranges.proofs.Groups.{opens, kindBy, kindOn, Nested, nested-open, ne
 pub record Passes (v : Env) (p : Place) (e : Entries.Entry) (ws : List Words) : Type 0 where
   pub range : Stream.inRange v e ≡ true
   pub fit : fits v p e ≡ true
-  pub room : limit p e ≡ true
+  pub room : inLimit p e ≡ true
   pub rest : isWhole (course v (at (after p e)) ws) ≡ true
 
 pub one-passes : (v : Env) (p : Place) (w : Words) (ws : List Words) → isWhole (course v (at p) (w ∷ ws)) ≡ true → Passes v p (Entries.decode w) ws
 unfolding course
-one-passes v p w ws h = go (Stream.inRange v e) (fits v p e) (limit p e) refl refl refl h
+one-passes v p w ws h = go (Stream.inRange v e) (fits v p e) (inLimit p e) refl refl refl h
   where
     e : Entries.Entry
     e = Entries.decode w
@@ -58,7 +58,7 @@ one-passes v p w ws h = go (Stream.inRange v e) (fits v p e) (limit p e) refl re
     go : (a b c : Bool)
         → Stream.inRange v e ≡ a
         → fits v p e ≡ b
-        → limit p e ≡ c
+        → inLimit p e ≡ c
         → isWhole (course v (cond a (cond b (cond c (at (after p e)) off) off) off) ws) ≡ true
         → Passes v p e ws
     go true true true i f l h = record { range = i; fit = f; room = l; rest = h }

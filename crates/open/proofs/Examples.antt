@@ -4,7 +4,7 @@ use mathlib.Core.List.{List, [], _∷_}
 use Prim.Native.Nat.{ℕ}
 use Rattle.refusals.specs.declared.Refusal.the-variants.{Argument, Room, Broken}
 use Rattle.grammar.specs.Grammar.{course, checked}
-use Rattle.read.specs.Words.{spread}
+use Rattle.read.specs.Words.{joined}
 use Rattle.read.specs.Reading.{holds}
 use Rattle.drawing.specs.Tables.{rebuilt, countsJudged, drawingVerdict}
 use Rattle.stream.proofs.Table.{written-nil}
@@ -21,7 +21,7 @@ abbrev seven : List ℕ
 seven = 7 ∷ 7 ∷ 7 ∷ 7 ∷ 7 ∷ 7 ∷ 7 ∷ []
 
 none-opens : openAnswer (none [] (7 ∷ seven)) ≡ Opened 0
-unfolding drawingVerdict countsJudged rebuilt holds course checked spread rowsOpened wordsOpened
+unfolding drawingVerdict countsJudged rebuilt holds course checked joined rowsOpened wordsOpened
 none-opens = refl
 
 none-head : headOpened (none [] (7 ∷ seven)) (Opened 0) ≡ 1 ∷ 0 ∷ 7 ∷ []
@@ -31,7 +31,7 @@ none-cells : cellsOpened (none [] (7 ∷ 7 ∷ seven)) (Opened 0) ≡ 0 ∷ 0 �
 none-cells = refl
 
 none-entries : entriesOpened (none [] (7 ∷ seven)) (Opened 0) ≡ 7 ∷ []
-unfolding rebuilt spread rowsOpened wordsOpened
+unfolding rebuilt joined rowsOpened wordsOpened
 none-entries = written-nil (7 ∷ []) 0
 
 -- seven words are not a whole cell

@@ -10,7 +10,7 @@ use Rattle.records.specs.declared.Record.{Record}
 use Rattle.records.specs.declared.Record.the-variants.{Area, First, Next, Open, Bar, Close}
 use Rattle.records.specs.Record.{areaRange}
 use Rattle.grammar.specs.Grammar as Grammar
-use Rattle.read.specs.Words.{spread}
+use Rattle.read.specs.Words.{joined}
 use Rattle.drawing.specs.code.Held.{Acceptable}
 use Rattle.pruning.specs.Sides.{end, leaf, group}
 use Rattle.cells.specs.Cells.{at}
@@ -31,7 +31,7 @@ clipping = record { role = 1; rule = 1; alpha = 0; red = 0; green = 0; blue = 0;
 -- ---- no records
 
 none-drawing : drawingFrom [] ≡ record { fields = []; xs = []; ys = []; contours = []; plan = end }
-unfolding spread
+unfolding joined
 none-drawing = refl
 
 -- ---- one area: the triangle (0, 0) (10, 0) (10, 10)
@@ -41,7 +41,7 @@ triangle = Area black ∷ First 0 0 ∷ Next 10 0 ∷ Next 10 10 ∷ []
 
 triangle-drawing : drawingFrom triangle
     ≡ record { fields = black ∷ []; xs = 0 ∷ 10 ∷ 10 ∷ []; ys = 0 ∷ 0 ∷ 10 ∷ []; contours = (contour 0 3 ∷ []) ∷ []; plan = leaf 0 end }
-unfolding spread
+unfolding joined
 triangle-drawing = refl
 
 triangle-lines : lines (drawingFrom triangle) 0 ≡ line 0 1 ∷ line 1 2 ∷ line 2 0 ∷ []
@@ -49,11 +49,11 @@ triangle-lines = refl
 
 -- "Triangle (0,0) (10,0) (10,10): winding 1 at (5,5)*, ... 0 at (4,5)*"
 triangle-inside : winding (drawingFrom triangle) 0 (at 5 5) ≡ pos 1
-unfolding spread sumOf adds counts lineCounts product sign
+unfolding joined sumOf adds counts lineCounts product sign
 triangle-inside = refl
 
 triangle-outside : winding (drawingFrom triangle) 0 (at 4 5) ≡ pos 0
-unfolding spread sumOf adds counts lineCounts product sign
+unfolding joined sumOf adds counts lineCounts product sign
 triangle-outside = refl
 
 triangle-source : sourceOf triangle ≡ named 0 (pos 0) ∷ segment (drawn (line 0 1)) ∷ segment (drawn (line 1 2)) ∷ segment (drawn (line 2 0)) ∷ []

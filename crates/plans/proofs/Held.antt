@@ -13,7 +13,7 @@ use Rattle.records.specs.declared.Decoded.the-variants.{Good}
 use Rattle.records.specs.Record.{inRange}
 use Rattle.grammar.specs.declared.Counts.{Counts}
 use Rattle.grammar.specs.Lists.{areasIn, cornersIn}
-use Rattle.read.specs.Words.{Has, rowW, spread, allRange, areaWords, xWords, yWords}
+use Rattle.read.specs.Words.{Has, rowW, joined, allRange, areaWords, xWords, yWords}
 use Rattle.read.proofs.Files.{areas-length, xs-length, ys-length}
 use Rattle.drawing.specs.Tables.{Tables, cursor, areaRow}
 use Rattle.drawing.specs.code.Held.{Acceptable, Holding}
@@ -29,15 +29,15 @@ use Rattle.plans.proofs.Numbers.{fields-length}
 -- ---- the areas
 
 area-rest : (t : List ℕ) (f : Fields) (rs : List Record) (i : ℕ) → Has t (i * 8) (areaWords (Area f ∷ rs)) → Has t ((i + 1) * 8) (areaWords rs)
-unfolding spread
+unfolding joined
 area-rest t f rs i h = has-at t (i * 8 + 8) ((i + 1) * 8) (areaWords rs) (omega arith) (has-right t (i * 8) (rowW f) (areaWords rs) h)
 
 area-here : (t : List ℕ) (f : Fields) (rs : List Record) (i : ℕ) → Has t (i * 8) (areaWords (Area f ∷ rs)) → Has t (i * 8) (rowW f)
-unfolding spread
+unfolding joined
 area-here t f rs i h = has-left t (i * 8) (rowW f) (areaWords rs) h
 
 fields-held : (t : List ℕ) (rs : List Record) (i n : ℕ) → n ≡ areasIn rs → Has t (i * 8) (areaWords rs) → fieldsFrom t i n ≡ fieldsIn rs
-unfolding spread
+unfolding joined
 fields-held t [] i n e h = ap (fieldsFrom t i) e
 fields-held t (Area f ∷ rs) i n e h =
     let s : n ≡ suc (areasIn rs) = omega arith in
@@ -58,7 +58,7 @@ module _ (t : Tables) (u : Counts) where
       → i + areasIn rs ≤ u .areas
       → n < areasIn rs
       → Reads (i + n) (getD (fieldsIn rs) n noFields)
-  unfolding spread
+  unfolding joined
   rows-held [] i n g h l m = absurd (omega arith)
   rows-held (Area f ∷ rs) i zero g h l m =
       subst (λ (j : ℕ). Reads j f) (omega arith)

@@ -13,7 +13,7 @@ use Rattle.records.specs.declared.Record.{Record}
 use Rattle.records.specs.declared.Record.the-variants.{Area, First, Next, Open, Bar, Close}
 use Rattle.records.specs.Record.{areaRange, cornerRange, inRange}
 use Rattle.grammar.specs.Lists.{areasIn, cornersIn}
-use Rattle.read.specs.Words.{spread, xWords, yWords, allRange}
+use Rattle.read.specs.Words.{joined, xWords, yWords, allRange}
 use Rattle.pruning.specs.Sides.{Kind, paint, clip, Side, end, leaf, group, Entry, item, push, activate, pop, flat}
 use Rattle.cells.specs.Drawings.{noFields, kindOf}
 use Rattle.cells.specs.Streams.{Each, On}
@@ -54,7 +54,7 @@ pub corners-range : (rs : List Record)
     → (n : ℕ)
     → n < length (xWords rs)
     → cornerRange (getD (xWords rs) n 0) (getD (yWords rs) n 0) ≡ true
-unfolding spread
+unfolding joined
 corners-range [] h n l = absurd (omega arith)
 corners-range (Area f ∷ rs) h n l = corners-range rs (range-rest (Area f) rs h) n l
 corners-range (First x y ∷ rs) h zero l = range-here (First x y) rs h

@@ -13,7 +13,7 @@ use Rattle.records.specs.declared.Decoded.{Decoded}
 use Rattle.records.specs.declared.Decoded.the-variants.{Good}
 use Rattle.grammar.specs.declared.Counts.{Counts}
 use Rattle.grammar.specs.declared.Verdict.the-variants.{Accepted, Refused}
-use Rattle.grammar.specs.Grammar.{Progress, progress, fits, isShort, ends, limit, after, Course, at, stopped, course, counts, final, checked}
+use Rattle.grammar.specs.Grammar.{Progress, progress, fits, isShort, endsShort, inLimit, after, Course, at, stopped, course, counts, final, checked}
 use Rattle.grammar.specs.Lists.{areasIn, cornersIn}
 use Rattle.grammar.proofs.Laws.{sound, refused-not, stays}
 use Rattle.drawing.specs.code.Held.{Acceptable}
@@ -22,8 +22,8 @@ use Rattle.drawing.proofs.Lists.{goods-map}
 -- a record is accepted here
 pub record Accepts (p : Progress) (r : Record) : Type 0 where
   pub fit : fits p r ≡ true
-  pub whole : ends p r ≡ false
-  pub room : limit p r ≡ true
+  pub whole : endsShort p r ≡ false
+  pub room : inLimit p r ≡ true
 
 -- records are accepted from here to the end
 abbrev pub Runs : Progress → List Record → Type 0
@@ -43,12 +43,12 @@ ended p n k = go (isEmpty (p .groups)) (isShort (p .run))
 runs-on : (rs : List Record) (p : Progress) (i n : ℕ) (k : Counts) → final (course (at p) i (map Good rs)) n ≡ Accepted k → Runs p rs
 unfolding course
 runs-on [] p i n k h = ended p n k h
-runs-on (r ∷ rs) p i n k h = go (fits p r) (ends p r) (limit p r) refl refl refl (runs-on rs (after p r) (i + 1) n k) h
+runs-on (r ∷ rs) p i n k h = go (fits p r) (endsShort p r) (inLimit p r) refl refl refl (runs-on rs (after p r) (i + 1) n k) h
   where
     go : (a b d : Bool)
         → fits p r ≡ a
-        → ends p r ≡ b
-        → limit p r ≡ d
+        → endsShort p r ≡ b
+        → inLimit p r ≡ d
         → (final (course (at (after p r)) (i + 1) (map Good rs)) n ≡ Accepted k → Runs (after p r) rs)
         → final
         (course (cond a (cond b (stopped Short i) (cond d (at (after p r)) (stopped Limit i))) (stopped Unfit i)) (i + 1) (map Good rs)) n

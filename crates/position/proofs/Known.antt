@@ -27,7 +27,7 @@ use Rattle.position.specs.declared.Shown.{Shown}
 use Rattle.position.specs.declared.Shown.the-variants.{Set}
 use Rattle.position.specs.declared.Shown.the-variants as Seen
 use Rattle.position.specs.Spots.{isFound, spotOf, setBy, setMeant, known, setIn, spotIn, positionAnswer}
-use Rattle.position.specs.code.Numbers.{between, inSquare, LeafIn, LastIn, shownIn}
+use Rattle.position.specs.code.Numbers.{between, inSquare, LeafIn, LastIn, shownThere}
 use Rattle.position.proofs.Painted.{set-painted, none-painted}
 
 -- ---- the square of a leaf
@@ -94,12 +94,12 @@ module _ (t : Tree) where
     spot-broken e = pick-false (known t x y) (Answers.At (spotOf (t .areas) (setIn t x y))) (Answers.Not Refusals.Broken) (broken-known e)
 
     -- ---- the shown set with the leaf
-    pub shown-known : (l : Leaf) (s : ℕ) → leafIn t x y ≡ At l → s ≡ setAt (t .areas) (t .xs) (t .ys) x y (leafStream t l) → Set s (At l) ≡ shownIn t x y
+    pub shown-known : (l : Leaf) (s : ℕ) → leafIn t x y ≡ At l → s ≡ setAt (t .areas) (t .xs) (t .ys) x y (leafStream t l) → Set s (At l) ≡ shownThere t x y
     shown-known l s e g =
         ap₂ Set (g ∙ leaf-set l e) (sym e)
         ∙ pick-true (known t x y) (Set (setIn t x y) (leafIn t x y)) Seen.Broken (leaf-known l e)
 
-    pub shown-broken : leafIn t x y ≡ Broken → Seen.Broken ≡ shownIn t x y
+    pub shown-broken : leafIn t x y ≡ Broken → Seen.Broken ≡ shownThere t x y
     shown-broken e = pick-false (known t x y) (Set (setIn t x y) (leafIn t x y)) Seen.Broken (broken-known e)
 
     -- what a shown set, or 12, says
@@ -109,14 +109,14 @@ module _ (t : Tree) where
       pub is-found : f ≡ leafIn t x y
       pub is-leaf : LastIn t f
 
-    pub known-set : (r : Shown) (s : ℕ) (f : Found) → r ≡ shownIn t x y → r ≡ Set s f → Known s f
+    pub known-set : (r : Shown) (s : ℕ) (f : Found) → r ≡ shownThere t x y → r ≡ Set s f → Known s f
     known-set r s f e g = go (known t x y) refl (sym e ∙ g)
       where
         go : (b : Bool) → known t x y ≡ b → cond b (Set (setIn t x y) (leafIn t x y)) Seen.Broken ≡ Set s f → Known s f
         go true k h = record { is-known = k; is-set = cc; is-found = cc; is-leaf = last-in f cc }
         go false k h = absurd (let z : _≡_ {A = ℕ} 0 1 = cc in omega arith)
 
-    pub unknown-set : (r : Shown) → r ≡ shownIn t x y → r ≡ Seen.Broken → known t x y ≡ false
+    pub unknown-set : (r : Shown) → r ≡ shownThere t x y → r ≡ Seen.Broken → known t x y ≡ false
     unknown-set r e g = go (known t x y) refl (sym e ∙ g)
       where
         go : (b : Bool) → known t x y ≡ b → cond b (Set (setIn t x y) (leafIn t x y)) Seen.Broken ≡ Seen.Broken → b ≡ false

@@ -14,7 +14,7 @@ ghost use Rattle.evaluate.specs.Reading.{setAt};
 ghost use Rattle.tables.specs.Tables.{tree, treeLent};
 ghost use Rattle.find_leaf.specs.Leaf.{leafIn};
 ghost use Rattle.position.specs.Spots.{spotOf, spotIn, positionAnswer};
-ghost use Rattle.position.specs.code.Numbers.{between, inSquare, LastIn, shownIn};
+ghost use Rattle.position.specs.code.Numbers.{between, inSquare, LastIn, shownThere};
 
 // What shows at a position: the set of areas, the material of the front one, and the colour.
 pub struct Spot {
@@ -140,7 +140,7 @@ pub fn shown_at(
 ) -> Shown
     requires { ⌜ LastIn (tree (now plan) (now areas) (now xs) (now ys) (now head) (now cells) (now entries)) last ⌝ }
     requires { ⌜ (x < 65536) × (y < 65536) ⌝ }
-    ensures answer { λ r. ⌜ r ≡ shownIn (treeLent plan areas xs ys head cells entries) x y ⌝ }
+    ensures answer { λ r. ⌜ r ≡ shownThere (treeLent plan areas xs ys head cells entries) x y ⌝ }
 {
     let f = leaf_for(plan, areas, xs, ys, head, cells, entries, last, x, y);
     match f {

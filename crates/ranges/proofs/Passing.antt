@@ -15,7 +15,7 @@ use Rattle.pruning.specs.Sides.{Kind, paint, clip, Side, end, leaf, group, acti
 use Rattle.pruning.proofs.Sides.{map-append}
 use Rattle.stream.specs.declared.Words.{Words}
 use Rattle.stream.specs.Entry.{decode, startRange}
-use Rattle.stream.specs.Grammar.{Env, isGood, areaMet, lineRange, shortcutRange, inRange, Place, place, roleFits, fits, limit, after, Course, at, met, course}
+use Rattle.stream.specs.Grammar.{Env, isGood, areaMet, lineRange, shortcutRange, inRange, Place, place, roleFits, fits, inLimit, after, Course, at, met, course}
 use Rattle.cells.specs.Segments.{Segment, drawn, shortcut}
 use Rattle.cells.specs.Streams.{Item, always, area, On}
 use Rattle.cells.specs.Rows.{bar, closes, segment, itemRows, rowsOf}
@@ -92,7 +92,7 @@ course-none v c = refl
 through : (v : Env) (c d e : Course) (x y : List Words) → course v c x ≡ d → course v d y ≡ e → course v c (x ++ y) ≡ e
 through v c d e x y p q = course-append v c x y ∙ (ap (λ z. course v z y) p ∙ q)
 
-step : (v : Env) (p : Place) (w : Words) (ws : List Words) → inRange v (decode w) ≡ true → fits v p (decode w) ≡ true → limit p (decode w) ≡ true
+step : (v : Env) (p : Place) (w : Words) (ws : List Words) → inRange v (decode w) ≡ true → fits v p (decode w) ≡ true → inLimit p (decode w) ≡ true
     → course v (at p) (w ∷ ws) ≡ course v (at (after p (decode w))) ws
 unfolding course
 step v p w ws r f l = ap (λ c. course v c ws) (rw (r, f, l))

@@ -18,9 +18,9 @@ use Rattle.laws.proofs.Booleans.{and-left, and-right, clash}
 use Rattle.grammar.specs.declared.Counts.{Counts}
 use Rattle.grammar.specs.declared.Verdict.the-variants.{Accepted, Refused}
 use Rattle.grammar.specs.Grammar.{checked}
-use Rattle.grammar.specs.Lists.{goods, areasIn, cornersIn}
+use Rattle.grammar.specs.Lists.{goodRecords, areasIn, cornersIn}
 use Rattle.grammar.proofs.Laws.{sound, refused-not}
-use Rattle.read.specs.Words.{kindW, areaW, xW, yW, wordsOf, spread, planWords}
+use Rattle.read.specs.Words.{kindW, areaW, xW, yW, wordsOf, joined, planWords}
 use Rattle.read.specs.Reading.{decodedFrom, decodedIn, recordsIn, verdictOf, holds, Filed}
 
 pub length-from : (b : List ℕ) (i n : ℕ) → length (decodedFrom b i n) ≡ n
@@ -28,8 +28,8 @@ unfolding decodedFrom
 length-from b i zero = refl
 length-from b i (suc n) = ap suc (length-from b (i + 1) n)
 
-pub length-good : (ds : List Decoded) → ds ≡ map Good (goods ds) → length ds ≡ length (goods ds)
-length-good ds e = ap length e ∙ length-map (goods ds) Good
+pub length-good : (ds : List Decoded) → ds ≡ map Good (goodRecords ds) → length ds ≡ length (goodRecords ds)
+length-good ds e = ap length e ∙ length-map (goodRecords ds) Good
 
 pub filed-checked : (b : List ℕ) (k : Counts) → verdictOf b ≡ Accepted k → checked (decodedIn b) ≡ Accepted k
 unfolding verdictOf
@@ -66,13 +66,13 @@ filed b k = go (eqb (length b % 16) 0) (leb (length b / 16) 4096) refl refl
         }
 
 -- ---- how many words
-pub kinds-length : (rs : List Record) → length (spread kindW rs) ≡ length rs
-unfolding spread
+pub kinds-length : (rs : List Record) → length (joined kindW rs) ≡ length rs
+unfolding joined
 kinds-length [] = refl
 kinds-length (r ∷ rs) = ap suc (kinds-length rs)
 
-pub areas-length : (rs : List Record) → length (spread areaW rs) ≡ areasIn rs * 8
-unfolding spread
+pub areas-length : (rs : List Record) → length (joined areaW rs) ≡ areasIn rs * 8
+unfolding joined
 areas-length [] = refl
 areas-length (Area f ∷ rs) = omega (arith, areas-length rs)
 areas-length (First x y ∷ rs) = omega (arith, areas-length rs)
@@ -81,8 +81,8 @@ areas-length (Open ∷ rs) = omega (arith, areas-length rs)
 areas-length (Bar ∷ rs) = omega (arith, areas-length rs)
 areas-length (Close ∷ rs) = omega (arith, areas-length rs)
 
-pub xs-length : (rs : List Record) → length (spread xW rs) ≡ cornersIn rs
-unfolding spread
+pub xs-length : (rs : List Record) → length (joined xW rs) ≡ cornersIn rs
+unfolding joined
 xs-length [] = refl
 xs-length (Area f ∷ rs) = omega (arith, xs-length rs)
 xs-length (First x y ∷ rs) = omega (arith, xs-length rs)
@@ -91,8 +91,8 @@ xs-length (Open ∷ rs) = omega (arith, xs-length rs)
 xs-length (Bar ∷ rs) = omega (arith, xs-length rs)
 xs-length (Close ∷ rs) = omega (arith, xs-length rs)
 
-pub ys-length : (rs : List Record) → length (spread yW rs) ≡ cornersIn rs
-unfolding spread
+pub ys-length : (rs : List Record) → length (joined yW rs) ≡ cornersIn rs
+unfolding joined
 ys-length [] = refl
 ys-length (Area f ∷ rs) = omega (arith, ys-length rs)
 ys-length (First x y ∷ rs) = omega (arith, ys-length rs)
@@ -101,56 +101,56 @@ ys-length (Open ∷ rs) = omega (arith, ys-length rs)
 ys-length (Bar ∷ rs) = omega (arith, ys-length rs)
 ys-length (Close ∷ rs) = omega (arith, ys-length rs)
 
-pub file-length : (rs : List Record) → length (spread bytesOf rs) ≡ length rs * 16
-unfolding spread
+pub file-length : (rs : List Record) → length (joined bytesOf rs) ≡ length rs * 16
+unfolding joined
 file-length [] = refl
 file-length (r ∷ rs) = omega (arith, file-length rs)
 
-spread-0 : (rs : List Record) → spread (wordsOf 0) rs ≡ spread kindW rs
+spread-0 : (rs : List Record) → joined (wordsOf 0) rs ≡ joined kindW rs
 unfolding wordsOf
 spread-0 rs = refl
 
-spread-1 : (rs : List Record) → spread (wordsOf 1) rs ≡ spread areaW rs
+spread-1 : (rs : List Record) → joined (wordsOf 1) rs ≡ joined areaW rs
 unfolding wordsOf
 spread-1 rs = refl
 
-spread-2 : (rs : List Record) → spread (wordsOf 2) rs ≡ spread xW rs
+spread-2 : (rs : List Record) → joined (wordsOf 2) rs ≡ joined xW rs
 unfolding wordsOf
 spread-2 rs = refl
 
-spread-3 : (rs : List Record) → spread (wordsOf 3) rs ≡ spread yW rs
+spread-3 : (rs : List Record) → joined (wordsOf 3) rs ≡ joined yW rs
 unfolding wordsOf
 spread-3 rs = refl
 
 module _ (b : List ℕ) (k : Counts) (c : Filed b k) where
-  same-part : recordsIn b ≡ goods (decodedFrom b 0 (k .records))
-  same-part = ap (λ (n : ℕ). goods (decodedFrom b 0 n)) (sym (c .parts))
+  same-part : recordsIn b ≡ goodRecords (decodedFrom b 0 (k .records))
+  same-part = ap (λ (n : ℕ). goodRecords (decodedFrom b 0 n)) (sym (c .parts))
 
-  pub room-0 : (m : ℕ) → k .records + 3 ≤ m → 3 + length (spread (wordsOf 0) (goods (decodedFrom b 0 (k .records)))) ≤ m
+  pub room-0 : (m : ℕ) → k .records + 3 ≤ m → 3 + length (joined (wordsOf 0) (goodRecords (decodedFrom b 0 (k .records)))) ≤ m
   room-0 m h = rw (← same-part, spread-0 (recordsIn b), kinds-length (recordsIn b)) (omega (arith, c .records))
 
-  pub room-1 : (m : ℕ) → k .areas * 8 ≤ m → 0 + length (spread (wordsOf 1) (goods (decodedFrom b 0 (k .records)))) ≤ m
+  pub room-1 : (m : ℕ) → k .areas * 8 ≤ m → 0 + length (joined (wordsOf 1) (goodRecords (decodedFrom b 0 (k .records)))) ≤ m
   room-1 m h = rw (← same-part, spread-1 (recordsIn b), areas-length (recordsIn b)) (omega (arith, c .areas))
 
-  pub room-2 : (m : ℕ) → k .corners ≤ m → 0 + length (spread (wordsOf 2) (goods (decodedFrom b 0 (k .records)))) ≤ m
+  pub room-2 : (m : ℕ) → k .corners ≤ m → 0 + length (joined (wordsOf 2) (goodRecords (decodedFrom b 0 (k .records)))) ≤ m
   room-2 m h = rw (← same-part, spread-2 (recordsIn b), xs-length (recordsIn b)) (omega (arith, c .corners))
 
-  pub room-3 : (m : ℕ) → k .corners ≤ m → 0 + length (spread (wordsOf 3) (goods (decodedFrom b 0 (k .records)))) ≤ m
+  pub room-3 : (m : ℕ) → k .corners ≤ m → 0 + length (joined (wordsOf 3) (goodRecords (decodedFrom b 0 (k .records)))) ≤ m
   room-3 m h = rw (← same-part, spread-3 (recordsIn b), ys-length (recordsIn b)) (omega (arith, c .corners))
 
   pub left-0 : (t t₁ t₂ : List ℕ)
       → t₁ ≡ set (set (set t 0 (k .records)) 1 (k .areas)) 2 (k .corners)
-      → t₂ ≡ sets t₁ 3 (spread (wordsOf 0) (goods (decodedFrom b 0 (k .records))))
+      → t₂ ≡ sets t₁ 3 (joined (wordsOf 0) (goodRecords (decodedFrom b 0 (k .records))))
       → t₂ ≡ sets t 0 (planWords (recordsIn b))
   left-0 t t₁ t₂ p q = q ∙ rw (p, ← same-part, spread-0 (recordsIn b), c .records, c .areas, c .corners)
 
-  pub left-1 : (t t₁ : List ℕ) → t₁ ≡ sets t 0 (spread (wordsOf 1) (goods (decodedFrom b 0 (k .records)))) → t₁ ≡ sets t 0 (spread areaW (recordsIn b))
+  pub left-1 : (t t₁ : List ℕ) → t₁ ≡ sets t 0 (joined (wordsOf 1) (goodRecords (decodedFrom b 0 (k .records)))) → t₁ ≡ sets t 0 (joined areaW (recordsIn b))
   left-1 t t₁ q = q ∙ rw (← same-part, spread-1 (recordsIn b))
 
-  pub left-2 : (t t₁ : List ℕ) → t₁ ≡ sets t 0 (spread (wordsOf 2) (goods (decodedFrom b 0 (k .records)))) → t₁ ≡ sets t 0 (spread xW (recordsIn b))
+  pub left-2 : (t t₁ : List ℕ) → t₁ ≡ sets t 0 (joined (wordsOf 2) (goodRecords (decodedFrom b 0 (k .records)))) → t₁ ≡ sets t 0 (joined xW (recordsIn b))
   left-2 t t₁ q = q ∙ rw (← same-part, spread-2 (recordsIn b))
 
-  pub left-3 : (t t₁ : List ℕ) → t₁ ≡ sets t 0 (spread (wordsOf 3) (goods (decodedFrom b 0 (k .records)))) → t₁ ≡ sets t 0 (spread yW (recordsIn b))
+  pub left-3 : (t t₁ : List ℕ) → t₁ ≡ sets t 0 (joined (wordsOf 3) (goodRecords (decodedFrom b 0 (k .records)))) → t₁ ≡ sets t 0 (joined yW (recordsIn b))
   left-3 t t₁ q = q ∙ rw (← same-part, spread-3 (recordsIn b))
 
 -- ---- the room test

@@ -12,8 +12,8 @@ use Rattle.records.specs.Bytes.{rawAt, decodedRaw}
 use Rattle.grammar.specs.declared.Scan.{Scan}
 use Rattle.grammar.specs.code.Machine.{advanceN, startN, scanN, isStopped}
 use Rattle.grammar.proofs.Laws.{stopped-stays}
-use Rattle.grammar.specs.Lists.{goods}
-use Rattle.read.specs.Words.{spread, onGood}
+use Rattle.grammar.specs.Lists.{goodRecords}
+use Rattle.read.specs.Words.{joined, onGood}
 use Rattle.read.specs.Reading.{decodedFrom}
 use Rattle.read.proofs.Writes.{length-on, turn-table}
 
@@ -60,11 +60,11 @@ scan-done b i e s whole h inv = rw (from-none b i e h) at inv
 -- ---- a table's words: the table is t and was t₀; the records from i to n are to come, and their words go to `at`
 pub record Filling (f : Record → List ℕ) (b : List ℕ) (n : ℕ) (t₀ : List ℕ) (first : ℕ) (t : List ℕ) (i at : ℕ) : Type 0 where
   pub size : length t ≡ length t₀
-  pub room : at + length (spread f (goods (decodedFrom b i (n - i)))) ≤ length t
-  pub rest : sets t at (spread f (goods (decodedFrom b i (n - i)))) ≡ sets t₀ first (spread f (goods (decodedFrom b 0 n)))
+  pub room : at + length (joined f (goodRecords (decodedFrom b i (n - i)))) ≤ length t
+  pub rest : sets t at (joined f (goodRecords (decodedFrom b i (n - i)))) ≡ sets t₀ first (joined f (goodRecords (decodedFrom b 0 n)))
 
 pub fill-begin : (f : Record → List ℕ) (b : List ℕ) (n : ℕ) (t : List ℕ) (first : ℕ)
-    → first + length (spread f (goods (decodedFrom b 0 n))) ≤ length t
+    → first + length (joined f (goodRecords (decodedFrom b 0 n))) ≤ length t
     → Filling f b n t first t 0 first
 fill-begin f b n t first h = record { size = refl; room = rw (from-zero b n) h; rest = rw (from-zero b n) }
 
@@ -74,7 +74,7 @@ pub fill-room : (f : Record → List ℕ) (b : List ℕ) (n : ℕ) (t₀ : List 
     → Filling f b n t₀ first t i at
     → at + length (onGood f d) ≤ length t
 fill-room f b n t₀ first t i at d h p c =
-    let r : at + length (spread f (goods (d ∷ decodedFrom b (i + 1) (n - (i + 1))))) ≤ length t = rw p (rw (from-step b i n h) at (c .room)) in
+    let r : at + length (joined f (goodRecords (d ∷ decodedFrom b (i + 1) (n - (i + 1))))) ≤ length t = rw p (rw (from-step b i n h) at (c .room)) in
     omega (arith, length-on f d (decodedFrom b (i + 1) (n - (i + 1))))
 
 pub fill-turn : (f : Record → List ℕ) (b : List ℕ) (n : ℕ) (t₀ : List ℕ) (first : ℕ) (t t′ : List ℕ) (i at at′ : ℕ) (d : Decoded)
@@ -86,7 +86,7 @@ pub fill-turn : (f : Record → List ℕ) (b : List ℕ) (n : ℕ) (t₀ : List 
     → Filling f b n t₀ first t′ (i + 1) at′
 fill-turn f b n t₀ first t t′ i at at′ d h p q r c =
     let ds : List Decoded = decodedFrom b (i + 1) (n - (i + 1)) in
-    let w : at + length (spread f (goods (d ∷ ds))) ≤ length t = rw p (rw (from-step b i n h) at (c .room)) in
+    let w : at + length (joined f (goodRecords (d ∷ ds))) ≤ length t = rw p (rw (from-step b i n h) at (c .room)) in
     let l : length t′ ≡ length t = ap length r ∙ length-sets t at (onGood f d) in
     record {
       size = l ∙ c .size;
@@ -97,6 +97,6 @@ fill-turn f b n t₀ first t t′ i at at′ d h p q r c =
 pub fill-done : (f : Record → List ℕ) (b : List ℕ) (n : ℕ) (t₀ : List ℕ) (first : ℕ) (t : List ℕ) (i at : ℕ)
     → n ≤ i
     → Filling f b n t₀ first t i at
-    → t ≡ sets t₀ first (spread f (goods (decodedFrom b 0 n)))
-unfolding spread
+    → t ≡ sets t₀ first (joined f (goodRecords (decodedFrom b 0 n)))
+unfolding joined
 fill-done f b n t₀ first t i at h c = rw (from-none b i n h) at (c .rest)

@@ -12,8 +12,8 @@ use Rattle.records.specs.declared.Fields.{Fields}
 use Rattle.records.specs.declared.Record.{Record}
 use Rattle.records.specs.declared.Decoded.{Decoded}
 use Rattle.records.specs.declared.Decoded.the-variants.{Good, Bad}
-use Rattle.grammar.specs.Lists.{goods}
-use Rattle.read.specs.Words.{kindW, rowW, areaW, xW, yW, wordsOf, spread, onGood}
+use Rattle.grammar.specs.Lists.{goodRecords}
+use Rattle.read.specs.Words.{kindW, rowW, areaW, xW, yW, wordsOf, joined, onGood}
 
 pub sets-append : (t : List ℕ) (i : ℕ) (xs ys : List ℕ) → sets (sets t i xs) (i + length xs) ys ≡ sets t i (xs ++ ys)
 sets-append t i [] ys = rw (add-zero i)
@@ -73,18 +73,18 @@ unfolding wordsOf
 words-3 w r a b d = rw (ne-eqb _ _ a, ne-eqb _ _ b, ne-eqb _ _ d)
 
 -- ---- spread
-pub spread-on : (f : Record → List ℕ) (d : Decoded) (ds : List Decoded) → spread f (goods (d ∷ ds)) ≡ onGood f d ++ spread f (goods ds)
-unfolding spread
+pub spread-on : (f : Record → List ℕ) (d : Decoded) (ds : List Decoded) → joined f (goodRecords (d ∷ ds)) ≡ onGood f d ++ joined f (goodRecords ds)
+unfolding joined
 spread-on f (Good r) ds = refl
 spread-on f (Bad x) ds = refl
 
 pub length-on : (f : Record → List ℕ) (d : Decoded) (ds : List Decoded)
-    → length (spread f (goods (d ∷ ds))) ≡ length (onGood f d) + length (spread f (goods ds))
-length-on f d ds = ap length (spread-on f d ds) ∙ length-append (onGood f d) (spread f (goods ds))
+    → length (joined f (goodRecords (d ∷ ds))) ≡ length (onGood f d) + length (joined f (goodRecords ds))
+length-on f d ds = ap length (spread-on f d ds) ∙ length-append (onGood f d) (joined f (goodRecords ds))
 
 -- a turn of a loop that writes what was decoded
 pub turn-table : (f : Record → List ℕ) (t t′ : List ℕ) (at at′ : ℕ) (d : Decoded) (ds : List Decoded)
     → t′ ≡ sets t at (onGood f d)
     → at′ ≡ at + length (onGood f d)
-    → sets t′ at′ (spread f (goods ds)) ≡ sets t at (spread f (goods (d ∷ ds)))
-turn-table f t t′ at at′ d ds p q = rw (p, q, spread-on f d ds) (sets-append t at (onGood f d) (spread f (goods ds)))
+    → sets t′ at′ (joined f (goodRecords ds)) ≡ sets t at (joined f (goodRecords (d ∷ ds)))
+turn-table f t t′ at at′ d ds p q = rw (p, q, spread-on f d ds) (sets-append t at (onGood f d) (joined f (goodRecords ds)))

@@ -16,7 +16,7 @@ use Rattle.grammar.specs.declared.Counts.{Counts}
 use Rattle.grammar.specs.declared.Verdict.{Verdict}
 use Rattle.grammar.specs.declared.Verdict.the-variants.{Accepted, Refused}
 use Rattle.grammar.specs.Grammar.{checked}
-use Rattle.grammar.specs.Lists.{goods, areasIn, cornersIn}
+use Rattle.grammar.specs.Lists.{goodRecords, areasIn, cornersIn}
 
 -- the n records from record i on
 unfoldable pub decodedFrom : List ℕ → ℕ → ℕ → List Decoded
@@ -28,7 +28,7 @@ decodedIn b = decodedFrom b 0 (length b / 16)
 
 -- the abstract drawing of a file
 abbrev pub recordsIn : List ℕ → List Record
-recordsIn b = goods (decodedIn b)
+recordsIn b = goodRecords (decodedIn b)
 
 -- 1, "length no multiple of 16, or over 4,096 records", place 0; then the records in order, then the end
 unfoldable pub verdictOf : List ℕ → Verdict

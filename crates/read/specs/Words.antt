@@ -52,26 +52,26 @@ unfoldable pub wordsOf : ℕ → Record → List ℕ
 wordsOf which r = cond (eqb which 0) (kindW r) (cond (eqb which 1) (areaW r) (cond (eqb which 2) (xW r) (yW r)))
 
 -- the words of all records, one after another
-unfoldable pub spread : (Record → List ℕ) → List Record → List ℕ
-spread f [] = []
-spread f (r ∷ rs) = f r ++ spread f rs
+unfoldable pub joined : (Record → List ℕ) → List Record → List ℕ
+joined f [] = []
+joined f (r ∷ rs) = f r ++ joined f rs
 
 -- the four tables' words in use
 abbrev pub planWords : List Record → List ℕ
-planWords rs = length rs ∷ areasIn rs ∷ cornersIn rs ∷ spread kindW rs
+planWords rs = length rs ∷ areasIn rs ∷ cornersIn rs ∷ joined kindW rs
 
 abbrev pub areaWords : List Record → List ℕ
-areaWords rs = spread areaW rs
+areaWords rs = joined areaW rs
 
 abbrev pub xWords : List Record → List ℕ
-xWords rs = spread xW rs
+xWords rs = joined xW rs
 
 abbrev pub yWords : List Record → List ℕ
-yWords rs = spread yW rs
+yWords rs = joined yW rs
 
 -- the file
 abbrev pub fileOf : List Record → List ℕ
-fileOf rs = spread bytesOf rs
+fileOf rs = joined bytesOf rs
 
 abbrev pub onGood : (Record → List ℕ) → Decoded → List ℕ
 onGood f (Good r) = f r

@@ -14,10 +14,10 @@ ghost use lib.ListN.{length, set};
 ghost use lib.Seq.{sets};
 ghost use Rattle.grammar.specs.declared.Verdict.the-variants.{Accepted};
 ghost use Rattle.grammar.specs.code.Machine.{scanN, startN};
-ghost use Rattle.grammar.specs.Lists.{goods};
+ghost use Rattle.grammar.specs.Lists.{goodRecords};
 ghost use Rattle.records.specs.Record.{kindOf};
 ghost use Rattle.records.specs.Bytes.{rawAt, decodedRaw};
-ghost use Rattle.read.specs.Words.{kindW, areaW, xW, yW, wordsOf, spread, planWords, areaWords, xWords, yWords, onGood};
+ghost use Rattle.read.specs.Words.{kindW, areaW, xW, yW, wordsOf, joined, planWords, areaWords, xWords, yWords, onGood};
 ghost use Rattle.read.specs.Reading.{decodedFrom, recordsLent, verdictOf, holds, ifRoom, readLent, leftBy, Filed};
 
 // The plan: its first words, the counts in use; the kinds of the records follow.
@@ -212,14 +212,14 @@ fn fill(
     ys: &mut [u32],
 )
     requires { ⌜ n * 16 ≤ length (now records) ⌝ }
-    requires { ⌜ 3 + length (spread (wordsOf 0) (goods (decodedFrom (now records) 0 n))) ≤ length (now plan) ⌝ }
-    requires { ⌜ 0 + length (spread (wordsOf 1) (goods (decodedFrom (now records) 0 n))) ≤ length (now areas) ⌝ }
-    requires { ⌜ 0 + length (spread (wordsOf 2) (goods (decodedFrom (now records) 0 n))) ≤ length (now xs) ⌝ }
-    requires { ⌜ 0 + length (spread (wordsOf 3) (goods (decodedFrom (now records) 0 n))) ≤ length (now ys) ⌝ }
-    ensures plan { λ _. ⌜ now (plan .exit) ≡ sets (now (plan .entry)) 3 (spread (wordsOf 0) (goods (decodedFrom (now (records .entry)) 0 n))) ⌝ }
-    ensures areas { λ _. ⌜ now (areas .exit) ≡ sets (now (areas .entry)) 0 (spread (wordsOf 1) (goods (decodedFrom (now (records .entry)) 0 n))) ⌝ }
-    ensures xs { λ _. ⌜ now (xs .exit) ≡ sets (now (xs .entry)) 0 (spread (wordsOf 2) (goods (decodedFrom (now (records .entry)) 0 n))) ⌝ }
-    ensures ys { λ _. ⌜ now (ys .exit) ≡ sets (now (ys .entry)) 0 (spread (wordsOf 3) (goods (decodedFrom (now (records .entry)) 0 n))) ⌝ }
+    requires { ⌜ 3 + length (joined (wordsOf 0) (goodRecords (decodedFrom (now records) 0 n))) ≤ length (now plan) ⌝ }
+    requires { ⌜ 0 + length (joined (wordsOf 1) (goodRecords (decodedFrom (now records) 0 n))) ≤ length (now areas) ⌝ }
+    requires { ⌜ 0 + length (joined (wordsOf 2) (goodRecords (decodedFrom (now records) 0 n))) ≤ length (now xs) ⌝ }
+    requires { ⌜ 0 + length (joined (wordsOf 3) (goodRecords (decodedFrom (now records) 0 n))) ≤ length (now ys) ⌝ }
+    ensures plan { λ _. ⌜ now (plan .exit) ≡ sets (now (plan .entry)) 3 (joined (wordsOf 0) (goodRecords (decodedFrom (now (records .entry)) 0 n))) ⌝ }
+    ensures areas { λ _. ⌜ now (areas .exit) ≡ sets (now (areas .entry)) 0 (joined (wordsOf 1) (goodRecords (decodedFrom (now (records .entry)) 0 n))) ⌝ }
+    ensures xs { λ _. ⌜ now (xs .exit) ≡ sets (now (xs .entry)) 0 (joined (wordsOf 2) (goodRecords (decodedFrom (now (records .entry)) 0 n))) ⌝ }
+    ensures ys { λ _. ⌜ now (ys .exit) ≡ sets (now (ys .entry)) 0 (joined (wordsOf 3) (goodRecords (decodedFrom (now (records .entry)) 0 n))) ⌝ }
 {
     let mut kind = PLAN_COUNTS;
     let mut area = 0;

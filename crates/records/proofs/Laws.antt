@@ -16,7 +16,7 @@ use Rattle.records.specs.declared.Record.{Record}
 use Rattle.records.specs.declared.Record.the-variants.{Area, First, Next, Open, Bar, Close}
 use Rattle.records.specs.declared.Decoded.the-variants.{Good, Bad}
 use Rattle.records.specs.Record.{allZero, paintRange, clipRange, areaRange, cornerRange, inRange, ranged, cornerOf, delimiterOf}
-use Rattle.records.specs.Bytes.{putRaw, rawBytes, number4, unnamed, fieldsOf, named, decodedRaw, rawArea, rawCorner, rawDelimiter, rawOf}
+use Rattle.records.specs.Bytes.{putRaw, rawBytes, number4, unnamedZero, fieldsOf, named, decodedRaw, rawArea, rawCorner, rawDelimiter, rawOf}
 
 abbrev Zeros : ℕ → List ℕ → Type 0
 Zeros b [] = b ≡ 0
@@ -122,7 +122,7 @@ four : (x : ℕ) → x ≤ 65536 → number4 (x % 256) (x / 256 % 256) (x / 6553
 four x h = omega arith
 
 pub raw-again : (t : Record) → inRange t ≡ true → decodedRaw (rawOf t) ≡ Good t
-unfolding decodedRaw unnamed named cornerOf delimiterOf
+unfolding decodedRaw unnamedZero named cornerOf delimiterOf
 raw-again (Area f) h = rw (again-area f (area-facts f h), h)
 raw-again (First x y) h = rw (four x (corner-x x y h), four y (corner-y x y h), h)
 raw-again (Next x y) h = rw (four x (corner-x x y h), four y (corner-y x y h), h)
@@ -134,7 +134,7 @@ raw-again Close h = refl
 pub record Told (r : Raw) (t : Record) : Type 0 where
   pub low : leb 1 (r .b0) ≡ true
   pub high : leb (r .b0) 6 ≡ true
-  pub zero : unnamed r ≡ true
+  pub zero : unnamedZero r ≡ true
   pub is : named r ≡ t
   pub range : inRange t ≡ true
 
@@ -154,12 +154,12 @@ ranged-told r t = go (inRange r) refl
 
 pub told : (r : Raw) (t : Record) → decodedRaw r ≡ Good t → Told r t
 unfolding decodedRaw
-told r t = go (leb 1 (r .b0)) (leb (r .b0) 6) (unnamed r) refl refl refl
+told r t = go (leb 1 (r .b0)) (leb (r .b0) 6) (unnamedZero r) refl refl refl
   where
     go : (a b d : Bool)
         → leb 1 (r .b0) ≡ a
         → leb (r .b0) 6 ≡ b
-        → unnamed r ≡ d
+        → unnamedZero r ≡ d
         → cond a (cond b (cond d (ranged (named r)) (Bad Field)) (Bad Kind)) (Bad Kind) ≡ Good t
         → Told r t
     go false b d p q u e = good-bad Kind t e
@@ -206,8 +206,8 @@ module _ (a1 a2 a3 a4 a5 a6 a7 a8 a9 a10 a11 a12 a13 a14 a15 : ℕ) where
   abbrev here : ℕ → Raw
   here k = raw k a1 a2 a3 a4 a5 a6 a7 a8 a9 a10 a11 a12 a13 a14 a15
 
-  back-area : Small (here 1) → unnamed (here 1) ≡ true → rawOf (named (here 1)) ≡ here 1
-  unfolding unnamed named fieldsOf
+  back-area : Small (here 1) → unnamedZero (here 1) ≡ true → rawOf (named (here 1)) ≡ here 1
+  unfolding unnamedZero named fieldsOf
   back-area s h =
       let z = zeros a7 (a10 ∷ a11 ∷ a12 ∷ a13 ∷ a14 ∷ a15 ∷ []) h in
       λ d. record {
@@ -309,10 +309,10 @@ module _ (a1 a2 a3 a4 a5 a6 a7 a8 a9 a10 a11 a12 a13 a14 a15 : ℕ) where
         b15 = sym (z .1 .1 .1 .1 .1 .1 .1 .1 .1 .1 .1 .1 .1 .1) d;
       }
 
-  back : (k : ℕ) → leb 1 k ≡ true → leb k 6 ≡ true → Small (here k) → unnamed (here k) ≡ true → rawOf (named (here k)) ≡ here k
-  unfolding unnamed named cornerOf delimiterOf
+  back : (k : ℕ) → leb 1 k ≡ true → leb k 6 ≡ true → Small (here k) → unnamedZero (here k) ≡ true → rawOf (named (here k)) ≡ here k
+  unfolding unnamedZero named cornerOf delimiterOf
   back =
-      kinds (λ k. Small (here k) → unnamed (here k) ≡ true → rawOf (named (here k)) ≡ here k)
+      kinds (λ k. Small (here k) → unnamedZero (here k) ≡ true → rawOf (named (here k)) ≡ here k)
       back-area
       (back-corner 2)
       (back-corner 3)

@@ -65,8 +65,8 @@ abbrev pub delimiterUnnamed : Raw → Bool
 delimiterUnnamed r =
     allZero (r .b1) (r .b2 ∷ r .b3 ∷ r .b4 ∷ r .b5 ∷ r .b6 ∷ r .b7 ∷ r .b8 ∷ r .b9 ∷ r .b10 ∷ r .b11 ∷ r .b12 ∷ r .b13 ∷ r .b14 ∷ r .b15 ∷ [])
 
-unfoldable pub unnamed : Raw → Bool
-unnamed r = cond (eqb (r .b0) 1) (areaUnnamed r) (cond (ltb (r .b0) 4) (cornerUnnamed r) (delimiterUnnamed r))
+unfoldable pub unnamedZero : Raw → Bool
+unnamedZero r = cond (eqb (r .b0) 1) (areaUnnamed r) (cond (ltb (r .b0) 4) (cornerUnnamed r) (delimiterUnnamed r))
 
 -- ---- the named bytes
 unfoldable pub fieldsOf : Raw → Fields
@@ -80,7 +80,7 @@ named r =
 
 -- a record; or 2, "unknown kind"; or 3, "field out of range or unnamed byte not zero"
 unfoldable pub decodedRaw : Raw → Decoded
-decodedRaw r = cond (leb 1 (r .b0)) (cond (leb (r .b0) 6) (cond (unnamed r) (ranged (named r)) (Bad Field)) (Bad Kind)) (Bad Kind)
+decodedRaw r = cond (leb 1 (r .b0)) (cond (leb (r .b0) 6) (cond (unnamedZero r) (ranged (named r)) (Bad Field)) (Bad Kind)) (Bad Kind)
 
 -- ---- the bytes of a record, for writing out
 abbrev pub rawArea : Fields → Raw

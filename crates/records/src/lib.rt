@@ -4,7 +4,7 @@ ghost use mathlib.Core.Path.{_≡_};
 ghost use Prim.Native.Nat.{_+_, _*_, _≤_, _<_};
 ghost use lib.ListN.{length};
 ghost use Rattle.records.specs.Record.{paintRange, clipRange, areaRange, cornerRange, inRange, ranged, cornerOf, delimiterOf};
-ghost use Rattle.records.specs.Bytes.{rawAt, putRaw, number2, number4, areaUnnamed, cornerUnnamed, delimiterUnnamed, unnamed, fieldsOf, named};
+ghost use Rattle.records.specs.Bytes.{rawAt, putRaw, number2, number4, areaUnnamed, cornerUnnamed, delimiterUnnamed, unnamedZero, fieldsOf, named};
 ghost use Rattle.records.specs.Bytes.{decodedRaw, rawArea, rawCorner, rawDelimiter, rawOf};
 
 // The limits of a drawing.
@@ -312,7 +312,7 @@ fn delimiter_unnamed(r: Raw) -> bool
 }
 
 fn unnamed_zero(r: Raw) -> bool
-    ensures answer { λ t. ⌜ t ≡ unnamed r ⌝ }
+    ensures answer { λ t. ⌜ t ≡ unnamedZero r ⌝ }
 {
     if r.b0 == BYTE_AREA {
         return area_unnamed(r);

@@ -8,7 +8,7 @@ use Rattle.records.specs.declared.Record.the-variants.{Area, First, Next}
 use Rattle.records.specs.Record.{areaRange}
 use Rattle.grammar.specs.Grammar as Grammar
 use Rattle.grammar.specs.Grammar.{counts}
-use Rattle.read.specs.Words.{spread}
+use Rattle.read.specs.Words.{joined}
 use Rattle.drawing.specs.Tables.{Tables, tables, drawnIn}
 use Rattle.drawing.specs.code.Held.{Acceptable, Holding}
 use Rattle.drawing.proofs.Theorems.{drawn-records}
@@ -32,7 +32,7 @@ unfolding areaRange Grammar.checked Grammar.course
 triangle-accepted = record { range = refl; below = omega arith; fold = refl }
 
 triangle-held : Holding lent triangle
-unfolding spread
+unfolding joined
 triangle-held =
     record {
       plan = record { room = omega arith; same = refl };

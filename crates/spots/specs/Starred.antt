@@ -36,13 +36,13 @@ abbrev pub twoAreas : List ℕ
 twoAreas = 0 ∷ 0 ∷ 254 ∷ 1 ∷ 2 ∷ 3 ∷ 4 ∷ 0 ∷ 0 ∷ 0 ∷ 254 ∷ 1 ∷ 2 ∷ 3 ∷ 5 ∷ 0 ∷ []
 
 -- "Two areas of alpha 254 ..., and a third behind": three areas, each with the triangle's contour
-abbrev pub veil : Fields
-veil = record { role = 0; rule = 0; alpha = 254; red = 1; green = 2; blue = 3; material = 4 }
+abbrev pub translucent : Fields
+translucent = record { role = 0; rule = 0; alpha = 254; red = 1; green = 2; blue = 3; material = 4 }
 
 abbrev pub threeAreas : Drawing
 threeAreas =
     record {
-      fields = veil ∷ veil ∷ veil ∷ [];
+      fields = translucent ∷ translucent ∷ translucent ∷ [];
       xs = triangleX;
       ys = triangleY;
       contours = (contour 0 3 ∷ []) ∷ (contour 0 3 ∷ []) ∷ (contour 0 3 ∷ []) ∷ [];

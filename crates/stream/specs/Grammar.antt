@@ -102,15 +102,15 @@ fits v p bad = false
 
 -- the limits of a drawing are those of a stream, in which lines and shortcuts stand for corners: "Limits: 4,096 records, 64 areas, 2,048
 -- corners, 8 open groups."
-abbrev pub limit : Place → Entry → Bool
-limit p opens = ltb (length (p .groups)) 8
-limit p bar = true
-limit p closes = true
-limit p (area n q) = ltb (p .areas) 64
-limit p (line a b) = ltb (p .lines) 2048
-limit p (shortcut s a b) = ltb (p .lines) 2048
-limit p passes = true
-limit p bad = false
+abbrev pub inLimit : Place → Entry → Bool
+inLimit p opens = ltb (length (p .groups)) 8
+inLimit p bar = true
+inLimit p closes = true
+inLimit p (area n q) = ltb (p .areas) 64
+inLimit p (line a b) = ltb (p .lines) 2048
+inLimit p (shortcut s a b) = ltb (p .lines) 2048
+inLimit p passes = true
+inLimit p bad = false
 
 abbrev pub after : Place → Entry → Place
 after p opens = place (opening (p .groups)) false (p .areas) (p .lines)
@@ -128,7 +128,7 @@ pub data Course : Type 0 where
   off : Course
 
 abbrev pub next : Env → Place → Entry → Course
-next v p e = cond (inRange v e) (cond (fits v p e) (cond (limit p e) (at (after p e)) off) off) off
+next v p e = cond (inRange v e) (cond (fits v p e) (cond (inLimit p e) (at (after p e)) off) off) off
 
 abbrev pub met : Env → Course → Entry → Course
 met v (at p) e = next v p e

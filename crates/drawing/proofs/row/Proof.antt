@@ -1,4 +1,4 @@
-use Rattle.drawing.specs.Tables.{rowOf}
+use Rattle.drawing.specs.Tables.{recordAt}
 use borrow.Author.Tests.{le-leb, lt-leb}
 use borrow.Author.Needs.{needs}
 use Rattle.drawing.proofs.row.Statement.{statement}
@@ -17,18 +17,18 @@ kind-row-requires : tie.Need-kind-row-requires
 kind-row-requires c κs = search needs
 
 returns : tie.Need-returns
-unfolding rowOf
+unfolding recordAt
 returns c =
     let at-if2 = c .before in
     let at-if1 = at-if2 .before in
     rw (le-leb _ _ (at-if1 .if1 .taken), le-leb _ _ (at-if2 .if2 .taken), c .kind-row .ensures)
 
 returns-2 : tie.Need-returns-2
-unfolding rowOf
+unfolding recordAt
 returns-2 c = rw (le-leb _ _ (c .before .if1 .taken), lt-leb _ _ (c .if2 .left))
 
 returns-3 : tie.Need-returns-3
-unfolding rowOf
+unfolding recordAt
 returns-3 c = rw (lt-leb _ _ (c .if1 .left))
 
 pub row-spec : {M : Type 1} → statement M

@@ -32,21 +32,21 @@ fitsN s Open = true
 fitsN s Bar = leftN (s .stack)
 fitsN s Close = rightN (s .stack)
 
-abbrev pub endsN : State → Record → Bool
-endsN s (Area f) = isShort (s .run)
-endsN s (First x y) = isShort (s .run)
-endsN s (Next x y) = false
-endsN s Open = isShort (s .run)
-endsN s Bar = isShort (s .run)
-endsN s Close = isShort (s .run)
+abbrev pub endsShortN : State → Record → Bool
+endsShortN s (Area f) = isShort (s .run)
+endsShortN s (First x y) = isShort (s .run)
+endsShortN s (Next x y) = false
+endsShortN s Open = isShort (s .run)
+endsShortN s Bar = isShort (s .run)
+endsShortN s Close = isShort (s .run)
 
-abbrev pub limitN : State → Record → Bool
-limitN s (Area f) = ltb (s .areas) 64
-limitN s (First x y) = ltb (s .corners) 2048
-limitN s (Next x y) = ltb (s .corners) 2048
-limitN s Open = roomN (s .stack)
-limitN s Bar = true
-limitN s Close = true
+abbrev pub inLimitN : State → Record → Bool
+inLimitN s (Area f) = ltb (s .areas) 64
+inLimitN s (First x y) = ltb (s .corners) 2048
+inLimitN s (Next x y) = ltb (s .corners) 2048
+inLimitN s Open = roomN (s .stack)
+inLimitN s Bar = true
+inLimitN s Close = true
 
 abbrev pub areaN : State → State
 areaN s = mk (s .stack) true 0 (s .areas + 1) (s .corners)
@@ -75,7 +75,7 @@ afterN s Bar = afterBarN s
 afterN s Close = afterCloseN s
 
 abbrev pub stepN : State → Record → Step
-stepN s r = cond (fitsN s r) (cond (endsN s r) (Off Short) (cond (limitN s r) (On (afterN s r)) (Off Limit))) (Off Unfit)
+stepN s r = cond (fitsN s r) (cond (endsShortN s r) (Off Short) (cond (inLimitN s r) (On (afterN s r)) (Off Limit))) (Off Unfit)
 
 abbrev pub settledN : Step → ℕ → Scan
 settledN (On s) i = At s

@@ -33,5 +33,5 @@ LastIn t (At l) = LeafIn t l
 LastIn t Broken = Unit {0}
 
 -- the shown set with the leaf that it is read from
-abbrev pub shownIn : Tree → (x y : ℕ) → Shown
-shownIn t x y = cond (known t x y) (Set (setIn t x y) (leafIn t x y)) Seen.Broken
+abbrev pub shownThere : Tree → (x y : ℕ) → Shown
+shownThere t x y = cond (known t x y) (Set (setIn t x y) (leafIn t x y)) Seen.Broken

@@ -1,4 +1,4 @@
-use Rattle.records.specs.Bytes.{unnamed}
+use Rattle.records.specs.Bytes.{unnamedZero}
 use Rattle.laws.proofs.Tests.{tests}
 use borrow.Author.Needs.{needs}
 use Rattle.records.proofs.unnamed_zero.Statement.{statement}
@@ -8,21 +8,21 @@ area-unnamed-requires : tie.Need-area-unnamed-requires
 area-unnamed-requires c κs = search needs
 
 returns : tie.Need-returns
-unfolding unnamed
+unfolding unnamedZero
 returns c = search tests
 
 corner-unnamed-requires : tie.Need-corner-unnamed-requires
 corner-unnamed-requires c κs = search needs
 
 returns-2 : tie.Need-returns-2
-unfolding unnamed
+unfolding unnamedZero
 returns-2 c = search tests
 
 delimiter-unnamed-requires : tie.Need-delimiter-unnamed-requires
 delimiter-unnamed-requires c κs = search needs
 
 returns-3 : tie.Need-returns-3
-unfolding unnamed
+unfolding unnamedZero
 returns-3 c = search tests
 
 pub unnamed-zero-spec : {M : Type 1} → statement M
