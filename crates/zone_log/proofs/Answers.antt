@@ -2,7 +2,7 @@
 use mathlib.Core.Path.{_≡_, refl, sym, ap, ap₂, _∙_}
 use mathlib.Core.Bool.{Bool, true, false, cond, _&&_}
 use mathlib.Core.List.{List}
-use Prim.Native.Nat.{ℕ, _≤_}
+use Prim.Native.Nat.{ℕ}
 use native.Mathlib.Omega.{arith}
 use lib.Dec.{leb}
 use lib.ListN.{length}
@@ -15,7 +15,7 @@ use Rattle.zone_log.specs.declared.Count.{Count}
 use Rattle.zone_log.specs.declared.Count.the-variants.{Known, Broken}
 use Rattle.zone_log.specs.declared.LogAnswer.the-variants.{Indices, Not}
 use Rattle.zone_log.specs.Logs.{eachWord, knownFrom, zoneLog, logRoom, logKnown}
-use Rattle.zone_log.specs.code.Numbers.{countIn}
+use Rattle.zone_log.specs.code.Numbers.{Accepted, countIn}
 
 module _ (t : Tree) (px py : List ℕ) where
   abbrev pub all : Bool
@@ -47,10 +47,10 @@ module _ (t : Tree) (px py : List ℕ) where
     room-is : (n : ℕ) (b : Bool) → Told n b → (leb n out && b) ≡ room
     room-is n b h = ap₂ (λ (m : ℕ) (f : Bool). leb m out && f) (h .size) (h .words)
 
-    pub log-room : (n : ℕ) (b : Bool) → Told n b → (leb n out && b) ≡ true → (length (zoneLog t px py) ≤ out) × (eachWord (zoneLog t px py) ≡ true)
+    pub log-room : (n : ℕ) (b : Bool) → Told n b → (leb n out && b) ≡ true → Accepted t px py out
     log-room n b h e =
         let p = both (leb (length (zoneLog t px py)) out) (eachWord (zoneLog t px py)) (sym (room-is n b h) ∙ e) in
-        (leb-true (length (zoneLog t px py)) out (p .0), p .1)
+        record { knows = h .knows; size = leb-true (length (zoneLog t px py)) out (p .0); words = p .1 }
 
     pub log-written : (n : ℕ) (b : Bool) → Told n b → (leb n out && b) ≡ true → Indices n ≡ logKnown t px py out
     log-written n b h e =

@@ -1,5 +1,5 @@
 -- Laws of zone logs.
 pub mod Runs
-pub mod Counting
+pub mod Passes
 pub mod Answers
 pub mod Agree

@@ -5,13 +5,13 @@ use position::Shown;
 use refusals::Refusal;
 ghost use mathlib.Core.Path.{_≡_};
 ghost use mathlib.Core.Bool.{true, cond};
-ghost use Prim.Native.Nat.{_+_, _≤_, _<_};
+ghost use Prim.Native.Nat.{_<_};
 ghost use lib.ListN.{length, set};
 ghost use lib.Seq.{sets};
 ghost use Rattle.tables.specs.Tables.{tree, treeLent};
 ghost use Rattle.find_leaf.specs.Leaf.{positionRange};
-ghost use Rattle.zone_log.specs.Logs.{outsideFrom, eachWord, knownFrom, zoneLog, logKnown, logRange, logAnswer, outAfter};
-ghost use Rattle.zone_log.specs.code.Numbers.{RunIn, loggedN, talliedN, countIn};
+ghost use Rattle.zone_log.specs.Logs.{outsideFrom, zoneLog, logKnown, logRange, logAnswer, outAfter};
+ghost use Rattle.zone_log.specs.code.Numbers.{RunIn, Accepted, loggedN, talliedN, countIn};
 
 // One past the largest number that a word holds.
 const WORD_END: usize = 4294967296;
@@ -78,22 +78,20 @@ fn tallied(c: Tally, i: usize, logged: bool) -> Tally
     c
 }
 
-// Writes index i at place k, where it is in the log, and gives the place behind.
-fn put_logged(out: &mut [u32], k: usize, i: usize, logged: bool) -> usize
-    requires { ⌜ (logged ≡ true → (k < length (now out)) × (i < 4294967296)) ⌝ }
-    ensures answer { λ r. ⌜ r ≡ cond logged (k + 1) k ⌝ }
-    ensures out { λ _. ⌜ now (out .exit) ≡ cond logged (set (now (out .entry)) k i) (now (out .entry)) ⌝ }
+// Writes index i at place k, where it is to be written.
+fn put_logged(out: &mut [u32], k: usize, i: usize, written: bool)
+    requires { ⌜ (written ≡ true → (k < length (now out)) × (i < 4294967296)) ⌝ }
+    ensures out { λ _. ⌜ now (out .exit) ≡ cond written (set (now (out .entry)) k i) (now (out .entry)) ⌝ }
 {
-    if logged {
+    if written {
         out[k] = i as u32;
-        return k + 1;
     }
-    k
 }
 
-// ---- the passes over a run
+// ---- the pass over a run
 // How many indices the log of a run has and whether a word holds each of them, or 12. The positions are in range.
-fn count_log(
+// Where `written` says so the log is also written, from the table's beginning on: then 12 is met at none of the positions, and there is room.
+fn log_pass(
     plan: &[u32],
     areas: &[u32],
     xs: &[u32],
@@ -103,9 +101,17 @@ fn count_log(
     entries: &[u32],
     px: &[u32],
     py: &[u32],
+    out: &mut [u32],
+    written: bool,
 ) -> Count
     requires { ⌜ RunIn (now px) (now py) ⌝ }
+    requires { ⌜ (written ≡ true →
+        Accepted (tree (now plan) (now areas) (now xs) (now ys) (now head) (now cells) (now entries)) (now px) (now py) (length (now out))) ⌝ }
     ensures answer { λ r. ⌜ r ≡ countIn (treeLent plan areas xs ys head cells entries) (now (px .entry)) (now (py .entry)) ⌝ }
+    ensures out { λ _. ⌜ now (out .exit) ≡
+        cond written
+        (sets (now (out .entry)) 0 (zoneLog (treeLent plan areas xs ys head cells entries) (now (px .entry)) (now (py .entry))))
+        (now (out .entry)) ⌝ }
 {
     let n = px.len();
     let mut last = Found::Broken;
@@ -132,6 +138,7 @@ fn count_log(
             Shown::Set(shown, f) => {
                 let m = area::material_of(areas, shown);
                 let logged = is_logged(i, prior, m);
+                put_logged(out, c.count, i, logged & written);
                 c = tallied(c, i, logged);
                 prior = m;
                 last = f;
@@ -143,60 +150,6 @@ fn count_log(
         }
     }
     Count::Known(c.count, c.fits)
-}
-
-// Writes the log of a run. Its positions are in range, none is met by 12, and there is room.
-fn write_log(
-    plan: &[u32],
-    areas: &[u32],
-    xs: &[u32],
-    ys: &[u32],
-    head: &[u32],
-    cells: &[u32],
-    entries: &[u32],
-    px: &[u32],
-    py: &[u32],
-    out: &mut [u32],
-)
-    requires { ⌜ RunIn (now px) (now py) ⌝ }
-    requires { ⌜ knownFrom (tree (now plan) (now areas) (now xs) (now ys) (now head) (now cells) (now entries)) (now px) (now py) 0 (length (now px)) ≡ true ⌝ }
-    requires { ⌜ length (zoneLog (tree (now plan) (now areas) (now xs) (now ys) (now head) (now cells) (now entries)) (now px) (now py)) ≤ length (now out) ⌝ }
-    requires { ⌜ eachWord (zoneLog (tree (now plan) (now areas) (now xs) (now ys) (now head) (now cells) (now entries)) (now px) (now py)) ≡ true ⌝ }
-    ensures out { λ _. ⌜ now (out .exit) ≡
-        sets (now (out .entry)) 0 (zoneLog (treeLent plan areas xs ys head cells entries) (now (px .entry)) (now (py .entry))) ⌝ }
-{
-    let n = px.len();
-    let mut last = Found::Broken;
-    let mut prior: u32 = 0;
-    let mut k: usize = 0;
-    let mut i: usize = 0;
-    while i < n {
-        let s = position::shown_at(
-            plan,
-            areas,
-            xs,
-            ys,
-            head,
-            cells,
-            entries,
-            last,
-            px[i],
-            py[i],
-        );
-        match s {
-            Shown::Set(shown, f) => {
-                let m = area::material_of(areas, shown);
-                let logged = is_logged(i, prior, m);
-                k = put_logged(out, k, i, logged);
-                prior = m;
-                last = f;
-                i += 1;
-            }
-            Shown::Broken => {
-                return;
-            }
-        }
-    }
 }
 
 // ---- the call
@@ -217,11 +170,23 @@ fn log_known(
     ensures answer { λ r. ⌜ r ≡ logKnown (treeLent plan areas xs ys head cells entries) (now (px .entry)) (now (py .entry)) (length (now (out .entry))) ⌝ }
     ensures out { λ r. ⌜ now (out .exit) ≡ outAfter (treeLent plan areas xs ys head cells entries) (now (px .entry)) (now (py .entry)) r (now (out .entry)) ⌝ }
 {
-    let c = count_log(plan, areas, xs, ys, head, cells, entries, px, py);
+    let c = log_pass(
+        plan,
+        areas,
+        xs,
+        ys,
+        head,
+        cells,
+        entries,
+        px,
+        py,
+        out,
+        false,
+    );
     match c {
         Count::Known(count, fits) => {
             if (count <= out.len()) & fits {
-                write_log(plan, areas, xs, ys, head, cells, entries, px, py, out);
+                log_pass(plan, areas, xs, ys, head, cells, entries, px, py, out, true);
                 return LogAnswer::Indices(count);
             }
             LogAnswer::Not(Refusal::Room, 0)

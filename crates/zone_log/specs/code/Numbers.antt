@@ -1,8 +1,8 @@
 -- A zone log as the numbers that the code holds.
 use mathlib.Core.Path.{_≡_}
-use mathlib.Core.Bool.{Bool, cond, not, _&&_, _||_}
+use mathlib.Core.Bool.{Bool, true, cond, not, _&&_, _||_}
 use mathlib.Core.List.{List}
-use Prim.Native.Nat.{ℕ, _+_, _<_}
+use Prim.Native.Nat.{ℕ, _+_, _≤_, _<_}
 use lib.Dec.{eqb, ltb}
 use lib.ListN.{length, getD}
 use Rattle.tables.specs.Tables.{Tree}
@@ -15,6 +15,12 @@ use Rattle.zone_log.specs.Logs.{eachWord, knownFrom, zoneLog}
 pub record RunIn (px py : List ℕ) : Type 0 where
   pub same : length px ≡ length py
   pub inside : (i : ℕ) → i < length px → (getD px i 0 < 65536) × (getD py i 0 < 65536)
+
+-- a run met by 12 nowhere, whose log has room in a table of so many words
+pub record Accepted (t : Tree) (px py : List ℕ) (out : ℕ) : Type 0 where
+  pub knows : knownFrom t px py 0 (length px) ≡ true
+  pub size : length (zoneLog t px py) ≤ out
+  pub words : eachWord (zoneLog t px py) ≡ true
 
 -- whether index i, with this material, is in the log, where the index before has the material `before`
 abbrev pub loggedN : (i before material : ℕ) → Bool

@@ -1,33 +1,28 @@
-use Rattle.zone_log.proofs.Counting.{Writing, writing-begin, writing-room, writing-turn, writing-done, writing-known}
+use Rattle.zone_log.proofs.Passes.{Passing, passing-begin, passing-room, passing-turn, passing-done, passing-broken}
 use Rattle.celltable.specs.declared.Found.the-variants.{Broken}
 use Rattle.position.proofs.Known.{known-set, unknown-set, in-painted}
 use Rattle.tables.specs.Tables.{tree}
-use lib.ListN.{length, getD}
+use lib.ListN.{getD}
 use denote.Ref.{now}
 use native.Mathlib.Omega.{arith}
 use Prim.Native.Nat.{_-_}
 use borrow.Author.Needs.{needs}
-use mathlib.Core.Path.{_≡_, refl}
-use Rattle.zone_log.proofs.write_log.Statement.{statement}
-use Rattle.zone_log.proofs.write_log.Tie as tie
+use Rattle.zone_log.proofs.log_pass.Statement.{statement}
+use Rattle.zone_log.proofs.log_pass.Tie as tie
 
 abbrev Inv-loop : tie.InvT-loop
-Inv-loop plan areas xs ys head cells entries px py out₀ n last₀ prior₀ k₀ i₀ out last prior k i =
-    (n ≡ length px) × Writing (tree plan areas xs ys head cells entries) px py out₀ n i last prior k out
+Inv-loop plan areas xs ys head cells entries px py out₀ written n last₀ prior₀ c₀ i₀ out last prior c i =
+    Passing (tree plan areas xs ys head cells entries) px py written out₀ i last prior c out
 
 abbrev μ-loop : tie.MeasureT-loop
-μ-loop plan areas xs ys head cells entries px py out₀ n last₀ prior₀ k₀ i₀ out last prior k i = n - i
+μ-loop plan areas xs ys head cells entries px py out₀ written n last₀ prior₀ c₀ i₀ out last prior c i = n - i
 
 loop-holds : tie.Need-loop-holds Inv-loop μ-loop
 loop-holds c =
     let at-entry = c .before .before .before .before .before .before .before .before .before .before in
     let a = at-entry .args in
-    let p = at-entry .pre in
-    let T = tree (now (a .plan)) (now (a .areas)) (now (a .xs)) (now (a .ys)) (now (a .head)) (now (a .cells)) (now (a .entries)) in (
-      refl,
-      writing-begin T (now (a .px)) (now (a .py)) (now (a .out)) (length (now (a .px))) 0 Broken tt refl (p .1 .1 .0) (p .1 .1 .1)
-          (p .1 .0),
-    )
+    let T = tree (now (a .plan)) (now (a .areas)) (now (a .xs)) (now (a .ys)) (now (a .head)) (now (a .cells)) (now (a .entries)) in
+    passing-begin T (now (a .px)) (now (a .py)) (a .written) (now (a .out)) 0 Broken tt
 
 mul-shown-at : tie.Need-mul-shown-at Inv-loop μ-loop
 mul-shown-at c =
@@ -68,7 +63,7 @@ shown-at-requires c κs =
     let p = at-entry .pre in
     let i = at-loop .loop .i in
     let k = at-loop-test .loop-test .taken in
-    (at-loop .loop .inv .1 .pass .leaf, p .0 .inside i k)
+    (at-loop .loop .inv .leaf, p .0 .inside i k)
 
 enum-known-s : tie.Need-enum-known-s Inv-loop μ-loop
 enum-known-s c = search needs
@@ -106,28 +101,34 @@ put-logged-requires c κs =
     let px = now (a .px) in
     let py = now (a .py) in
     let i = at-loop .loop .i in
-    let k = at-loop-test .loop-test .taken in
     let g = known-set T (getD px i 0) (getD py i 0) (after-shown-at .shown-at .result) (after-s .s .given .0 .0)
     (after-s .s .given .0 .1 .0) (after-shown-at .shown-at .ensures) (after-s .s .given .1) in
-    λ e.
-    writing-room T px py (now (a .out)) (length px) i (after-s .s .given .0 .0) (at-loop .loop .last) (after-s .s .given .0 .1 .0)
-    (at-loop .loop .prior) (after-material-of .material-of .result) (at-loop .loop .k) (at-loop .loop .out) k (at-loop .loop .inv .1) g
-    (after-material-of .material-of .ensures) (after-is-logged .is-logged .result) (after-is-logged .is-logged .ensures) e
+    passing-room T px py (a .written) (now (a .out)) i (after-s .s .given .0 .0) (at-loop .loop .last) (after-s .s .given .0 .1 .0)
+    (at-loop .loop .prior) (after-material-of .material-of .result) (after-is-logged .is-logged .result) (at-loop .loop .c) (at-loop .loop .out)
+    (at-loop-test .loop-test .taken) (at-loop .loop .inv) g (after-material-of .material-of .ensures) (after-is-logged .is-logged .ensures)
+    (at-entry .pre .1)
+
+tallied-requires : tie.Need-tallied-requires Inv-loop μ-loop
+tallied-requires c κs =
+    let at-loop-test = c .before .before .before .before .before .before .before .before .before .before .before .before in
+    let at-loop = at-loop-test .before in
+    let at-entry = at-loop .before .before .before .before .before .before .before .before .before .before .before in
+    omega (arith, at-entry .good, at-loop-test .loop-test .taken, at-loop .loop .inv .few)
 
 add-i : tie.Need-add-i Inv-loop μ-loop
 add-i c =
-    let at-loop-test = c .before .before .before .before .before .before .before .before .before .before .before .before in
+    let at-loop-test = c .before .before .before .before .before .before .before .before .before .before .before .before .before in
     let at-entry = at-loop-test .before .before .before .before .before .before .before .before .before .before .before .before in
     omega (arith, at-entry .good, at-loop-test .loop-test .taken)
 
 loop-less : tie.Need-loop-less Inv-loop μ-loop
 loop-less c =
-    let at-loop-test = c .before .before .before .before .before .before .before .before .before .before .before .before in
+    let at-loop-test = c .before .before .before .before .before .before .before .before .before .before .before .before .before in
     omega (arith, at-loop-test .loop-test .taken)
 
 loop-again : tie.Need-loop-again Inv-loop μ-loop
 loop-again c =
-    let after-put-logged = c .before .before in
+    let after-put-logged = c .before .before .before in
     let after-is-logged = after-put-logged .before .before in
     let after-material-of = after-is-logged .before in
     let after-s = after-material-of .before .before in
@@ -140,15 +141,12 @@ loop-again c =
     let px = now (a .px) in
     let py = now (a .py) in
     let i = at-loop .loop .i in
-    let k = at-loop-test .loop-test .taken in
     let g = known-set T (getD px i 0) (getD py i 0) (after-shown-at .shown-at .result) (after-s .s .given .0 .0)
-    (after-s .s .given .0 .1 .0) (after-shown-at .shown-at .ensures) (after-s .s .given .1) in (
-      at-loop .loop .inv .0,
-      writing-turn T px py (now (a .out)) (length px) i (after-s .s .given .0 .0) (at-loop .loop .last) (after-s .s .given .0 .1 .0)
-          (at-loop .loop .prior) (after-material-of .material-of .result) (at-loop .loop .k) (at-loop .loop .out) k (at-loop .loop .inv .1)
-          g (after-material-of .material-of .ensures) (after-is-logged .is-logged .result) (after-put-logged .put-logged .result) _
-          (after-is-logged .is-logged .ensures) (after-put-logged .put-logged .ensures .0) (after-put-logged .put-logged .ensures .1),
-    )
+    (after-s .s .given .0 .1 .0) (after-shown-at .shown-at .ensures) (after-s .s .given .1) in
+    passing-turn T px py (a .written) (now (a .out)) i (after-s .s .given .0 .0) (at-loop .loop .last) (after-s .s .given .0 .1 .0)
+    (at-loop .loop .prior) (after-material-of .material-of .result) (after-is-logged .is-logged .result) (at-loop .loop .c) (at-loop .loop .out)
+    (at-loop-test .loop-test .taken) (at-loop .loop .inv) g (after-material-of .material-of .ensures) (after-is-logged .is-logged .ensures)
+    (c .tallied .result) _ (after-put-logged .put-logged .ensures) (c .tallied .ensures)
 
 enum-told : tie.Need-enum-told Inv-loop μ-loop
 enum-told c = search needs
@@ -157,7 +155,7 @@ same-length : tie.Need-same-length Inv-loop μ-loop
 same-length c =
     let at-loop-test = c .before .before .before .before .before in
     let at-loop = at-loop-test .before in
-    at-loop .loop .inv .1 .size
+    at-loop .loop .inv .size
 
 returns : tie.Need-returns Inv-loop μ-loop
 returns c =
@@ -170,16 +168,15 @@ returns c =
     let px = now (a .px) in
     let py = now (a .py) in
     let i = at-loop .loop .i in
-    let k = at-loop-test .loop-test .taken in
-    writing-known T px py (now (a .out)) (length px) i (at-loop .loop .last) (at-loop .loop .prior) (at-loop .loop .k) (at-loop .loop .out)
-    k (at-loop .loop .inv .1)
+    passing-broken T px py (a .written) (now (a .out)) i (at-loop .loop .last) (at-loop .loop .prior) (at-loop .loop .c) (at-loop .loop .out)
+    (at-loop-test .loop-test .taken) (at-entry .pre .1) (at-loop .loop .inv)
     (unknown-set T (getD px i 0) (getD py i 0) (after-shown-at .shown-at .result) (after-shown-at .shown-at .ensures)
     (c .enum-told .given .1))
 
 same-length-2 : tie.Need-same-length-2 Inv-loop μ-loop
 same-length-2 c =
     let at-loop = c .before in
-    at-loop .loop .inv .1 .size
+    at-loop .loop .inv .size
 
 returns-2 : tie.Need-returns-2 Inv-loop μ-loop
 returns-2 c =
@@ -190,12 +187,11 @@ returns-2 c =
     let px = now (a .px) in
     let py = now (a .py) in
     let i = at-loop .loop .i in
-    let k = c .loop-test .left in
-    writing-done T px py (now (a .out)) (length px) i (at-loop .loop .last) (at-loop .loop .prior) (at-loop .loop .k) (at-loop .loop .out) k
-    (at-loop .loop .inv .1)
+    passing-done T px py (a .written) (now (a .out)) i (at-loop .loop .last) (at-loop .loop .prior) (at-loop .loop .c) (at-loop .loop .out)
+    (c .loop-test .left) (at-loop .loop .inv)
 
-pub write-log-spec : {M : Type 1} → statement M
-write-log-spec =
+pub log-pass-spec : {M : Type 1} → statement M
+log-pass-spec =
     tie.close
     (tie.spec
     Inv-loop
@@ -210,6 +206,7 @@ write-log-spec =
     material-of-requires
     is-logged-requires
     put-logged-requires
+    tallied-requires
     add-i
     loop-less
     loop-again
