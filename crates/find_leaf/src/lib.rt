@@ -10,7 +10,7 @@ ghost use lib.ListN.{length, getD};
 ghost use Rattle.stream.specs.Table.{wordsFrom};
 ghost use Rattle.stream.specs.Grammar.{env, bounds, checkStream};
 ghost use Rattle.tables.specs.Tables.{treeLent, countsIn};
-ghost use Rattle.find_leaf.specs.Leaf.{linesIn, leafIn, reportOf, foundBy, findAnswer};
+ghost use Rattle.find_leaf.specs.Leaf.{positionRange, linesIn, leafIn, reportOf, foundBy, findAnswer};
 
 // A leaf as it is reported: its number, low corner, side, depth, and how many entries and lines it has.
 pub struct FoundLeaf {
@@ -183,6 +183,13 @@ fn find_within(
     }
 }
 
+// Whether (x, y) is a position: each of the two from 0 to 65,535.
+pub fn is_position(x: u32, y: u32) -> bool
+    ensures answer { λ r. ⌜ r ≡ positionRange x y ⌝ }
+{
+    (x < celltable::GRID) & (y < celltable::GRID)
+}
+
 // Finds the leaf that holds (x, y). Any tables may be handed in. Refusals, in this order: 7, 12.
 pub fn find_leaf(
     plan: &[u32],
@@ -198,7 +205,7 @@ pub fn find_leaf(
     ensures answer { λ r. ⌜ r ≡ findAnswer (treeLent plan areas xs ys head cells entries) x y ⌝ }
 {
     if xs.len() == ys.len() {
-        if (x < celltable::GRID) & (y < celltable::GRID) {
+        if is_position(x, y) {
             return find_within(plan, areas, xs, ys, head, cells, entries, x, y);
         }
         return Answer::Not(Refusal::Argument);

@@ -195,7 +195,7 @@ pub fn position(
     ensures answer { λ r. ⌜ r ≡ positionAnswer (treeLent plan areas xs ys head cells entries) x y ⌝ }
 {
     if xs.len() == ys.len() {
-        if (x < celltable::GRID) & (y < celltable::GRID) {
+        if find_leaf::is_position(x, y) {
             return spot_at(plan, areas, xs, ys, head, cells, entries, x, y);
         }
         return Answer::Not(Refusal::Argument);

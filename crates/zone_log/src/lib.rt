@@ -9,7 +9,6 @@ ghost use Prim.Native.Nat.{_<_};
 ghost use lib.ListN.{length, set};
 ghost use lib.Seq.{sets};
 ghost use Rattle.tables.specs.Tables.{tree, treeLent};
-ghost use Rattle.find_leaf.specs.Leaf.{positionRange};
 ghost use Rattle.zone_log.specs.Logs.{outsideFrom, zoneLog, logKnown, logRange, logAnswer, outAfter};
 ghost use Rattle.zone_log.specs.code.Numbers.{RunIn, Accepted, loggedN, talliedN, countIn};
 
@@ -35,12 +34,6 @@ pub enum Count {
 }
 
 // ---- the positions
-fn in_range(x: u32, y: u32) -> bool
-    ensures answer { λ r. ⌜ r ≡ positionRange x y ⌝ }
-{
-    (x < celltable::GRID) & (y < celltable::GRID)
-}
-
 // The lowest index whose position is out of range; the length of the run where there is none.
 fn first_outside(px: &[u32], py: &[u32]) -> usize
     requires { ⌜ length (now px) ≡ length (now py) ⌝ }
@@ -49,7 +42,7 @@ fn first_outside(px: &[u32], py: &[u32]) -> usize
     let n = px.len();
     let mut i: usize = 0;
     while i < n {
-        if in_range(px[i], py[i]) {
+        if find_leaf::is_position(px[i], py[i]) {
             i += 1;
         } else {
             return i;
