@@ -518,7 +518,7 @@ fn numbers_of_cells() {
         (1, 3, 5, nine, Ok(5)),
         (1, 3, 6, twelve, twelve),
         (1, 3, u32::MAX - 2, twelve, twelve),
-        // Children that are not on their own squares are met on the way down.
+        // Children that are not on their own squares are met on the path down.
         (0, 3, 5, nine, twelve),
         // Cell 0 on its own square.
         (0, 2, 32_768, twelve, twelve),

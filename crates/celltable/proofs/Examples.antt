@@ -70,7 +70,7 @@ astray : descendIn swapped 5 7 32768 0 ≡ Broken
 unfolding descendIn downFrom cellRange powerUpTo
 astray = refl
 
--- a cell that says that it is its own child is no way down for ever
+-- a cell that says that it is its own child is no endless path down
 abbrev circle : List ℕ
 circle = row 0 0 65536 1 0 0 ++ row 0 0 32768 1 0 0 ++ row 32768 0 32768 0 0 0 ++ row 0 32768 32768 0 0 0 ++ row 32768 32768 32768 0 0 0
 

@@ -1,4 +1,4 @@
--- One cell on the way down; and the leaf that is found holds the position, passes 12, and is as deep as the steps say.
+-- One cell on the path down; and the leaf that is found holds the position, passes 12, and is as deep as the steps say.
 use Prim.Native.Nat.{ℕ, zero, suc, _+_, _-_, _^_, _≤_, _<_}
 use mathlib.Core.Path.{_≡_, refl, ap, _∙_, subst}
 use mathlib.Core.Bool.{Bool, true, false, cond}

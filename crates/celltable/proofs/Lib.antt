@@ -1,4 +1,4 @@
--- Laws of the table of cells; what a cell that passes says; the way down and the leaf that it finds; examples.
+-- Laws of the table of cells; what a cell that passes says; the path down and the leaf that it finds; examples.
 pub mod Table
 pub mod Powers
 pub mod Ranges

@@ -1,4 +1,4 @@
--- The way down over the code's numbers is that of document 01's cells and quarters.
+-- The path down over the code's numbers is that of document 01's cells and quarters.
 use Prim.Native.Nat.{ℕ, zero, suc, _+_, _*_, _/_, _^_, _≤_}
 use mathlib.Core.Path.{_≡_, refl, ap, _∙_}
 use mathlib.Core.Bool.{Bool, true, false, cond}
@@ -10,7 +10,7 @@ use borrow.Author.Tests.{eqb-false}
 use Rattle.cells.specs.Cells.{Position, at, Cell, cell, left, low, level, side, root, Quarter, alongX, alongY, child, quarterBy, quarterOf}
 use Rattle.celltable.specs.declared.CellWords.{CellWords}
 use Rattle.celltable.specs.declared.Cursor.{Cursor}
-use Rattle.celltable.specs.declared.Down.the-variants.{Deeper, Landed, Bad}
+use Rattle.celltable.specs.declared.Down.the-variants.{Deeper, AtLeaf, Bad}
 use Rattle.celltable.specs.declared.Found.{Found}
 use Rattle.celltable.specs.declared.Found.the-variants.{At, Broken}
 use Rattle.celltable.specs.Table.{cellAt}
@@ -63,7 +63,7 @@ deeper-is i steps x y k first p px py e = rw (e, half-pow k) (go (leb (x + 2 ^ k
         (cursorOf (first + placeOf (quarterBy a b)) (steps + 1) (child (cell x y (suc k)) (quarterBy a b)))
     go a b = λ d. record { cell = place-is first x y (2 ^ k) a b d; x = part-x x (2 ^ k) a b d; y = part-y y (2 ^ k) a b d; side = 2 ^ k; steps = steps + 1 }
 
--- ---- the way down
+-- ---- the path down
 module _ (t : List ℕ) (used entries px py : ℕ) where
   -- at one cell, where the rest of the way is the same
   one-cell : (n i steps : ℕ) (c : Cell) → Gridded c → (i ≡ 0 → c ≡ root)
@@ -88,7 +88,7 @@ module _ (t : List ℕ) (used entries px py : ℕ) where
           → onSquare w c ≡ a
           → numbersRange w used entries ≡ b
           → eqb (w .child) 0 ≡ d
-          → goOn (cond a (cond b (cond d (Landed (leafOf i steps w)) (Deeper (deeperN (cursorOf i steps c) (w .child) px py))) Bad) Bad)
+          → goOn (cond a (cond b (cond d (AtLeaf (leafOf i steps w)) (Deeper (deeperN (cursorOf i steps c) (w .child) px py))) Bad) Bad)
           (walkN t used entries px py n)
           ≡ cond (cellRange w i used entries) (cond a (cond d (At (leafOf i steps w)) deeper) Broken) Broken
       go true true true e f k = rw (gridded-range w c i used entries g o e, f)

@@ -1,4 +1,4 @@
--- The steps of a way down and the loop over them, as plain laws.
+-- The steps of a path down and the loop over them, as plain laws.
 use Prim.Native.Nat.{ℕ, suc, _+_, _-_, _/_, _≤_, _<_}
 use mathlib.Core.Path.{_≡_, refl, sym, ap, _∙_, subst}
 use mathlib.Core.Bool.{Bool, true, false, cond}
@@ -10,7 +10,7 @@ use Rattle.celltable.specs.declared.CellWords.{CellWords}
 use Rattle.celltable.specs.declared.Cursor.{Cursor}
 use Rattle.celltable.specs.declared.Leaf.{Leaf}
 use Rattle.celltable.specs.declared.Down.{Down}
-use Rattle.celltable.specs.declared.Down.the-variants.{Deeper, Landed, Bad}
+use Rattle.celltable.specs.declared.Down.the-variants.{Deeper, AtLeaf, Bad}
 use Rattle.celltable.specs.declared.Found.{Found}
 use Rattle.celltable.specs.declared.Found.the-variants.{At, Broken}
 use Rattle.celltable.specs.Table.{cellAt}
@@ -39,11 +39,11 @@ module _ (t : List ℕ) (used entries : ℕ) (c : Cursor) (px py : ℕ) (w : Cel
       met = rw (← r, k, ← q, h)
 
   pub step-landed : (f : Bool) → s ≡ true → f ≡ numbersRange w used entries → f ≡ true → w .child ≡ 0
-      → Landed (leafOf (c .cell) (c .steps) w) ≡ stepN t used entries c px py
+      → AtLeaf (leafOf (c .cell) (c .steps) w) ≡ stepN t used entries c px py
   unfolding metN
   step-landed f k q h l = met ∙ read-is
     where
-      met : Landed (leafOf (c .cell) (c .steps) w) ≡ metN w used entries c px py
+      met : AtLeaf (leafOf (c .cell) (c .steps) w) ≡ metN w used entries c px py
       met = rw (← r, k, ← q, h, eq-eqb (w .child) 0 l)
 
   pub step-deeper : (f : Bool) (next : Cursor) → s ≡ true → f ≡ numbersRange w used entries → f ≡ true → (w .child ≡ 0 → ⊥) → next ≡ deeperN c (w .child) px py
@@ -76,8 +76,8 @@ module _ (t : List ℕ) (used entries px py n : ℕ) (c : Cursor) (r : Down) (wh
       → walkN t used entries px py (n - 1) c′ ≡ whole
   walk-deeper c′ h p q inv = walk-step (Deeper c′) h p q inv
 
-  pub walk-landed : (l : Leaf) → 0 < n → r ≡ stepN t used entries c px py → r ≡ Landed l → walkN t used entries px py n c ≡ whole → At l ≡ whole
-  walk-landed l h p q inv = walk-step (Landed l) h p q inv
+  pub walk-landed : (l : Leaf) → 0 < n → r ≡ stepN t used entries c px py → r ≡ AtLeaf l → walkN t used entries px py n c ≡ whole → At l ≡ whole
+  walk-landed l h p q inv = walk-step (AtLeaf l) h p q inv
 
   pub walk-bad : 0 < n → r ≡ stepN t used entries c px py → r ≡ Bad → walkN t used entries px py n c ≡ whole → Broken ≡ whole
   walk-bad h p q inv = walk-step Bad h p q inv
@@ -126,7 +126,7 @@ step-follows t used entries px py c c′ r p q = go (standsN c w) (numbersRange 
     w = cellAt t (c .cell)
 
     go : (a b d : Bool) → numbersRange w used entries ≡ b → eqb (w .child) 0 ≡ d
-        → cond a (cond b (cond d (Landed (leafOf (c .cell) (c .steps) w)) (Deeper (deeperN c (w .child) px py))) Bad) Bad ≡ Deeper c′ → Follows c c′ used
+        → cond a (cond b (cond d (AtLeaf (leafOf (c .cell) (c .steps) w)) (Deeper (deeperN c (w .child) px py))) Bad) Bad ≡ Deeper c′ → Follows c c′ used
     go true true false e f k =
         let s : deeperN c (w .child) px py ≡ c′ = cc in
         subst (λ (v : Cursor). Follows c v used) s (deeper-follows used (w .child) px py c (child-in-use w used entries e (eqb-false (w .child) 0 f)))

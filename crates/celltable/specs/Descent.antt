@@ -1,4 +1,4 @@
--- Document 01, "Cells": the way down from cell 0 to the leaf that holds a position.
+-- Document 01, "Cells": the path down from cell 0 to the leaf that holds a position.
 use Prim.Native.Nat.{ℕ, zero, suc, _+_, _%_}
 use mathlib.Core.Bool.{Bool, cond, _&&_}
 use mathlib.Core.List.{List}

@@ -1,5 +1,5 @@
 // The lent table of cells, eight words each: reading and writing a cell, the check of a cell and of the numbers in use, the quarters of a cell,
-// and the way down to the leaf that holds a position.
+// and the path down to the leaf that holds a position.
 use geometry::class::Square;
 ghost use mathlib.Core.Path.{_≡_};
 ghost use mathlib.Core.Bool.{true};
@@ -22,7 +22,7 @@ pub const MOST_ENTRIES: usize = 65536;
 // The depth of the smallest cells.
 pub const DEEPEST: u32 = 16;
 
-// The cells on the longest way down: cell 0, and one for each step.
+// The cells on the longest path down: cell 0, and one for each step.
 const LONGEST_WAY: u32 = DEEPEST + 1;
 
 // The children of a cell.
@@ -67,7 +67,7 @@ pub struct Half {
     pub bit: u32,
 }
 
-// Where a way down stands: the number of the next cell, the square that it has to be, and the steps so far.
+// Where a path down stands: the number of the next cell, the square that it has to be, and the steps so far.
 pub struct Cursor {
     pub cell: u32,
     pub x: u32,
@@ -76,7 +76,7 @@ pub struct Cursor {
     pub steps: u32,
 }
 
-// The leaf that a way down found: its number, its square, its depth, and its stream.
+// The leaf that a path down found: its number, its square, its depth, and its stream.
 pub struct Leaf {
     pub cell: u32,
     pub x: u32,
@@ -90,11 +90,11 @@ pub struct Leaf {
 // One step down: the next cursor, the leaf, or a cell that does not pass.
 pub enum Down {
     Deeper(Cursor),
-    Landed(Leaf),
+    AtLeaf(Leaf),
     Bad,
 }
 
-// The end of a way down. `Broken` is document 01's 12.
+// The end of a path down. `Broken` is document 01's 12.
 pub enum Found {
     At(Leaf),
     Broken,
@@ -235,7 +235,7 @@ pub fn quarter_of(w: CellWords, q: u32) -> Square
     }
 }
 
-// ---- the way down
+// ---- the path down
 impl Cursor {
     // Whether a cell is on the square that the way expects.
     fn stands_on(self, w: CellWords) -> bool
@@ -273,7 +273,7 @@ impl Cursor {
         if self.stands_on(w) {
             if numbers_fit(w, used, entries) {
                 if w.child == 0 {
-                    return Down::Landed(Leaf {
+                    return Down::AtLeaf(Leaf {
                         cell: self.cell,
                         x: w.x,
                         y: w.y,
@@ -311,7 +311,7 @@ pub fn descend(cells: &[u32], used: usize, entries: usize, x: u32, y: u32) -> Fo
             Down::Deeper(next) => {
                 c = next;
             }
-            Down::Landed(leaf) => {
+            Down::AtLeaf(leaf) => {
                 return Found::At(leaf);
             }
             Down::Bad => {

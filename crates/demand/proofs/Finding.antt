@@ -1,4 +1,4 @@
--- In sound tables the way down from cell 0 to a position ends at the history's leaf that holds it, after as many steps as its depth, and meets nothing
+-- In sound tables the path down from cell 0 to a position ends at the history's leaf that holds it, after as many steps as its depth, and meets nothing
 -- that 12 refuses.
 use mathlib.Core.Path.{_≡_, sym, ap, _∙_, subst}
 use mathlib.Core.Bool.{true}

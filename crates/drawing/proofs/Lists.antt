@@ -16,7 +16,7 @@ use Rattle.records.proofs.Laws.{told}
 use Rattle.grammar.specs.declared.Counts.{Counts}
 use Rattle.grammar.specs.Lists.{goodRecords, areaOne, cornerOne, areasIn, cornersIn}
 use Rattle.drawing.specs.declared.Cursor.{Cursor}
-use Rattle.read.specs.Words.{kindW, areaW, xW, yW, joined, Has, allRange, fileOf}
+use Rattle.read.specs.Words.{wordsOfKind, wordsOfArea, wordsOfX, wordsOfY, joined, Has, allRange, fileOf}
 use Rattle.read.specs.Reading.{decodedFrom}
 use Rattle.drawing.specs.Tables.{Tables, recordAt, pastRecord, pastOf, rebuilt}
 use Rattle.drawing.proofs.Has.{has-left, has-right, has-join, has-nil, has-at, has-first, has-one}
@@ -75,7 +75,7 @@ file-range b i (suc n) (r ∷ rs) e =
     (file-range b (i + 1) n rs (tail-is (decodedRaw (rawAt b i)) (Good r) (decodedFrom b (i + 1) n) (map Good rs) e))
 
 -- ---- tables
-area-long : (r : Record) (n : ℕ) → n * 8 + length (areaW r) ≡ (n + areaOne r) * 8
+area-long : (r : Record) (n : ℕ) → n * 8 + length (wordsOfArea r) ≡ (n + areaOne r) * 8
 area-long (Area f) n = omega arith
 area-long (First x y) n = omega arith
 area-long (Next x y) n = omega arith
@@ -83,7 +83,7 @@ area-long Open n = omega arith
 area-long Bar n = omega arith
 area-long Close n = omega arith
 
-x-long : (r : Record) (n : ℕ) → n + length (xW r) ≡ n + cornerOne r
+x-long : (r : Record) (n : ℕ) → n + length (wordsOfX r) ≡ n + cornerOne r
 x-long (Area f) n = refl
 x-long (First x y) n = refl
 x-long (Next x y) n = refl
@@ -91,7 +91,7 @@ x-long Open n = refl
 x-long Bar n = refl
 x-long Close n = refl
 
-y-long : (r : Record) (n : ℕ) → n + length (yW r) ≡ n + cornerOne r
+y-long : (r : Record) (n : ℕ) → n + length (wordsOfY r) ≡ n + cornerOne r
 y-long (Area f) n = refl
 y-long (First x y) n = refl
 y-long (Next x y) n = refl
@@ -101,20 +101,22 @@ y-long Close n = refl
 
 -- the four tables hold the words of these records, from record i and the cursor on
 pub record From (t : Tables) (i : ℕ) (c : Cursor) (rs : List Record) : Type 0 where
-  pub plan : Has (t .plan) (i + 3) (joined kindW rs)
-  pub areas : Has (t .areas) (c .area * 8) (joined areaW rs)
-  pub xs : Has (t .xs) (c .corner) (joined xW rs)
-  pub ys : Has (t .ys) (c .corner) (joined yW rs)
+  pub plan : Has (t .plan) (i + 3) (joined wordsOfKind rs)
+  pub areas : Has (t .areas) (c .area * 8) (joined wordsOfArea rs)
+  pub xs : Has (t .xs) (c .corner) (joined wordsOfX rs)
+  pub ys : Has (t .ys) (c .corner) (joined wordsOfY rs)
 
 from-rest : (t : Tables) (i : ℕ) (c : Cursor) (r : Record) (rs : List Record) → From t i c (r ∷ rs) → From t (i + 1) (pastRecord c r) rs
 unfolding joined
 from-rest t i c r rs h =
     let n : i + 3 + 1 ≡ i + 1 + 3 = omega arith in
     record {
-      plan = has-at (t .plan) (i + 3 + 1) (i + 1 + 3) (joined kindW rs) n (has-right (t .plan) (i + 3) (kindW r) (joined kindW rs) (h .plan));
-      areas = has-at (t .areas) _ _ (joined areaW rs) (area-long r (c .area)) (has-right (t .areas) (c .area * 8) (areaW r) (joined areaW rs) (h .areas));
-      xs = has-at (t .xs) _ _ (joined xW rs) (x-long r (c .corner)) (has-right (t .xs) (c .corner) (xW r) (joined xW rs) (h .xs));
-      ys = has-at (t .ys) _ _ (joined yW rs) (y-long r (c .corner)) (has-right (t .ys) (c .corner) (yW r) (joined yW rs) (h .ys));
+      plan = has-at (t .plan) (i + 3 + 1) (i + 1 + 3) (joined wordsOfKind rs) n (has-right (t .plan) (i + 3) (wordsOfKind r) (joined wordsOfKind rs) (h .plan));
+      areas =
+          has-at (t .areas) _ _ (joined wordsOfArea rs) (area-long r (c .area))
+          (has-right (t .areas) (c .area * 8) (wordsOfArea r) (joined wordsOfArea rs) (h .areas));
+      xs = has-at (t .xs) _ _ (joined wordsOfX rs) (x-long r (c .corner)) (has-right (t .xs) (c .corner) (wordsOfX r) (joined wordsOfX rs) (h .xs));
+      ys = has-at (t .ys) _ _ (joined wordsOfY rs) (y-long r (c .corner)) (has-right (t .ys) (c .corner) (wordsOfY r) (joined wordsOfY rs) (h .ys));
     }
 
 pub tables-read : (t : Tables) (u : Counts) (i : ℕ) (c : Cursor) (rs : List Record)
@@ -133,9 +135,9 @@ tables-read t u i c (r ∷ rs) g h p q =
   where
     here : recordAt t u i c ≡ Good r
     here =
-        row-read t u i c r (and-left (inRange r) (allRange rs) g) (has-first (t .plan) (i + 3) (kindOf r) (joined kindW rs) (h .plan))
-        (has-left (t .areas) (c .area * 8) (areaW r) (joined areaW rs) (h .areas))
-        (has-left (t .xs) (c .corner) (xW r) (joined xW rs) (h .xs)) (has-left (t .ys) (c .corner) (yW r) (joined yW rs) (h .ys))
+        row-read t u i c r (and-left (inRange r) (allRange rs) g) (has-first (t .plan) (i + 3) (kindOf r) (joined wordsOfKind rs) (h .plan))
+        (has-left (t .areas) (c .area * 8) (wordsOfArea r) (joined wordsOfArea rs) (h .areas))
+        (has-left (t .xs) (c .corner) (wordsOfX r) (joined wordsOfX rs) (h .xs)) (has-left (t .ys) (c .corner) (wordsOfY r) (joined wordsOfY rs) (h .ys))
         (omega arith) (omega arith)
 
 -- lengths of the tables against the counts in use
@@ -149,13 +151,13 @@ pub record TablesTold (t : Tables) (u : Counts) (i : ℕ) (c : Cursor) (rs : Lis
   pub there : From t i c rs
   pub range : allRange rs ≡ true
 
-area-room : (r : Record) (n m l : ℕ) → n + areaOne r ≤ m → m * 8 ≤ l → n * 8 + length (areaW r) ≤ l
+area-room : (r : Record) (n m l : ℕ) → n + areaOne r ≤ m → m * 8 ≤ l → n * 8 + length (wordsOfArea r) ≤ l
 area-room r n m l p q = rw (area-long r n) (omega arith)
 
-x-room : (r : Record) (n m l : ℕ) → n + cornerOne r ≤ m → m ≤ l → n + length (xW r) ≤ l
+x-room : (r : Record) (n m l : ℕ) → n + cornerOne r ≤ m → m ≤ l → n + length (wordsOfX r) ≤ l
 x-room r n m l p q = rw (x-long r n) (omega arith)
 
-y-room : (r : Record) (n m l : ℕ) → n + cornerOne r ≤ m → m ≤ l → n + length (yW r) ≤ l
+y-room : (r : Record) (n m l : ℕ) → n + cornerOne r ≤ m → m ≤ l → n + length (wordsOfY r) ≤ l
 y-room r n m l p q = rw (y-long r n) (omega arith)
 
 told-more : (t : Tables) (u : Counts) (i : ℕ) (c : Cursor) (r : Record) (rs : List Record)
@@ -171,18 +173,18 @@ told-more t u i c r rs w l la lc k h =
     let n : i + 1 + 3 ≡ i + 3 + 1 = omega arith in
     record {
       there = record {
-        plan = has-join (t .plan) (i + 3) (kindW r) (joined kindW rs)
+        plan = has-join (t .plan) (i + 3) (wordsOfKind r) (joined wordsOfKind rs)
             (has-one (t .plan) (i + 3) (kindOf r) (omega (arith, w .plan)) (k .kind))
-            (has-at (t .plan) (i + 1 + 3) (i + 3 + 1) (joined kindW rs) n (h .there .plan));
-        areas = has-join (t .areas) (c .area * 8) (areaW r) (joined areaW rs)
+            (has-at (t .plan) (i + 1 + 3) (i + 3 + 1) (joined wordsOfKind rs) n (h .there .plan));
+        areas = has-join (t .areas) (c .area * 8) (wordsOfArea r) (joined wordsOfArea rs)
             (record { room = area-room r (c .area) (u .areas) _ (k .few la) (w .areas); same = k .areas })
-            (has-at (t .areas) _ _ (joined areaW rs) (sym (area-long r (c .area))) (h .there .areas));
-        xs = has-join (t .xs) (c .corner) (xW r) (joined xW rs)
+            (has-at (t .areas) _ _ (joined wordsOfArea rs) (sym (area-long r (c .area))) (h .there .areas));
+        xs = has-join (t .xs) (c .corner) (wordsOfX r) (joined wordsOfX rs)
             (record { room = x-room r (c .corner) (u .corners) _ (k .many lc) (w .xs); same = k .xs })
-            (has-at (t .xs) _ _ (joined xW rs) (sym (x-long r (c .corner))) (h .there .xs));
-        ys = has-join (t .ys) (c .corner) (yW r) (joined yW rs)
+            (has-at (t .xs) _ _ (joined wordsOfX rs) (sym (x-long r (c .corner))) (h .there .xs));
+        ys = has-join (t .ys) (c .corner) (wordsOfY r) (joined wordsOfY rs)
             (record { room = y-room r (c .corner) (u .corners) _ (k .many lc) (w .ys); same = k .ys })
-            (has-at (t .ys) _ _ (joined yW rs) (sym (y-long r (c .corner))) (h .there .ys));
+            (has-at (t .ys) _ _ (joined wordsOfY rs) (sym (y-long r (c .corner))) (h .there .ys));
       };
       range = and-both (inRange r) (allRange rs) (k .range) (h .range);
     }

@@ -21,7 +21,7 @@ use Rattle.records.proofs.Laws.{kinds, ranged-told, Small, raw-back, raw-again}
 use Rattle.grammar.specs.declared.Counts.{Counts}
 use Rattle.grammar.specs.Lists.{areaOne, cornerOne}
 use Rattle.drawing.specs.declared.Cursor.{Cursor}
-use Rattle.read.specs.Words.{rowW, areaW, xW, yW, wordsFrom, Has}
+use Rattle.read.specs.Words.{wordsOfFields, wordsOfArea, wordsOfX, wordsOfY, wordsFrom, Has}
 use Rattle.drawing.specs.Tables.{Tables, fieldsAt, areaRow, cornerRow, kindRow, recordAt}
 use Rattle.drawing.proofs.Has.{has-first}
 
@@ -155,7 +155,7 @@ area-words : (t : List ℕ) (i : ℕ)
     ∷ []
 area-words t i = simp towards-suc
 
-pub row-fields : (t : List ℕ) (i : ℕ) (f : Fields) → wordsFrom t (i * 8) 8 ≡ rowW f → fieldsAt t i ≡ f
+pub row-fields : (t : List ℕ) (i : ℕ) (f : Fields) → wordsFrom t (i * 8) 8 ≡ wordsOfFields f → fieldsAt t i ≡ f
 row-fields t i f e₀ = λ d. record { role = at 0 d; rule = at 1 d; alpha = at 2 d; red = at 3 d; green = at 4 d; blue = at 5 d; material = at 6 d }
   where
     at : (k : ℕ)
@@ -170,17 +170,17 @@ row-fields t i f e₀ = λ d. record { role = at 0 d; rule = at 1 d; alpha = at 
         ∷ getD t (i * 8 + 7) 0
         ∷ [])
         k 0
-        ≡ getD (rowW f) k 0
+        ≡ getD (wordsOfFields f) k 0
     at k = ap (λ (l : List ℕ). getD l k 0) (sym (area-words t i) ∙ e₀)
 
-row-last : (t : List ℕ) (i : ℕ) (f : Fields) → wordsFrom t (i * 8) 8 ≡ rowW f → getD t (i * 8 + 7) 0 ≡ 0
+row-last : (t : List ℕ) (i : ℕ) (f : Fields) → wordsFrom t (i * 8) 8 ≡ wordsOfFields f → getD t (i * 8 + 7) 0 ≡ 0
 row-last t i f e = ap (λ (l : List ℕ). getD l 7 0) (sym (area-words t i) ∙ e)
 
 -- ---- what is in the tables is read as it is
 module _ (t : Tables) (u : Counts) (i : ℕ) (c : Cursor) where
   pub area-read : (f : Fields)
       → inRange (Area f) ≡ true
-      → Has (t .areas) (c .area * 8) (rowW f)
+      → Has (t .areas) (c .area * 8) (wordsOfFields f)
       → c .area < u .areas
       → areaRow (t .areas) (u .areas) (c .area) ≡ Good (Area f)
   unfolding areaRow
@@ -199,9 +199,9 @@ module _ (t : Tables) (u : Counts) (i : ℕ) (c : Cursor) where
   pub row-read : (r : Record)
       → inRange r ≡ true
       → getD (t .plan) (i + 3) 0 ≡ kindOf r
-      → Has (t .areas) (c .area * 8) (areaW r)
-      → Has (t .xs) (c .corner) (xW r)
-      → Has (t .ys) (c .corner) (yW r)
+      → Has (t .areas) (c .area * 8) (wordsOfArea r)
+      → Has (t .xs) (c .corner) (wordsOfX r)
+      → Has (t .ys) (c .corner) (wordsOfY r)
       → c .area + areaOne r ≤ u .areas
       → c .corner + cornerOne r ≤ u .corners
       → recordAt t u i c ≡ Good r
@@ -216,9 +216,9 @@ module _ (t : Tables) (u : Counts) (i : ℕ) (c : Cursor) where
 -- ---- and what is read is there
 pub record RowTold (t : Tables) (u : Counts) (k : ℕ) (c : Cursor) (r : Record) : Type 0 where
   pub kind : k ≡ kindOf r
-  pub areas : wordsFrom (t .areas) (c .area * 8) (length (areaW r)) ≡ areaW r
-  pub xs : wordsFrom (t .xs) (c .corner) (length (xW r)) ≡ xW r
-  pub ys : wordsFrom (t .ys) (c .corner) (length (yW r)) ≡ yW r
+  pub areas : wordsFrom (t .areas) (c .area * 8) (length (wordsOfArea r)) ≡ wordsOfArea r
+  pub xs : wordsFrom (t .xs) (c .corner) (length (wordsOfX r)) ≡ wordsOfX r
+  pub ys : wordsFrom (t .ys) (c .corner) (length (wordsOfY r)) ≡ wordsOfY r
   pub few : c .area ≤ u .areas → c .area + areaOne r ≤ u .areas
   pub many : c .corner ≤ u .corners → c .corner + cornerOne r ≤ u .corners
   pub range : inRange r ≡ true

@@ -13,7 +13,7 @@ use Rattle.records.specs.declared.Decoded.the-variants.{Good}
 use Rattle.records.specs.Record.{inRange}
 use Rattle.grammar.specs.declared.Counts.{Counts}
 use Rattle.grammar.specs.Lists.{areasIn, cornersIn}
-use Rattle.read.specs.Words.{Has, rowW, joined, allRange, areaWords, xWords, yWords}
+use Rattle.read.specs.Words.{Has, wordsOfFields, joined, allRange, areaWords, xWords, yWords}
 use Rattle.read.proofs.Files.{areas-length, xs-length, ys-length}
 use Rattle.drawing.specs.Tables.{Tables, cursor, areaRow}
 use Rattle.drawing.specs.code.Held.{Acceptable, Holding}
@@ -30,11 +30,11 @@ use Rattle.plans.proofs.Numbers.{fields-length}
 
 area-rest : (t : List ℕ) (f : Fields) (rs : List Record) (i : ℕ) → Has t (i * 8) (areaWords (Area f ∷ rs)) → Has t ((i + 1) * 8) (areaWords rs)
 unfolding joined
-area-rest t f rs i h = has-at t (i * 8 + 8) ((i + 1) * 8) (areaWords rs) (omega arith) (has-right t (i * 8) (rowW f) (areaWords rs) h)
+area-rest t f rs i h = has-at t (i * 8 + 8) ((i + 1) * 8) (areaWords rs) (omega arith) (has-right t (i * 8) (wordsOfFields f) (areaWords rs) h)
 
-area-here : (t : List ℕ) (f : Fields) (rs : List Record) (i : ℕ) → Has t (i * 8) (areaWords (Area f ∷ rs)) → Has t (i * 8) (rowW f)
+area-here : (t : List ℕ) (f : Fields) (rs : List Record) (i : ℕ) → Has t (i * 8) (areaWords (Area f ∷ rs)) → Has t (i * 8) (wordsOfFields f)
 unfolding joined
-area-here t f rs i h = has-left t (i * 8) (rowW f) (areaWords rs) h
+area-here t f rs i h = has-left t (i * 8) (wordsOfFields f) (areaWords rs) h
 
 fields-held : (t : List ℕ) (rs : List Record) (i n : ℕ) → n ≡ areasIn rs → Has t (i * 8) (areaWords rs) → fieldsFrom t i n ≡ fieldsIn rs
 unfolding joined

@@ -20,7 +20,7 @@ use Rattle.grammar.specs.declared.Verdict.the-variants.{Accepted, Refused}
 use Rattle.grammar.specs.Grammar.{checked}
 use Rattle.grammar.specs.Lists.{goodRecords, areasIn, cornersIn}
 use Rattle.grammar.proofs.Laws.{sound, refused-not}
-use Rattle.read.specs.Words.{kindW, areaW, xW, yW, wordsOf, joined, planWords}
+use Rattle.read.specs.Words.{wordsOfKind, wordsOfArea, wordsOfX, wordsOfY, wordsOf, joined, planWords}
 use Rattle.read.specs.Reading.{decodedFrom, decodedIn, recordsIn, verdictOf, holds, Filed}
 
 pub length-from : (b : List ℕ) (i n : ℕ) → length (decodedFrom b i n) ≡ n
@@ -66,12 +66,12 @@ filed b k = go (eqb (length b % 16) 0) (leb (length b / 16) 4096) refl refl
         }
 
 -- ---- how many words
-pub kinds-length : (rs : List Record) → length (joined kindW rs) ≡ length rs
+pub kinds-length : (rs : List Record) → length (joined wordsOfKind rs) ≡ length rs
 unfolding joined
 kinds-length [] = refl
 kinds-length (r ∷ rs) = ap suc (kinds-length rs)
 
-pub areas-length : (rs : List Record) → length (joined areaW rs) ≡ areasIn rs * 8
+pub areas-length : (rs : List Record) → length (joined wordsOfArea rs) ≡ areasIn rs * 8
 unfolding joined
 areas-length [] = refl
 areas-length (Area f ∷ rs) = omega (arith, areas-length rs)
@@ -81,7 +81,7 @@ areas-length (Open ∷ rs) = omega (arith, areas-length rs)
 areas-length (Bar ∷ rs) = omega (arith, areas-length rs)
 areas-length (Close ∷ rs) = omega (arith, areas-length rs)
 
-pub xs-length : (rs : List Record) → length (joined xW rs) ≡ cornersIn rs
+pub xs-length : (rs : List Record) → length (joined wordsOfX rs) ≡ cornersIn rs
 unfolding joined
 xs-length [] = refl
 xs-length (Area f ∷ rs) = omega (arith, xs-length rs)
@@ -91,7 +91,7 @@ xs-length (Open ∷ rs) = omega (arith, xs-length rs)
 xs-length (Bar ∷ rs) = omega (arith, xs-length rs)
 xs-length (Close ∷ rs) = omega (arith, xs-length rs)
 
-pub ys-length : (rs : List Record) → length (joined yW rs) ≡ cornersIn rs
+pub ys-length : (rs : List Record) → length (joined wordsOfY rs) ≡ cornersIn rs
 unfolding joined
 ys-length [] = refl
 ys-length (Area f ∷ rs) = omega (arith, ys-length rs)
@@ -106,19 +106,19 @@ unfolding joined
 file-length [] = refl
 file-length (r ∷ rs) = omega (arith, file-length rs)
 
-spread-0 : (rs : List Record) → joined (wordsOf 0) rs ≡ joined kindW rs
+spread-0 : (rs : List Record) → joined (wordsOf 0) rs ≡ joined wordsOfKind rs
 unfolding wordsOf
 spread-0 rs = refl
 
-spread-1 : (rs : List Record) → joined (wordsOf 1) rs ≡ joined areaW rs
+spread-1 : (rs : List Record) → joined (wordsOf 1) rs ≡ joined wordsOfArea rs
 unfolding wordsOf
 spread-1 rs = refl
 
-spread-2 : (rs : List Record) → joined (wordsOf 2) rs ≡ joined xW rs
+spread-2 : (rs : List Record) → joined (wordsOf 2) rs ≡ joined wordsOfX rs
 unfolding wordsOf
 spread-2 rs = refl
 
-spread-3 : (rs : List Record) → joined (wordsOf 3) rs ≡ joined yW rs
+spread-3 : (rs : List Record) → joined (wordsOf 3) rs ≡ joined wordsOfY rs
 unfolding wordsOf
 spread-3 rs = refl
 
@@ -144,13 +144,14 @@ module _ (b : List ℕ) (k : Counts) (c : Filed b k) where
       → t₂ ≡ sets t 0 (planWords (recordsIn b))
   left-0 t t₁ t₂ p q = q ∙ rw (p, ← same-part, spread-0 (recordsIn b), c .records, c .areas, c .corners)
 
-  pub left-1 : (t t₁ : List ℕ) → t₁ ≡ sets t 0 (joined (wordsOf 1) (goodRecords (decodedFrom b 0 (k .records)))) → t₁ ≡ sets t 0 (joined areaW (recordsIn b))
+  pub left-1 : (t t₁ : List ℕ) → t₁ ≡ sets t 0 (joined (wordsOf 1) (goodRecords (decodedFrom b 0 (k .records))))
+      → t₁ ≡ sets t 0 (joined wordsOfArea (recordsIn b))
   left-1 t t₁ q = q ∙ rw (← same-part, spread-1 (recordsIn b))
 
-  pub left-2 : (t t₁ : List ℕ) → t₁ ≡ sets t 0 (joined (wordsOf 2) (goodRecords (decodedFrom b 0 (k .records)))) → t₁ ≡ sets t 0 (joined xW (recordsIn b))
+  pub left-2 : (t t₁ : List ℕ) → t₁ ≡ sets t 0 (joined (wordsOf 2) (goodRecords (decodedFrom b 0 (k .records)))) → t₁ ≡ sets t 0 (joined wordsOfX (recordsIn b))
   left-2 t t₁ q = q ∙ rw (← same-part, spread-2 (recordsIn b))
 
-  pub left-3 : (t t₁ : List ℕ) → t₁ ≡ sets t 0 (joined (wordsOf 3) (goodRecords (decodedFrom b 0 (k .records)))) → t₁ ≡ sets t 0 (joined yW (recordsIn b))
+  pub left-3 : (t t₁ : List ℕ) → t₁ ≡ sets t 0 (joined (wordsOf 3) (goodRecords (decodedFrom b 0 (k .records)))) → t₁ ≡ sets t 0 (joined wordsOfY (recordsIn b))
   left-3 t t₁ q = q ∙ rw (← same-part, spread-3 (recordsIn b))
 
 -- ---- the room test

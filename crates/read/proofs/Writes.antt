@@ -13,7 +13,7 @@ use Rattle.records.specs.declared.Record.{Record}
 use Rattle.records.specs.declared.Decoded.{Decoded}
 use Rattle.records.specs.declared.Decoded.the-variants.{Good, Bad}
 use Rattle.grammar.specs.Lists.{goodRecords}
-use Rattle.read.specs.Words.{kindW, rowW, areaW, xW, yW, wordsOf, joined, onGood}
+use Rattle.read.specs.Words.{wordsOfKind, wordsOfFields, wordsOfArea, wordsOfX, wordsOfY, wordsOf, joined, onGood}
 
 pub sets-append : (t : List ℕ) (i : ℕ) (xs ys : List ℕ) → sets (sets t i xs) (i + length xs) ys ≡ sets t i (xs ++ ys)
 sets-append t i [] ys = rw (add-zero i)
@@ -37,11 +37,11 @@ one-table t t′ at x ws e h = rw e h
 pub one-room : (m at x : ℕ) (ws : List ℕ) → ws ≡ x ∷ [] → at + length ws ≤ m → at + 1 ≤ m
 one-room m at x ws e h = rw e at h
 
-pub row-at : (n at : ℕ) (f : Fields) (ws : List ℕ) → ws ≡ rowW f → n ≡ at + 8 → n ≡ at + length ws
+pub row-at : (n at : ℕ) (f : Fields) (ws : List ℕ) → ws ≡ wordsOfFields f → n ≡ at + 8 → n ≡ at + length ws
 row-at n at f ws e h = rw e h
 
 pub row-table : (t t′ : List ℕ) (at : ℕ) (f : Fields) (ws : List ℕ)
-    → ws ≡ rowW f
+    → ws ≡ wordsOfFields f
     → t′
     ≡ set
     (set
@@ -52,23 +52,23 @@ pub row-table : (t t′ : List ℕ) (at : ℕ) (f : Fields) (ws : List ℕ)
     → t′ ≡ sets t at ws
 row-table t t′ at f ws e h = rw e (h ∙ simp towards-suc)
 
-pub row-room : (m at : ℕ) (f : Fields) (ws : List ℕ) → ws ≡ rowW f → at + length ws ≤ m → at + 8 ≤ m
+pub row-room : (m at : ℕ) (f : Fields) (ws : List ℕ) → ws ≡ wordsOfFields f → at + length ws ≤ m → at + 8 ≤ m
 row-room m at f ws e h = rw e at h
 
 -- ---- the table that is meant
-pub words-0 : (which : ℕ) (r : Record) → which ≡ 0 → wordsOf which r ≡ kindW r
+pub words-0 : (which : ℕ) (r : Record) → which ≡ 0 → wordsOf which r ≡ wordsOfKind r
 unfolding wordsOf
 words-0 w r a = rw (eq-eqb _ _ a)
 
-pub words-1 : (which : ℕ) (r : Record) → (which ≡ 0 → ⊥) → which ≡ 1 → wordsOf which r ≡ areaW r
+pub words-1 : (which : ℕ) (r : Record) → (which ≡ 0 → ⊥) → which ≡ 1 → wordsOf which r ≡ wordsOfArea r
 unfolding wordsOf
 words-1 w r a b = rw (ne-eqb _ _ a, eq-eqb _ _ b)
 
-pub words-2 : (which : ℕ) (r : Record) → (which ≡ 0 → ⊥) → (which ≡ 1 → ⊥) → which ≡ 2 → wordsOf which r ≡ xW r
+pub words-2 : (which : ℕ) (r : Record) → (which ≡ 0 → ⊥) → (which ≡ 1 → ⊥) → which ≡ 2 → wordsOf which r ≡ wordsOfX r
 unfolding wordsOf
 words-2 w r a b d = rw (ne-eqb _ _ a, ne-eqb _ _ b, eq-eqb _ _ d)
 
-pub words-3 : (which : ℕ) (r : Record) → (which ≡ 0 → ⊥) → (which ≡ 1 → ⊥) → (which ≡ 2 → ⊥) → wordsOf which r ≡ yW r
+pub words-3 : (which : ℕ) (r : Record) → (which ≡ 0 → ⊥) → (which ≡ 1 → ⊥) → (which ≡ 2 → ⊥) → wordsOf which r ≡ wordsOfY r
 unfolding wordsOf
 words-3 w r a b d = rw (ne-eqb _ _ a, ne-eqb _ _ b, ne-eqb _ _ d)
 

@@ -15,41 +15,41 @@ use Rattle.records.specs.Bytes.{bytesOf}
 use Rattle.grammar.specs.Lists.{areasIn, cornersIn}
 
 -- the plan has the kind of each record
-abbrev pub kindW : Record → List ℕ
-kindW r = kindOf r ∷ []
+abbrev pub wordsOfKind : Record → List ℕ
+wordsOfKind r = kindOf r ∷ []
 
 -- eight words an area: role, fill rule, alpha, red, green, blue, material, and 0, a word that document 01 leaves free
-abbrev pub rowW : Fields → List ℕ
-rowW f = f .role ∷ f .rule ∷ f .alpha ∷ f .red ∷ f .green ∷ f .blue ∷ f .material ∷ 0 ∷ []
+abbrev pub wordsOfFields : Fields → List ℕ
+wordsOfFields f = f .role ∷ f .rule ∷ f .alpha ∷ f .red ∷ f .green ∷ f .blue ∷ f .material ∷ 0 ∷ []
 
-abbrev pub areaW : Record → List ℕ
-areaW (Area f) = rowW f
-areaW (First x y) = []
-areaW (Next x y) = []
-areaW Open = []
-areaW Bar = []
-areaW Close = []
+abbrev pub wordsOfArea : Record → List ℕ
+wordsOfArea (Area f) = wordsOfFields f
+wordsOfArea (First x y) = []
+wordsOfArea (Next x y) = []
+wordsOfArea Open = []
+wordsOfArea Bar = []
+wordsOfArea Close = []
 
 -- "corner coordinates lie in lent 32-bit tables": a word a corner
-abbrev pub xW : Record → List ℕ
-xW (Area f) = []
-xW (First x y) = x ∷ []
-xW (Next x y) = x ∷ []
-xW Open = []
-xW Bar = []
-xW Close = []
+abbrev pub wordsOfX : Record → List ℕ
+wordsOfX (Area f) = []
+wordsOfX (First x y) = x ∷ []
+wordsOfX (Next x y) = x ∷ []
+wordsOfX Open = []
+wordsOfX Bar = []
+wordsOfX Close = []
 
-abbrev pub yW : Record → List ℕ
-yW (Area f) = []
-yW (First x y) = y ∷ []
-yW (Next x y) = y ∷ []
-yW Open = []
-yW Bar = []
-yW Close = []
+abbrev pub wordsOfY : Record → List ℕ
+wordsOfY (Area f) = []
+wordsOfY (First x y) = y ∷ []
+wordsOfY (Next x y) = y ∷ []
+wordsOfY Open = []
+wordsOfY Bar = []
+wordsOfY Close = []
 
 -- a record's words in a table: 0 the plan's kinds, 1 the areas, 2 the xs, 3 the ys
 unfoldable pub wordsOf : ℕ → Record → List ℕ
-wordsOf which r = cond (eqb which 0) (kindW r) (cond (eqb which 1) (areaW r) (cond (eqb which 2) (xW r) (yW r)))
+wordsOf which r = cond (eqb which 0) (wordsOfKind r) (cond (eqb which 1) (wordsOfArea r) (cond (eqb which 2) (wordsOfX r) (wordsOfY r)))
 
 -- the words of all records, one after another
 unfoldable pub joined : (Record → List ℕ) → List Record → List ℕ
@@ -58,16 +58,16 @@ joined f (r ∷ rs) = f r ++ joined f rs
 
 -- the four tables' words in use
 abbrev pub planWords : List Record → List ℕ
-planWords rs = length rs ∷ areasIn rs ∷ cornersIn rs ∷ joined kindW rs
+planWords rs = length rs ∷ areasIn rs ∷ cornersIn rs ∷ joined wordsOfKind rs
 
 abbrev pub areaWords : List Record → List ℕ
-areaWords rs = joined areaW rs
+areaWords rs = joined wordsOfArea rs
 
 abbrev pub xWords : List Record → List ℕ
-xWords rs = joined xW rs
+xWords rs = joined wordsOfX rs
 
 abbrev pub yWords : List Record → List ℕ
-yWords rs = joined yW rs
+yWords rs = joined wordsOfY rs
 
 -- the file
 abbrev pub fileOf : List Record → List ℕ

@@ -17,7 +17,7 @@ ghost use Rattle.grammar.specs.code.Machine.{scanN, startN};
 ghost use Rattle.grammar.specs.Lists.{goodRecords};
 ghost use Rattle.records.specs.Record.{kindOf};
 ghost use Rattle.records.specs.Bytes.{rawAt, decodedRaw};
-ghost use Rattle.read.specs.Words.{kindW, areaW, xW, yW, wordsOf, joined, planWords, areaWords, xWords, yWords, onGood};
+ghost use Rattle.read.specs.Words.{wordsOfKind, wordsOfArea, wordsOfX, wordsOfY, wordsOf, joined, planWords, areaWords, xWords, yWords, onGood};
 ghost use Rattle.read.specs.Reading.{decodedFrom, recordsLent, verdictOf, holds, ifRoom, readLent, leftBy, Filed};
 
 // The plan: its first words, the counts in use; the kinds of the records follow.
@@ -103,9 +103,9 @@ fn put_word(table: &mut [u32], at: usize, w: u32) -> usize
 }
 
 fn put_kind(table: &mut [u32], at: usize, r: Record) -> usize
-    requires { ⌜ at + length (kindW r) ≤ length (now table) ⌝ }
-    ensures answer { λ n. ⌜ n ≡ at + length (kindW r) ⌝ }
-    ensures table { λ n. ⌜ now (table .exit) ≡ sets (now (table .entry)) at (kindW r) ⌝ }
+    requires { ⌜ at + length (wordsOfKind r) ≤ length (now table) ⌝ }
+    ensures answer { λ n. ⌜ n ≡ at + length (wordsOfKind r) ⌝ }
+    ensures table { λ n. ⌜ now (table .exit) ≡ sets (now (table .entry)) at (wordsOfKind r) ⌝ }
 {
     let k = kind_of(r);
     put_word(table, at, k)
@@ -130,9 +130,9 @@ fn put_row(table: &mut [u32], at: usize, f: Fields) -> usize
 }
 
 fn put_area(table: &mut [u32], at: usize, r: Record) -> usize
-    requires { ⌜ at + length (areaW r) ≤ length (now table) ⌝ }
-    ensures answer { λ n. ⌜ n ≡ at + length (areaW r) ⌝ }
-    ensures table { λ n. ⌜ now (table .exit) ≡ sets (now (table .entry)) at (areaW r) ⌝ }
+    requires { ⌜ at + length (wordsOfArea r) ≤ length (now table) ⌝ }
+    ensures answer { λ n. ⌜ n ≡ at + length (wordsOfArea r) ⌝ }
+    ensures table { λ n. ⌜ now (table .exit) ≡ sets (now (table .entry)) at (wordsOfArea r) ⌝ }
 {
     match r {
         Record::Area(f) => put_row(table, at, f),
@@ -145,9 +145,9 @@ fn put_area(table: &mut [u32], at: usize, r: Record) -> usize
 }
 
 fn put_x(table: &mut [u32], at: usize, r: Record) -> usize
-    requires { ⌜ at + length (xW r) ≤ length (now table) ⌝ }
-    ensures answer { λ n. ⌜ n ≡ at + length (xW r) ⌝ }
-    ensures table { λ n. ⌜ now (table .exit) ≡ sets (now (table .entry)) at (xW r) ⌝ }
+    requires { ⌜ at + length (wordsOfX r) ≤ length (now table) ⌝ }
+    ensures answer { λ n. ⌜ n ≡ at + length (wordsOfX r) ⌝ }
+    ensures table { λ n. ⌜ now (table .exit) ≡ sets (now (table .entry)) at (wordsOfX r) ⌝ }
 {
     match r {
         Record::Area(_) => at,
@@ -160,9 +160,9 @@ fn put_x(table: &mut [u32], at: usize, r: Record) -> usize
 }
 
 fn put_y(table: &mut [u32], at: usize, r: Record) -> usize
-    requires { ⌜ at + length (yW r) ≤ length (now table) ⌝ }
-    ensures answer { λ n. ⌜ n ≡ at + length (yW r) ⌝ }
-    ensures table { λ n. ⌜ now (table .exit) ≡ sets (now (table .entry)) at (yW r) ⌝ }
+    requires { ⌜ at + length (wordsOfY r) ≤ length (now table) ⌝ }
+    ensures answer { λ n. ⌜ n ≡ at + length (wordsOfY r) ⌝ }
+    ensures table { λ n. ⌜ now (table .exit) ≡ sets (now (table .entry)) at (wordsOfY r) ⌝ }
 {
     match r {
         Record::Area(_) => at,

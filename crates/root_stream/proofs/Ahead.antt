@@ -9,7 +9,7 @@ use Rattle.records.specs.declared.Record.{Record}
 use Rattle.records.specs.declared.Record.the-variants.{Area, First, Next, Open, Bar, Close}
 use Rattle.records.specs.Record.{kindOf}
 use Rattle.grammar.specs.Lists.{areasIn, cornersIn}
-use Rattle.read.specs.Words.{Has, kindW, joined}
+use Rattle.read.specs.Words.{Has, wordsOfKind, joined}
 use Rattle.drawing.proofs.Has.{has-at, has-first, has-rest}
 use Rattle.stream.specs.declared.Words.{Words}
 use Rattle.evaluate.specs.Words.{wordsOf}
@@ -21,22 +21,22 @@ module _ (plan : List ℕ) (records : ℕ) where
   -- the words ws of the records from record i on
   pub record Ahead (i : ℕ) (s : Source) (ws : List Words) : Type 0 where
     pub rest : List Record
-    pub kinds : Has plan (i + 3) (joined kindW rest)
+    pub kinds : Has plan (i + 3) (joined wordsOfKind rest)
     pub whole : i + length rest ≡ records
     pub few-areas : s .area + areasIn rest ≤ 64
     pub few-corners : s .corner + cornersIn rest ≤ 2048
     pub words : ws ≡ map wordsOf (sourceFrom (s .area) (s .corner) (s .first) rest)
 
-  kind-here : (i : ℕ) (r : Record) (rs : List Record) → Has plan i (joined kindW (r ∷ rs)) → getD plan i 0 ≡ kindOf r
+  kind-here : (i : ℕ) (r : Record) (rs : List Record) → Has plan i (joined wordsOfKind (r ∷ rs)) → getD plan i 0 ≡ kindOf r
   unfolding joined
-  kind-here i r rs h = has-first plan i (kindOf r) (joined kindW rs) h
+  kind-here i r rs h = has-first plan i (kindOf r) (joined wordsOfKind rs) h
 
-  kinds-behind : (i j : ℕ) (r : Record) (rs : List Record) → i + 1 ≡ j → Has plan i (joined kindW (r ∷ rs)) → Has plan j (joined kindW rs)
+  kinds-behind : (i j : ℕ) (r : Record) (rs : List Record) → i + 1 ≡ j → Has plan i (joined wordsOfKind (r ∷ rs)) → Has plan j (joined wordsOfKind rs)
   unfolding joined
-  kinds-behind i j r rs e h = has-at plan (suc i) j (joined kindW rs) (omega arith) (has-rest plan i (kindOf r) (joined kindW rs) h)
+  kinds-behind i j r rs e h = has-at plan (suc i) j (joined wordsOfKind rs) (omega arith) (has-rest plan i (kindOf r) (joined wordsOfKind rs) h)
 
   -- the edge from the corner of record i, with these records behind it
-  edge-end : (i c f : ℕ) (rs : List Record) → Has plan (i + 4) (joined kindW rs) → i + 1 + length rs ≡ records → endN plan i records c f ≡ edgeEnd rs c f
+  edge-end : (i c f : ℕ) (rs : List Record) → Has plan (i + 4) (joined wordsOfKind rs) → i + 1 + length rs ≡ records → endN plan i records c f ≡ edgeEnd rs c f
   edge-end i c f [] h e = rw (le-ltb (i + 1) records (omega arith))
   edge-end i c f (Area g ∷ rs) h e = rw (lt-ltb (i + 1) records (omega arith), kind-here (i + 4) (Area g) rs h)
   edge-end i c f (First x y ∷ rs) h e = rw (lt-ltb (i + 1) records (omega arith), kind-here (i + 4) (First x y) rs h)
@@ -47,7 +47,7 @@ module _ (plan : List ℕ) (records : ℕ) where
 
   -- the records behind record i
   behind : (i : ℕ) (r : Record) (rs : List Record) (s : Source)
-      → Has plan (i + 3) (joined kindW (r ∷ rs))
+      → Has plan (i + 3) (joined wordsOfKind (r ∷ rs))
       → i + length (r ∷ rs) ≡ records
       → s .area + areasIn rs ≤ 64
       → s .corner + cornersIn rs ≤ 2048
@@ -67,7 +67,7 @@ module _ (plan : List ℕ) (records : ℕ) where
   Goes i s ws = (ws′ : List Words) × (ws ≡ entryN plan i records s ∷ ws′) × Ahead (i + 1) (afterN s (getD plan (i + 3) 0)) ws′
 
   goes : (i a c f : ℕ) (rs : List Record)
-      → Has plan (i + 3) (joined kindW rs)
+      → Has plan (i + 3) (joined wordsOfKind rs)
       → i + length rs ≡ records
       → a + areasIn rs ≤ 64
       → c + cornersIn rs ≤ 2048
@@ -79,12 +79,12 @@ module _ (plan : List ℕ) (records : ℕ) where
       rw (kind-here (i + 3) (Area g) rs h, z)
       (map wordsOf (sourceFrom (suc a) c f rs), refl, behind i (Area g) rs (sourceAt (suc a) c f) h e (omega arith) (omega arith))
   goes i a c f (First x y ∷ rs) h e m n l =
-      let b : Has plan (i + 4) (joined kindW rs) = kinds-behind (i + 3) (i + 4) (First x y) rs (omega arith) h in
+      let b : Has plan (i + 4) (joined wordsOfKind rs) = kinds-behind (i + 3) (i + 4) (First x y) rs (omega arith) h in
       let z : c + 1 ≡ suc c = omega arith in
       rw (kind-here (i + 3) (First x y) rs h, edge-end i c c rs b (omega arith), z)
       (map wordsOf (sourceFrom a (suc c) c rs), refl, behind i (First x y) rs (sourceAt a (suc c) c) h e (omega arith) (omega arith))
   goes i a c f (Next x y ∷ rs) h e m n l =
-      let b : Has plan (i + 4) (joined kindW rs) = kinds-behind (i + 3) (i + 4) (Next x y) rs (omega arith) h in
+      let b : Has plan (i + 4) (joined wordsOfKind rs) = kinds-behind (i + 3) (i + 4) (Next x y) rs (omega arith) h in
       let z : c + 1 ≡ suc c = omega arith in
       rw (kind-here (i + 3) (Next x y) rs h, edge-end i c f rs b (omega arith), z)
       (map wordsOf (sourceFrom a (suc c) f rs), refl, behind i (Next x y) rs (sourceAt a (suc c) f) h e (omega arith) (omega arith))

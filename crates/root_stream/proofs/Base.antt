@@ -9,7 +9,7 @@ use Rattle.records.specs.declared.Record.{Record}
 use Rattle.records.specs.declared.Decoded.the-variants.{Good}
 use Rattle.grammar.specs.Lists.{areasIn, cornersIn}
 use Rattle.grammar.proofs.Laws.{sound}
-use Rattle.read.specs.Words.{Has, kindW, joined}
+use Rattle.read.specs.Words.{Has, wordsOfKind, joined}
 use Rattle.read.proofs.Files.{kinds-length}
 use Rattle.drawing.specs.Tables.{Tables, drawnIn}
 use Rattle.drawing.proofs.Has.{has-rest}
@@ -58,10 +58,10 @@ module _ (t : Tables) (records : ℕ) (b : Bounds) (o : Opened t records b) wher
       accepted-held t (drawnIn t) (o .used) (o .accepted) (o .holding) b (ap (λ (x : Bounds). x .areas) (o .bounds-used))
       (ap (λ (x : Bounds). x .corners) (o .bounds-used))
 
-  kinds : Has (t .plan) 3 (joined kindW (drawnIn t))
+  kinds : Has (t .plan) 3 (joined wordsOfKind (drawnIn t))
   kinds =
       let rs : List Record = drawnIn t in
-      has-rest (t .plan) 2 (cornersIn rs) (joined kindW rs) (has-rest (t .plan) 1 (areasIn rs) _ (has-rest (t .plan) 0 (length rs) _ (o .holding .plan)))
+      has-rest (t .plan) 2 (cornersIn rs) (joined wordsOfKind rs) (has-rest (t .plan) 1 (areasIn rs) _ (has-rest (t .plan) 0 (length rs) _ (o .holding .plan)))
 
   passes : accepts (env (t .areas) (t .xs) (t .ys) b) (wordsIn t) ≡ true
   passes =

@@ -1,4 +1,4 @@
--- The way down over the numbers that the code holds. `Rattle.celltable.proofs.Meaning` says that it is `descendIn`.
+-- The path down over the numbers that the code holds. `Rattle.celltable.proofs.Meaning` says that it is `descendIn`.
 use Prim.Native.Nat.{ℕ, zero, suc, _+_, _*_, _/_, _≤_, _<_}
 use mathlib.Core.Bool.{Bool, cond, _&&_}
 use mathlib.Core.List.{List}
@@ -7,7 +7,7 @@ use Rattle.celltable.specs.declared.CellWords.{CellWords}
 use Rattle.celltable.specs.declared.Half.{Half}
 use Rattle.celltable.specs.declared.Cursor.{Cursor}
 use Rattle.celltable.specs.declared.Down.{Down}
-use Rattle.celltable.specs.declared.Down.the-variants.{Deeper, Landed, Bad}
+use Rattle.celltable.specs.declared.Down.the-variants.{Deeper, AtLeaf, Bad}
 use Rattle.celltable.specs.declared.Found.{Found}
 use Rattle.celltable.specs.declared.Found.the-variants.{At, Broken}
 use Rattle.celltable.specs.Table.{cellAt}
@@ -36,7 +36,7 @@ standsN c w = eqb (w .x) (c .x) && (eqb (w .y) (c .y) && eqb (w .side) (c .side)
 unfoldable pub metN : CellWords → (used entries : ℕ) → Cursor → (px py : ℕ) → Down
 metN w used entries c px py =
     cond (standsN c w)
-    (cond (numbersRange w used entries) (cond (eqb (w .child) 0) (Landed (leafOf (c .cell) (c .steps) w)) (Deeper (deeperN c (w .child) px py))) Bad)
+    (cond (numbersRange w used entries) (cond (eqb (w .child) 0) (AtLeaf (leafOf (c .cell) (c .steps) w)) (Deeper (deeperN c (w .child) px py))) Bad)
     Bad
 
 -- "Each step down picks one quarter and gives the next cell"
@@ -45,7 +45,7 @@ stepN t used entries c px py = metN (cellAt t (c .cell)) used entries c px py
 
 abbrev pub goOn : Down → (Cursor → Found) → Found
 goOn (Deeper c) f = f c
-goOn (Landed l) f = At l
+goOn (AtLeaf l) f = At l
 goOn Bad f = Broken
 
 -- over at most n cells
