@@ -11,7 +11,8 @@ ghost use Rattle.stream.specs.Grammar.{env, Passed};
 ghost use Rattle.celltable.specs.Ranges.{sideRange, squareRange};
 ghost use Rattle.ranges.specs.Held.{lent};
 ghost use Rattle.tables.specs.Tables.{tree, treeLent, cellsUsed, entriesUsed, countsIn};
-ghost use Rattle.split.specs.Split.{roomAnswer, madeLent, headBy, cellsOf, entriesBy};
+ghost use Rattle.split.specs.Split.{roomAnswer, headBy, cellsOf, entriesBy};
+ghost use Rattle.split.specs.code.Lent.{madeLent};
 ghost use Rattle.grow.specs.Grow.{depthAt, isWanted, triedLeaf, triedCell, tried, grown, answerOf, growAnswer, growTree};
 ghost use Rattle.grow.specs.code.Numbers.{pastN, splitN, byRoom, turnBy, treeBy};
 

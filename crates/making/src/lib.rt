@@ -1,4 +1,4 @@
-// A stream made from another in a cell, one entry at a time: counted, and then written.
+// A stream made from another in a cell, one entry at a time, counted: what is left of its lines and shortcuts, and the pruner.
 use geometry::class;
 use geometry::class::Class;
 use geometry::class::Square;

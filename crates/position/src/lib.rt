@@ -39,7 +39,7 @@ pub enum Shown {
 
 // ---- a leaf that was found
 // The shown set at (x, y), read from the stream of a leaf.
-pub fn set_in(
+fn set_in(
     plan: &[u32],
     areas: &[u32],
     xs: &[u32],
@@ -99,7 +99,7 @@ fn is_inside(l: Leaf, x: u32, y: u32) -> bool
 }
 
 // The leaf that holds (x, y). It is looked for only where (x, y) lies outside the square of the leaf that was found last.
-pub fn leaf_for(
+fn leaf_for(
     plan: &[u32],
     areas: &[u32],
     xs: &[u32],

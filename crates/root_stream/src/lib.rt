@@ -25,7 +25,7 @@ pub struct Source {
 }
 
 // Before the first record.
-pub fn source_begin() -> Source
+fn source_begin() -> Source
     ensures answer { λ r. ⌜ r ≡ sourceAt 0 0 0 ⌝ }
 {
     Source {
@@ -86,7 +86,7 @@ fn delimiter(kind: u32) -> Words
 }
 
 // The entry of record i: the area, the edge from its corner, or the delimiter.
-pub fn source_entry(plan: &[u32], i: usize, records: usize, c: Source) -> Words
+fn source_entry(plan: &[u32], i: usize, records: usize, c: Source) -> Words
     requires { ⌜ (records + 3 ≤ length (now plan)) × (i < records) × (c .corner ≤ 2048) ⌝ }
     ensures answer { λ r. ⌜ r ≡ entryN (now (plan .entry)) i records c ⌝ }
 {
@@ -109,7 +109,7 @@ pub fn source_entry(plan: &[u32], i: usize, records: usize, c: Source) -> Words
 }
 
 // Behind a record of this kind.
-pub fn source_after(c: Source, kind: u32) -> Source
+fn source_after(c: Source, kind: u32) -> Source
     requires { ⌜ (c .area ≤ 64) × (c .corner ≤ 2048) ⌝ }
     ensures answer { λ r. ⌜ r ≡ afterN c kind ⌝ }
 {

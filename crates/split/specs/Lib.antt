@@ -1,2 +1,3 @@
--- The calls on a tree.
+-- Splitting a cell of a tree in lent tables.
 pub mod Split
+pub mod code

@@ -1,4 +1,4 @@
-// The calls on a tree in lent tables.
+// Splitting a cell of a tree in lent tables.
 use celltable::CellWords;
 use four_children::Tally;
 use refusals::Refusal;
@@ -15,8 +15,9 @@ ghost use Rattle.ranges.specs.Held.{lent};
 ghost use Rattle.four_children.specs.Children.{streamsTo};
 ghost use Rattle.four_children.specs.code.Numbers.{noTally, fourTallies, cellsBy, FewEach};
 ghost use Rattle.tables.specs.Tables.{treeLent, cellsUsed, entriesUsed};
-ghost use Rattle.split.specs.Split.{roomAnswer, leafAnswer, cellAnswer, madeLent, headBy, cellsOf, entriesBy, drawingSplit, countsSplit};
+ghost use Rattle.split.specs.Split.{roomAnswer, leafAnswer, cellAnswer, headBy, cellsOf, entriesBy, drawingSplit, countsSplit};
 ghost use Rattle.split.specs.Split.{splitAnswer, headAfter, cellsAfter, entriesAfter};
+ghost use Rattle.split.specs.code.Lent.{madeLent};
 
 // A split's answer: the number of the first child, or why it was refused.
 pub enum Answer {
