@@ -9,7 +9,7 @@ use lib.ListN.{length, getD, length-map}
 use lib.IntN.{ℤ, pos, negsuc, _+ℤ_, natAbs}
 use Rattle.laws.proofs.Differences.{abs-add}
 use Rattle.geometry.specs.Edges.{sign}
-use Rattle.geometry.specs.Windings.{Line, linesOf}
+use Rattle.geometry.specs.Windings.{Line, linesOf, edgeOf}
 use Rattle.geometry.specs.declared.edge.Edge.{Edge}
 use Rattle.geometry.specs.declared.class.Class.{Class}
 use Rattle.geometry.specs.declared.class.Class.the-variants.{Dropped, Start, Shortcut, Kept}
@@ -17,7 +17,7 @@ use Rattle.pruning.specs.Sides.{Kind, paint, flat, mapSide}
 use Rattle.pruning.proofs.Sides.{map-map}
 use Rattle.pruning.proofs.Survivors.{normal-sub}
 use Rattle.cells.specs.Cells.{Cell}
-use Rattle.cells.specs.Segments.{Segment, drawn, edgeOf, signOf, classIn, keptBy, keptIn, startBy, startIn}
+use Rattle.cells.specs.Segments.{Segment, drawn, signOf, classIn, keptBy, keptIn, startBy, startIn}
 use Rattle.cells.specs.Drawings.{Drawing}
 use Rattle.cells.specs.Streams.{Each, items, within, whole, source, made}
 use Rattle.cells.specs.code.Sizes.{Small, SignsIn}

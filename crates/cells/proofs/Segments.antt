@@ -5,6 +5,7 @@ use mathlib.Core.Bool.{Bool, cond}
 use mathlib.Core.List.{List, [], _∷_}
 use Prim.Native.Nat.{ℕ}
 use lib.IntN.{ℤ, pos, _+ℤ_, +ℤ-idl, +ℤ-assoc, +ℤ-comm}
+use Rattle.geometry.specs.Windings.{edgeOf}
 use Rattle.geometry.specs.Classes.{classOf, edgeClass, cut, childOf, says}
 use Rattle.geometry.specs.declared.class.Class.{Class}
 use Rattle.geometry.specs.declared.class.Class.the-variants.{Dropped, Start, Shortcut, Kept}
@@ -16,7 +17,6 @@ use Rattle.cells.specs.Segments.{
   Segment,
   drawn,
   shortcut,
-  edgeOf,
   countsAt,
   signOf,
   firstOf,

@@ -4,12 +4,12 @@ use mathlib.Core.List.{List, [], _∷_}
 use Prim.Native.Nat.{ℕ}
 use lib.IntN.{ℤ, pos, _+ℤ_}
 use Rattle.geometry.specs.Edges.{isRow, counts, firstRow, endRow, sign}
-use Rattle.geometry.specs.Windings.{Line, line, edgeBetween}
+use Rattle.geometry.specs.Windings.{Line, edgeOf}
 use Rattle.geometry.specs.Classes.{edgeClass, cut}
-use Rattle.geometry.specs.declared.edge.Edge.{Edge}
 use Rattle.geometry.specs.declared.class.Class.{Class}
 use Rattle.geometry.specs.declared.class.Class.the-variants.{Dropped, Start, Shortcut, Kept}
-use Rattle.cells.specs.Cells.{Position, col, row, Cell, low, side, squareOf}
+use Rattle.geometry.specs.declared.class.Square.{Square}
+use Rattle.cells.specs.Cells.{Position, col, row, Cell, squareOf}
 
 -- a line of the drawing, by its two corners; a shortcut "with its sign and those rows"
 pub data Segment : Type 0 where
@@ -18,25 +18,22 @@ pub data Segment : Type 0 where
 
 -- the tables of corners
 module _ (xs ys : List ℕ) where
-  abbrev pub edgeOf : Line → Edge
-  edgeOf (line p q) = edgeBetween xs ys p q
-
   -- it counts at (x, y): a shortcut where y is one of its rows
   abbrev pub countsAt : Segment → (x y : ℕ) → Bool
-  countsAt (drawn l) x y = counts (edgeOf l) x y
+  countsAt (drawn l) x y = counts (edgeOf xs ys l) x y
   countsAt (shortcut z lo hi) x y = isRow lo hi y
 
   abbrev pub signOf : Segment → ℤ
-  signOf (drawn l) = sign (edgeOf l)
+  signOf (drawn l) = sign (edgeOf xs ys l)
   signOf (shortcut z lo hi) = z
 
   -- its rows are firstOf to endOf − 1
   abbrev pub firstOf : Segment → ℕ
-  firstOf (drawn l) = firstRow (edgeOf l)
+  firstOf (drawn l) = firstRow (edgeOf xs ys l)
   firstOf (shortcut z lo hi) = lo
 
   abbrev pub endOf : Segment → ℕ
-  endOf (drawn l) = endRow (edgeOf l)
+  endOf (drawn l) = endRow (edgeOf xs ys l)
   endOf (shortcut z lo hi) = hi
 
   -- "the sign of each of its shortcuts with row y, plus +1 or −1 for each of its kept lines that counts there"
@@ -48,9 +45,12 @@ module _ (xs ys : List ℕ) where
   sumAt p (g ∷ gs) = addsAt p g +ℤ sumAt p gs
 
   -- "In a cell, taking only those rows of an edge that fall in it"; "A child is made from its parent's stream by this rule"
+  abbrev pub classOn : Square → Segment → Class
+  classOn s (drawn l) = edgeClass (edgeOf xs ys l) s
+  classOn s (shortcut z lo hi) = cut lo hi (s .y) (s .side)
+
   abbrev pub classIn : Cell → Segment → Class
-  classIn c (drawn l) = edgeClass (edgeOf l) (squareOf c)
-  classIn c (shortcut z lo hi) = cut lo hi (low c) (side c)
+  classIn c g = classOn (squareOf c) g
 
   -- what is left of a segment of each class, in front of the others: "orders kept"
   abbrev pub keptBy : Class → Segment → List Segment → List Segment

@@ -13,10 +13,10 @@ use Rattle.pruning.specs.Registers.{onItem}
 use Rattle.machine.specs.declared.Machine.{Machine}
 use Rattle.machine.specs.code.Registers.{machine, meant}
 use Rattle.cells.specs.Rows.{settled, state}
-use Rattle.stream.specs.Entry.{decode, startRange}
+use Rattle.stream.specs.Entry.{decode, startRange, isSegment}
 use Rattle.stream.specs.Table.{wordsAt, wordsFrom}
 use Rattle.stream.specs.Grammar.{Env, isGood, areaMet, inRange, Passed}
-use Rattle.stream.specs.code.Machine.{isSegment, segmentsIn}
+use Rattle.stream.specs.code.Machine.{segmentsIn}
 use Rattle.stream.proofs.Table.{words-none}
 use Rattle.stream.proofs.Runs.{words-first, few-segments}
 use Rattle.stream.proofs.Passed.{in-range}

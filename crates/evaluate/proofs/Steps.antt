@@ -19,10 +19,10 @@ use Rattle.cells.specs.Cells.{at}
 use Rattle.cells.specs.Segments.{addsAt}
 use Rattle.cells.specs.Rows.{settled, waits, State, state, settle, onRows}
 use Rattle.stream.specs.declared.Words.{Words}
-use Rattle.stream.specs.Entry.{Entry, opens, bar, closes, area, line, shortcut, passes, bad, decode, startRange, signRange}
+use Rattle.stream.specs.Entry.{Entry, opens, bar, closes, area, line, shortcut, passes, bad, decode, startRange, signRange, isSegment}
 use Rattle.stream.specs.Table.{wordsAt, wordsFrom}
 use Rattle.stream.specs.Grammar.{Env, isGood, areaMet, inRange}
-use Rattle.stream.specs.code.Machine.{isSegment, segmentsIn}
+use Rattle.stream.specs.code.Machine.{segmentsIn}
 use Rattle.stream.proofs.Table.{words-step, words-none}
 use Rattle.stream.proofs.Runs.{by-kind}
 use Rattle.evaluate.specs.Reading.{roleAt, passAt, opaqueAt, rowFor, rowsIn}

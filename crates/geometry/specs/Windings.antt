@@ -16,6 +16,10 @@ edgeBetween xs ys p q = record { x0 = getD xs p 0; y0 = getD ys p 0; x1 = getD x
 pub data Line : Type 0 where
   line : (from to : ℕ) → Line
 
+-- the edge of a line
+abbrev pub edgeOf : (xs ys : List ℕ) → Line → Edge
+edgeOf xs ys (line p q) = edgeBetween xs ys p q
+
 -- a contour: the number of its first corner, and how many corners it has
 pub data Contour : Type 0 where
   contour : (first count : ℕ) → Contour

@@ -9,13 +9,13 @@ use lib.Dec.{ltb, leb, eqb}
 use lib.IntN.{pos, negsuc, natAbs}
 use borrow.Author.Tests.{lt-ltb, le-ltb, leb-false}
 use Rattle.geometry.specs.Edges.{sign, counts, firstRow, endRow}
-use Rattle.geometry.specs.Windings.{Line, line}
+use Rattle.geometry.specs.Windings.{Line, line, edgeOf}
 use Rattle.geometry.specs.Classes.{nowhere, everywhere, verdict, classOf, edgeClass}
 use Rattle.geometry.specs.declared.edge.Edge.{Edge}
 use Rattle.geometry.specs.declared.class.Class.{Class}
 use Rattle.geometry.specs.declared.class.Class.the-variants.{Dropped, Start, Shortcut, Kept}
 use Rattle.cells.specs.Cells.{Cell, left, low, side}
-use Rattle.cells.specs.Segments.{Segment, drawn, shortcut, edgeOf, classIn, keptBy, keptIn}
+use Rattle.cells.specs.Segments.{Segment, drawn, shortcut, classIn, keptBy, keptIn}
 use Rattle.ranges.specs.code.Valid.{CornersBelow}
 
 -- an edge that has rows is drawn upward or downward

@@ -13,7 +13,8 @@ use Rattle.stream.specs.declared.Scan.{Scan}
 use Rattle.stream.specs.declared.Scanned.{Scanned}
 use Rattle.stream.specs.Table.{wordsAt, wordsFrom}
 use Rattle.stream.specs.Grammar.{Env, lineRange, shortcutRange}
-use Rattle.stream.specs.code.Machine.{mk, offN, stepN, scanN, isSegment, segmentFits, segmentsIn, runFits, afterRunN, Onward}
+use Rattle.stream.specs.Entry.{isSegment}
+use Rattle.stream.specs.code.Machine.{mk, offN, stepN, scanN, segmentFits, segmentsIn, runFits, afterRunN, Onward}
 use Rattle.stream.proofs.Table.{words-step, words-none}
 
 -- a line or a shortcut is one of two kinds

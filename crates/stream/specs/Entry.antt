@@ -32,6 +32,13 @@ decode w =
     (cond (eqb (w .kind) 6) (shortcut (w .p) (w .q) (w .r))
     (cond (eqb (w .kind) 7) passes bad))))))
 
+-- the kind of a line; the kind of a line or of a shortcut
+abbrev pub isLine : (kind : ℕ) → Bool
+isLine k = eqb k 5
+
+abbrev pub isSegment : (kind : ℕ) → Bool
+isSegment k = isLine k || eqb k 6
+
 -- signed numbers are words in two's complement; `Rattle.stream.proofs.Signed` says the two ranges of the signed numbers
 
 -- "start −2,048 to 2,048": 4,294,965,248 is the word of −2,048

@@ -7,8 +7,9 @@ ghost use Prim.Native.Nat.{_+_, _*_, _-_, _≤_, _<_};
 ghost use lib.ListN.{length};
 ghost use Rattle.stream.specs.Table.{wordsAt, wordsFrom, putAt};
 ghost use Rattle.stream.specs.Grammar.{env, cornerMet, lineRange, shortcutRange, recordFits, roleFits, usedRange, Ready, checkStream};
+ghost use Rattle.stream.specs.Entry.{isSegment};
 ghost use Rattle.stream.specs.code.Machine.{offN, startN, inGroups, afterOpenN, afterBarN, afterCloseN, afterPassesN, withAreaN, areaFitsN};
-ghost use Rattle.stream.specs.code.Machine.{withLineN, stepN, scanN, isSegment, segmentFits, segmentsIn, runFits, afterRunN, Onward};
+ghost use Rattle.stream.specs.code.Machine.{withLineN, stepN, scanN, segmentFits, segmentsIn, runFits, afterRunN, Onward};
 
 // How many words an entry has, and the kinds, its first word.
 pub const ENTRY_WORDS: usize = 4;

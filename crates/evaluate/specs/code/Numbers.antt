@@ -9,24 +9,31 @@ use lib.IntN.{ℤ, pos, _+ℤ_}
 use mir.Syntax.{w32}
 use mir.Val.{toZ}
 use Rattle.geometry.specs.Edges.{isRow}
+use Rattle.geometry.specs.Windings.{Line, line}
 use Rattle.geometry.specs.Windings as Windings
 use Rattle.pruning.specs.Sides.{clip}
 use Rattle.pruning.specs.Registers.{Registers, outOf, onItem, onPush, onActivate, onPop}
 use Rattle.stream.specs.declared.Words.{Words}
 use Rattle.stream.specs.declared.Bounds.{Bounds}
-use Rattle.stream.specs.Entry.{signRange, decode}
+use Rattle.stream.specs.Entry.{signRange, decode, isLine, isSegment}
 use Rattle.stream.specs.Table.{wordsAt, wordsFrom}
 use Rattle.stream.specs.Grammar.{Env, lineRange, inRange, Ready}
-use Rattle.stream.specs.code.Machine.{isSegment}
 use Rattle.machine.specs.declared.Machine.{Machine}
 use Rattle.machine.specs.code.Registers.{meant}
 use Rattle.cells.specs.Cells.{at}
-use Rattle.cells.specs.Segments.{addsAt}
+use Rattle.cells.specs.Segments.{Segment, drawn, shortcut, addsAt}
 use Rattle.cells.specs.Rows.{settled, State, state, settle, onRows}
 use Rattle.evaluate.specs.declared.Reading.{Reading}
 use Rattle.evaluate.specs.Reading.{roleAt, passAt, opaqueAt, rowsIn}
 
 -- ---- the lines and shortcuts of an area
+
+-- the line that such an entry names; the line or the shortcut
+abbrev pub lineOf : Words → Line
+lineOf w = line (w .p) (w .q)
+
+abbrev pub segmentOf : Words → Segment
+segmentOf w = cond (isLine (w .kind)) (drawn (lineOf w)) (shortcut (toZ w32 (w .p)) (w .q) (w .r))
 
 -- the numbers of a line or a shortcut are in range; what it adds
 abbrev pub segmentRange : List ℕ → List ℕ → ℕ → Words → Bool

@@ -3,6 +3,8 @@ use mathlib.Core.Path.{_≡_}
 use mathlib.Core.List.{List}
 use Prim.Native.Nat.{ℕ, _+_, _≤_, _<_}
 use lib.ListN.{length, getD}
+use Rattle.geometry.specs.Windings.{Line, line}
+use Rattle.geometry.specs.declared.edge.Edge.{Edge}
 use Rattle.geometry.specs.declared.class.Square.{Square}
 
 -- Corners have coordinates 0 to 65,536 and positions 0 to 65,535. Positions between grid points are whole numbers too, once every
@@ -16,6 +18,13 @@ pub record EndsIn (x0 y0 x1 y1 : ℕ) : Type 0 where
   pub first-y : y0 ≤ reach
   pub second-x : x1 ≤ reach
   pub second-y : y1 ≤ reach
+
+abbrev pub EdgeIn : Edge → Type 0
+EdgeIn e = EndsIn (e .x0) (e .y0) (e .x1) (e .y1)
+
+-- a line of which each corner is below n
+abbrev pub LineBelow : (n : ℕ) → Line → Type 0
+LineBelow n (line p q) = (p < n) × (q < n)
 
 -- a position
 pub record PositionIn (x y : ℕ) : Type 0 where

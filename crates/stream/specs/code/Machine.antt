@@ -11,7 +11,7 @@ use Rattle.stream.specs.declared.Bounds.{Bounds}
 use Rattle.stream.specs.declared.Scan.{Scan}
 use Rattle.stream.specs.declared.Scanned.{Scanned}
 use Rattle.stream.specs.Table.{wordsFrom}
-use Rattle.stream.specs.Entry.{startRange}
+use Rattle.stream.specs.Entry.{isSegment, startRange}
 use Rattle.stream.specs.Grammar.{Env, lineRange, shortcutRange, roleFits}
 
 abbrev pub mk : ℕ → Bool → ℕ → ℕ → Scan
@@ -67,10 +67,6 @@ scanN v s [] = s
 scanN v s (w ∷ ws) = scanN v (stepN v s w) ws
 
 -- ---- lines and shortcuts in a row
-
--- the kind of a line or of a shortcut
-abbrev pub isSegment : (kind : ℕ) → Bool
-isSegment k = eqb k 5 || eqb k 6
 
 -- its numbers are in range
 abbrev pub segmentFits : (xs ys : List ℕ) → Bounds → Words → Bool
