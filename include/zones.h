@@ -54,8 +54,10 @@ uint64_t zones_find_leaf(ZONES_DRAWING, ZONES_CONST_TREE, uint32_t x, uint32_t y
  * Result: the material. */
 uint64_t zones_position(ZONES_DRAWING, ZONES_CONST_TREE, uint32_t x, uint32_t y, uint32_t *out, size_t out_len);
 
-/* Fills the pixels of a row (0 to 4,095) from pixel `first` on, three bytes each: red, green, blue. Result: 0. Met by 12 at a pixel, its place is
- * the pixel's index in the call, the pixels before it stand, and the rest is untouched. */
+/* Fills the pixels of a row (0 to 4,095) from pixel `first` on, three bytes each: red, green, blue. A pixel has sixteen samples; its channel is
+ * the sum of their unrounded channel sums (0 to 65,025 each), plus 2,040, divided by 4,080 and rounded down, so that a pixel of one colour has the
+ * colour of its positions. Result: 0. Met by 12 at a pixel, its place is the pixel's index in the call, the pixels before it stand, and the rest is
+ * untouched. */
 uint64_t zones_pixel_row(ZONES_DRAWING, ZONES_CONST_TREE, uint32_t row, uint32_t first, uint8_t *out, size_t out_len);
 
 /* The zone log of the positions (px[i], py[i]): index 0 and each index whose material differs from the one before. Result: how many indices. A

@@ -238,17 +238,23 @@ pub fn compared(passage: &Passage, documents: &[Document]) -> (usize, Vec<String
     (found.len(), faults)
 }
 
-/// The sentences of document 01 of which the passages quote less than a half. Titles, single words
-/// and numbers of its tables, and lines that are printed are no sentences.
-pub fn unquoted(passages: &[Passage], documents: &[Document]) -> Vec<String> {
+/// The sentences of which the passages quote less than a half, of the paragraphs of a document that
+/// begin so. Titles, single words and numbers of tables, and lines that are printed are no sentences.
+pub fn unquoted(
+    passages: &[Passage],
+    documents: &[Document],
+    name: &str,
+    begins: &str,
+) -> Vec<String> {
     let found = passages
         .iter()
         .flat_map(|passage| quotations(passage).unwrap_or_default());
     let quoted: Vec<Vec<String>> = found.map(|quotation| pieces(&quotation.words)).collect();
     let mut left = Vec::new();
-    let law = documents.iter().filter(|document| document.name == UNNAMED);
-    for document in law {
-        for paragraph in &document.paragraphs {
+    let named = documents.iter().filter(|document| document.name == name);
+    for document in named {
+        let here = document.paragraphs.iter();
+        for paragraph in here.filter(|paragraph| paragraph.starts_with(begins)) {
             let spans: Vec<Range<usize>> = quoted
                 .iter()
                 .filter_map(|pieces| span(paragraph, pieces))

@@ -1,5 +1,6 @@
 //! Every quotation in the comments of the sources, in the header and in the pages has the words of
-//! the document that it quotes, and the pages quote every sentence of document 01.
+//! the document that it quotes, and the pages quote every sentence of document 01 and of the
+//! requests of document 02 that are met.
 
 use std::env;
 use std::path::{Path, PathBuf};
@@ -47,12 +48,30 @@ fn each_has_the_words_of_its_document() {
     assert!(faults.is_empty(), "\n{}", faults.join("\n"));
 }
 
-#[test]
-fn each_sentence_of_document_01_is_quoted() {
-    let Some(documents) = documents() else { return };
+/// The requests of document 02 that are met.
+const MET: [&str; 1] = ["Item 1. "];
+
+/// The sentences of a document's paragraphs that begin so, which the pages do not quote.
+fn unquoted(name: &str, begins: &str) -> Vec<String> {
+    let Some(documents) = documents() else {
+        return Vec::new();
+    };
     let docs = pages::top().join("docs");
     let mut passages = pages::passages(&docs.join("PROMISES.md"));
     passages.extend(pages::passages(&docs.join("DECISIONS.md")));
-    let left = quotations::unquoted(&passages, &documents);
+    quotations::unquoted(&passages, &documents, name, begins)
+}
+
+#[test]
+fn each_sentence_of_document_01_is_quoted() {
+    let left = unquoted("document 01", "");
     assert!(left.is_empty(), "not quoted:\n{}", left.join("\n"));
+}
+
+#[test]
+fn each_sentence_of_the_requests_that_are_met_is_quoted() {
+    for item in MET {
+        let left = unquoted("document 02", item);
+        assert!(left.is_empty(), "{item}not quoted:\n{}", left.join("\n"));
+    }
 }

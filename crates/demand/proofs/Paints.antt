@@ -10,7 +10,7 @@ use Rattle.laws.proofs.Booleans.{clash}
 use Rattle.records.specs.declared.Fields.{Fields}
 use Rattle.paint.specs.Sets.{has, among, eachFrom, each}
 use Rattle.paint.specs.Areas.{paintAt, materialFrom, materialOf}
-use Rattle.paint.specs.Colours.{add, start, mixOf, over, rounded, colourOf}
+use Rattle.paint.specs.Colours.{add, start, mixOf, over, sumsOf, rounded, colourOf}
 use Rattle.paint.specs.declared.area.Paint.{Paint}
 use Rattle.paint.specs.declared.colour.Mix.{Mix}
 use Rattle.paint.proofs.Sets.{has-set}
@@ -23,7 +23,7 @@ use Rattle.stream.specs.declared.Bounds.{Bounds}
 use Rattle.ranges.specs.code.Valid.{Valid}
 use Rattle.ranges.specs.Held.{Held}
 use Rattle.ranges.proofs.Reading.{fields-are}
-use Rattle.demand.specs.NoTree.{paintOf, setShown, materialShown, colourShown}
+use Rattle.demand.specs.NoTree.{paintOf, setShown, materialShown, colourShown, sumsShown}
 
 -- ---- what is shown is on the plan
 module _ (P : ℕ → Type 0) where
@@ -96,8 +96,11 @@ module _ (f g : ℕ → Paint) (set : ℕ) (same : (n : ℕ) → has set n ≡ t
   unfolding mixOf each
   mix-same = each-from 0 64 start
 
+  pub sums-same : sumsOf f set ≡ sumsOf g set
+  sums-same = ap over mix-same
+
   pub colour-same : colourOf f set ≡ colourOf g set
-  colour-same = ap (λ (m : Mix). rounded (over m)) mix-same
+  colour-same = ap rounded sums-same
 
 -- ---- in tables that hold the drawing
 module _ (D : Drawing) (ok : Valid D) (areas xs ys : List ℕ) (b : Bounds) (H : Held areas xs ys b D) (p : Position) where
@@ -108,6 +111,9 @@ module _ (D : Drawing) (ok : Valid D) (areas xs ys : List ℕ) (b : Bounds) (H :
 
   pub material-held : materialOf (paintAt areas) (setShown D p) ≡ materialShown D p
   material-held = material-same (paintAt areas) (paintOf D) (setShown D p) paint-same
+
+  pub sums-held : sumsOf (paintAt areas) (setShown D p) ≡ sumsShown D p
+  sums-held = sums-same (paintAt areas) (paintOf D) (setShown D p) paint-same
 
   pub colour-held : colourOf (paintAt areas) (setShown D p) ≡ colourShown D p
   colour-held = colour-same (paintAt areas) (paintOf D) (setShown D p) paint-same

@@ -10,10 +10,10 @@ use borrow.Author.Tests.{ltb-true, eq-eqb}
 use Rattle.laws.proofs.Booleans.{and-left, and-right}
 use Rattle.refusals.specs.declared.Refusal.the-variants as Refusals
 use Rattle.paint.specs.Areas.{paintAt, materialOf}
-use Rattle.paint.specs.Colours.{colourOf}
-use Rattle.paint.specs.declared.colour.Colour.{Colour}
+use Rattle.paint.specs.Colours.{sumsOf, colourOf}
 use Rattle.paint.specs.declared.colour.Channels.{Channels}
-use Rattle.paint.specs.Pixels.{rowOffsets, rowOffset, sampleX, sampleY, plus, samples, sixteenth, pixelOf}
+use Rattle.paint.specs.Pixels.{rowOffsets, rowOffset, sampleX, sampleY, pixelOf}
+use Rattle.paint.proofs.Pixels.{pixel-agrees}
 use Rattle.cells.specs.Cells.{at, OnGrid}
 use Rattle.celltable.specs.declared.Found.the-variants.{At}
 use Rattle.evaluate.specs.Reading.{setAt}
@@ -21,11 +21,11 @@ use Rattle.tables.specs.Tables.{Tree}
 use Rattle.find_leaf.specs.Leaf.{positionRange}
 use Rattle.find_leaf.proofs.Landing.{on-grid}
 use Rattle.position.specs.declared.Answer.the-variants as Answers
-use Rattle.position.specs.Spots.{isFound, setBy, spotOf, known, setIn, materialIn, colourIn, spotIn, positionAnswer}
+use Rattle.position.specs.Spots.{isFound, setBy, spotOf, known, setIn, materialIn, colourIn, sumsIn, spotIn, positionAnswer}
 use Rattle.demand.specs.History.{Node, cellIn}
-use Rattle.demand.specs.NoTree.{setShown, materialShown, colourShown, spotShown}
+use Rattle.demand.specs.NoTree.{setShown, materialShown, colourShown, sumsShown, spotShown}
 use Rattle.demand.specs.Stands.{drawingOf}
-use Rattle.demand.proofs.Paints.{material-held, colour-held}
+use Rattle.demand.proofs.Paints.{material-held, colour-held, sums-held}
 use Rattle.demand.proofs.Sound.{Sound, cell-set}
 use Rattle.demand.proofs.Finding.{lands}
 
@@ -52,6 +52,11 @@ module _ (t : Tree) (H : List Node) (s : Sound t H) where
     colour-there =
         ap (colourOf (paintAt (t .areas))) set-there
         ∙ colour-held (drawingOf t) (s .drawn .valid) (t .areas) (t .xs) (t .ys) _ (s .drawn .held 0 0) (at x y)
+
+    pub sums-there : sumsIn t x y ≡ sumsShown (drawingOf t) (at x y)
+    sums-there =
+        ap (sumsOf (paintAt (t .areas))) set-there
+        ∙ sums-held (drawingOf t) (s .drawn .valid) (t .areas) (t .xs) (t .ys) _ (s .drawn .held 0 0) (at x y)
 
     spot-there : spotOf (t .areas) (setIn t x y) ≡ spotShown (drawingOf t) (at x y)
     spot-there =
@@ -99,14 +104,11 @@ offset-small i = below-small rowOffsets i refl
 pub sample-on-grid : (row pixel i : ℕ) → row ≤ 4095 → pixel ≤ 4095 → i < 16 → OnGrid (at (sampleX pixel i) (sampleY row i))
 sample-on-grid row pixel i h k l = record { x-below = omega arith; y-below = omega (arith, offset-small i) }
 
--- colours that are the same at each position of the grid
-module _ (f g : ℕ → ℕ → Colour) (same : (x y : ℕ) → OnGrid (at x y) → f x y ≡ g x y) where
-  samples-same : (row pixel i n : ℕ) (c : Channels) → row ≤ 4095 → pixel ≤ 4095 → i + n ≤ 16 → samples f row pixel i n c ≡ samples g row pixel i n c
-  samples-same row pixel i zero c h k l = refl
-  samples-same row pixel i (suc n) c h k l =
-      ap (λ (o : Colour). samples f row pixel (suc i) n (plus c o)) (same (sampleX pixel i) (sampleY row i) (sample-on-grid row pixel i h k (omega arith)))
-      ∙ samples-same row pixel (suc i) n (plus c (g (sampleX pixel i) (sampleY row i))) h k (omega arith)
-
-  pub pixel-same : (row pixel : ℕ) → row ≤ 4095 → pixel ≤ 4095 → pixelOf f row pixel ≡ pixelOf g row pixel
-  unfolding pixelOf
-  pixel-same row pixel h k = ap sixteenth (samples-same row pixel 0 16 _ h k (omega arith))
+-- channel sums that are the same at each position of the grid
+pub pixel-same : (f g : ℕ → ℕ → Channels)
+    → ((x y : ℕ) → OnGrid (at x y) → f x y ≡ g x y)
+    → (row pixel : ℕ)
+    → row ≤ 4095
+    → pixel ≤ 4095
+    → pixelOf f row pixel ≡ pixelOf g row pixel
+pixel-same f g same row pixel h k = pixel-agrees f g row pixel (λ i l. same (sampleX pixel i) (sampleY row i) (sample-on-grid row pixel i h k l))

@@ -12,15 +12,15 @@ use Rattle.paint.specs.declared.colour.Colour.{Colour}
 use Rattle.paint.specs.Pixels.{sampleX, sampleY}
 use Rattle.cells.specs.Cells.{at}
 use Rattle.tables.specs.Tables.{Tree}
-use Rattle.position.specs.Spots.{colourIn}
+use Rattle.position.specs.Spots.{sumsIn}
 use Rattle.pixel_row.specs.declared.RowAnswer.the-variants.{Done, Not}
 use Rattle.pixel_row.specs.Rows.{Filled, filled, putPixel, samplesKnown, pixelKnown, pixelIn, fillFrom, rowSpan, rowFilled}
 use Rattle.demand.specs.History.{Node}
-use Rattle.demand.specs.NoTree.{colourShown, pixelShown}
+use Rattle.demand.specs.NoTree.{sumsShown, pixelShown}
 use Rattle.demand.specs.Stands.{drawingOf}
 use Rattle.demand.specs.Shown.{fillShown, rowShown}
 use Rattle.demand.proofs.Sound.{Sound}
-use Rattle.demand.proofs.Readings.{known-there, colour-there, sample-on-grid, pixel-same}
+use Rattle.demand.proofs.Readings.{known-there, sums-there, sample-on-grid, pixel-same}
 
 module _ (t : Tree) (H : List Node) (s : Sound t H) (row first : ℕ) where
   module _ (h : row ≤ 4095) where
@@ -37,7 +37,7 @@ module _ (t : Tree) (H : List Node) (s : Sound t H) (row first : ℕ) where
     pixel-known pixel k = samples-known pixel 0 16 k (omega arith)
 
     pixel-is : (pixel : ℕ) → pixel ≤ 4095 → pixelIn t row pixel ≡ pixelShown (drawingOf t) row pixel
-    pixel-is pixel k = pixel-same (colourIn t) (λ x y. colourShown (drawingOf t) (at x y)) (colour-there t H s) row pixel h k
+    pixel-is pixel k = pixel-same (sumsIn t) (λ x y. sumsShown (drawingOf t) (at x y)) (sums-there t H s) row pixel h k
 
     fill-is : (i n : ℕ) (out : List ℕ) → first + (i + n) ≤ 4096 → fillFrom t row first i n out ≡ filled Done (fillShown (drawingOf t) row first i n out)
     unfolding fillFrom

@@ -1,10 +1,12 @@
--- Document 01, "The list of demand 3": ""with no tree" is by the same section over the whole drawing, pixels and logs too."
+-- Document 01, "The list of demand 3": ""with no tree" is by the same section over the whole drawing, pixels and logs too."; document 02, Item 1:
+-- "Pixels are compared with this rule alone."
 use Prim.Native.Nat.{ℕ}
 use Rattle.paint.specs.Sets.{setOf}
 use Rattle.paint.specs.Areas.{materialOf}
-use Rattle.paint.specs.Colours.{colourOf}
+use Rattle.paint.specs.Colours.{sumsOf, colourOf}
 use Rattle.paint.specs.Pixels.{pixelOf}
 use Rattle.paint.specs.declared.area.Paint.{Paint}
+use Rattle.paint.specs.declared.colour.Channels.{Channels}
 use Rattle.paint.specs.declared.colour.Colour.{Colour}
 use Rattle.cells.specs.Cells.{Position, at}
 use Rattle.cells.specs.Drawings.{Drawing, fieldsOf, shownAt}
@@ -37,6 +39,11 @@ module _ (D : Drawing) where
         blue = colourShown p .blue;
       }
 
-  -- "A pixel is 16 by 16 units."
+  -- document 02: "the unrounded channel sums (before + 127 and the division)"
+  abbrev pub sumsShown : Position → Channels
+  sumsShown p = sumsOf paintOf (setShown p)
+
+  -- document 02: "a pixel's channel is the sum over its sixteen samples of the unrounded channel sums (before + 127 and the division), plus
+  -- 2,040, divided by 4,080 and rounded down"
   abbrev pub pixelShown : (row pixel : ℕ) → Colour
-  pixelShown row pixel = pixelOf (λ x y. colourShown (at x y)) row pixel
+  pixelShown row pixel = pixelOf (λ x y. sumsShown (at x y)) row pixel

@@ -1,3 +1,4 @@
--- The laws of sets, weights and colours.
+-- The laws of sets, weights, colours and pixels.
 pub mod Sets
 pub mod Colours
+pub mod Pixels

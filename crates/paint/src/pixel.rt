@@ -3,15 +3,18 @@ use crate::colour::Channels;
 use crate::colour::Colour;
 ghost use mathlib.Core.Path.{_≡_};
 ghost use Prim.Native.Nat.{_≤_, _<_};
-ghost use Rattle.paint.specs.Colours.{ColourIn};
-ghost use Rattle.paint.specs.Pixels.{rowOffset, sampleX, sampleY, plus, sixteenth, SamplesIn};
+ghost use Rattle.paint.specs.Colours.{ChannelsIn, ColourIn};
+ghost use Rattle.paint.specs.Pixels.{rowOffset, sampleX, sampleY, plus, mean, SamplesIn};
 
-// The side of a pixel in units, and its samples, one in each column; their half, for rounding.
+// The side of a pixel in units, and its samples, one in each column.
 pub const PIXEL_SIDE: u32 = 16;
 
 pub const SAMPLES: u32 = 16;
 
-const HALF: u32 = 8;
+// What the weights of sixteen samples make together, and its half, for rounding.
+const WHOLE: u32 = 4080;
+
+const HALF: u32 = 2040;
 
 // The row offsets, for column offsets 0 to 15.
 const ROW_OFFSETS: [u32; 16] = [3, 8, 13, 2, 7, 12, 1, 6, 11, 0, 5, 10, 15, 4, 9, 14];
@@ -46,10 +49,10 @@ pub fn sample_at(row: u32, pixel: u32, i: u32) -> Sample
     }
 }
 
-// One sample more, of at most sixteen.
-pub fn add_sample(sum: Channels, c: Colour) -> Channels
+// The unrounded channel sums of one sample more, of at most sixteen.
+pub fn add_sample(sum: Channels, c: Channels) -> Channels
     requires { ⌜ SamplesIn 15 sum ⌝ }
-    requires { ⌜ ColourIn c ⌝ }
+    requires { ⌜ ChannelsIn c ⌝ }
     ensures answer { λ r. ⌜ r ≡ plus sum c ⌝ }
 {
     Channels {
@@ -62,12 +65,12 @@ pub fn add_sample(sum: Channels, c: Colour) -> Channels
 // The pixel of sixteen samples.
 pub fn pixel_of(sum: Channels) -> Colour
     requires { ⌜ SamplesIn 16 sum ⌝ }
-    ensures answer { λ r. ⌜ r ≡ sixteenth sum ⌝ }
+    ensures answer { λ r. ⌜ r ≡ mean sum ⌝ }
     ensures range { λ r. ⌜ ColourIn r ⌝ }
 {
     Colour {
-        red: (sum.red + HALF) / SAMPLES,
-        green: (sum.green + HALF) / SAMPLES,
-        blue: (sum.blue + HALF) / SAMPLES,
+        red: (sum.red + HALF) / WHOLE,
+        green: (sum.green + HALF) / WHOLE,
+        blue: (sum.blue + HALF) / WHOLE,
     }
 }

@@ -7,13 +7,13 @@ use native.Mathlib.Numerals.{add-one}
 use Rattle.paint.specs.declared.colour.Channels.{Channels}
 use Rattle.paint.specs.declared.colour.Colour.{Colour}
 use Rattle.paint.specs.Areas.{paintAt}
-use Rattle.paint.specs.Colours.{colourOf, ColourIn}
-use Rattle.paint.specs.Pixels.{sampleX, sampleY, plus, sixteenth, pixelOf, SamplesIn}
+use Rattle.paint.specs.Colours.{sumsOf, ChannelsIn}
+use Rattle.paint.specs.Pixels.{sampleX, sampleY, plus, mean, pixelOf, SamplesIn}
 use Rattle.celltable.specs.declared.Found.{Found}
 use Rattle.tables.specs.Tables.{Tree}
 use Rattle.laws.proofs.Choices.{pick-true, pick-false}
 use Rattle.find_leaf.specs.Leaf.{leafIn}
-use Rattle.position.specs.Spots.{known, colourIn}
+use Rattle.position.specs.Spots.{known, sumsIn}
 use Rattle.position.specs.code.Numbers.{LastIn}
 use Rattle.position.proofs.Known.{Known}
 use Rattle.pixel_row.specs.declared.Pixel.the-variants as Pixels
@@ -24,7 +24,7 @@ less-one : (e i : ℕ) → i < e → e - i ≡ suc (e - (i + 1))
 less-one e i h = omega arith
 
 -- one sample more
-pub plus-in : (i : ℕ) (s : Channels) (c : Colour) → SamplesIn i s → ColourIn c → SamplesIn (i + 1) (plus s c)
+pub plus-in : (i : ℕ) (s c : Channels) → SamplesIn i s → ChannelsIn c → SamplesIn (i + 1) (plus s c)
 plus-in i s c h k =
     record { red-in = omega (arith, h .red-in, k .red-in); green-in = omega (arith, h .green-in, k .green-in); blue-in = omega (arith, h .blue-in, k .blue-in) }
 
@@ -41,7 +41,7 @@ unknown-at t x y x′ y′ p q k = sym (ap₂ (known t) p q) ∙ k
 module _ (t : Tree) (row pixel : ℕ) where
   sampled-step : (e i : ℕ) (s : Channels)
       → i < e
-      → sampled t row pixel i (e - i) s ≡ sampled t row pixel (i + 1) (e - (i + 1)) (plus s (colourIn t (sampleX pixel i) (sampleY row i)))
+      → sampled t row pixel i (e - i) s ≡ sampled t row pixel (i + 1) (e - (i + 1)) (plus s (sumsIn t (sampleX pixel i) (sampleY row i)))
   unfolding sampled
   sampled-step e i s h = rw (less-one e i h, add-one i)
 
@@ -85,17 +85,17 @@ module _ (t : Tree) (row pixel : ℕ) where
         rest = ap (λ (k : ℕ). sampled t row pixel 0 k noChannels) z;
       }
 
-  pub sampling-turn : (e i set : ℕ) (last f : Found) (sum sum′ : Channels) (c : Colour)
+  pub sampling-turn : (e i set : ℕ) (last f : Found) (sum sum′ c : Channels)
       → i < e
       → Sampling e i last sum
       → Known t (sampleX pixel i) (sampleY row i) set f
-      → c ≡ colourOf (paintAt (t .areas)) set
-      → ColourIn c
+      → c ≡ sumsOf (paintAt (t .areas)) set
+      → ChannelsIn c
       → sum′ ≡ plus sum c
       → Sampling e (i + 1) f sum′
   sampling-turn e i set last f sum sum′ c h p k g b r =
       let z : i + 1 - 1 ≡ i = omega arith in
-      let v : c ≡ colourIn t (sampleX pixel i) (sampleY row i) = g ∙ ap (colourOf (paintAt (t .areas))) (k .is-set) in
+      let v : c ≡ sumsIn t (sampleX pixel i) (sampleY row i) = g ∙ ap (sumsOf (paintAt (t .areas))) (k .is-set) in
       record {
         to = omega (arith, h);
         leaf = k .is-leaf;
@@ -105,20 +105,20 @@ module _ (t : Tree) (row pixel : ℕ) where
         rest = ap (sampled t row pixel (i + 1) (e - (i + 1))) (r ∙ ap (plus sum) v) ∙ (sym (sampled-step e i sum h) ∙ p .rest);
       }
 
-  pixel-is : sixteenth (sampled t row pixel 0 16 noChannels) ≡ pixelIn t row pixel
+  pixel-is : mean (sampled t row pixel 0 16 noChannels) ≡ pixelIn t row pixel
   unfolding sampled pixelOf
   pixel-is = refl
 
   pub sampling-done : (i : ℕ) (last : Found) (sum : Channels) (c : Colour)
       → 16 ≤ i
       → Sampling 16 i last sum
-      → c ≡ sixteenth sum
+      → c ≡ mean sum
       → Pixels.Known c last ≡ pixelTold t row pixel
   unfolding pixelKnown
   sampling-done i last sum c h p r =
       let z : i - 1 ≡ 15 = omega (arith, p .to, h) in
       let k : samplesKnown t row pixel 0 16 ≡ true = sym (p .knows) ∙ known-end 16 i h in
-      let s : c ≡ pixelIn t row pixel = r ∙ (ap sixteenth (sym (sampled-none 16 i sum h) ∙ p .rest) ∙ pixel-is) in
+      let s : c ≡ pixelIn t row pixel = r ∙ (ap mean (sym (sampled-none 16 i sum h) ∙ p .rest) ∙ pixel-is) in
       let f : last ≡ leafIn t (sampleX pixel 15) (sampleY row 15) =
       p .prior (λ q. omega (arith, q, h)) ∙ ap (λ (j : ℕ). leafIn t (sampleX pixel j) (sampleY row j)) z in
       ap₂ Pixels.Known s f

@@ -1,14 +1,15 @@
--- Document 01, "Winding and meaning", "From the input" and "From the state": a row of pixels.
+-- Document 01, "Winding and meaning", "From the input" and "From the state", and document 02, Item 1: a row of pixels.
 use mathlib.Core.Bool.{Bool, true, false, cond}
 use mathlib.Core.List.{List, [], _∷_}
 use Prim.Native.Nat.{ℕ, zero, suc, _+_, _*_, _/_, _%_}
 use lib.Dec.{eqb, leb}
 use lib.ListN.{length, set}
 use Rattle.refusals.specs.declared.Refusal.the-variants.{Argument, Broken}
+use Rattle.paint.specs.declared.colour.Channels.{Channels}
 use Rattle.paint.specs.declared.colour.Colour.{Colour}
 use Rattle.paint.specs.Pixels.{sampleX, sampleY, pixelOf}
 use Rattle.tables.specs.Tables.{Tree}
-use Rattle.position.specs.Spots.{known, colourIn}
+use Rattle.position.specs.Spots.{known, sumsIn}
 use Rattle.pixel_row.specs.declared.RowAnswer.{RowAnswer}
 use Rattle.pixel_row.specs.declared.RowAnswer.the-variants.{Done, Not}
 
@@ -24,8 +25,8 @@ filled r out = record { answer = r; bytes = out }
 abbrev pub putPixel : List ℕ → ℕ → Colour → List ℕ
 putPixel out i c = set (set (set out (i * 3) (c .red)) (i * 3 + 1) (c .green)) (i * 3 + 2) (c .blue)
 
--- the bytes of n pixels of a row, where `at` gives the colour at each position
-unfoldable pub rowBytes : (at : ℕ → ℕ → Colour) → (row pixel n : ℕ) → List ℕ
+-- the bytes of n pixels of a row, where `at` gives the unrounded channel sums at each position
+unfoldable pub rowBytes : (at : ℕ → ℕ → Channels) → (row pixel n : ℕ) → List ℕ
 rowBytes at row pixel zero = []
 rowBytes at row pixel (suc n) =
     pixelOf at row pixel .red ∷ pixelOf at row pixel .green ∷ pixelOf at row pixel .blue ∷ rowBytes at row (pixel + 1) n
@@ -40,9 +41,10 @@ module _ (t : Tree) (row : ℕ) where
   unfoldable pub pixelKnown : ℕ → Bool
   pixelKnown pixel = samplesKnown pixel 0 16
 
-  -- "Its channel is (sum of the sixteen sample channels + 8) / 16 rounded down": the colours are those that are read at the samples
+  -- document 02: "a pixel's channel is the sum over its sixteen samples of the unrounded channel sums (before + 127 and the division), plus
+  -- 2,040, divided by 4,080 and rounded down": the sums are those of the sets that are read at the samples
   abbrev pub pixelIn : ℕ → Colour
-  pixelIn pixel = pixelOf (colourIn t) row pixel
+  pixelIn pixel = pixelOf (sumsIn t) row pixel
 
   -- the n pixels of the call from index i on. "... a pixel row met by 12: place is the pixel's index in the call, earlier pixels stand, the
   -- rest are untouched."

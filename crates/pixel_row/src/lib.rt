@@ -67,7 +67,7 @@ fn pixel_at(
         let s = position::shown_at(plan, areas, xs, ys, head, cells, entries, last, p.x, p.y);
         match s {
             Shown::Set(shown, f) => {
-                let c = colour::colour_of(areas, shown);
+                let c = colour::channel_sums(areas, shown);
                 sum = pixel::add_sample(sum, c);
                 last = f;
                 i += 1;

@@ -5,10 +5,11 @@ use Prim.Native.Nat.{ℕ}
 use lib.Dec.{eqb}
 use lib.ListN.{length}
 use Rattle.refusals.specs.declared.Refusal.the-variants as Refusals
+use Rattle.paint.specs.declared.colour.Channels.{Channels}
 use Rattle.paint.specs.declared.colour.Colour.{Colour}
 use Rattle.paint.specs.Sets.{setOf}
 use Rattle.paint.specs.Areas.{paintAt, materialOf}
-use Rattle.paint.specs.Colours.{colourOf}
+use Rattle.paint.specs.Colours.{sumsOf, colourOf}
 use Rattle.celltable.specs.declared.Leaf.{Leaf}
 use Rattle.celltable.specs.declared.Found.{Found}
 use Rattle.celltable.specs.declared.Found.the-variants.{At, Broken}
@@ -69,6 +70,10 @@ module _ (t : Tree) where
 
     abbrev pub colourIn : Colour
     colourIn = colourOf (paintAt (t .areas)) setIn
+
+    -- the unrounded channel sums, for pixels
+    abbrev pub sumsIn : Channels
+    sumsIn = sumsOf (paintAt (t .areas)) setIn
 
     abbrev pub spotIn : Answer
     spotIn = cond known (Answers.At (spotOf (t .areas) setIn)) (Answers.Not Refusals.Broken)

@@ -41,8 +41,8 @@ shown-at-requires c κs =
 enum-known-s : tie.Need-enum-known-s Inv-loop μ-loop
 enum-known-s c = search needs
 
-colour-of-requires : tie.Need-colour-of-requires Inv-loop μ-loop
-colour-of-requires c κs =
+channel-sums-requires : tie.Need-channel-sums-requires Inv-loop μ-loop
+channel-sums-requires c κs =
     let after-s = c .before in
     let after-shown-at = after-s .before .before in
     let after-sample-at = after-shown-at .before in
@@ -60,7 +60,7 @@ add-sample-requires c κs =
     let at-loop = at-loop-test .before in
     let i = at-loop .loop .i in
     let k = at-loop-test .loop-test .taken in
-    (fewer-in i 15 (at-loop .loop .sum) (omega (arith, k)) (at-loop .loop .inv .small), c .colour-of .ensures .1)
+    (fewer-in i 15 (at-loop .loop .sum) (omega (arith, k)) (at-loop .loop .inv .small), c .channel-sums .ensures .1)
 
 add-i : tie.Need-add-i Inv-loop μ-loop
 add-i c =
@@ -74,8 +74,8 @@ loop-less c =
 
 loop-again : tie.Need-loop-again Inv-loop μ-loop
 loop-again c =
-    let after-colour-of = c .before in
-    let after-s = after-colour-of .before .before in
+    let after-channel-sums = c .before in
+    let after-s = after-channel-sums .before .before in
     let after-shown-at = after-s .before .before in
     let after-sample-at = after-shown-at .before in
     let at-loop-test = after-sample-at .before in
@@ -92,8 +92,8 @@ loop-again c =
     (known-set T (q .x) (q .y) (after-shown-at .shown-at .result) (after-s .s .given .0 .0) (after-s .s .given .0 .1 .0)
     (after-shown-at .shown-at .ensures) (after-s .s .given .1)) in
     sampling-turn T (a .row) (a .column) 16 i (after-s .s .given .0 .0) (at-loop .loop .last) (after-s .s .given .0 .1 .0)
-    (at-loop .loop .sum) (c .add-sample .result) (after-colour-of .colour-of .result) k (at-loop .loop .inv) g
-    (after-colour-of .colour-of .ensures .0) (after-colour-of .colour-of .ensures .1) (c .add-sample .ensures)
+    (at-loop .loop .sum) (c .add-sample .result) (after-channel-sums .channel-sums .result) k (at-loop .loop .inv) g
+    (after-channel-sums .channel-sums .ensures .0) (after-channel-sums .channel-sums .ensures .1) (c .add-sample .ensures)
 
 enum-told : tie.Need-enum-told Inv-loop μ-loop
 enum-told c = search needs
@@ -144,7 +144,7 @@ pixel-at-spec =
     sample-at-requires
     shown-at-requires
     enum-known-s
-    colour-of-requires
+    channel-sums-requires
     add-sample-requires
     add-i
     loop-less

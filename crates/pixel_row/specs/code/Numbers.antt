@@ -6,7 +6,7 @@ use Rattle.paint.specs.Colours.{ColourIn}
 use Rattle.paint.specs.Pixels.{sampleX, sampleY, samples}
 use Rattle.tables.specs.Tables.{Tree}
 use Rattle.find_leaf.specs.Leaf.{leafIn}
-use Rattle.position.specs.Spots.{colourIn}
+use Rattle.position.specs.Spots.{sumsIn}
 use Rattle.pixel_row.specs.declared.Pixel.{Pixel}
 use Rattle.pixel_row.specs.declared.Pixel.the-variants.{Known, Broken}
 use Rattle.pixel_row.specs.Rows.{pixelKnown, pixelIn}
@@ -25,4 +25,4 @@ noChannels = record { red = 0; green = 0; blue = 0 }
 
 -- the sum of the n samples from column offset i on, added to s
 unfoldable pub sampled : Tree → (row pixel i n : ℕ) → Channels → Channels
-sampled t row pixel i n s = samples (colourIn t) row pixel i n s
+sampled t row pixel i n s = samples (sumsIn t) row pixel i n s
