@@ -15,9 +15,9 @@ use borrow.Author.Tests.{lt-ltb, le-ltb}
 use Rattle.laws.proofs.Booleans.{&&-left, &&-right}
 use Rattle.laws.proofs.Differences.{abs-add}
 use Rattle.laws.proofs.Signed.{Running, running-end}
-use Rattle.geometry.specs.code.Reach.{EndsIn, CornersIn}
+use Rattle.geometry.specs.code.Reach.{EdgeIn, LineBelow, CornersIn}
 use Rattle.geometry.specs.Edges.{counts, sign}
-use Rattle.geometry.specs.Windings.{edgeBetween, Line, line, linesFrom, linesOf, nextCorner, adds, sumOf, winding, contoursTo, follow}
+use Rattle.geometry.specs.Windings.{Line, line, edgeOf, linesFrom, linesOf, nextCorner, adds, sumOf, winding, contoursTo, follow}
 use Rattle.geometry.specs.declared.edge.Edge.{Edge}
 
 -- ---- how large a sum gets
@@ -35,8 +35,8 @@ adds-abs e x y =
 pub sum-abs : (xs ys : List ℕ) (ls : List Line) (x y : ℕ) → natAbs (sumOf xs ys ls x y) ≤ length ls
 unfolding sumOf
 sum-abs xs ys [] x y = omega arith
-sum-abs xs ys (line p q ∷ ls) x y =
-    let e = edgeBetween xs ys p q in
+sum-abs xs ys (l ∷ ls) x y =
+    let e = edgeOf xs ys l in
     omega (arith, abs-add (adds e x y) (sumOf xs ys ls x y), adds-abs e x y, sum-abs xs ys ls x y)
 
 pub length-lines : (first i n : ℕ) → length (linesFrom first i n) ≡ n
@@ -50,22 +50,22 @@ module _ (xs ys : List ℕ) (x y : ℕ) where
   pub sum-append : (a b : List Line) → sumOf xs ys (a ++ b) x y ≡ sumOf xs ys a x y +ℤ sumOf xs ys b x y
   unfolding sumOf
   sum-append [] b = sym (+ℤ-idl (sumOf xs ys b x y))
-  sum-append (line p q ∷ a) b =
-      let t : ℤ = adds (edgeBetween xs ys p q) x y in
+  sum-append (l ∷ a) b =
+      let t : ℤ = adds (edgeOf xs ys l) x y in
       ap (λ z. t +ℤ z) (sum-append a b) ∙ sym (+ℤ-assoc t (sumOf xs ys a x y) (sumOf xs ys b x y))
 
   -- the edge from corner i, and those behind it
   pub sum-step : (first i end : ℕ)
       → i < end
       → sumOf xs ys (linesFrom first i (end - i)) x y
-      ≡ adds (edgeBetween xs ys i (nextCorner first end i)) x y +ℤ sumOf xs ys (linesFrom first (i + 1) (end - (i + 1))) x y
+      ≡ adds (edgeOf xs ys (line i (nextCorner first end i))) x y +ℤ sumOf xs ys (linesFrom first (i + 1) (end - (i + 1))) x y
   unfolding sumOf
   sum-step first i end h = go (end - (i + 1)) (omega arith)
     where
       go : (n : ℕ)
           → end ≡ i + 1 + n
           → sumOf xs ys (linesFrom first i (end - i)) x y
-          ≡ adds (edgeBetween xs ys i (nextCorner first end i)) x y +ℤ sumOf xs ys (linesFrom first (i + 1) (end - (i + 1))) x y
+          ≡ adds (edgeOf xs ys (line i (nextCorner first end i))) x y +ℤ sumOf xs ys (linesFrom first (i + 1) (end - (i + 1))) x y
       go zero e =
           let p : end - i ≡ 1 = omega arith in
           let q : end - (i + 1) ≡ 0 = omega arith in
@@ -112,14 +112,12 @@ area-done xs ys x y ends first k n bits h s = let e : drop k ends ≡ [] = drop-
 pub contour-abs : (xs ys : List ℕ) (first end x y : ℕ) → natAbs (sumOf xs ys (linesFrom first first (end - first)) x y) ≤ end - first
 contour-abs xs ys first end x y = omega (arith, sum-abs xs ys (linesFrom first first (end - first)) x y, length-lines first first (end - first))
 
--- ---- the ends of an edge between two corners are in range
+-- ---- the edge of a line with corners in the tables is in range
 
-pub ends-in : (xs ys : List ℕ)
-    → CornersIn xs ys
-    → (p q : ℕ)
-    → p < length xs
-    → q < length xs
-    → (e : Edge)
-    → e ≡ edgeBetween xs ys p q
-    → EndsIn (e .x0) (e .y0) (e .x1) (e .y1)
-ends-in xs ys h p q i j e is = rw is (record { first-x = h .each-x p i; first-y = h .each-y p i; second-x = h .each-x q j; second-y = h .each-y q j })
+pub edge-in : (xs ys : List ℕ) → CornersIn xs ys → (l : Line) → LineBelow (length xs) l → EdgeIn (edgeOf xs ys l)
+edge-in xs ys h (line p q) i = record {
+  first-x = h .each-x p (i .0);
+  first-y = h .each-y p (i .0);
+  second-x = h .each-x q (i .1);
+  second-y = h .each-y q (i .1);
+}

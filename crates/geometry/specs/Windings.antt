@@ -8,17 +8,17 @@ use lib.IntN.{ℤ, pos, _+ℤ_}
 use Rattle.geometry.specs.Edges.{counts, sign}
 use Rattle.geometry.specs.declared.edge.Edge.{Edge}
 
--- "corner coordinates lie in lent 32-bit tables": the edge drawn from corner p to corner q
-abbrev pub edgeBetween : (xs ys : List ℕ) (p q : ℕ) → Edge
-edgeBetween xs ys p q = record { x0 = getD xs p 0; y0 = getD ys p 0; x1 = getD xs q 0; y1 = getD ys q 0 }
-
 -- a line by the numbers of its two corners, drawn from the one to the other
 pub data Line : Type 0 where
   line : (from to : ℕ) → Line
 
--- the edge of a line
+-- the edge of a line: "corner coordinates lie in lent 32-bit tables"
 abbrev pub edgeOf : (xs ys : List ℕ) → Line → Edge
-edgeOf xs ys (line p q) = edgeBetween xs ys p q
+edgeOf xs ys (line p q) = record { x0 = getD xs p 0; y0 = getD ys p 0; x1 = getD xs q 0; y1 = getD ys q 0 }
+
+-- the edge drawn from corner p to corner q
+abbrev pub edgeBetween : (xs ys : List ℕ) (p q : ℕ) → Edge
+edgeBetween xs ys p q = edgeOf xs ys (line p q)
 
 -- a contour: the number of its first corner, and how many corners it has
 pub data Contour : Type 0 where
@@ -50,7 +50,7 @@ adds e x y = cond (counts e x y) (sign e) (pos 0)
 -- the sum of what the lines add
 unfoldable pub sumOf : (xs ys : List ℕ) → List Line → (x y : ℕ) → ℤ
 sumOf xs ys [] x y = pos 0
-sumOf xs ys (line p q ∷ ls) x y = adds (edgeBetween xs ys p q) x y +ℤ sumOf xs ys ls x y
+sumOf xs ys (l ∷ ls) x y = adds (edgeOf xs ys l) x y +ℤ sumOf xs ys ls x y
 
 -- the winding of an area at (x, y): the sum over the edges of its contours
 abbrev pub winding : (xs ys : List ℕ) → List Contour → (x y : ℕ) → ℤ

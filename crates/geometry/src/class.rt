@@ -4,7 +4,7 @@ use crate::edge::Edge;
 ghost use mathlib.Core.Path.{_≡_};
 ghost use mathlib.Core.Bool.{not, _&&_};
 ghost use Prim.Native.Nat.{min, max};
-ghost use Rattle.geometry.specs.code.Reach.{EndsIn, PositionIn, SquareIn};
+ghost use Rattle.geometry.specs.code.Reach.{EdgeIn, PositionIn, SquareIn};
 ghost use Rattle.geometry.specs.Edges.{counts};
 ghost use Rattle.geometry.specs.Classes.{edgeClass, cut};
 
@@ -25,7 +25,7 @@ pub enum Class {
 
 // An edge counts neither in the first row nor in the last, in the column x.
 fn counts_in_neither(e: Edge, x: u32, first: u32, last: u32) -> bool
-    requires { ⌜ EndsIn (e .x0) (e .y0) (e .x1) (e .y1) ⌝ }
+    requires { ⌜ EdgeIn e ⌝ }
     requires { ⌜ PositionIn x first ⌝ }
     requires { ⌜ PositionIn x last ⌝ }
     ensures answer { λ r. ⌜ r ≡ not (counts e x first) && not (counts e x last) ⌝ }
@@ -39,7 +39,7 @@ fn counts_in_neither(e: Edge, x: u32, first: u32, last: u32) -> bool
 
 // An edge counts both in the first row and in the last, in the column x.
 fn counts_in_both(e: Edge, x: u32, first: u32, last: u32) -> bool
-    requires { ⌜ EndsIn (e .x0) (e .y0) (e .x1) (e .y1) ⌝ }
+    requires { ⌜ EdgeIn e ⌝ }
     requires { ⌜ PositionIn x first ⌝ }
     requires { ⌜ PositionIn x last ⌝ }
     ensures answer { λ r. ⌜ r ≡ counts e x first && counts e x last ⌝ }
@@ -66,7 +66,7 @@ fn smaller(a: u32, b: u32) -> u32
 // The class of an edge in a square, by at most four products: the leftmost column shows whether it counts nowhere, the rightmost
 // whether it counts everywhere, each in the first row and in the last.
 pub fn classify(e: Edge, s: Square) -> Class
-    requires { ⌜ EndsIn (e .x0) (e .y0) (e .x1) (e .y1) ⌝ }
+    requires { ⌜ EdgeIn e ⌝ }
     requires { ⌜ SquareIn s ⌝ }
     ensures answer { λ r. ⌜ r ≡ edgeClass e s ⌝ }
 {

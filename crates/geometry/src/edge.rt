@@ -1,6 +1,6 @@
 // A drawn edge: where it counts, its sign and its rows.
 ghost use mathlib.Core.Path.{_≡_};
-ghost use Rattle.geometry.specs.code.Reach.{EndsIn, PositionIn};
+ghost use Rattle.geometry.specs.code.Reach.{EndsIn, EdgeIn, PositionIn};
 ghost use Rattle.geometry.specs.Edges.{product, lineCounts, counts, sign, firstRow, endRow};
 
 // An edge drawn from (x0, y0) to (x1, y1).
@@ -44,7 +44,7 @@ fn line_counts(a: u32, b: u32, c: u32, d: u32, x: u32, y: u32) -> bool
 
 // Whether an edge counts at (x, y).
 pub fn edge_counts(e: Edge, x: u32, y: u32) -> bool
-    requires { ⌜ EndsIn (e .x0) (e .y0) (e .x1) (e .y1) ⌝ }
+    requires { ⌜ EdgeIn e ⌝ }
     requires { ⌜ PositionIn x y ⌝ }
     ensures answer { λ r. ⌜ r ≡ counts e x y ⌝ }
 {

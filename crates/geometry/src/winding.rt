@@ -5,8 +5,8 @@ ghost use mathlib.Core.Path.{_≡_};
 ghost use lib.Dec.{T};
 ghost use lib.ListN.{length};
 ghost use Prim.Native.Nat.{_-_, _≤_, _<_};
-ghost use Rattle.geometry.specs.code.Reach.{EndsIn, PositionIn, CornersIn};
-ghost use Rattle.geometry.specs.Windings.{edgeBetween, nextCorner, linesFrom, adds, sumOf, winding, contoursTo, follow};
+ghost use Rattle.geometry.specs.code.Reach.{EdgeIn, PositionIn, CornersIn};
+ghost use Rattle.geometry.specs.Windings.{line, edgeOf, nextCorner, linesFrom, adds, sumOf, winding, contoursTo, follow};
 
 // The edge drawn from corner p to corner q.
 pub fn edge_between(xs: &[u32], ys: &[u32], p: usize, q: usize) -> Edge
@@ -14,7 +14,7 @@ pub fn edge_between(xs: &[u32], ys: &[u32], p: usize, q: usize) -> Edge
     requires { ⌜ p < length (now ys) ⌝ }
     requires { ⌜ q < length (now xs) ⌝ }
     requires { ⌜ q < length (now ys) ⌝ }
-    ensures answer { λ r. ⌜ r ≡ edgeBetween (now (xs .entry)) (now (ys .entry)) p q ⌝ }
+    ensures answer { λ r. ⌜ r ≡ edgeOf (now (xs .entry)) (now (ys .entry)) (line p q) ⌝ }
 {
     Edge {
         x0: xs[p],
@@ -26,7 +26,7 @@ pub fn edge_between(xs: &[u32], ys: &[u32], p: usize, q: usize) -> Edge
 
 // What an edge adds to the winding at (x, y).
 pub fn edge_adds(e: Edge, x: u32, y: u32) -> i64
-    requires { ⌜ EndsIn (e .x0) (e .y0) (e .x1) (e .y1) ⌝ }
+    requires { ⌜ EdgeIn e ⌝ }
     requires { ⌜ PositionIn x y ⌝ }
     ensures answer { λ r. ⌜ r ≡ adds e x y ⌝ }
 {
@@ -54,7 +54,7 @@ fn corner_adds(xs: &[u32], ys: &[u32], first: usize, end: usize, i: usize, x: u3
     requires { ⌜ i < end ⌝ }
     requires { ⌜ end ≤ length (now xs) ⌝ }
     requires { ⌜ PositionIn x y ⌝ }
-    ensures answer { λ r. ⌜ r ≡ adds (edgeBetween (now (xs .entry)) (now (ys .entry)) i (nextCorner first end i)) x y ⌝ }
+    ensures answer { λ r. ⌜ r ≡ adds (edgeOf (now (xs .entry)) (now (ys .entry)) (line i (nextCorner first end i))) x y ⌝ }
 {
     let next = next_corner(first, end, i);
     let e = edge_between(xs, ys, i, next);

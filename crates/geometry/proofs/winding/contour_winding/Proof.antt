@@ -4,7 +4,7 @@ use Prim.Native.Nat.{_+_, _-_, _≤_}
 use native.Mathlib.Omega.{arith}
 use denote.Ref.{now}
 use Rattle.laws.proofs.Signed.{Running, running-start, running-fits, running-more}
-use Rattle.geometry.specs.Windings.{edgeBetween, nextCorner, linesFrom, adds, sumOf}
+use Rattle.geometry.specs.Windings.{line, edgeOf, nextCorner, linesFrom, adds, sumOf}
 use Rattle.geometry.proofs.Windings.{adds-abs, sum-step, sum-done}
 use Rattle.geometry.proofs.winding.contour_winding.Statement.{statement}
 use Rattle.geometry.proofs.winding.contour_winding.Tie as tie
@@ -30,7 +30,7 @@ add-sum c =
     let at-entry = at-loop .before .before .before in
     let a = at-entry .args in
     let i = at-loop .loop .i in
-    let e = edgeBetween (now (a .xs)) (now (a .ys)) i (nextCorner (a .first) (a .end) i) in
+    let e = edgeOf (now (a .xs)) (now (a .ys)) (line i (nextCorner (a .first) (a .end) i)) in
     running-fits (at-loop .loop .inv .2) (adds e (a .x) (a .y)) _ _ (i + 1 - a .first) 1
     (sum-step (now (a .xs)) (now (a .ys)) (a .x) (a .y) (a .first) i (a .end) (omega arith)) (c .corner-adds .ensures)
     (adds-abs e (a .x) (a .y)) (omega arith) (omega arith)
@@ -47,7 +47,7 @@ loop-again c =
     let at-entry = at-loop .before .before .before in
     let a = at-entry .args in
     let i = at-loop .loop .i in
-    let e = edgeBetween (now (a .xs)) (now (a .ys)) i (nextCorner (a .first) (a .end) i) in (
+    let e = edgeOf (now (a .xs)) (now (a .ys)) (line i (nextCorner (a .first) (a .end) i)) in (
       omega arith,
       omega arith,
       running-more (at-loop .loop .inv .2) (adds e (a .x) (a .y)) _ _ (i + 1 - a .first) 1

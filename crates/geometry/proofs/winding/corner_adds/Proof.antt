@@ -1,7 +1,9 @@
-use mathlib.Core.Path.{_∙_}
+use mathlib.Core.Path.{sym, _∙_, subst}
 use native.Mathlib.Omega.{arith}
 use Rattle.laws.proofs.Signed.{read-back}
-use Rattle.geometry.proofs.Windings.{ends-in}
+use Rattle.geometry.specs.code.Reach.{EdgeIn}
+use Rattle.geometry.specs.Windings.{line}
+use Rattle.geometry.proofs.Windings.{edge-in}
 use borrow.Author.Needs.{needs}
 use Rattle.geometry.proofs.winding.corner_adds.Statement.{statement}
 use Rattle.geometry.proofs.winding.corner_adds.Tie as tie
@@ -14,8 +16,10 @@ edge-between-requires c κs = search needs
 
 edge-adds-requires : tie.Need-edge-adds-requires
 edge-adds-requires c κs =
-    let at-entry = c .before .before .before .before in
-    (ends-in _ _ (at-entry .pre .0) _ _ (omega arith) (omega arith) _ (c .edge-between .ensures), search needs)
+    let after-next-corner = c .before in
+    let at-entry = after-next-corner .before .before .before in
+    let l = line (at-entry .args .i) (after-next-corner .next-corner .result) in
+    (subst EdgeIn (sym (c .edge-between .ensures)) (edge-in _ _ (at-entry .pre .0) l (omega arith)), search needs)
 
 returns : tie.Need-returns
 returns c =
