@@ -19,7 +19,7 @@ pub record EndsIn (x0 y0 x1 y1 : ℕ) : Type 0 where
   pub second-x : x1 ≤ reach
   pub second-y : y1 ≤ reach
 
--- the same of an edge
+-- an edge, by its two ends
 abbrev pub EdgeIn : Edge → Type 0
 EdgeIn e = EndsIn (e .x0) (e .y0) (e .x1) (e .y1)
 
