@@ -6,7 +6,7 @@ use mathlib.Core.List.{List, [], _∷_, map}
 use Prim.Native.Nat.{ℕ}
 use lib.ListN.{getD}
 use lib.IntN.{pos, _+ℤ_, +ℤ-idl, +ℤ-idr}
-use Rattle.geometry.specs.Windings.{Line, line, linesOf, adds, sumOf}
+use Rattle.geometry.specs.Windings.{Line, linesOf, adds, sumOf}
 use Rattle.pruning.specs.Sides.{Kind, paint, clip, Side, flat, mapSide}
 use Rattle.pruning.specs.Items.{fails, passes, other}
 use Rattle.pruning.specs.Normal.{normal}
@@ -146,7 +146,7 @@ module _ (D : Drawing) where
   sum-lines : (p : Position) (ls : List Line) → sumAt (D .xs) (D .ys) p (map drawn ls) ≡ sumOf (D .xs) (D .ys) ls (col p) (row p)
   unfolding sumOf adds
   sum-lines p [] = refl
-  sum-lines p (line a b ∷ ls) = rw (sum-lines p ls)
+  sum-lines p (l ∷ ls) = rw (sum-lines p ls)
 
   sum-whole : (p : Position) (n : ℕ) → pos 0 +ℤ sumAt (D .xs) (D .ys) p (map drawn (linesOf (getD (D .contours) n []))) ≡ winding D n p
   sum-whole p n = +ℤ-idl (sumAt (D .xs) (D .ys) p (map drawn (linesOf (getD (D .contours) n [])))) ∙ sum-lines p (linesOf (getD (D .contours) n []))

@@ -7,7 +7,7 @@ use native.Mathlib.Omega.{arith}
 use native.Mathlib.Nat.{add-suc, suc-add, add-zero, zero-add}
 use lib.ListN.{length, getD}
 use Rattle.laws.proofs.Booleans.{and-left, and-right}
-use Rattle.geometry.specs.Windings.{Line, line, linesFrom, linesOf}
+use Rattle.geometry.specs.Windings.{Line, linesFrom, linesOf}
 use Rattle.records.specs.declared.Fields.{Fields}
 use Rattle.records.specs.declared.Record.{Record}
 use Rattle.records.specs.declared.Record.the-variants.{Area, First, Next, Open, Bar, Close}
@@ -151,7 +151,7 @@ below-from m first i (suc (suc n)) h g = ((omega arith, omega arith), below-from
 
 below-append : (m : ℕ) (x y : List Line) → CornersBelow m x → CornersBelow m y → CornersBelow m (x ++ y)
 below-append m [] y h g = g
-below-append m (line a b ∷ x) y h g = (h .0, below-append m x y (h .1) g)
+below-append m (l ∷ x) y h g = (h .0, below-append m x y (h .1) g)
 
 below-here : (m : ℕ) (rs : List Record) (c : ℕ) → c + cornersIn rs ≤ m → CornersBelow m (linesOf (contoursHere c rs))
 below-here m [] c h = tt

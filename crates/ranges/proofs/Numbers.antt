@@ -12,7 +12,8 @@ use borrow.Author.Tests.{lt-ltb, le-leb, lt-leb, eq-eqb}
 use mir.Syntax.{w32}
 use mir.Val.{ofZ}
 use Rattle.laws.proofs.Booleans.{clash, and-both}
-use Rattle.geometry.specs.Windings.{line}
+use Rattle.geometry.specs.Windings.{Line, line}
+use Rattle.geometry.specs.code.Reach.{LineBelow}
 use Rattle.records.specs.declared.Fields.{Fields}
 use Rattle.records.specs.declared.Record.the-variants.{Area}
 use Rattle.records.specs.Record.{areaRange, paintRange, clipRange, cornerRange}
@@ -25,8 +26,8 @@ use Rattle.cells.specs.Segments.{Segment, drawn, shortcut}
 use Rattle.cells.specs.Drawings.{Drawing, kindOf}
 use Rattle.ranges.specs.code.Valid.{Valid}
 use Rattle.ranges.specs.Held.{Held}
-use Rattle.ranges.proofs.Segments.{EachIn}
-use Rattle.ranges.proofs.Passing.{isPaintSide, EachPasses}
+use Rattle.ranges.proofs.Segments.{SegmentIn, EachIn}
+use Rattle.ranges.proofs.Passing.{isPaintSide, LinePasses, SegmentPasses, EachPasses}
 
 -- "start −2,048 to 2,048"
 pub start-word : (z : ℤ) → natAbs z ≤ 2048 → startRange (ofZ w32 z) ≡ true
@@ -65,16 +66,20 @@ module _ (D : Drawing) (areas xs ys : List ℕ) (b : Bounds) (H : Held areas xs 
   corner-met : Valid D → (n : ℕ) → n < length (D .xs) → cornerMet xs ys (b .corners) n ≡ true
   corner-met ok n l = rw (lt-ltb n (b .corners) (omega (arith, H .corners-used))) (ap₂ cornerRange (same-x n l) (same-y n l) ∙ ok .coordinates n l)
 
+  line-met : Valid D → (l : Line) → LineBelow (length (D .xs)) l → LinePasses (env areas xs ys b) l
+  line-met ok (line i j) h =
+      and-both (cornerMet xs ys (b .corners) i) (cornerMet xs ys (b .corners) j) (corner-met ok i (h .0)) (corner-met ok j (h .1))
+
   -- in a cell whose low row and side are those that the stream is read against
   module _ (c : Cell) (same-low : b .low ≡ low c) (same-side : b .side ≡ side c) where
     shortcut-in : (z : ℤ) (lo hi : ℕ) → natAbs z ≡ 1 → low c ≤ lo → lo < hi → hi ≤ low c + side c → shortcutRange (b .low) (b .side) (ofZ w32 z) lo hi ≡ true
     shortcut-in z lo hi s l m u =
         rw (sign-word z s, le-leb (b .low) lo (omega (arith, same-low)), lt-ltb lo hi m) (le-leb hi (b .low + b .side) (omega (arith, same-low, same-side)))
 
+    segment-in : Valid D → (g : Segment) → SegmentIn (length (D .xs)) c g → SegmentPasses (env areas xs ys b) g
+    segment-in ok (drawn l) h = line-met ok l h
+    segment-in ok (shortcut z lo hi) h = shortcut-in z lo hi (h .0) (h .1) (h .2) (h .3)
+
     pub each-passes : Valid D → (gs : List Segment) → EachIn (length (D .xs)) c gs → EachPasses (env areas xs ys b) gs
     each-passes ok [] h = tt
-    each-passes ok (drawn (line i j) ∷ gs) h = (
-      and-both (cornerMet xs ys (b .corners) i) (cornerMet xs ys (b .corners) j) (corner-met ok i (h .0 .0)) (corner-met ok j (h .0 .1)),
-      each-passes ok gs (h .1),
-    )
-    each-passes ok (shortcut z lo hi ∷ gs) h = (shortcut-in z lo hi (h .0 .0) (h .0 .1) (h .0 .2) (h .0 .3), each-passes ok gs (h .1))
+    each-passes ok (g ∷ gs) h = (segment-in ok g (h .0), each-passes ok gs (h .1))

@@ -2,14 +2,14 @@
 use mathlib.Core.Path.{_≡_, refl, ap, ap₂, _∙_}
 use mathlib.Core.Bool.{Bool, true, false, cond, not}
 use mathlib.Core.List.{List, [], _∷_, _++_, map}
-use Prim.Native.Nat.{ℕ, suc, _+_, _≤_}
+use Prim.Native.Nat.{ℕ, suc, _+_, _≤_, _<_}
 use native.Mathlib.Omega.{arith}
 use lib.ListN.{length}
 use lib.IntN.{ℤ}
 use borrow.Author.Tests.{lt-ltb}
 use mir.Syntax.{w32}
 use mir.Val.{ofZ}
-use Rattle.geometry.specs.Windings.{line}
+use Rattle.geometry.specs.Windings.{Line, line}
 use Rattle.groups.specs.Sides.{Frame, paintLeft, clipLeft, isPaint, onLeft, onRight, opening, toRight, toOuter}
 use Rattle.pruning.specs.Sides.{Kind, paint, clip, Side, end, leaf, group, activate, pop, flat}
 use Rattle.pruning.proofs.Sides.{map-append}
@@ -19,7 +19,7 @@ use Rattle.stream.specs.Grammar.{Env, isGood, areaMet, lineRange, shortcutRange
 use Rattle.cells.specs.Segments.{Segment, drawn, shortcut}
 use Rattle.cells.specs.Streams.{Item, always, area, On}
 use Rattle.cells.specs.Rows.{bar, closes, segment, itemRows, rowsOf}
-use Rattle.evaluate.specs.Words.{words, wordsOf}
+use Rattle.evaluate.specs.Words.{words, segmentWords, wordsOf}
 use Rattle.ranges.specs.code.Valid.{depth, weigh}
 use Rattle.ranges.proofs.Weights.{oneArea, segments, rows-append}
 
@@ -30,8 +30,11 @@ isPaintSide paint = true
 isPaintSide clip = false
 
 module _ (v : Env) where
+  abbrev pub LinePasses : Line → Type 0
+  LinePasses (line a b) = lineRange (v .xs) (v .ys) (v .used .corners) a b ≡ true
+
   abbrev pub SegmentPasses : Segment → Type 0
-  SegmentPasses (drawn (line a b)) = lineRange (v .xs) (v .ys) (v .used .corners) a b ≡ true
+  SegmentPasses (drawn l) = LinePasses l
   SegmentPasses (shortcut z lo hi) = shortcutRange (v .used .low) (v .used .side) (ofZ w32 z) lo hi ≡ true
 
   abbrev pub EachPasses : List Segment → Type 0
@@ -129,15 +132,19 @@ group-words k l r t =
     refl)
 
 module _ (v : Env) where
+  segment-passes : (g : List Frame) (a l : ℕ) (s : Segment) (ws : List Words)
+      → SegmentPasses v s
+      → l < 2048
+      → course v (at (place g true a l)) (segmentWords s ∷ ws) ≡ course v (at (place g true a (l + 1))) ws
+  segment-passes g a l (drawn (line i j)) ws h m = step v (place g true a l) (words 5 i j 0) ws h refl (lt-ltb l 2048 m)
+  segment-passes g a l (shortcut z lo hi) ws h m = step v (place g true a l) (words 6 (ofZ w32 z) lo hi) ws h refl (lt-ltb l 2048 m)
+
   segments-pass : (g : List Frame) (a l : ℕ) (gs : List Segment) → EachPasses v gs → l + length gs ≤ 2048
       → course v (at (place g true a l)) (map wordsOf (map segment gs)) ≡ at (place g true a (l + length gs))
   unfolding course
   segments-pass g a l [] h m = at-counts g true a a l (l + 0) refl (omega arith)
-  segments-pass g a l (drawn (line i j) ∷ gs) h m =
-      step v (place g true a l) (words 5 i j 0) (map wordsOf (map segment gs)) (h .0) refl (lt-ltb l 2048 (omega arith))
-      ∙ (segments-pass g a (l + 1) gs (h .1) (omega arith) ∙ at-counts g true a a (l + 1 + length gs) (l + suc (length gs)) refl (omega arith))
-  segments-pass g a l (shortcut z lo hi ∷ gs) h m =
-      step v (place g true a l) (words 6 (ofZ w32 z) lo hi) (map wordsOf (map segment gs)) (h .0) refl (lt-ltb l 2048 (omega arith))
+  segments-pass g a l (s ∷ gs) h m =
+      segment-passes g a l s (map wordsOf (map segment gs)) (h .0) (omega arith)
       ∙ (segments-pass g a (l + 1) gs (h .1) (omega arith) ∙ at-counts g true a a (l + 1 + length gs) (l + suc (length gs)) refl (omega arith))
 
   item-passes : (k : Kind) (i : Item) (g : List Frame) (h : Bool) (a l : ℕ)

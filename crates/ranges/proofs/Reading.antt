@@ -9,7 +9,8 @@ use lib.ListN.{length, getD}
 use lib.IntN.{ℤ, pos, _+ℤ_}
 use Rattle.geometry.specs.FillRules as FillRules
 use Rattle.geometry.specs.Edges.{counts, sign}
-use Rattle.geometry.specs.Windings.{line, edgeBetween}
+use Rattle.geometry.specs.Windings.{Line, line, edgeOf}
+use Rattle.geometry.specs.code.Reach.{LineBelow}
 use Rattle.geometry.specs.declared.edge.Edge.{Edge}
 use Rattle.drawing.specs.Tables.{fieldsAt}
 use Rattle.paint.specs.Sets.{setOf}
@@ -101,14 +102,12 @@ module _ (D : Drawing) (areas xs ys : List ℕ) (b : Bounds) (H : Held areas xs 
   abbrev Same : List Row → Type 0
   Same = SameOn (roleAt areas) (passAt areas) (opaqueAt areas) (addsAt xs ys (at x y)) (addsAt (D .xs) (D .ys) (at x y))
 
-  edge-same : (i j : ℕ) → i < length (D .xs) → j < length (D .xs) → edgeBetween xs ys i j ≡ edgeBetween (D .xs) (D .ys) i j
-  edge-same i j l m = rw (same-x D areas xs ys b H i l, same-x D areas xs ys b H j m, same-y D areas xs ys b H i l, same-y D areas xs ys b H j m)
+  edge-same : (l : Line) → LineBelow (length (D .xs)) l → edgeOf xs ys l ≡ edgeOf (D .xs) (D .ys) l
+  edge-same (line i j) h =
+      rw (same-x D areas xs ys b H i (h .0), same-x D areas xs ys b H j (h .1), same-y D areas xs ys b H i (h .0), same-y D areas xs ys b H j (h .1))
 
-  line-same : (i j : ℕ)
-      → i < length (D .xs)
-      → j < length (D .xs)
-      → addsAt xs ys (at x y) (drawn (line i j)) ≡ addsAt (D .xs) (D .ys) (at x y) (drawn (line i j))
-  line-same i j l m = ap (λ (e : Edge). cond (counts e x y) (sign e) (pos 0)) (edge-same i j l m)
+  line-same : (l : Line) → LineBelow (length (D .xs)) l → addsAt xs ys (at x y) (drawn l) ≡ addsAt (D .xs) (D .ys) (at x y) (drawn l)
+  line-same l h = ap (λ (e : Edge). cond (counts e x y) (sign e) (pos 0)) (edge-same l h)
 
   segments-same : (gs : List Segment) (ws : List Row)
       → EachIn (length (D .xs)) c gs
@@ -116,7 +115,7 @@ module _ (D : Drawing) (areas xs ys : List ℕ) (b : Bounds) (H : Held areas xs 
       → Same (rowsIn (map wordsOf (map segment gs ++ ws)))
   unfolding rowsIn
   segments-same [] ws h s = s
-  segments-same (drawn (line i j) ∷ gs) ws h s = (line-same i j (h .0 .0) (h .0 .1), segments-same gs ws (h .1) s)
+  segments-same (drawn (line i j) ∷ gs) ws h s = (line-same (line i j) (h .0), segments-same gs ws (h .1) s)
   segments-same (shortcut z lo hi ∷ gs) ws h s = (refl, segments-same gs ws (h .1) s)
 
   entries-same : (es : List (Entry Item)) → Each (Numbered D c) es → Same (rowsIn (map wordsOf (rowsOf es)))

@@ -9,8 +9,9 @@ use lib.Dec.{ltb, leb, eqb}
 use lib.IntN.{pos, negsuc, natAbs}
 use borrow.Author.Tests.{lt-ltb, le-ltb, leb-false}
 use Rattle.geometry.specs.Edges.{sign, counts, firstRow, endRow}
-use Rattle.geometry.specs.Windings.{Line, line, edgeOf}
+use Rattle.geometry.specs.Windings.{Line, edgeOf}
 use Rattle.geometry.specs.Classes.{nowhere, everywhere, verdict, classOf, edgeClass}
+use Rattle.geometry.specs.code.Reach.{LineBelow}
 use Rattle.geometry.specs.declared.edge.Edge.{Edge}
 use Rattle.geometry.specs.declared.class.Class.{Class}
 use Rattle.geometry.specs.declared.class.Class.the-variants.{Dropped, Start, Shortcut, Kept}
@@ -52,7 +53,7 @@ class-cases P f b d X Y S = verdict-cases P (nowhere f (max b Y) (min d (Y + S))
 module _ (corners : ℕ) (c : Cell) where
   -- a line or shortcut in range
   abbrev pub SegmentIn : Segment → Type 0
-  SegmentIn (drawn (line a b)) = (a < corners) × (b < corners)
+  SegmentIn (drawn l) = LineBelow corners l
   SegmentIn (shortcut z lo hi) = (natAbs z ≡ 1) × (low c ≤ lo) × (lo < hi) × (hi ≤ low c + side c)
 
   abbrev pub EachIn : List Segment → Type 0
@@ -70,4 +71,4 @@ module _ (corners : ℕ) (c : Cell) where
     -- of the lines of an area
     pub lines-kept : (ls : List Line) → CornersBelow corners ls → EachIn (keptIn xs ys c (map drawn ls))
     lines-kept [] h = tt
-    lines-kept (line a b ∷ ls) h = line-kept (line a b) (keptIn xs ys c (map drawn ls)) (h .0) (lines-kept ls (h .1))
+    lines-kept (l ∷ ls) h = line-kept l (keptIn xs ys c (map drawn ls)) (h .0) (lines-kept ls (h .1))

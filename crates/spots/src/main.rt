@@ -4,7 +4,7 @@ use geometry::class::Square;
 use geometry::edge::Edge;
 use geometry::fill::FillRule;
 ghost use Prim.Native.Nat.{_<_};
-ghost use Rattle.geometry.specs.code.Reach.{PositionIn, EndsIn, SquareIn};
+ghost use Rattle.geometry.specs.code.Reach.{PositionIn, EndsIn, EdgeIn, SquareIn};
 ghost use Rattle.paint.specs.Areas.{Painted};
 
 // A space and a number.
@@ -47,7 +47,7 @@ fn write_passes(rule: FillRule, winding: i64) {
 
 // The class of an edge in a square.
 fn write_class(e: Edge, s: Square)
-    requires { ⌜ EndsIn (e .x0) (e .y0) (e .x1) (e .y1) ⌝ }
+    requires { ⌜ EdgeIn e ⌝ }
     requires { ⌜ SquareIn s ⌝ }
 {
     let c = geometry::class::classify(e, s);

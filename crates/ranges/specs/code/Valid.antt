@@ -4,7 +4,8 @@ use mathlib.Core.Bool.{true}
 use mathlib.Core.List.{List, [], _∷_}
 use Prim.Native.Nat.{ℕ, suc, _+_, _*_, _≤_, _<_, max}
 use lib.ListN.{length, getD}
-use Rattle.geometry.specs.Windings.{Line, line, linesOf}
+use Rattle.geometry.specs.Windings.{Line, linesOf}
+use Rattle.geometry.specs.code.Reach.{LineBelow}
 use Rattle.records.specs.Record.{areaRange, cornerRange}
 use Rattle.pruning.specs.Sides.{paint, Side, end, leaf, group}
 use Rattle.cells.specs.Drawings.{Drawing, fieldsOf}
@@ -26,7 +27,7 @@ weigh v d (group l r t) = 3 * d + (weigh v d l + weigh v d r + weigh v d t)
 -- the corners of these lines are below n
 abbrev pub CornersBelow : ℕ → List Line → Type 0
 CornersBelow n [] = Unit {0}
-CornersBelow n (line a b ∷ ls) = ((a < n) × (b < n)) × CornersBelow n ls
+CornersBelow n (l ∷ ls) = LineBelow n l × CornersBelow n ls
 
 -- the lines of area n
 abbrev pub lines : Drawing → ℕ → List Line
