@@ -1,7 +1,9 @@
 -- A pixel is decided by the channel sums of its sixteen samples; where they are the same at all of them, it has the colour of each.
 use mathlib.Core.Path.{_≡_, refl, ap, _∙_}
+use mathlib.Core.Bool.{cond}
 use Prim.Native.Nat.{ℕ, zero, suc, _+_, _*_, _/_, _<_}
 use native.Mathlib.Omega.{arith}
+use lib.Dec.{ltb}
 use Rattle.paint.specs.Colours.{rounded}
 use Rattle.paint.specs.Pixels.{sampleX, sampleY, plus, samples, mean, pixelOf}
 use Rattle.paint.specs.declared.colour.Channels.{Channels}
@@ -42,3 +44,13 @@ pub one-colour : (at : ℕ → ℕ → Channels) (row pixel : ℕ) (s : Channels
     → ((k : ℕ) → k < 16 → at (sampleX pixel k) (sampleY row k) ≡ s)
     → pixelOf at row pixel ≡ rounded s
 one-colour at row pixel s h = pixel-agrees at (λ x y. s) row pixel h ∙ mean-same s row pixel
+
+-- ---- an example: sums of 127 in nine columns, which alone round to 0, and of 200 in seven, which alone round to 1. Their mean rounds to 1, where
+-- the mean of the rounded ones, 7 of 16, would round to 0.
+
+abbrev grey : ℕ → Channels
+grey n = record { red = n; green = n; blue = n }
+
+faint : (pixelOf (λ x y. cond (ltb x 9) (grey 127) (grey 200)) 0 0 .red ≡ 1) × ((rounded (grey 127) .red ≡ 0) × (rounded (grey 200) .red ≡ 1))
+unfolding pixelOf
+faint = (refl, (refl, refl))
