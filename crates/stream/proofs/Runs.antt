@@ -1,30 +1,25 @@
 -- Lines and shortcuts in a row: how many there are, and that a scan of the run is a scan of its entries.
 use mathlib.Core.Path.{_≡_, refl, sym, ap, ap₂, _∙_}
-use mathlib.Core.Bool.{Bool, true, false, cond, _&&_, _||_}
+use mathlib.Core.Bool.{Bool, true, false, cond, _&&_}
 use mathlib.Core.List.{List, [], _∷_}
 use Prim.Native.Nat.{ℕ, zero, suc, _+_, _-_, _≤_, _<_}
 use native.Mathlib.Omega.{arith}
 use lib.Dec.{eqb, ltb}
-use borrow.Author.Tests.{eqb-true, ne-eqb, ltb-true}
+use borrow.Author.Tests.{ne-eqb, ltb-true}
 use Rattle.laws.proofs.Booleans.{clash, and-left, and-right}
 use Rattle.stream.specs.declared.Words.{Words}
 use Rattle.stream.specs.declared.Bounds.{Bounds}
 use Rattle.stream.specs.declared.Scan.{Scan}
 use Rattle.stream.specs.declared.Scanned.{Scanned}
 use Rattle.stream.specs.Table.{wordsAt, wordsFrom}
-use Rattle.stream.specs.Grammar.{Env, lineRange, shortcutRange}
+use Rattle.stream.specs.Grammar.{Env}
 use Rattle.stream.specs.Entry.{isSegment}
 use Rattle.stream.specs.code.Machine.{mk, offN, stepN, scanN, segmentFits, segmentsIn, runFits, afterRunN, Onward}
 use Rattle.stream.proofs.Table.{words-step, words-none}
 
--- a line or a shortcut is one of two kinds
-of-kind : (k : ℕ) (a b : Bool) → eqb k 5 ≡ a → eqb k 6 ≡ b → (a || b) ≡ true → {A : Type 0} → (k ≡ 5 → A) → (k ≡ 6 → A) → A
-of-kind k true b e f h g i = g (eqb-true k 5 e)
-of-kind k false true e f h g i = i (eqb-true k 6 f)
-of-kind k false false e f h g i = clash h
-
-pub by-kind : (k : ℕ) → isSegment k ≡ true → {A : Type 0} → (k ≡ 5 → A) → (k ≡ 6 → A) → A
-by-kind k h = of-kind k (eqb k 5) (eqb k 6) refl refl h
+-- a line or a shortcut is of no other kind
+pub segment-ne : (k n : ℕ) → isSegment k ≡ true → isSegment n ≡ false → eqb k n ≡ false
+segment-ne k n s o = ne-eqb k n (λ e. clash (sym o ∙ (rw e at s)))
 
 -- ---- how many stand in front
 
@@ -114,9 +109,15 @@ module _ (v : Env) (t : List ℕ) (n a : ℕ) (some : n ≡ 0 → ⊥) where
       → isSegment (w .kind) ≡ true
       → stepN v (mk n true a l) w ≡ cond (segmentFits (v .xs) (v .ys) (v .used) w && ltb l 2048) (mk n true a (l + 1)) offN
   segment-step l w s =
-      by-kind (w .kind) s
-      (λ e. rw (ne-eqb n 0 some, e) (both-fit (lineRange (v .xs) (v .ys) (v .used .corners) (w .p) (w .q)) (ltb l 2048) (mk n true a (l + 1)) offN))
-      (λ e. rw (ne-eqb n 0 some, e) (both-fit (shortcutRange (v .used .low) (v .used .side) (w .p) (w .q) (w .r)) (ltb l 2048) (mk n true a (l + 1)) offN))
+      rw (
+        ne-eqb n 0 some,
+        segment-ne (w .kind) 1 s refl,
+        segment-ne (w .kind) 2 s refl,
+        segment-ne (w .kind) 3 s refl,
+        segment-ne (w .kind) 4 s refl,
+        s,
+      )
+      (both-fit (segmentFits (v .xs) (v .ys) (v .used) w) (ltb l 2048) (mk n true a (l + 1)) offN)
 
   pub run-step : (k i l : ℕ)
       → scanN v (cond (runFits (v .xs) (v .ys) (v .used) l (wordsFrom t i k)) (mk n true a (l + segmentsIn (wordsFrom t i k))) offN)

@@ -7,7 +7,7 @@ ghost use Prim.Native.Nat.{_+_, _*_, _-_, _≤_, _<_};
 ghost use lib.ListN.{length};
 ghost use Rattle.stream.specs.Table.{wordsAt, wordsFrom, putAt};
 ghost use Rattle.stream.specs.Grammar.{env, cornerMet, lineRange, shortcutRange, recordFits, roleFits, usedRange, Ready, checkStream};
-ghost use Rattle.stream.specs.Entry.{isSegment};
+ghost use Rattle.stream.specs.Entry.{isLine, isSegment};
 ghost use Rattle.stream.specs.code.Machine.{offN, startN, inGroups, afterOpenN, afterBarN, afterCloseN, afterPassesN, withAreaN, areaFitsN};
 ghost use Rattle.stream.specs.code.Machine.{withLineN, stepN, scanN, segmentFits, segmentsIn, runFits, afterRunN, Onward};
 
@@ -101,6 +101,22 @@ pub fn put_entry(table: &mut [u32], i: usize, w: Words)
     table[at + 3] = w.r;
 }
 
+// ---- the kind of an entry
+// Whether an entry of this kind is a line.
+pub fn is_line(kind: u32) -> bool
+    ensures answer { λ r. ⌜ r ≡ isLine kind ⌝ }
+{
+    kind == ENTRY_LINE
+}
+
+// Whether an entry of this kind is a line or a shortcut.
+pub fn is_segment(kind: u32) -> bool
+    ensures answer { λ r. ⌜ r ≡ isSegment kind ⌝ }
+{
+    let line = is_line(kind);
+    line | (kind == ENTRY_SHORTCUT)
+}
+
 // ---- the numbers of an entry
 // Whether corner i is in use and its coordinates are in range.
 fn corner_met(xs: &[u32], ys: &[u32], used: usize, i: usize) -> bool
@@ -170,6 +186,17 @@ fn shortcut_range(low: u32, side: u32, w: Words) -> bool
     let beyond = (low as u64) + (side as u64);
     ((w.p == PLUS_ONE) | (w.p == MINUS_ONE))
         & ((low <= w.q) & ((w.q < w.r) & ((w.r as u64) <= beyond)))
+}
+
+// Whether the numbers of a line or a shortcut are in range.
+fn segment_fits(xs: &[u32], ys: &[u32], b: Bounds, w: Words) -> bool
+    requires { ⌜ (b .corners ≤ length (now xs)) × (b .corners ≤ length (now ys)) ⌝ }
+    ensures answer { λ r. ⌜ r ≡ segmentFits (now (xs .entry)) (now (ys .entry)) b w ⌝ }
+{
+    if is_line(w.kind) {
+        return line_range(xs, ys, b.corners, w);
+    }
+    shortcut_range(b.low, b.side, w)
 }
 
 // ---- one entry more
@@ -292,38 +319,18 @@ fn step(areas: &[u32], xs: &[u32], ys: &[u32], b: Bounds, s: Scan, w: Words) -> 
             let ok = area_fits(areas, b.areas, s.stack, w);
             with_area(s, ok)
         }
-        ENTRY_LINE => {
-            let ok = line_range(xs, ys, b.corners, w);
-            with_line(s, ok)
-        }
-        ENTRY_SHORTCUT => {
-            let ok = shortcut_range(b.low, b.side, w);
-            with_line(s, ok)
-        }
         ENTRY_PASSES => after_passes(s),
-        _ => off(),
+        _ => {
+            if is_segment(k) {
+                let ok = segment_fits(xs, ys, b, w);
+                return with_line(s, ok);
+            }
+            off()
+        }
     }
 }
 
 // ---- lines and shortcuts in a row
-// Whether an entry of this kind is a line or a shortcut.
-pub fn is_segment(kind: u32) -> bool
-    ensures answer { λ r. ⌜ r ≡ isSegment kind ⌝ }
-{
-    (kind == ENTRY_LINE) | (kind == ENTRY_SHORTCUT)
-}
-
-// Whether the numbers of a line or a shortcut are in range.
-fn segment_fits(xs: &[u32], ys: &[u32], b: Bounds, w: Words) -> bool
-    requires { ⌜ (b .corners ≤ length (now xs)) × (b .corners ≤ length (now ys)) ⌝ }
-    ensures answer { λ r. ⌜ r ≡ segmentFits (now (xs .entry)) (now (ys .entry)) b w ⌝ }
-{
-    if w.kind == ENTRY_LINE {
-        return line_range(xs, ys, b.corners, w);
-    }
-    shortcut_range(b.low, b.side, w)
-}
-
 // Whether they are in range and at most 2,048; how many there are with those before; and the entry behind them.
 pub struct Run {
     pub fits: bool,

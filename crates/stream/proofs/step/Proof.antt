@@ -1,6 +1,8 @@
 use Rattle.laws.proofs.Tests.{tests}
 use borrow.Author.Tests.{eq-eqb, ne-eqb}
 use borrow.Author.Needs.{needs}
+use mathlib.Core.Path.{refl, sym, _∙_}
+use Rattle.stream.proofs.Runs.{segment-ne}
 use Rattle.stream.proofs.step.Statement.{statement}
 use Rattle.stream.proofs.step.Tie as tie
 
@@ -22,71 +24,78 @@ area-fits-requires c κs = search needs
 with-area-requires : tie.Need-with-area-requires
 with-area-requires c κs = search needs
 
-line-range-requires : tie.Need-line-range-requires
-line-range-requires c κs = search needs
+after-passes-requires : tie.Need-after-passes-requires
+after-passes-requires c κs = search needs
+
+is-segment-requires : tie.Need-is-segment-requires
+is-segment-requires c κs = search needs
+
+segment-fits-requires : tie.Need-segment-fits-requires
+segment-fits-requires c κs =
+    let at-entry = c .before .before .before .before .before .before .before .before in
+    (at-entry .pre .xs, at-entry .pre .ys)
 
 with-line-requires : tie.Need-with-line-requires
 with-line-requires c κs = search needs
 
-shortcut-range-requires : tie.Need-shortcut-range-requires
-shortcut-range-requires c κs = search needs
-
-with-line-requires-2 : tie.Need-with-line-requires-2
-with-line-requires-2 c κs = search needs
-
-after-passes-requires : tie.Need-after-passes-requires
-after-passes-requires c κs = search needs
+returns-2 : tie.Need-returns-2
+returns-2 c =
+    let after-segment-fits = c .before in
+    let at-if2 = after-segment-fits .before in
+    let after-is-segment = at-if2 .before in
+    let at-if1 = after-is-segment .before .before in
+    let s = sym (after-is-segment .is-segment .ensures) ∙ at-if2 .if2 .taken in
+    rw (
+      ne-eqb _ _ (at-if1 .if1 .left),
+      segment-ne _ 1 s refl,
+      segment-ne _ 2 s refl,
+      segment-ne _ 3 s refl,
+      segment-ne _ 4 s refl,
+      s,
+      c .with-line .ensures,
+      after-segment-fits .segment-fits .ensures,
+    )
 
 off-requires : tie.Need-off-requires
 off-requires c κs = search needs
-
-returns-2 : tie.Need-returns-2
-returns-2 c =
-    let at-match = c .before in
-    let at-if1 = at-match .before in
-    rw (ne-eqb _ _ (at-if1 .if1 .left), at-match .match .keys1, c .after-open .ensures)
 
 returns-3 : tie.Need-returns-3
 returns-3 c =
     let at-match = c .before in
     let at-if1 = at-match .before in
-    rw (ne-eqb _ _ (at-if1 .if1 .left), at-match .match .keys2, c .after-bar .ensures)
+    rw (ne-eqb _ _ (at-if1 .if1 .left), at-match .match .keys1, c .after-open .ensures)
 
 returns-4 : tie.Need-returns-4
 returns-4 c =
     let at-match = c .before in
     let at-if1 = at-match .before in
-    rw (ne-eqb _ _ (at-if1 .if1 .left), at-match .match .keys3, c .after-close .ensures)
+    rw (ne-eqb _ _ (at-if1 .if1 .left), at-match .match .keys2, c .after-bar .ensures)
 
 returns-5 : tie.Need-returns-5
 returns-5 c =
+    let at-match = c .before in
+    let at-if1 = at-match .before in
+    rw (ne-eqb _ _ (at-if1 .if1 .left), at-match .match .keys3, c .after-close .ensures)
+
+returns-6 : tie.Need-returns-6
+returns-6 c =
     let after-area-fits = c .before in
     let at-match = after-area-fits .before in
     let at-if1 = at-match .before in
     rw (ne-eqb _ _ (at-if1 .if1 .left), at-match .match .keys4, c .with-area .ensures, after-area-fits .area-fits .ensures)
 
-returns-6 : tie.Need-returns-6
-returns-6 c =
-    let after-line-range = c .before in
-    let at-match = after-line-range .before in
-    let at-if1 = at-match .before in
-    rw (ne-eqb _ _ (at-if1 .if1 .left), at-match .match .keys5, c .with-line .ensures, after-line-range .line-range .ensures)
-
 returns-7 : tie.Need-returns-7
 returns-7 c =
-    let after-shortcut-range = c .before in
-    let at-match = after-shortcut-range .before in
+    let at-match = c .before in
     let at-if1 = at-match .before in
-    rw (ne-eqb _ _ (at-if1 .if1 .left), at-match .match .keys6, c .with-line2 .ensures, after-shortcut-range .shortcut-range .ensures)
+    rw (ne-eqb _ _ (at-if1 .if1 .left), at-match .match .keys5, c .after-passes .ensures)
 
 returns-8 : tie.Need-returns-8
 returns-8 c =
-    let at-match = c .before in
-    let at-if1 = at-match .before in
-    rw (ne-eqb _ _ (at-if1 .if1 .left), at-match .match .keys7, c .after-passes .ensures)
-
-returns-9 : tie.Need-returns-9
-returns-9 c = search (tests, c .before .match .rest)
+    let at-if2 = c .before in
+    let after-is-segment = at-if2 .before in
+    let at-match = after-is-segment .before in
+    rw (sym (after-is-segment .is-segment .ensures) ∙ at-if2 .if2 .left) (search (tests, at-match .match .rest))
 
 pub step-spec : {M : Type 1} → statement M
 step-spec =
@@ -98,17 +107,15 @@ step-spec =
     after-close-requires
     area-fits-requires
     with-area-requires
-    line-range-requires
-    with-line-requires
-    shortcut-range-requires
-    with-line-requires-2
     after-passes-requires
-    off-requires
+    is-segment-requires
+    segment-fits-requires
+    with-line-requires
     returns-2
+    off-requires
     returns-3
     returns-4
     returns-5
     returns-6
     returns-7
-    returns-8
-    returns-9)
+    returns-8)

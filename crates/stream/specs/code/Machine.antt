@@ -11,7 +11,7 @@ use Rattle.stream.specs.declared.Bounds.{Bounds}
 use Rattle.stream.specs.declared.Scan.{Scan}
 use Rattle.stream.specs.declared.Scanned.{Scanned}
 use Rattle.stream.specs.Table.{wordsFrom}
-use Rattle.stream.specs.Entry.{isSegment, startRange}
+use Rattle.stream.specs.Entry.{isLine, isSegment, startRange}
 use Rattle.stream.specs.Grammar.{Env, lineRange, shortcutRange, roleFits}
 
 abbrev pub mk : ℕ → Bool → ℕ → ℕ → Scan
@@ -47,6 +47,10 @@ withAreaN s ok = cond ok (cond (ltb (s .areas) 64) (mk (s .stack) true (s .areas
 abbrev pub areaFitsN : List ℕ → ℕ → ℕ → Words → Bool
 areaFitsN areas used stack w = roleFits (areaRow areas used (w .p)) (paintN stack) && startRange (w .q)
 
+-- the numbers of a line or a shortcut are in range
+abbrev pub segmentFits : (xs ys : List ℕ) → Bounds → Words → Bool
+segmentFits xs ys b w = cond (isLine (w .kind)) (lineRange xs ys (b .corners) (w .p) (w .q)) (shortcutRange (b .low) (b .side) (w .p) (w .q) (w .r))
+
 -- a line or a shortcut whose numbers are in range
 abbrev pub withLineN : Scan → Bool → Scan
 withLineN s ok = cond ok (cond (s .held) (cond (ltb (s .lines) 2048) (mk (s .stack) true (s .areas) (s .lines + 1)) offN) offN) offN
@@ -58,19 +62,14 @@ stepN v s w =
     (cond (eqb (w .kind) 2) (afterBarN s)
     (cond (eqb (w .kind) 3) (afterCloseN s)
     (cond (eqb (w .kind) 4) (withAreaN s (areaFitsN (v .areas) (v .used .areas) (s .stack) w))
-    (cond (eqb (w .kind) 5) (withLineN s (lineRange (v .xs) (v .ys) (v .used .corners) (w .p) (w .q)))
-    (cond (eqb (w .kind) 6) (withLineN s (shortcutRange (v .used .low) (v .used .side) (w .p) (w .q) (w .r)))
-    (cond (eqb (w .kind) 7) (afterPassesN s) offN)))))))
+    (cond (isSegment (w .kind)) (withLineN s (segmentFits (v .xs) (v .ys) (v .used) w))
+    (cond (eqb (w .kind) 7) (afterPassesN s) offN))))))
 
 unfoldable pub scanN : Env → Scan → List Words → Scan
 scanN v s [] = s
 scanN v s (w ∷ ws) = scanN v (stepN v s w) ws
 
 -- ---- lines and shortcuts in a row
-
--- its numbers are in range
-abbrev pub segmentFits : (xs ys : List ℕ) → Bounds → Words → Bool
-segmentFits xs ys b w = cond (eqb (w .kind) 5) (lineRange xs ys (b .corners) (w .p) (w .q)) (shortcutRange (b .low) (b .side) (w .p) (w .q) (w .r))
 
 -- how many stand in front
 unfoldable pub segmentsIn : List Words → ℕ
