@@ -1,6 +1,7 @@
--- Laws of the table of entries and of the loop over a stream; that the state in the code says what the grammar says;
+-- Laws of the table of entries, of an entry by its kind, and of the loop over a stream; that the state in the code says what the grammar says;
 -- the signed numbers that words stand for; what holds of a stream that passes; examples.
 pub mod Table
+pub mod Entries
 pub mod Laws
 pub mod Runs
 pub mod Meaning

@@ -1,7 +1,7 @@
 -- The state that the code holds says what the grammar of streams says.
 use Prim.Native.Nat.{ℕ, _+_}
 use mathlib.Core.Path.{_≡_, refl}
-use mathlib.Core.Bool.{Bool, true, false, cond, not, _&&_, _||_}
+use mathlib.Core.Bool.{Bool, true, false, cond, not, _&&_}
 use mathlib.Core.List.{List, [], _∷_}
 use native.Mathlib.Omega.{arith}
 use lib.ListN.{length}
@@ -14,7 +14,7 @@ use Rattle.records.specs.declared.Decoded.{Decoded}
 use Rattle.records.specs.declared.Decoded.the-variants.{Good, Bad}
 use Rattle.stream.specs.declared.Words.{Words}
 use Rattle.stream.specs.declared.Scan.{Scan}
-use Rattle.stream.specs.Entry.{Entry, opens, bar, closes, area, line, shortcut, passes, decode, isLine, startRange}
+use Rattle.stream.specs.Entry.{Entry, opens, bar, closes, area, line, shortcut, passes, decode, isLine, isSegment, startRange}
 use Rattle.stream.specs.Grammar.{Env, isGood, areaMet, roleFits, inRange, Place, place, Course, at, off, next, met, course, begin, isWhole, accepts}
 use Rattle.stream.specs.code.Machine.{
   mk,
@@ -27,10 +27,12 @@ use Rattle.stream.specs.code.Machine.{
   afterPassesN,
   withAreaN,
   areaFitsN,
+  segmentFits,
   withLineN,
   stepN,
   scanN,
 }
+use Rattle.stream.proofs.Entries.{segmentEntry, decode-is}
 
 abbrev enc : Course → Scan
 enc (at p) = mk (num (p .groups)) (p .held) (p .areas) (p .lines)
@@ -105,28 +107,26 @@ module _ (v : Env) (p : Place) where
       go true false l = refl
       go false h l = refl
 
+  segment-is : (w : Words) → withLineN (enc (at p)) (segmentFits (v .xs) (v .ys) (v .used) w) ≡ enc (next v p (segmentEntry w))
+  segment-is w = go (isLine (w .kind))
+    where
+      go : (l : Bool)
+          → withLineN (enc (at p)) (cond l (inRange v (line (w .p) (w .q))) (inRange v (shortcut (w .p) (w .q) (w .r))))
+          ≡ enc (next v p (cond l (line (w .p) (w .q)) (shortcut (w .p) (w .q) (w .r))))
+      go true = line-is (inRange v (line (w .p) (w .q)))
+      go false = line-is (inRange v (shortcut (w .p) (w .q) (w .r)))
+
   at-is : (w : Words) → stepN v (enc (at p)) w ≡ enc (next v p (decode w))
   at-is w =
-      rw (not-off (p .groups))
-      (k 1 _ _ after-open-is
-      (k 2 _ _ after-bar-is
-      (k 3 _ _ after-close-is
-      (k 4 _ _ (area-is w)
-      (segment (isLine (w .kind)) (eqb (w .kind) 6) _ (k 7 _ _ after-passes-is refl))))))
+      rw (not-off (p .groups), decode-is w)
+      (k (eqb (w .kind) 1) _ _ after-open-is
+      (k (eqb (w .kind) 2) _ _ after-bar-is
+      (k (eqb (w .kind) 3) _ _ after-close-is
+      (k (eqb (w .kind) 4) _ _ (area-is w)
+      (k (isSegment (w .kind)) _ _ (segment-is w) (k (eqb (w .kind) 7) _ _ after-passes-is refl))))))
     where
-      k : (n : ℕ) (x y : Entry) {X Y : Scan}
-          → X ≡ enc (next v p x)
-          → Y ≡ enc (next v p y)
-          → cond (eqb (w .kind) n) X Y ≡ enc (next v p (cond (eqb (w .kind) n) x y))
-      k n x y {X} {Y} = both (λ (e : Entry). enc (next v p e)) (eqb (w .kind) n) x y X Y
-
-      segment : (l c : Bool) (x : Entry) {X : Scan}
-          → X ≡ enc (next v p x)
-          → cond (l || c) (withLineN (enc (at p)) (cond l (inRange v (line (w .p) (w .q))) (inRange v (shortcut (w .p) (w .q) (w .r))))) X
-          ≡ enc (next v p (cond l (line (w .p) (w .q)) (cond c (shortcut (w .p) (w .q) (w .r)) x)))
-      segment true c x h = line-is (inRange v (line (w .p) (w .q)))
-      segment false true x h = line-is (inRange v (shortcut (w .p) (w .q) (w .r)))
-      segment false false x h = h
+      k : (b : Bool) (x y : Entry) {X Y : Scan} → X ≡ enc (next v p x) → Y ≡ enc (next v p y) → cond b X Y ≡ enc (next v p (cond b x y))
+      k b x y {X} {Y} = both (λ (e : Entry). enc (next v p e)) b x y X Y
 
 -- ---- a whole stream
 step-is : (v : Env) (c : Course) (w : Words) → stepN v (enc c) w ≡ enc (met v c (decode w))

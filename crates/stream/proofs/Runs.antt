@@ -15,11 +15,8 @@ use Rattle.stream.specs.Table.{wordsAt, wordsFrom}
 use Rattle.stream.specs.Grammar.{Env}
 use Rattle.stream.specs.Entry.{isSegment}
 use Rattle.stream.specs.code.Machine.{mk, offN, stepN, scanN, segmentFits, segmentsIn, runFits, afterRunN, Onward}
+use Rattle.stream.proofs.Entries.{segment-ne}
 use Rattle.stream.proofs.Table.{words-step, words-none}
-
--- a line or a shortcut is of no other kind
-pub segment-ne : (k n : ℕ) → isSegment k ≡ true → isSegment n ≡ false → eqb k n ≡ false
-segment-ne k n s o = ne-eqb k n (λ e. clash (sym o ∙ (rw e at s)))
 
 -- ---- how many stand in front
 

@@ -2,7 +2,7 @@ use Rattle.laws.proofs.Tests.{tests}
 use borrow.Author.Tests.{eq-eqb, ne-eqb}
 use borrow.Author.Needs.{needs}
 use mathlib.Core.Path.{refl, sym, _∙_}
-use Rattle.stream.proofs.Runs.{segment-ne}
+use Rattle.stream.proofs.Entries.{segment-ne}
 use Rattle.stream.proofs.step.Statement.{statement}
 use Rattle.stream.proofs.step.Tie as tie
 
