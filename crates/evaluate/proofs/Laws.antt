@@ -1,7 +1,7 @@
--- Signs and start numbers as words; an area on a clip side is not shown.
+-- Signs and start numbers as words; an area on a clip side is not shown; lines and shortcuts as rows, and what their ranges say.
 use mathlib.Core.Path.{_≡_, refl, sym, ap, ap₂, _∙_}
 use mathlib.Core.Bool.{Bool, true, false, cond, _&&_, _||_, true≢false}
-use mathlib.Core.List.{List}
+use mathlib.Core.List.{List, _∷_}
 use Prim.Native.Nat.{ℕ, suc, _+_, _*_, _-_, _≤_, _<_}
 use native.Mathlib.Omega.{arith}
 use lib.Dec.{eqb, ltb, leb}
@@ -17,16 +17,24 @@ use Rattle.pruning.specs.Sides.{clip}
 use Rattle.pruning.specs.Registers.{Registers, onItem}
 use Rattle.pruning.proofs.Registers.{clip-shows}
 use Rattle.laws.proofs.Booleans.{clash}
-use Rattle.geometry.specs.code.Reach.{EndsIn}
-use Rattle.geometry.specs.Windings.{adds}
+use Rattle.geometry.specs.code.Reach.{EndsIn, EdgeIn, LineBelow}
+use Rattle.geometry.specs.Windings.{line, edgeOf}
+use Rattle.cells.specs.Segments.{drawn, shortcut}
+use Rattle.cells.specs.Rows.{Row, segment}
 use Rattle.records.specs.Record.{cornerRange, ranged}
 use Rattle.records.specs.declared.Record.the-variants.{Area}
 use Rattle.records.specs.declared.Decoded.the-variants.{Bad}
 use Rattle.refusals.specs.declared.Refusal.the-variants.{Field}
 use Rattle.drawing.specs.Tables.{fieldsAt, areaRow}
-use Rattle.stream.specs.Grammar.{isGood, cornerMet, lineRange}
+use Rattle.stream.specs.declared.Words.{Words}
+use Rattle.stream.specs.Grammar.{Env, isGood, cornerMet, lineRange, inRange}
+use Rattle.stream.specs.Entry.{decode, isLine, isSegment, startRange, signRange}
+use Rattle.stream.specs.Entry as Entry
+use Rattle.stream.proofs.Entries.{segmentEntry, decode-segment, segment-range}
 use Rattle.stream.proofs.Signed.{upper}
-use Rattle.stream.specs.Entry.{startRange, signRange}
+use Rattle.evaluate.specs.Reading.{rowFor}
+use Rattle.evaluate.specs.Words.{words}
+use Rattle.evaluate.specs.code.Numbers.{lineOf, segmentOf, segmentRange}
 
 -- a sign that is not 1 is −1
 pub other-sign : (p : ℕ) → signRange p ≡ true → (p ≡ 1 → ⊥) → p ≡ 4294967295
@@ -87,27 +95,65 @@ met-in xs ys used n h = go (ltb n used) refl h
         (ltb-true n used e, leb-true (getD xs n 0) 65536 (p .0), leb-true (getD ys n 0) 65536 (p .1))
     go false e t = clash t
 
-pub line-used : (xs ys : List ℕ) (used a b : ℕ) → lineRange xs ys used a b ≡ true → (a < used) × (b < used)
+pub line-used : (xs ys : List ℕ) (used a b : ℕ) → lineRange xs ys used a b ≡ true → LineBelow used (line a b)
 line-used xs ys used a b h =
     let p = both (cornerMet xs ys used a) (cornerMet xs ys used b) h in
     (met-in xs ys used a (p .0) .0, met-in xs ys used b (p .1) .0)
+
+-- the line that an entry names
+module _ (xs ys : List ℕ) (used : ℕ) (w : Words) (h : segmentRange xs ys used w ≡ true) (l : isLine (w .kind) ≡ true) where
+  in-line : lineRange xs ys used (w .p) (w .q) ≡ true
+  in-line = rw l at h
+
+  pub line-in-use : LineBelow used (lineOf w)
+  line-in-use = line-used xs ys used (w .p) (w .q) in-line
+
+  pub line-corners-below : (used ≤ length xs) × (used ≤ length ys) → LineBelow (length xs) (lineOf w) × LineBelow (length ys) (lineOf w)
+  line-corners-below k = let u = line-in-use in ((omega arith, omega arith), (omega arith, omega arith))
+
+  pub line-edge-in : EdgeIn (edgeOf xs ys (lineOf w))
+  line-edge-in =
+      let p = both (cornerMet xs ys used (w .p)) (cornerMet xs ys used (w .q)) in-line in
+      let u = met-in xs ys used (w .p) (p .0) in
+      let v = met-in xs ys used (w .q) (p .1) in
+      record { first-x = omega arith; first-y = omega arith; second-x = omega arith; second-y = omega arith }
 
 pub line-below : (xs ys : List ℕ) (used a b : ℕ)
     → lineRange xs ys used a b ≡ true
     → (used ≤ length xs) × (used ≤ length ys)
     → (a < length xs) × (a < length ys) × (b < length xs) × (b < length ys)
-line-below xs ys used a b h l =
-    let p = both (cornerMet xs ys used a) (cornerMet xs ys used b) h in
-    let u = met-in xs ys used a (p .0) in
-    let v = met-in xs ys used b (p .1) in
-    (omega arith, omega arith, omega arith, omega arith)
+line-below xs ys used a b h k = let p = line-corners-below xs ys used (words 5 a b 0) h refl k in (p .0 .0, p .1 .0, p .0 .1, p .1 .1)
 
 pub line-ends : (xs ys : List ℕ) (used a b : ℕ) → lineRange xs ys used a b ≡ true → EndsIn (getD xs a 0) (getD ys a 0) (getD xs b 0) (getD ys b 0)
-line-ends xs ys used a b h =
-    let p = both (cornerMet xs ys used a) (cornerMet xs ys used b) h in
-    let u = met-in xs ys used a (p .0) in
-    let v = met-in xs ys used b (p .1) in
-    record { first-x = omega arith; first-y = omega arith; second-x = omega arith; second-y = omega arith }
+line-ends xs ys used a b h = line-edge-in xs ys used (words 5 a b 0) h refl
+
+-- ---- an entry that is a line or a shortcut
+
+-- its row
+pub entry-row : (w : Words) (ws : List Row) → rowFor (segmentEntry w) ws ≡ segment (segmentOf w) ∷ ws
+entry-row w ws = go (isLine (w .kind))
+  where
+    go : (l : Bool)
+        → rowFor (cond l (Entry.line (w .p) (w .q)) (Entry.shortcut (w .p) (w .q) (w .r))) ws
+        ≡ segment (cond l (drawn (lineOf w)) (shortcut (toZ w32 (w .p)) (w .q) (w .r))) ∷ ws
+    go true = refl
+    go false = refl
+
+pub row-segment : (w : Words) (ws : List Row) → isSegment (w .kind) ≡ true → rowFor (decode w) ws ≡ segment (segmentOf w) ∷ ws
+row-segment w ws s = ap (λ e. rowFor e ws) (decode-segment w s) ∙ entry-row w ws
+
+-- what its range says
+pub in-segment : (v : Env) (w : Words) → isSegment (w .kind) ≡ true → inRange v (decode w) ≡ true → segmentRange (v .xs) (v .ys) (v .used .corners) w ≡ true
+in-segment v w s h = go (isLine (w .kind)) (sym (segment-range v w) ∙ (ap (inRange v) (sym (decode-segment w s)) ∙ h))
+  where
+    inside : Bool
+    inside = leb (v .used .low) (w .q) && (ltb (w .q) (w .r) && leb (w .r) (v .used .low + v .used .side))
+
+    go : (l : Bool)
+        → cond l (lineRange (v .xs) (v .ys) (v .used .corners) (w .p) (w .q)) (signRange (w .p) && inside) ≡ true
+        → cond l (lineRange (v .xs) (v .ys) (v .used .corners) (w .p) (w .q)) (signRange (w .p)) ≡ true
+    go true e = e
+    go false e = both (signRange (w .p)) inside e .0
 
 -- ---- a shortcut adds at most 1 either way
 

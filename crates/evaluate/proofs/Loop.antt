@@ -23,7 +23,8 @@ use Rattle.stream.proofs.Passed.{in-range}
 use Rattle.evaluate.specs.declared.Reading.{Reading}
 use Rattle.evaluate.specs.Reading.{roleAt, passAt, opaqueAt, setAt}
 use Rattle.evaluate.specs.code.Numbers.{segmentAdds, segmentsSum, SegmentsIn, movedBy, Ranged, setFrom, Onward}
-use Rattle.evaluate.proofs.Steps.{in-name, in-segment, area-step, idle-step, other-step}
+use Rattle.evaluate.proofs.Laws.{in-segment}
+use Rattle.evaluate.proofs.Steps.{in-name, area-step, idle-step, other-step}
 
 -- ---- the lines and shortcuts of an area
 

@@ -1,45 +1,38 @@
 -- The words of an entry, read by the code, are its row read by the machine.
 use mathlib.Core.Path.{_≡_, refl, sym, ap, ap₂, _∙_}
-use mathlib.Core.Bool.{Bool, true, false, cond, _&&_, _||_}
+use mathlib.Core.Bool.{Bool, true, false, cond}
 use mathlib.Core.List.{List, [], _∷_}
 use Prim.Native.Nat.{ℕ, zero, suc, _+_, _-_, _≤_, _<_}
 use native.Mathlib.Omega.{arith}
-use lib.Dec.{eqb, ltb, leb}
+use lib.Dec.{eqb}
 use lib.IntN.{ℤ, pos, _+ℤ_, +ℤ-assoc, +ℤ-idr}
 use mir.Syntax.{w32}
 use mir.Val.{toZ}
 use borrow.Author.Tests.{ne-eqb}
 use Rattle.laws.proofs.Booleans.{clash}
-use Rattle.geometry.specs.Windings.{adds}
 use Rattle.pruning.specs.Sides.{clip}
 use Rattle.pruning.specs.Registers.{P, S, SA, Registers, reg, halted, outOf, onItem, onPush, onActivate, onPop}
 use Rattle.machine.specs.declared.Machine.{Machine}
 use Rattle.machine.specs.code.Registers.{meant}
 use Rattle.cells.specs.Cells.{at}
 use Rattle.cells.specs.Segments.{addsAt}
-use Rattle.cells.specs.Rows.{settled, waits, State, state, settle, onRows}
+use Rattle.cells.specs.Rows.{Row, settled, waits, State, state, settle, onRows}
 use Rattle.stream.specs.declared.Words.{Words}
-use Rattle.stream.specs.Entry.{Entry, opens, bar, closes, area, line, shortcut, passes, bad, decode, startRange, signRange, isSegment}
+use Rattle.stream.specs.Entry.{Entry, decode, startRange, isSegment}
 use Rattle.stream.specs.Table.{wordsAt, wordsFrom}
 use Rattle.stream.specs.Grammar.{Env, isGood, areaMet, inRange}
 use Rattle.stream.specs.code.Machine.{segmentsIn}
 use Rattle.stream.proofs.Table.{words-step, words-none}
-use Rattle.stream.proofs.Runs.{by-kind}
+use Rattle.stream.proofs.Entries.{byTests, decode-is}
 use Rattle.evaluate.specs.Reading.{roleAt, passAt, opaqueAt, rowFor, rowsIn}
-use Rattle.evaluate.specs.code.Numbers.{segmentRange, segmentAdds, segmentsSum, movedBy, setFrom}
-use Rattle.evaluate.proofs.Laws.{both}
+use Rattle.evaluate.specs.code.Numbers.{segmentAdds, segmentsSum, movedBy, setFrom}
+use Rattle.evaluate.proofs.Laws.{both, entry-row, row-segment}
 use Rattle.evaluate.proofs.Idle.{Idle, pending-idle, stopped}
 
--- ---- what the range of an entry says
+-- ---- what the range of an area says
 
 pub in-name : (v : Env) (w : Words) → w .kind ≡ 4 → inRange v (decode w) ≡ true → (isGood (areaMet v (w .p)) ≡ true) × (startRange (w .q) ≡ true)
 in-name v w e h = both (isGood (areaMet v (w .p))) (startRange (w .q)) (rw e at h)
-
-pub in-segment : (v : Env) (w : Words) → isSegment (w .kind) ≡ true → inRange v (decode w) ≡ true → segmentRange (v .xs) (v .ys) (v .used .corners) w ≡ true
-in-segment v w s h =
-    by-kind (w .kind) s
-    (λ e. rw e (rw e at h))
-    (λ e. rw e (both (signRange (w .p)) (leb (v .used .low) (w .q) && (ltb (w .q) (w .r) && leb (w .r) (v .used .low + v .used .side))) (rw e at h) .0))
 
 -- ---- the machine's numbers
 
@@ -67,19 +60,15 @@ module _ (areas xs ys : List ℕ) (x y : ℕ) where
   abbrev afterArea : Registers ℕ → (n : ℕ) (z : ℤ) → Registers ℕ
   afterArea g n z = settle (roleAt areas) (passAt areas) (opaqueAt areas) (addsAt xs ys (at x y)) (state g (waits n z))
 
-  -- an entry by the tests of its kind
-  abbrev FromRow : Entry → List Words → State → ℕ
-  FromRow e ws st =
+  -- the set in the end, from rows; from an entry and the words behind it
+  abbrev FromRows : List Row → State → ℕ
+  FromRows rs st =
       outOf
       (settle (roleAt areas) (passAt areas) (opaqueAt areas) (addsAt xs ys (at x y))
-      (onRows (roleAt areas) (passAt areas) (opaqueAt areas) (addsAt xs ys (at x y)) (rowFor e (rowsIn ws)) st))
+      (onRows (roleAt areas) (passAt areas) (opaqueAt areas) (addsAt xs ys (at x y)) rs st))
 
-  abbrev kindOf : (a b c d e f g : Bool) → Words → Entry
-  kindOf a b c d e f g w =
-      cond a opens
-      (cond b bar
-      (cond c closes
-      (cond d (area (w .p) (w .q)) (cond e (line (w .p) (w .q)) (cond f (shortcut (w .p) (w .q) (w .r)) (cond g passes bad))))))
+  abbrev FromRow : Entry → List Words → State → ℕ
+  FromRow e ws st = FromRows (rowFor e (rowsIn ws)) st
 
   -- an area waits with its start number
   named-step : (w : Words) (ws : List Words) (g : Registers ℕ)
@@ -92,29 +81,29 @@ module _ (areas xs ys : List ℕ) (x y : ℕ) where
   segment-step : (w : Words) (ws : List Words) (g : Registers ℕ) (n : ℕ) (z : ℤ)
       → isSegment (w .kind) ≡ true
       → From (state g (waits n z)) (w ∷ ws) ≡ From (state g (waits n (z +ℤ segmentAdds xs ys x y w))) ws
-  unfolding rowsIn adds
-  segment-step w ws g n z s = by-kind (w .kind) s (λ e. rw e) (λ e. rw e)
+  unfolding rowsIn
+  segment-step w ws g n z s = ap (λ rs. FromRows rs (state g (waits n z))) (row-segment w (rowsIn ws) s)
 
   -- before an entry that is neither, the area that waits has all its lines and shortcuts
-  settle-entry : (v : Env) (a b c d e f g : Bool) (w : Words) (ws : List Words) (m : Registers ℕ) (n : ℕ) (z : ℤ)
-      → inRange v (kindOf a b c d e f g w) ≡ true
-      → (e || f) ≡ false
-      → FromRow (kindOf a b c d e f g w) ws (state m (waits n z)) ≡ FromRow (kindOf a b c d e f g w) ws (state (afterArea m n z) settled)
-  settle-entry v true b c d e f g w ws m n z h k = refl
-  settle-entry v false true c d e f g w ws m n z h k = refl
-  settle-entry v false false true d e f g w ws m n z h k = refl
-  settle-entry v false false false true e f g w ws m n z h k = refl
-  settle-entry v false false false false true f g w ws m n z h k = clash (sym k)
-  settle-entry v false false false false false true g w ws m n z h k = clash (sym k)
-  settle-entry v false false false false false false true w ws m n z h k = refl
-  settle-entry v false false false false false false false w ws m n z h k = clash h
+  settle-entry : (v : Env) (a b c d e f : Bool) (w : Words) (ws : List Words) (m : Registers ℕ) (n : ℕ) (z : ℤ)
+      → inRange v (byTests a b c d e f w) ≡ true
+      → e ≡ false
+      → FromRow (byTests a b c d e f w) ws (state m (waits n z)) ≡ FromRow (byTests a b c d e f w) ws (state (afterArea m n z) settled)
+  settle-entry v true b c d e f w ws m n z h k = refl
+  settle-entry v false true c d e f w ws m n z h k = refl
+  settle-entry v false false true d e f w ws m n z h k = refl
+  settle-entry v false false false true e f w ws m n z h k = refl
+  settle-entry v false false false false true f w ws m n z h k = clash (sym k)
+  settle-entry v false false false false false true w ws m n z h k = refl
+  settle-entry v false false false false false false w ws m n z h k = clash h
 
   settle-step : (v : Env) (w : Words) (ws : List Words) (g : Registers ℕ) (n : ℕ) (z : ℤ) → inRange v (decode w) ≡ true → isSegment (w .kind) ≡ false
       → From (state g (waits n z)) (w ∷ ws) ≡ From (state (afterArea g n z) settled) (w ∷ ws)
   unfolding rowsIn
   settle-step v w ws g n z h k =
-      settle-entry v (eqb (w .kind) 1) (eqb (w .kind) 2) (eqb (w .kind) 3) (eqb (w .kind) 4) (eqb (w .kind) 5) (eqb (w .kind) 6)
-      (eqb (w .kind) 7) w ws g n z h k
+      rw (decode-is w)
+      (settle-entry v (eqb (w .kind) 1) (eqb (w .kind) 2) (eqb (w .kind) 3) (eqb (w .kind) 4) (isSegment (w .kind)) (eqb (w .kind) 7) w ws g n z
+      (rw (decode-is w) at h) k)
 
   -- so an area settles behind its lines and shortcuts
   pub winding-step : (v : Env) (t : List ℕ) (g : Registers ℕ) (m k i : ℕ) (z : ℤ)
@@ -190,20 +179,18 @@ module _ (areas xs ys : List ℕ) (x y : ℕ) where
 
   -- ---- an entry that is no area
 
-  moved-entry : (v : Env) (a b c d e f g : Bool) (w : Words) (ws : List Words) (m : Registers ℕ)
-      → inRange v (kindOf a b c d e f g w) ≡ true
+  moved-entry : (v : Env) (a b c d e f : Bool) (w : Words) (ws : List Words) (m : Registers ℕ)
+      → inRange v (byTests a b c d e f w) ≡ true
       → d ≡ false
-      → From
-      (state (cond a (onPush m) (cond b (onActivate m) (cond c (onPop m) (cond (e || f) m (onItem clip true true (λ s. s) m))))) settled) ws
-      ≡ FromRow (kindOf a b c d e f g w) ws (state m settled)
-  moved-entry v true b c d e f g w ws m h k = refl
-  moved-entry v false true c d e f g w ws m h k = refl
-  moved-entry v false false true d e f g w ws m h k = refl
-  moved-entry v false false false true e f g w ws m h k = clash (sym k)
-  moved-entry v false false false false true f g w ws m h k = refl
-  moved-entry v false false false false false true g w ws m h k = refl
-  moved-entry v false false false false false false true w ws m h k = refl
-  moved-entry v false false false false false false false w ws m h k = clash h
+      → From (state (cond a (onPush m) (cond b (onActivate m) (cond c (onPop m) (cond e m (onItem clip true true (λ s. s) m))))) settled) ws
+      ≡ FromRow (byTests a b c d e f w) ws (state m settled)
+  moved-entry v true b c d e f w ws m h k = refl
+  moved-entry v false true c d e f w ws m h k = refl
+  moved-entry v false false true d e f w ws m h k = refl
+  moved-entry v false false false true e f w ws m h k = clash (sym k)
+  moved-entry v false false false false true f w ws m h k = ap (λ rs. FromRows rs (state m settled)) (sym (entry-row w (rowsIn ws)))
+  moved-entry v false false false false false true w ws m h k = refl
+  moved-entry v false false false false false false w ws m h k = clash h
 
   moved-step : (v : Env) (w : Words) (ws : List Words) (g : Registers ℕ)
       → inRange v (decode w) ≡ true
@@ -211,8 +198,9 @@ module _ (areas xs ys : List ℕ) (x y : ℕ) where
       → From (state (movedBy (w .kind) g) settled) ws ≡ From (state g settled) (w ∷ ws)
   unfolding rowsIn
   moved-step v w ws g h n =
-      moved-entry v (eqb (w .kind) 1) (eqb (w .kind) 2) (eqb (w .kind) 3) (eqb (w .kind) 4) (eqb (w .kind) 5) (eqb (w .kind) 6)
-      (eqb (w .kind) 7) w ws g h (ne-eqb (w .kind) 4 n)
+      rw (decode-is w)
+      (moved-entry v (eqb (w .kind) 1) (eqb (w .kind) 2) (eqb (w .kind) 3) (eqb (w .kind) 4) (isSegment (w .kind)) (eqb (w .kind) 7) w ws g
+      (rw (decode-is w) at h) (ne-eqb (w .kind) 4 n))
 
   pub other-step : (v : Env) (t : List ℕ) (g : Registers ℕ) (i e : ℕ) (w : Words) → w ≡ wordsAt t i → (w .kind ≡ 4 → ⊥) → i < e → inRange v (decode w) ≡ true
       → From (state (movedBy (w .kind) g) settled) (wordsFrom t (i + 1) (e - (i + 1))) ≡ From (state g settled) (wordsFrom t i (e - i))

@@ -10,13 +10,13 @@ use stream::Words;
 ghost use mathlib.Core.Path.{_≡_};
 ghost use mathlib.Core.Bool.{true, cond};
 ghost use Prim.Native.Nat.{_+_, _*_, _-_, _≤_, _<_};
-ghost use lib.ListN.{length, getD};
+ghost use lib.ListN.{length};
 ghost use lib.IntN.{pos, _+ℤ_, natAbs};
 ghost use mir.Syntax.{w32};
 ghost use mir.Val.{toZ};
 ghost use Rattle.geometry.specs.Edges.{isRow};
-ghost use Rattle.geometry.specs.code.Reach.{EndsIn, PositionIn};
-ghost use Rattle.geometry.specs.Windings.{edgeBetween, adds};
+ghost use Rattle.geometry.specs.code.Reach.{EdgeIn, LineBelow, PositionIn};
+ghost use Rattle.geometry.specs.Windings.{edgeOf, adds};
 ghost use Rattle.paint.specs.Sets.{withArea};
 ghost use Rattle.pruning.specs.Registers.{onItem};
 ghost use Rattle.machine.specs.code.Registers.{meant};
@@ -25,7 +25,7 @@ ghost use Rattle.stream.specs.Table.{wordsAt, wordsFrom};
 ghost use Rattle.stream.specs.Grammar.{env, Passed};
 ghost use Rattle.stream.specs.code.Machine.{segmentsIn};
 ghost use Rattle.evaluate.specs.Reading.{roleAt, passAt, opaqueAt, setAt};
-ghost use Rattle.evaluate.specs.code.Numbers.{segmentRange, segmentAdds, segmentsSum, movedBy, SegmentsIn, Ranged, Onward};
+ghost use Rattle.evaluate.specs.code.Numbers.{lineOf, segmentRange, segmentAdds, segmentsSum, movedBy, SegmentsIn, Ranged, Onward};
 
 // What a shortcut adds in row y.
 fn shortcut_adds(w: Words, y: u32) -> i64
@@ -41,14 +41,22 @@ fn shortcut_adds(w: Words, y: u32) -> i64
     0
 }
 
+// The edge of the line that an entry names.
+pub fn edge_of(xs: &[u32], ys: &[u32], w: Words) -> Edge
+    requires { ⌜ LineBelow (length (now xs)) (lineOf w) × LineBelow (length (now ys)) (lineOf w) ⌝ }
+    ensures answer { λ r. ⌜ r ≡ edgeOf (now (xs .entry)) (now (ys .entry)) (lineOf w) ⌝ }
+{
+    winding::edge_between(xs, ys, w.p as usize, w.q as usize)
+}
+
 // What a line adds at (x, y).
 fn line_adds(xs: &[u32], ys: &[u32], w: Words, x: u32, y: u32) -> i64
-    requires { ⌜ (w .p < length (now xs)) × (w .p < length (now ys)) × (w .q < length (now xs)) × (w .q < length (now ys)) ⌝ }
-    requires { ⌜ EndsIn (getD (now xs) (w .p) 0) (getD (now ys) (w .p) 0) (getD (now xs) (w .q) 0) (getD (now ys) (w .q) 0) ⌝ }
+    requires { ⌜ LineBelow (length (now xs)) (lineOf w) × LineBelow (length (now ys)) (lineOf w) ⌝ }
+    requires { ⌜ EdgeIn (edgeOf (now xs) (now ys) (lineOf w)) ⌝ }
     requires { ⌜ PositionIn x y ⌝ }
-    ensures answer { λ r. ⌜ r ≡ adds (edgeBetween (now (xs .entry)) (now (ys .entry)) (w .p) (w .q)) x y ⌝ }
+    ensures answer { λ r. ⌜ r ≡ adds (edgeOf (now (xs .entry)) (now (ys .entry)) (lineOf w)) x y ⌝ }
 {
-    let e = winding::edge_between(xs, ys, w.p as usize, w.q as usize);
+    let e = edge_of(xs, ys, w);
     winding::edge_adds(e, x, y)
 }
 
@@ -99,7 +107,7 @@ fn segment_adds(xs: &[u32], ys: &[u32], corners: usize, w: Words, x: u32, y: u32
     requires { ⌜ PositionIn x y ⌝ }
     ensures answer { λ r. ⌜ (r ≡ segmentAdds (now (xs .entry)) (now (ys .entry)) x y w) × (natAbs r ≤ 1) ⌝ }
 {
-    if w.kind == stream::ENTRY_LINE {
+    if stream::is_line(w.kind) {
         return line_adds(xs, ys, w, x, y);
     }
     shortcut_adds(w, y)
@@ -160,9 +168,12 @@ fn moved(m: Machine, kind: u32) -> Machine
         stream::ENTRY_OPEN => machine::after_open(m),
         stream::ENTRY_BAR => machine::after_bar(m),
         stream::ENTRY_CLOSE => machine::after_close(m),
-        stream::ENTRY_LINE => m,
-        stream::ENTRY_SHORTCUT => m,
-        _ => machine::after_clip(m, true),
+        _ => {
+            if stream::is_segment(kind) {
+                return m;
+            }
+            machine::after_clip(m, true)
+        }
     }
 }
 

@@ -8,9 +8,7 @@ use lib.ListN.{length}
 use lib.IntN.{ℤ, pos, _+ℤ_}
 use mir.Syntax.{w32}
 use mir.Val.{toZ}
-use Rattle.geometry.specs.Edges.{isRow}
 use Rattle.geometry.specs.Windings.{Line, line}
-use Rattle.geometry.specs.Windings as Windings
 use Rattle.pruning.specs.Sides.{clip}
 use Rattle.pruning.specs.Registers.{Registers, outOf, onItem, onPush, onActivate, onPop}
 use Rattle.stream.specs.declared.Words.{Words}
@@ -37,11 +35,10 @@ segmentOf w = cond (isLine (w .kind)) (drawn (lineOf w)) (shortcut (toZ w32 (w .
 
 -- the numbers of a line or a shortcut are in range; what it adds
 abbrev pub segmentRange : List ℕ → List ℕ → ℕ → Words → Bool
-segmentRange xs ys corners w = cond (eqb (w .kind) 5) (lineRange xs ys corners (w .p) (w .q)) (signRange (w .p))
+segmentRange xs ys corners w = cond (isLine (w .kind)) (lineRange xs ys corners (w .p) (w .q)) (signRange (w .p))
 
 abbrev pub segmentAdds : List ℕ → List ℕ → ℕ → ℕ → Words → ℤ
-segmentAdds xs ys x y w =
-    cond (eqb (w .kind) 5) (Windings.adds (Windings.edgeBetween xs ys (w .p) (w .q)) x y) (cond (isRow (w .q) (w .r) y) (toZ w32 (w .p)) (pos 0))
+segmentAdds xs ys x y w = addsAt xs ys (at x y) (segmentOf w)
 
 -- what the lines and shortcuts that stand in front add
 unfoldable pub segmentsSum : (xs ys : List ℕ) (x y : ℕ) → List Words → ℤ

@@ -1,7 +1,7 @@
 -- The grammar of streams over the state that the code holds. `Rattle.stream.proofs.Meaning` says that it is the same.
 use Prim.Native.Nat.{ℕ, suc, _+_, _-_, _≤_, _<_}
 use mathlib.Core.Path.{_≡_}
-use mathlib.Core.Bool.{Bool, true, false, cond, _&&_, _||_}
+use mathlib.Core.Bool.{Bool, true, false, cond, _&&_}
 use mathlib.Core.List.{List, [], _∷_}
 use lib.Dec.{eqb, ltb}
 use Rattle.groups.specs.code.Stack.{paintN, leftN, rightN, roomN, openN, barN, closeN}
