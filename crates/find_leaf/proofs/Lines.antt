@@ -4,8 +4,8 @@ use mathlib.Core.Bool.{Bool, true, false, cond}
 use mathlib.Core.List.{List}
 use Prim.Native.Nat.{ℕ, _+_, _-_, _≤_, _<_}
 use native.Mathlib.Omega.{arith}
-use lib.Dec.{eqb}
 use Rattle.stream.specs.declared.Words.{Words}
+use Rattle.stream.specs.Entry.{isLine}
 use Rattle.stream.specs.Table.{wordsAt, wordsFrom}
 use Rattle.stream.proofs.Table.{words-step, words-none}
 use Rattle.find_leaf.specs.Leaf.{linesIn}
@@ -22,15 +22,15 @@ counting-start t f n =
     let k : f + n - f ≡ n = omega arith in
     record { from = omega arith; to = omega arith; few = omega arith; rest = rw k (omega arith) }
 
-pub counting-turn : (t : List ℕ) (f e i n m whole : ℕ) (w : Words) → i < e → w ≡ wordsAt t i → m ≡ cond (eqb (w .kind) 5) 1 0 → m ≤ 1
+pub counting-turn : (t : List ℕ) (f e i n m whole : ℕ) (w : Words) → i < e → w ≡ wordsAt t i → m ≡ cond (isLine (w .kind)) 1 0 → m ≤ 1
     → Counting t f e i n whole → Counting t f e (i + 1) (n + m) whole
 counting-turn t f e i n m whole w h p q l k =
-    record { from = omega (arith, k .from); to = omega (arith, h); few = omega (arith, l, k .few, k .from); rest = go (eqb (w .kind) 5) q more }
+    record { from = omega (arith, k .from); to = omega (arith, h); few = omega (arith, l, k .few, k .from); rest = go (isLine (w .kind)) q more }
   where
     rest : ℕ
     rest = linesIn (wordsFrom t (i + 1) (e - (i + 1)))
 
-    more : n + cond (eqb (w .kind) 5) (1 + rest) rest ≡ whole
+    more : n + cond (isLine (w .kind)) (1 + rest) rest ≡ whole
     more = rw p (rw (words-step t i e h) at (k .rest))
 
     go : (b : Bool) → m ≡ cond b 1 0 → n + cond b (1 + rest) rest ≡ whole → n + m + rest ≡ whole

@@ -7,6 +7,7 @@ use lib.ListN.{length, getD}
 use Rattle.refusals.specs.declared.Refusal.the-variants as Refusals
 use Rattle.stream.specs.declared.Bounds.{Bounds}
 use Rattle.stream.specs.declared.Words.{Words}
+use Rattle.stream.specs.Entry.{isLine}
 use Rattle.stream.specs.Table.{wordsFrom}
 use Rattle.stream.specs.Grammar.{env, bounds, checkStream}
 use Rattle.celltable.specs.declared.Leaf.{Leaf}
@@ -22,10 +23,10 @@ use Rattle.find_leaf.specs.declared.Answer.the-variants as Answers
 abbrev pub positionRange : (x y : ℕ) → Bool
 positionRange x y = ltb x 65536 && ltb y 65536
 
--- how many entries are lines, kind 5: a shortcut is no line
+-- how many entries are lines: a shortcut is no line
 abbrev pub linesIn : List Words → ℕ
 linesIn [] = 0
-linesIn (w ∷ ws) = cond (eqb (w .kind) 5) (1 + linesIn ws) (linesIn ws)
+linesIn (w ∷ ws) = cond (isLine (w .kind)) (1 + linesIn ws) (linesIn ws)
 
 -- "finding a leaf reports as many steps as the leaf's depth, at most 16": its number, low corner, side, steps, entries and lines; document 01 leaves all but
 -- the steps free

@@ -5,8 +5,8 @@ use refusals::Refusal;
 ghost use mathlib.Core.Path.{_≡_};
 ghost use mathlib.Core.Bool.{cond};
 ghost use Prim.Native.Nat.{_+_, _*_, _≤_};
-ghost use lib.Dec.{eqb};
 ghost use lib.ListN.{length, getD};
+ghost use Rattle.stream.specs.Entry.{isLine};
 ghost use Rattle.stream.specs.Table.{wordsFrom};
 ghost use Rattle.stream.specs.Grammar.{env, bounds, checkStream};
 ghost use Rattle.tables.specs.Tables.{treeLent, countsIn};
@@ -55,10 +55,10 @@ pub fn counts_fit(
 
 // 1 for a line, or 0.
 fn line_of(kind: u32) -> u32
-    ensures answer { λ r. ⌜ r ≡ cond (eqb kind 5) 1 0 ⌝ }
+    ensures answer { λ r. ⌜ r ≡ cond (isLine kind) 1 0 ⌝ }
     ensures range { λ r. ⌜ r ≤ 1 ⌝ }
 {
-    if kind == stream::ENTRY_LINE {
+    if stream::is_line(kind) {
         return 1;
     }
     0
