@@ -8,7 +8,6 @@ use lib.ListN.{getD}
 use lib.IntN.{ℤ}
 use mir.Syntax.{w32}
 use mir.Val.{toZ}
-use Rattle.geometry.specs.Windings as Windings
 use borrow.Author.Tests.{eqb-true}
 use Rattle.laws.proofs.Booleans.{clash, and-both}
 use Rattle.groups.specs.Sides.{isPaint, onLeft, onRight}
@@ -23,18 +22,19 @@ use Rattle.pruning.specs.Grammar.{sameKind, tree}
 use Rattle.pruning.proofs.Grammar.{fits-flat}
 use Rattle.stream.specs.declared.Words.{Words}
 use Rattle.stream.specs.Entry as Entries
-use Rattle.stream.specs.Entry.{area, line, shortcut, bad, startRange}
+use Rattle.stream.specs.Entry.{startRange}
 use Rattle.stream.specs.Grammar as Stream
 use Rattle.stream.specs.Grammar.{Env, Place, at, isGood, off, areaMet, recordFits, roleFits, fits, inLimit, after, course, isWhole, accepts}
 use Rattle.stream.proofs.Passed.{off-stays}
 use Rattle.cells.specs.Streams.{Item}
-use Rattle.cells.specs.Segments as Segments
-use Rattle.cells.specs.Segments.{Segment, drawn}
+use Rattle.cells.specs.Segments.{Segment}
 use Rattle.cells.specs.Rows as Rows
 use Rattle.cells.specs.Rows.{Decoded, dec, entriesOf, decodeRow, decode}
 use Rattle.evaluate.specs.Reading.{rowFor, rowsIn, roleAt}
+use Rattle.evaluate.specs.code.Numbers.{segmentOf}
 use Rattle.evaluate.proofs.Laws.{both, area-below}
 use Rattle.ranges.proofs.Groups.{opens, kindBy, kindOn, Nested, nested-open, nested-right, nested-outer, fits-end, fits-open, fits-bar, fits-close}
+use Rattle.making.proofs.Laws.{by-kind, row-segment, after-segment}
 
 -- ---- one entry of a stream that passes
 
@@ -122,26 +122,31 @@ module _ (v : Env) (role : ℕ → Kind) (same : (n : ℕ) → n < v .used .area
   by-segment : (p : Place) (g : Segment) (d : Decoded) → Fits p d → Fits p (decodeRow role (Rows.segment g) d)
   by-segment p g (dec gs es) h = h
 
-  one-fits : (e : Entries.Entry) (p : Place) (ws : List Words)
+  one-fits : (w : Words) (p : Place) (ws : List Words)
       → Nested (p .groups)
-      → Passes v p e ws
-      → (Nested (after p e .groups) → Fits (after p e) (decode role (rowsIn ws)))
-      → Fits p (decode role (rowFor e (rowsIn ws)))
-  one-fits Entries.opens p ws n h ih = by-open p (decode role (rowsIn ws)) (ih (nested-open (p .groups) n))
-  one-fits Entries.bar p ws n h ih = by-bar p (decode role (rowsIn ws)) (h .fit) (ih (nested-right (p .groups) n))
-  one-fits Entries.closes p ws n h ih = by-close p (decode role (rowsIn ws)) n (h .fit) (ih (nested-outer (p .groups) n))
-  one-fits (area k q) p ws n h ih =
-      by-area p k (toZ w32 q) (decode role (rowsIn ws))
-      (area-below (v .areas) (v .used .areas) k (both (isGood (areaMet v k)) (startRange q) (h .range) .0)) (h .fit) (ih n)
-  one-fits (line a b) p ws n h ih = by-segment p (drawn (Windings.line a b)) (decode role (rowsIn ws)) (ih n)
-  one-fits (shortcut s a b) p ws n h ih = by-segment p (Segments.shortcut (toZ w32 s) a b) (decode role (rowsIn ws)) (ih n)
-  one-fits Entries.passes p ws n h ih = by-passes p (decode role (rowsIn ws)) (h .fit) (ih n)
-  one-fits bad p ws n h ih = clash (h .range)
+      → Passes v p (Entries.decode w) ws
+      → (Nested (after p (Entries.decode w) .groups) → Fits (after p (Entries.decode w)) (decode role (rowsIn ws)))
+      → Fits p (decode role (rowFor (Entries.decode w) (rowsIn ws)))
+  one-fits w p ws n =
+      by-kind w
+      (λ e. Passes v p e ws → (Nested (after p e .groups) → Fits (after p e) d) → Fits p (decode role (rowFor e (rowsIn ws))))
+      (λ e h ih. by-open p d (ih (nested-open (p .groups) n)))
+      (λ e h ih. by-bar p d (h .fit) (ih (nested-right (p .groups) n)))
+      (λ e h ih. by-close p d n (h .fit) (ih (nested-outer (p .groups) n)))
+      (λ e h ih. by-area p (w .p) (toZ w32 (w .q)) d
+      (area-below (v .areas) (v .used .areas) (w .p) (both (isGood (areaMet v (w .p))) (startRange (w .q)) (h .range) .0)) (h .fit) (ih n))
+      (λ s h ih. let g = after-segment p w s in
+      rw (row-segment w (rowsIn ws) s) (by-segment p (segmentOf w) d (rw g at (ih (rw g n)))))
+      (λ e h ih. by-passes p d (h .fit) (ih n))
+      (λ h ih. clash (h .range))
+    where
+      d : Decoded
+      d = decode role (rowsIn ws)
 
   all-fit : (ws : List Words) (p : Place) → Nested (p .groups) → isWhole (course v (at p) ws) ≡ true → Fits p (decode role (rowsIn ws))
   unfolding course rowsIn
   all-fit [] p n h = fits-end {A = Item} [] (p .groups) (kindOn (p .groups)) h
-  all-fit (w ∷ ws) p n h = let q = one-passes v p w ws h in one-fits (Entries.decode w) p ws n q (λ m. all-fit ws (after p (Entries.decode w)) m (q .rest))
+  all-fit (w ∷ ws) p n h = let q = one-passes v p w ws h in one-fits w p ws n q (λ m. all-fit ws (after p (Entries.decode w)) m (q .rest))
 
   -- the entries of a stream that passes are the stream of its tree
   pub entries-flat : (ws : List Words) → accepts v ws ≡ true → entriesOf (decode role (rowsIn ws)) ≡ flat paint (tree (entriesOf (decode role (rowsIn ws))))

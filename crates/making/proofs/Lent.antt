@@ -8,7 +8,8 @@ use lib.Dec.{eqb}
 use lib.ListN.{length, take}
 use lib.Seq.{getD-take}
 use Rattle.geometry.specs.FillRules as FillRules
-use Rattle.geometry.specs.Windings.{edgeBetween}
+use Rattle.geometry.specs.Windings.{Line, line, edgeOf}
+use Rattle.geometry.specs.code.Reach.{LineBelow}
 use Rattle.records.specs.declared.Fields.{Fields}
 use Rattle.drawing.specs.Tables.{fieldsAt}
 use Rattle.cells.specs.Drawings.{fieldsOf, kindOf, ruleOf}
@@ -36,8 +37,14 @@ module _ (areas xs ys : List ℕ) (b : Bounds) where
         opaque = ap (λ (f : Fields). eqb (f .alpha) 255) e;
       }
 
-  lent-edges : (p q : ℕ) → p < b .corners → q < b .corners → edgeBetween (take (b .corners) xs) (take (b .corners) ys) p q ≡ edgeBetween xs ys p q
-  lent-edges p q h g = rw (getD-take (b .corners) xs p 0 h, getD-take (b .corners) ys p 0 h, getD-take (b .corners) xs q 0 g, getD-take (b .corners) ys q 0 g)
+  lent-edges : (l : Line) → LineBelow (b .corners) l → edgeOf (take (b .corners) xs) (take (b .corners) ys) l ≡ edgeOf xs ys l
+  lent-edges (line p q) h =
+      rw (
+        getD-take (b .corners) xs p 0 (h .0),
+        getD-take (b .corners) ys p 0 (h .0),
+        getD-take (b .corners) xs q 0 (h .1),
+        getD-take (b .corners) ys q 0 (h .1),
+      )
 
   pub lent-reads : Reads (env areas xs ys b) (lent areas xs ys b)
   lent-reads = record { fields = fields-length areas 0 (b .areas); agrees = lent-agrees; edges = lent-edges }

@@ -3,7 +3,7 @@
 use mathlib.Core.Path.{_≡_, refl, sym, ap, _∙_}
 use mathlib.Core.Bool.{true, false, cond}
 use mathlib.Core.List.{List, [], _∷_}
-use Prim.Native.Nat.{ℕ}
+use Prim.Native.Nat.{ℕ, _<_}
 use native.Mathlib.Omega.{arith}
 use lib.IntN.{pos}
 use Rattle.laws.proofs.Booleans.{clash}
@@ -11,7 +11,7 @@ use Rattle.geometry.specs.Edges.{counts, sign}
 use Rattle.geometry.specs.declared.edge.Edge.{Edge}
 use Rattle.paint.specs.Sets.{setOf}
 use Rattle.cells.specs.Cells as Cells
-use Rattle.cells.specs.Segments.{addsAt}
+use Rattle.cells.specs.Segments.{Segment, drawn, shortcut, addsAt}
 use Rattle.cells.specs.Drawings.{Drawing}
 use Rattle.cells.specs.Streams.{shownIn}
 use Rattle.cells.specs.Rows.{Row, streamOf, roleIn}
@@ -19,15 +19,17 @@ use Rattle.cells.proofs.Rows.{side-read}
 use Rattle.stream.specs.declared.Words.{Words}
 use Rattle.stream.specs.declared.Bounds.{Bounds}
 use Rattle.stream.specs.Entry as Entries
-use Rattle.stream.specs.Entry.{area, line, shortcut, bad, startRange}
+use Rattle.stream.specs.Entry.{startRange}
 use Rattle.stream.specs.Grammar as Stream
 use Rattle.stream.specs.Grammar.{Env, env, Place, at, isGood, areaMet, after, course, isWhole, accepts}
 use Rattle.evaluate.specs.Reading.{rowFor, rowsIn, roleAt, passAt, opaqueAt, setAt}
 use Rattle.evaluate.specs.Words.{EachAgrees}
-use Rattle.evaluate.proofs.Laws.{both, area-below, line-used}
+use Rattle.evaluate.specs.code.Numbers.{segmentOf}
+use Rattle.evaluate.proofs.Laws.{both, area-below}
 use Rattle.evaluate.proofs.Words.{agreed-read}
 use Rattle.ranges.specs.Held.{lent}
 use Rattle.ranges.proofs.Reading.{SameOn, read-same}
+use Rattle.making.proofs.Laws.{by-kind, row-segment, in-segment, SegmentBelow, range-below}
 use Rattle.making.proofs.Grammar.{one-passes, entries-flat}
 use Rattle.making.proofs.Standing.{Reads}
 use Rattle.making.proofs.Lent.{lent-reads}
@@ -40,31 +42,27 @@ module _ (v : Env) (D : Drawing) (R : Reads v D) (x y : ℕ) where
       × SameOn (roleAt (v .areas)) (passAt (v .areas)) (opaqueAt (v .areas)) (addsAt (v .xs) (v .ys) (Cells.at x y))
       (addsAt (D .xs) (D .ys) (Cells.at x y)) ws
 
-  one-same : (e : Entries.Entry) (ws : List Row) → Stream.inRange v e ≡ true → Same ws → Same (rowFor e ws)
-  one-same Entries.opens ws h s = s
-  one-same Entries.bar ws h s = s
-  one-same Entries.closes ws h s = s
-  one-same (area n q) ws h s = (
-    (
-      R .agrees n
-          (omega (arith, R .fields, area-below (v .areas) (v .used .areas) n (both (isGood (areaMet v n)) (startRange q) h .0))),
-      s .0,
-    ),
-    s .1,
-  )
-  one-same (line a b) ws h s =
-      let l = line-used (v .xs) (v .ys) (v .used .corners) a b h in
-      (s .0, (ap (λ (e : Edge). cond (counts e x y) (sign e) (pos 0)) (sym (R .edges a b (l .0) (l .1))), s .1))
-  one-same (shortcut z a b) ws h s = (s .0, (refl, s .1))
-  one-same Entries.passes ws h s = s
-  one-same bad ws h s = clash h
+  adds-same : (g : Segment) → SegmentBelow (v .used .corners) g → addsAt (v .xs) (v .ys) (Cells.at x y) g ≡ addsAt (D .xs) (D .ys) (Cells.at x y) g
+  adds-same (drawn l) h = ap (λ (e : Edge). cond (counts e x y) (sign e) (pos 0)) (sym (R .edges l h))
+  adds-same (shortcut z lo hi) h = refl
+
+  one-same : (w : Words) (ws : List Row) → Stream.inRange v (Entries.decode w) ≡ true → Same ws → Same (rowFor (Entries.decode w) ws)
+  one-same w ws =
+      by-kind w (λ e. Stream.inRange v e ≡ true → Same ws → Same (rowFor e ws)) (λ e h s. s) (λ e h s. s) (λ e h s. s)
+      (λ e h s. ((R .agrees (w .p) (omega (arith, R .fields, below h)), s .0), s .1))
+      (λ k h s. rw (row-segment w ws k)
+      (s .0, (adds-same (segmentOf w) (range-below (v .xs) (v .ys) (v .used .corners) w (in-segment v w k h)), s .1)))
+      (λ e h s. s) (λ h s. clash h)
+    where
+      below : Stream.inRange v (Entries.area (w .p) (w .q)) ≡ true → w .p < v .used .areas
+      below h = area-below (v .areas) (v .used .areas) (w .p) (both (isGood (areaMet v (w .p))) (startRange (w .q)) h .0)
 
   all-same : (ws : List Words) (p : Place) → isWhole (course v (at p) ws) ≡ true → Same (rowsIn ws)
   unfolding course rowsIn
   all-same [] p h = (tt, tt)
   all-same (w ∷ ws) p h =
       let q = one-passes v p w ws h in
-      one-same (Entries.decode w) (rowsIn ws) (q .range) (all-same ws (after p (Entries.decode w)) (q .rest))
+      one-same w (rowsIn ws) (q .range) (all-same ws (after p (Entries.decode w)) (q .rest))
 
   -- of tables that say of their areas and corners what a drawing says
   pub accepted-meaning : (ws : List Words)

@@ -5,7 +5,6 @@ use mathlib.Core.List.{List}
 use Prim.Native.Nat.{ℕ, _^_, _≤_, _<_}
 use native.Mathlib.Omega.{arith}
 use lib.IntN.{ℤ, natAbs}
-use borrow.Author.Tests.{ne-eqb}
 use mir.Syntax.{w64}
 use mir.Val.{toZ, ofZ}
 use Rattle.pruning.specs.Sides.{item}
@@ -14,6 +13,7 @@ use Rattle.pruning.specs.code.Weights.{sized, sizedItems, sizeOf}
 use Rattle.pruner.specs.declared.Pruner.{Pruner}
 use Rattle.pruner.specs.code.Numbers.{counted, classOf}
 use Rattle.pruner.proofs.Near.{Near, near-same, item-near, counted-weight, counted-base, counted-skip, counted-depth}
+use Rattle.stream.specs.Entry.{isSegment}
 use Rattle.evaluate.specs.Reading.{roleAt, passAt}
 use Rattle.evaluate.proofs.Laws.{small-back}
 use Rattle.making.specs.declared.Waiting.{Waiting}
@@ -47,9 +47,8 @@ pub passes-same : (areas : List ℕ) (n : ℕ) (z : ℤ) (r b : Bool) → natAbs
 passes-same areas n z r b h e t = ap (passAt areas n) (sym (small-back z h)) ∙ (sym e ∙ t)
 
 pub pruned-by : (areas : List ℕ) (c : Count) (a : Waiting) (kind : ℕ) (d r : Count)
-    → (kind ≡ 5 → ⊥)
-    → (kind ≡ 6 → ⊥)
+    → isSegment kind ≡ false
     → r ≡ movedN kind d
     → d ≡ settledN areas c a
     → r ≡ prunedN areas c a kind
-pruned-by areas c a kind d r x y e f = rw (ne-eqb kind 5 x, ne-eqb kind 6 y) (e ∙ ap (movedN kind) f)
+pruned-by areas c a kind d r s e f = rw s (e ∙ ap (movedN kind) f)

@@ -18,11 +18,11 @@ use Rattle.cells.specs.Rows.{Row, opens, bar, closes, bare, named, segment, ent
 use Rattle.cells.specs.code.Making.{nothing, held, Making, making, prune, settle, addTo, onRow, onRows, begun}
 use Rattle.cells.proofs.Making.{entry-some}
 use Rattle.stream.specs.declared.Words.{Words}
-use Rattle.stream.specs.Entry as Entries
 use Rattle.stream.specs.Entry.{decode}
 use Rattle.stream.specs.Grammar.{Env, accepts}
 use Rattle.evaluate.specs.Reading.{rowFor, rowsIn}
 use Rattle.making.specs.Made.{rowsMade}
+use Rattle.making.proofs.Laws.{by-kind, row-segment}
 use Rattle.making.proofs.Follows.{stateOf, waitingOf, rowsFor, step-fits, step-short}
 use Rattle.making.proofs.Standing.{Reads}
 use Rattle.making.proofs.Whole.{allOf, rows-all}
@@ -33,20 +33,15 @@ record Short (D : Drawing) (k : ℕ) (m : Making) : Type 0 where
   short : length (outOf (stateOf m)) + rowsFor (waitingOf m) ≤ k
 
 -- an entry says one row at most
-row-for : (e : Entries.Entry) (rs : List Row) → length (rowFor e rs) ≤ suc (length rs)
-row-for Entries.opens rs = omega arith
-row-for Entries.bar rs = omega arith
-row-for Entries.closes rs = omega arith
-row-for (Entries.area n q) rs = omega arith
-row-for (Entries.line a b) rs = omega arith
-row-for (Entries.shortcut s a b) rs = omega arith
-row-for Entries.passes rs = omega arith
-row-for Entries.bad rs = omega arith
+row-for : (w : Words) (rs : List Row) → length (rowFor (decode w) rs) ≤ suc (length rs)
+row-for w rs =
+    by-kind w (λ e. length (rowFor e rs) ≤ suc (length rs)) (λ e. omega arith) (λ e. omega arith) (λ e. omega arith) (λ e. omega arith)
+    (λ s. rw (row-segment w rs s) (omega arith)) (λ e. omega arith) (omega arith)
 
 rows-in : (ws : List Words) → length (rowsIn ws) ≤ length ws
 unfolding rowsIn
 rows-in [] = omega arith
-rows-in (w ∷ ws) = omega (arith, row-for (decode w) (rowsIn ws), rows-in ws)
+rows-in (w ∷ ws) = omega (arith, row-for w (rowsIn ws), rows-in ws)
 
 module _ (v : Env) (D : Drawing) (c : Cell) (R : Reads v D) where
   -- the area that waits goes to the pruner

@@ -1,14 +1,17 @@
 -- Where a making stands in a stream that passes the check: the numbers follow the rows, the frames are the open groups, and what is left leads to
 -- the whole.
-use mathlib.Core.Path.{_≡_, refl, sym, subst}
+use mathlib.Core.Path.{_≡_, refl, sym, ap, subst}
 use mathlib.Core.Bool.{Bool, true, false, cond}
 use mathlib.Core.List.{List, [], _∷_}
 use Prim.Native.Nat.{ℕ, _≤_, _<_}
-use lib.Dec.{eqb}
 use lib.ListN.{length}
-use borrow.Author.Tests.{eqb-true}
 use Rattle.laws.proofs.Booleans.{clash}
-use Rattle.geometry.specs.Windings.{edgeBetween}
+use Rattle.geometry.specs.Edges.{sign}
+use Rattle.geometry.specs.Windings.{Line, edgeOf}
+use Rattle.geometry.specs.Classes.{edgeClass}
+use Rattle.geometry.specs.code.Reach.{LineBelow}
+use Rattle.geometry.specs.declared.class.Square.{Square}
+use Rattle.geometry.specs.declared.edge.Edge.{Edge}
 use Rattle.groups.specs.Sides.{Frame, paintLeft, paintRight, clipLeft, clipRight, isPaint, onLeft, onRight, opening, toRight, toOuter}
 use Rattle.pruning.specs.Sides.{paint, clip, Entry, item, push, activate, pop}
 use Rattle.pruning.specs.code.Pruner as Pruning
@@ -18,13 +21,13 @@ use Rattle.pruning.proofs.Counters.{Fit, count}
 use Rattle.pruning.proofs.Bounded.{Tracks, tracks-item, tracks-push, tracks-activate, tracks-pop}
 use Rattle.pruning.proofs.Weights.{step-weighs}
 use Rattle.cells.specs.Cells.{Cell}
+use Rattle.cells.specs.Segments.{Segment, drawn, shortcut, signOf, classOn}
 use Rattle.cells.specs.Drawings.{Drawing}
 use Rattle.cells.specs.Streams.{Item, always, area, items}
 use Rattle.cells.specs.Rows.{Row, entryRows, roleIn}
 use Rattle.cells.specs.code.Making.{nothing, held, Making, making, prune, settle, onRows, rowSize}
 use Rattle.cells.proofs.Making.{entry-some}
 use Rattle.stream.specs.declared.Words.{Words}
-use Rattle.stream.specs.Entry as Entries
 use Rattle.stream.specs.Entry.{decode}
 use Rattle.stream.specs.Grammar.{Env, Place, at, course, isWhole}
 use Rattle.pruner.specs.declared.Pruner.{Pruner}
@@ -32,13 +35,24 @@ use Rattle.evaluate.specs.Reading.{rowFor, rowsIn}
 use Rattle.evaluate.specs.Words.{Agrees}
 use Rattle.ranges.proofs.Groups.{opens}
 use Rattle.making.specs.declared.Waiting.{Waiting}
+use Rattle.making.proofs.Laws.{by-kind, row-segment, SegmentBelow}
 use Rattle.making.proofs.Follows.{stateOf, row-some, Follows}
 
 -- the tables say of their areas and corners what the drawing says
 pub record Reads (v : Env) (D : Drawing) : Type 0 where
   pub fields : length (D .fields) ≡ v .used .areas
   pub agrees : (n : ℕ) → n < length (D .fields) → Agrees (v .areas) D n
-  pub edges : (a b : ℕ) → a < v .used .corners → b < v .used .corners → edgeBetween (D .xs) (D .ys) a b ≡ edgeBetween (v .xs) (v .ys) a b
+  pub edges : (l : Line) → LineBelow (v .used .corners) l → edgeOf (D .xs) (D .ys) l ≡ edgeOf (v .xs) (v .ys) l
+
+-- a line or a shortcut has the same sign and class by both
+module _ (v : Env) (D : Drawing) (R : Reads v D) where
+  pub sign-same : (g : Segment) → SegmentBelow (v .used .corners) g → signOf (D .xs) (D .ys) g ≡ signOf (v .xs) (v .ys) g
+  sign-same (drawn l) h = ap sign (R .edges l h)
+  sign-same (shortcut z lo hi) h = refl
+
+  pub class-same : (s : Square) (g : Segment) → SegmentBelow (v .used .corners) g → classOn (D .xs) (D .ys) s g ≡ classOn (v .xs) (v .ys) s g
+  class-same s (drawn l) h = ap (λ (e : Edge). edgeClass e s) (R .edges l h)
+  class-same s (shortcut z lo hi) h = refl
 
 -- after k entries, with ws to come
 pub record Standing (v : Env) (D : Drawing) (c : Cell) (k : ℕ) (p : Pruner) (a : Waiting) (ws : List Words) (whole : Making) : Type 0 where
@@ -50,38 +64,12 @@ pub record Standing (v : Env) (D : Drawing) (c : Cell) (k : ℕ) (p : Pruner) (a
   pub rest : isWhole (course v (at place) ws) ≡ true
   pub ahead : onRows D c (rowsIn ws) rows ≡ whole
 
--- ---- the kinds of entries
-pub by-kind : (w : Words) (P : Entries.Entry → Type 0)
-    → (w .kind ≡ 1 → P Entries.opens)
-    → (w .kind ≡ 2 → P Entries.bar)
-    → (w .kind ≡ 3 → P Entries.closes)
-    → (w .kind ≡ 4 → P (Entries.area (w .p) (w .q)))
-    → (w .kind ≡ 5 → P (Entries.line (w .p) (w .q)))
-    → (w .kind ≡ 6 → P (Entries.shortcut (w .p) (w .q) (w .r)))
-    → (w .kind ≡ 7 → P Entries.passes)
-    → P Entries.bad
-    → P (decode w)
-by-kind w P p₁ p₂ p₃ p₄ p₅ p₆ p₇ p₈ =
-    test 1 p₁ (test 2 p₂ (test 3 p₃ (test 4 p₄ (test 5 p₅ (test 6 p₆ (test 7 p₇ p₈))))))
-  where
-    test : (n : ℕ) {x y : Entries.Entry} → (w .kind ≡ n → P x) → P y → P (cond (eqb (w .kind) n) x y)
-    test n {x} {y} f g = go (eqb (w .kind) n) refl
-      where
-        go : (b : Bool) → eqb (w .kind) n ≡ b → P (cond b x y)
-        go true e = f (eqb-true (w .kind) n e)
-        go false e = g
-
 -- one entry, then the others
-pub one-then : (D : Drawing) (c : Cell) (e : Entries.Entry) (ws : List Row) (m : Making)
-    → onRows D c ws (onRows D c (rowFor e []) m) ≡ onRows D c (rowFor e ws) m
-one-then D c Entries.opens ws m = refl
-one-then D c Entries.bar ws m = refl
-one-then D c Entries.closes ws m = refl
-one-then D c (Entries.area n q) ws m = refl
-one-then D c (Entries.line a b) ws m = refl
-one-then D c (Entries.shortcut s a b) ws m = refl
-one-then D c Entries.passes ws m = refl
-one-then D c Entries.bad ws m = refl
+pub one-then : (D : Drawing) (c : Cell) (w : Words) (ws : List Row) (m : Making)
+    → onRows D c ws (onRows D c (rowFor (decode w) []) m) ≡ onRows D c (rowFor (decode w) ws) m
+one-then D c w ws m =
+    by-kind w (λ e. onRows D c ws (onRows D c (rowFor e []) m) ≡ onRows D c (rowFor e ws) m) (λ e. refl) (λ e. refl) (λ e. refl) (λ e. refl)
+    (λ s. rw (row-segment w [] s, row-segment w ws s)) (λ e. refl) refl
 
 -- ---- the frames are the open groups
 module _ (D : Drawing) (c : Cell) where

@@ -10,10 +10,6 @@ use mir.Syntax.{w32}
 use mir.Val.{toZ}
 use borrow.Author.Tests.{ltb-true}
 use Rattle.laws.proofs.Booleans.{clash}
-use Rattle.geometry.specs.Edges.{sign}
-use Rattle.geometry.specs.Windings as Windings
-use Rattle.geometry.specs.Windings.{edgeBetween}
-use Rattle.geometry.specs.Classes.{edgeClass}
 use Rattle.groups.specs.Sides.{Frame, paintLeft, paintRight, clipLeft, clipRight, toRight, toOuter}
 use Rattle.pruning.specs.Sides.{clip, Entry, item, push, activate, pop}
 use Rattle.pruning.specs.Items as Items
@@ -26,26 +22,26 @@ use Rattle.pruning.proofs.Counters.{Fit, count}
 use Rattle.pruning.proofs.Bounded.{Tracks, frames, tracks-length, tracks-opened}
 use Rattle.pruning.proofs.Weights.{total-append, asSized, sized-step}
 use Rattle.cells.specs.Cells.{Cell, squareOf}
-use Rattle.cells.specs.Segments as Segments
-use Rattle.cells.specs.Segments.{Segment, drawn, signOf, classIn}
+use Rattle.cells.specs.Segments.{Segment, signOf, classOn, classIn}
 use Rattle.cells.specs.Drawings.{Drawing}
 use Rattle.cells.specs.Streams.{Item, always, items}
 use Rattle.cells.specs.Rows.{Row, segment, entryRows}
 use Rattle.cells.specs.code.Making.{Waiting, nothing, held, Making, making, prune, settle, addTo, onRows, rowSize}
 use Rattle.stream.specs.declared.Words.{Words}
 use Rattle.stream.specs.Entry as Entries
-use Rattle.stream.specs.Entry.{decode, startRange, signRange}
+use Rattle.stream.specs.Entry.{decode, isSegment, startRange}
 use Rattle.stream.specs.Grammar.{Env, at, after, inRange, isGood, areaMet}
 use Rattle.pruner.specs.declared.Pruner.{Pruner}
 use Rattle.pruner.specs.code.Numbers.{counted, baseOf, skipIn}
 use Rattle.pruner.proofs.Near.{counted-weight, counted-base, counted-skip, counted-depth}
 use Rattle.evaluate.specs.Reading.{rowFor, rowsIn}
-use Rattle.evaluate.proofs.Laws.{both, area-below, start-small, shortcut-small, line-used}
-use Rattle.cells.proofs.Bounds.{sign-abs}
+use Rattle.evaluate.specs.code.Numbers.{segmentOf}
+use Rattle.evaluate.proofs.Laws.{both, area-below, start-small}
 use Rattle.ranges.proofs.Groups.{opens, opens-length}
 use Rattle.making.specs.declared.Waiting as Declared
 use Rattle.making.specs.code.Numbers.{leftSign, leftClass, leftRange, waiting, resting, withLeft, waitingN, settledN, prunedN, Room, Inside}
 use Rattle.cells.proofs.Making.{entry-some}
+use Rattle.making.proofs.Laws.{by-kind, row-segment, after-segment, in-segment, SegmentBelow, range-below, range-sign, left-small}
 use Rattle.making.proofs.Follows.{
   stateOf,
   waitingOf,
@@ -61,7 +57,18 @@ use Rattle.making.proofs.Follows.{
   segment-follows,
 }
 use Rattle.making.proofs.Grammar.{Passes, one-passes}
-use Rattle.making.proofs.Standing.{Reads, Standing, by-kind, one-then, settle-tracks, item-tracks, open-tracks, bar-tracks, close-tracks}
+use Rattle.making.proofs.Standing.{
+  Reads,
+  sign-same,
+  class-same,
+  Standing,
+  one-then,
+  settle-tracks,
+  item-tracks,
+  open-tracks,
+  bar-tracks,
+  close-tracks,
+}
 
 -- ---- how large the numbers are
 
@@ -168,17 +175,11 @@ module _ (v : Env) (D : Drawing) (c : Cell) (R : Reads v D) (k : ℕ) (p : Prune
     pub standing-left : leftRange (v .xs) (v .ys) (v .used .corners) w ≡ true
     standing-left =
         by-kind w (λ e. inRange v e ≡ true → leftRange (v .xs) (v .ys) (v .used .corners) w ≡ true)
-        (λ e r. rw e) (λ e r. rw e) (λ e r. rw e) (λ e r. rw e) (λ e r. rw e r)
-        (λ e r. rw e (both (signRange (w .p)) _ r .0)) (λ e r. rw e) (λ r. clash r)
+        (λ e r. rw e) (λ e r. rw e) (λ e r. rw e) (λ e r. rw e) (λ e r. rw e (in-segment v w e r)) (λ e r. rw e) (λ r. clash r)
         (passes .range)
 
     pub standing-sign : natAbs (leftSign (v .xs) (v .ys) w) ≤ 1
-    standing-sign =
-        by-kind w (λ e. inRange v e ≡ true → natAbs (leftSign (v .xs) (v .ys) w) ≤ 1) (λ e r. rw e (omega arith))
-        (λ e r. rw e (omega arith)) (λ e r. rw e (omega arith)) (λ e r. rw e (omega arith))
-        (λ e r. rw e (sign-abs (edgeBetween (v .xs) (v .ys) (w .p) (w .q))))
-        (λ e r. rw e (shortcut-small (w .p) true (both (signRange (w .p)) _ r .0))) (λ e r. rw e (omega arith)) (λ r. clash r)
-        (passes .range)
+    standing-sign = left-small (v .xs) (v .ys) (v .used .corners) w standing-left
 
     -- ---- one entry further
     abbrev pub next : Entries.Entry → Making
@@ -276,25 +277,21 @@ module _ (v : Env) (D : Drawing) (c : Cell) (R : Reads v D) (k : ℕ) (p : Prune
           same (making x nothing) t = t
           same (making x (held n z gs)) t = t
 
-      on-line : w .kind ≡ 5 → Passes v (s .place) (Entries.line (w .p) (w .q)) ws → Next p′ a′ (Entries.line (w .p) (w .q))
-      on-line e h =
-          let u = line-used (v .xs) (v .ys) (v .used .corners) (w .p) (w .q) (h .range) in
-          let d = R .edges (w .p) (w .q) (u .0) (u .1) in
-          let a₁ : a′
-          ≡ withLeft a (edgeClass (edgeBetween (v .xs) (v .ys) (w .p) (w .q)) (squareOf c))
-          (sign (edgeBetween (v .xs) (v .ys) (w .p) (w .q))) = rw e at ha in
-          segment-next (drawn (Windings.line (w .p) (w .q))) (sign-abs (edgeBetween (D .xs) (D .ys) (w .p) (w .q))) (rw e at hp) (rw d a₁)
-
-      on-shortcut : w .kind ≡ 6 → Passes v (s .place) (Entries.shortcut (w .p) (w .q) (w .r)) ws → Next p′ a′ (Entries.shortcut (w .p) (w .q) (w .r))
-      on-shortcut e h =
-          segment-next (Segments.shortcut (toZ w32 (w .p)) (w .q) (w .r))
-          (shortcut-small (w .p) true (both (signRange (w .p)) _ (h .range) .0)) (rw e at hp) (rw e at ha)
+      on-segment : isSegment (w .kind) ≡ true → Passes v (s .place) (decode w) ws → Next p′ a′ (decode w)
+      on-segment e h =
+          let g = segmentOf w in
+          let r = in-segment v w e (h .range) in
+          let b : SegmentBelow (v .used .corners) g = range-below (v .xs) (v .ys) (v .used .corners) w r in
+          let a₁ : a′ ≡ withLeft a (classOn (v .xs) (v .ys) (squareOf c) g) (signOf (v .xs) (v .ys) g) = rw e at ha in
+          rw (row-segment w [] e, after-segment (s .place) w e)
+          (segment-next g (range-sign (v .xs) (v .ys) (v .used .corners) w (D .xs) (D .ys) r) (rw e at hp)
+          (rw (sign-same v D R g b, class-same v D R (squareOf c) g b) a₁))
 
       -- with the rows that it then has
       pub standing-rows : w .q < 4294967296 → (x : Standing v D c (k + 1) p′ a′ ws whole) × (x .rows ≡ next (decode w))
       unfolding rowsIn
       standing-rows l =
-          let n = by-kind w (λ e. Passes v (s .place) e ws → Next p′ a′ e) on-open on-bar on-close (on-area l) on-line on-shortcut on-passes
+          let n = by-kind w (λ e. Passes v (s .place) e ws → Next p′ a′ e) on-open on-bar on-close (on-area l) on-segment on-passes
           (λ h. clash (h .range)) passes in (
             record {
               rows = next (decode w);
@@ -303,7 +300,7 @@ module _ (v : Env) (D : Drawing) (c : Cell) (R : Reads v D) (k : ℕ) (p : Prune
               tracks = n .1;
               few = n .2;
               rest = passes .rest;
-              ahead = one-then D c (decode w) (rowsIn ws) (s .rows) ∙ s .ahead;
+              ahead = one-then D c w (rowsIn ws) (s .rows) ∙ s .ahead;
             },
             refl,
           )

@@ -9,15 +9,16 @@ use stream::Words;
 ghost use mathlib.Core.Path.{_≡_};
 ghost use mathlib.Core.Bool.{true};
 ghost use Prim.Native.Nat.{_+_, _*_, _^_, _≤_, _<_};
-ghost use lib.ListN.{length, getD};
+ghost use lib.ListN.{length};
 ghost use lib.IntN.{natAbs};
 ghost use mir.Syntax.{w32};
 ghost use mir.Val.{toZ};
 ghost use Rattle.geometry.specs.Edges.{sign};
-ghost use Rattle.geometry.specs.Windings.{edgeBetween};
+ghost use Rattle.geometry.specs.Windings.{edgeOf};
 ghost use Rattle.geometry.specs.Classes.{edgeClass, cut};
-ghost use Rattle.geometry.specs.code.Reach.{EndsIn, SquareIn};
+ghost use Rattle.geometry.specs.code.Reach.{EdgeIn, LineBelow, SquareIn};
 ghost use Rattle.stream.specs.Entry.{startRange, signRange};
+ghost use Rattle.evaluate.specs.code.Numbers.{lineOf};
 ghost use Rattle.pruning.specs.code.Counters.{lengthOf};
 ghost use Rattle.pruner.specs.code.Numbers.{counted};
 ghost use Rattle.making.specs.code.Numbers.{leftSign, leftClass, leftRange, waiting, resting, withLeft, waitingN, classN, settledN, movedN, prunesN};
@@ -30,11 +31,11 @@ pub struct Left {
 }
 
 fn line_left(xs: &[u32], ys: &[u32], s: Square, w: Words) -> Left
-    requires { ⌜ (w .p < length (now xs)) × (w .p < length (now ys)) × (w .q < length (now xs)) × (w .q < length (now ys)) ⌝ }
-    requires { ⌜ EndsIn (getD (now xs) (w .p) 0) (getD (now ys) (w .p) 0) (getD (now xs) (w .q) 0) (getD (now ys) (w .q) 0) ⌝ }
+    requires { ⌜ LineBelow (length (now xs)) (lineOf w) × LineBelow (length (now ys)) (lineOf w) ⌝ }
+    requires { ⌜ EdgeIn (edgeOf (now xs) (now ys) (lineOf w)) ⌝ }
     requires { ⌜ SquareIn s ⌝ }
-    ensures answer { λ r. ⌜ (r .sign ≡ sign (edgeBetween (now (xs .entry)) (now (ys .entry)) (w .p) (w .q)))
-        × (r .class ≡ edgeClass (edgeBetween (now (xs .entry)) (now (ys .entry)) (w .p) (w .q)) s) ⌝ }
+    ensures answer { λ r. ⌜ (r .sign ≡ sign (edgeOf (now (xs .entry)) (now (ys .entry)) (lineOf w)))
+        × (r .class ≡ edgeClass (edgeOf (now (xs .entry)) (now (ys .entry)) (lineOf w)) s) ⌝ }
 {
     let e = winding::edge_between(xs, ys, w.p as usize, w.q as usize);
     let z = edge::edge_sign(e);
@@ -61,10 +62,10 @@ pub fn left_of(xs: &[u32], ys: &[u32], corners: usize, s: Square, w: Words) -> L
     requires { ⌜ SquareIn s ⌝ }
     ensures answer { λ r. ⌜ (r .sign ≡ leftSign (now (xs .entry)) (now (ys .entry)) w) × (r .class ≡ leftClass (now (xs .entry)) (now (ys .entry)) s w) ⌝ }
 {
-    if w.kind == stream::ENTRY_LINE {
-        return line_left(xs, ys, s, w);
-    }
-    if w.kind == stream::ENTRY_SHORTCUT {
+    if stream::is_segment(w.kind) {
+        if w.kind == stream::ENTRY_LINE {
+            return line_left(xs, ys, s, w);
+        }
         return shortcut_left(s, w);
     }
     Left {
@@ -156,15 +157,12 @@ pub fn waiting_after(a: Waiting, l: Left, w: Words) -> Waiting
     requires { ⌜ (w .kind ≡ 4 → startRange (w .q) ≡ true) ⌝ }
     ensures answer { λ r. ⌜ r ≡ waitingN a (l .class) (l .sign) w ⌝ }
 {
+    if stream::is_segment(w.kind) {
+        let k = l.class;
+        return with_left(a, k, l.sign);
+    }
     if w.kind == stream::ENTRY_AREA {
         return named(w);
-    }
-    let k = l.class;
-    if w.kind == stream::ENTRY_LINE {
-        return with_left(a, k, l.sign);
-    }
-    if w.kind == stream::ENTRY_SHORTCUT {
-        return with_left(a, k, l.sign);
     }
     rest()
 }
@@ -226,10 +224,7 @@ fn moved(p: Pruner, kind: u32) -> Pruner
 pub fn prunes(kind: u32) -> bool
     ensures answer { λ r. ⌜ r ≡ prunesN kind ⌝ }
 {
-    if kind == stream::ENTRY_LINE {
-        return false;
-    }
-    kind != stream::ENTRY_SHORTCUT
+    !stream::is_segment(kind)
 }
 
 // After an entry.
@@ -238,10 +233,7 @@ pub fn pruner_after(areas: &[u32], p: Pruner, a: Waiting, kind: u32) -> Pruner
     requires { ⌜ Room p a kind ⌝ }
     ensures answer { λ r. ⌜ counted r ≡ prunedN (now (areas .entry)) (counted p) a kind ⌝ }
 {
-    if kind == stream::ENTRY_LINE {
-        return p;
-    }
-    if kind == stream::ENTRY_SHORTCUT {
+    if stream::is_segment(kind) {
         return p;
     }
     let q = settled(areas, p, a);

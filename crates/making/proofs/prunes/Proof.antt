@@ -1,12 +1,14 @@
+use borrow.Author.Needs.{needs}
 use Rattle.making.proofs.prunes.Statement.{statement}
 use Rattle.making.proofs.prunes.Tie as tie
-use Rattle.laws.proofs.Tests.{tests}
+use mathlib.Core.Path.{ap}
+use mathlib.Core.Bool.{not}
+
+is-segment-requires : tie.Need-is-segment-requires
+is-segment-requires c κs = search needs
 
 returns : tie.Need-returns
-returns c = search tests
-
-returns-2 : tie.Need-returns-2
-returns-2 c = search tests
+returns c = ap not (c .is-segment .ensures)
 
 pub prunes-spec : {M : Type 1} → statement M
-prunes-spec = tie.close (tie.spec returns returns-2)
+prunes-spec = tie.close (tie.spec is-segment-requires returns)

@@ -9,9 +9,6 @@ use lib.ListN.{getD}
 use lib.IntN.{ℤ, pos, _+ℤ_, natAbs}
 use mir.Syntax.{w32}
 use mir.Val.{toZ}
-use Rattle.geometry.specs.Edges.{sign}
-use Rattle.geometry.specs.Windings.{edgeBetween}
-use Rattle.geometry.specs.Classes.{edgeClass, cut}
 use Rattle.geometry.specs.declared.class.Class.{Class}
 use Rattle.geometry.specs.declared.class.Class.the-variants.{Dropped, Start, Shortcut, Kept}
 use Rattle.geometry.specs.declared.class.Square.{Square}
@@ -20,12 +17,13 @@ use Rattle.pruning.specs.Items.{passes}
 use Rattle.pruning.specs.code.Counters.{Count, countStep}
 use Rattle.pruning.specs.code.Weights.{sized, sizedItems, sizeOf}
 use Rattle.cells.specs.Cells.{Cell, cell}
+use Rattle.cells.specs.Segments.{signOf, classOn}
 use Rattle.pruner.specs.declared.Pruner.{Pruner}
 use Rattle.pruner.specs.code.Numbers.{classOf}
 use Rattle.stream.specs.declared.Words.{Words}
-use Rattle.stream.specs.Entry.{startRange, signRange}
-use Rattle.stream.specs.Grammar.{lineRange}
+use Rattle.stream.specs.Entry.{isSegment, startRange}
 use Rattle.evaluate.specs.Reading.{roleAt, passAt, opaqueAt}
+use Rattle.evaluate.specs.code.Numbers.{segmentOf, segmentRange}
 use Rattle.making.specs.declared.Waiting.{Waiting}
 use Rattle.making.specs.declared.Maker.{Maker}
 
@@ -41,16 +39,14 @@ cellIn s = cell (s .x) (s .y) (levelFrom 16 (s .side))
 -- ---- what is left of a line or a shortcut in a square
 
 abbrev pub leftSign : (xs ys : List ℕ) → Words → ℤ
-leftSign xs ys w = cond (eqb (w .kind) 5) (sign (edgeBetween xs ys (w .p) (w .q))) (cond (eqb (w .kind) 6) (toZ w32 (w .p)) (pos 0))
+leftSign xs ys w = cond (isSegment (w .kind)) (signOf xs ys (segmentOf w)) (pos 0)
 
 abbrev pub leftClass : (xs ys : List ℕ) → Square → Words → Class
-leftClass xs ys s w =
-    cond (eqb (w .kind) 5) (edgeClass (edgeBetween xs ys (w .p) (w .q)) s)
-    (cond (eqb (w .kind) 6) (cut (w .q) (w .r) (s .y) (s .side)) Dropped)
+leftClass xs ys s w = cond (isSegment (w .kind)) (classOn xs ys s (segmentOf w)) Dropped
 
 -- its numbers are in range
 abbrev pub leftRange : (xs ys : List ℕ) (corners : ℕ) → Words → Bool
-leftRange xs ys corners w = cond (eqb (w .kind) 5) (lineRange xs ys corners (w .p) (w .q)) (cond (eqb (w .kind) 6) (signRange (w .p)) true)
+leftRange xs ys corners w = cond (isSegment (w .kind)) (segmentRange xs ys corners w) true
 
 -- ---- the area that waits: its number, its start number, its weight with what is left of its lines and shortcuts
 
@@ -72,8 +68,7 @@ withLeft a f z = cond (a .waits) (withClass f a z) a
 -- an area alone weighs 4,294,967,297
 abbrev pub waitingN : Waiting → Class → ℤ → Words → Waiting
 waitingN a f z w =
-    cond (eqb (w .kind) 4) (waiting true (w .p) (toZ w32 (w .q)) 4294967297)
-    (cond (eqb (w .kind) 5) (withLeft a f z) (cond (eqb (w .kind) 6) (withLeft a f z) resting))
+    cond (isSegment (w .kind)) (withLeft a f z) (cond (eqb (w .kind) 4) (waiting true (w .p) (toZ w32 (w .q)) 4294967297) resting)
 
 -- ---- the pruner
 
@@ -96,10 +91,10 @@ movedN kind c =
 
 -- an entry that is neither a line nor a shortcut
 abbrev pub prunesN : ℕ → Bool
-prunesN kind = cond (eqb kind 5) false (not (eqb kind 6))
+prunesN kind = not (isSegment kind)
 
 abbrev pub prunedN : List ℕ → Count → Waiting → ℕ → Count
-prunedN areas c a kind = cond (eqb kind 5) c (cond (eqb kind 6) c (movedN kind (settledN areas c a)))
+prunedN areas c a kind = cond (isSegment kind) c (movedN kind (settledN areas c a))
 
 abbrev pub maker : Pruner → Waiting → Maker
 maker p a = record { pruner = p; waiting = a }
