@@ -12,8 +12,11 @@ use Rattle.geometry.specs.declared.class.Class.{Class}
 use Rattle.geometry.specs.declared.class.Class.the-variants.{Dropped, Start, Shortcut, Kept}
 use Rattle.pruning.specs.code.Counters.{Count, lengthOf}
 use Rattle.pruner.specs.code.Numbers.{counted, baseOf, skipIn}
+use Rattle.cells.specs.Segments.{drawn, shortcut}
 use Rattle.stream.specs.declared.Words.{Words}
-use Rattle.evaluate.specs.Words.{words}
+use Rattle.stream.specs.Entry.{isSegment}
+use Rattle.evaluate.specs.Words.{words, segmentWords}
+use Rattle.evaluate.specs.code.Numbers.{lineOf}
 use Rattle.making.specs.declared.Maker.{Maker}
 use Rattle.making.specs.code.Numbers.{classN, settledN}
 use Rattle.writing.specs.code.Numbers.{putBelow, placeOf, keptPut, segmentPut, classPut, settledPut, markOn, onePut}
@@ -40,8 +43,8 @@ module _ (limit : ℕ) where
   same-kept : (f : Class) (t : List ℕ) (at : ℕ) (z : ℤ) (w : Words) → Same t (keptPut f limit t at z w)
   same-kept Dropped t at z w = same-refl t
   same-kept Start t at z w = same-refl t
-  same-kept (Shortcut lo hi) t at z w = same-put t at (words 6 (ofZ w32 z) lo hi)
-  same-kept Kept t at z w = same-put t at (words 5 (w .p) (w .q) 0)
+  same-kept (Shortcut lo hi) t at z w = same-put t at (segmentWords (shortcut z lo hi))
+  same-kept Kept t at z w = same-put t at (segmentWords (drawn (lineOf w)))
 
   module _ (areas : List ℕ) (t : List ℕ) (m : Maker) where
     same-segment : (f : Class) (z : ℤ) (w : Words) → Same t (segmentPut limit t m f z w)
@@ -70,6 +73,5 @@ module _ (limit : ℕ) where
 
     pub same-one : (f : Class) (z : ℤ) (w : Words) (n : ℕ) → Same t (onePut limit areas t m f z w n)
     same-one f z w n =
-        same-if (eqb (w .kind) 5) t _ _ (same-segment f z w)
-        (same-if (eqb (w .kind) 6) t _ _ (same-segment f z w)
-        (same-then same-settled (same-mark (settledPut limit areas t m) (settledN areas (counted (m .pruner)) (m .waiting)) n (w .kind))))
+        same-if (isSegment (w .kind)) t _ _ (same-segment f z w)
+        (same-then same-settled (same-mark (settledPut limit areas t m) (settledN areas (counted (m .pruner)) (m .waiting)) n (w .kind)))

@@ -1,20 +1,16 @@
 -- One entry more of a stream that passes the check is written.
 use mathlib.Core.Path.{_≡_, refl, sym, ap, subst, _∙_}
-use mathlib.Core.Bool.{cond}
+use mathlib.Core.Bool.{Bool, true, false, cond}
 use mathlib.Core.List.{List, [], _∷_}
 use Prim.Native.Nat.{ℕ, suc, _+_, _*_, _≤_, _<_}
 use native.Mathlib.Omega.{arith}
 use lib.Dec.{eqb, ltb}
 use lib.ListN.{length}
-use borrow.Author.Tests.{le-ltb, eq-eqb, ne-eqb}
+use borrow.Author.Tests.{le-ltb, ne-eqb}
 use lib.IntN.{ℤ}
 use mir.Syntax.{w32}
 use mir.Val.{toZ}
 use Rattle.laws.proofs.Booleans.{clash}
-use Rattle.geometry.specs.Edges.{sign}
-use Rattle.geometry.specs.Windings as Windings
-use Rattle.geometry.specs.Windings.{edgeBetween}
-use Rattle.geometry.specs.Classes.{edgeClass}
 use Rattle.geometry.specs.declared.class.Class.{Class}
 use Rattle.geometry.specs.declared.class.Class.the-variants.{Kept}
 use Rattle.pruning.specs.Sides.{clip, item, push, activate, pop}
@@ -24,27 +20,27 @@ use Rattle.pruning.specs.code.Counters.{lengthOf}
 use Rattle.pruning.specs.code.Effects.{outOf}
 use Rattle.pruning.specs.code.Weights.{total, weighed}
 use Rattle.cells.specs.Cells.{Cell, squareOf}
-use Rattle.cells.specs.Segments as Segments
-use Rattle.cells.specs.Segments.{Segment, drawn, signOf, classIn}
+use Rattle.cells.specs.Segments.{drawn, shortcut, signOf, classOn, classIn}
 use Rattle.cells.specs.Drawings.{Drawing}
 use Rattle.cells.specs.Streams.{always}
 use Rattle.cells.specs.Rows as Rows
 use Rattle.cells.specs.Rows.{Row}
-use Rattle.cells.specs.code.Making.{nothing, Making, making, prune, settle, addTo, onRows, rowSize}
+use Rattle.cells.specs.code.Making.{nothing, Making, making, prune, settle, onRows, rowSize}
 use Rattle.stream.specs.declared.Words.{Words}
 use Rattle.stream.specs.Entry as Entries
-use Rattle.stream.specs.Entry.{decode}
+use Rattle.stream.specs.Entry.{decode, isLine, isSegment}
 use Rattle.stream.specs.Grammar.{Env}
 use Rattle.pruner.specs.code.Numbers.{counted, skipIn, baseOf}
 use Rattle.pruner.proofs.Near.{counted-weight}
 use Rattle.evaluate.specs.Reading.{rowFor}
 use Rattle.evaluate.specs.Words.{words, wordsOf}
-use Rattle.evaluate.proofs.Laws.{line-used}
+use Rattle.evaluate.specs.code.Numbers.{lineOf, segmentOf}
 use Rattle.making.specs.declared.Maker.{Maker}
 use Rattle.making.specs.code.Numbers.{leftSign, leftClass, waitingN, settledN, prunedN}
+use Rattle.making.proofs.Laws.{by-kind, row-segment, in-segment, SegmentBelow, range-below}
 use Rattle.making.proofs.Follows.{stateOf, settle-counts, settle-fits, settle-short, kept-weight}
 use Rattle.making.proofs.Grammar.{Passes, one-passes}
-use Rattle.making.proofs.Standing.{Reads, Standing, by-kind}
+use Rattle.making.proofs.Standing.{Reads, sign-same, class-same, Standing}
 use Rattle.making.proofs.Turn.{standing-rows, weight-is}
 use Rattle.writing.specs.code.Numbers.{putBelow, placeOf, segmentPut, settledPut, onePut}
 use Rattle.writing.proofs.Agree.{Agree}
@@ -73,9 +69,16 @@ module _ (v : Env) (D : Drawing) (c : Cell) (R : Reads v D) (k : ℕ) (mk : Make
   abbrev areas : List ℕ
   areas = v .areas
 
-  -- a shortcut is never kept as a line
-  never-kept : (z : ℤ) (lo hi : ℕ) → classIn (D .xs) (D .ys) c (Segments.shortcut z lo hi) ≡ Kept → ⊥
-  never-kept z lo hi e = let n : _≡_ {A = ℕ} 1 65537 = kept-weight areas D c (R .agrees) (Segments.shortcut z lo hi) e in omega arith
+  -- what is kept is a line
+  kept-line : classIn (D .xs) (D .ys) c (segmentOf w) ≡ Kept → segmentOf w ≡ drawn (lineOf w)
+  kept-line = go (isLine (w .kind))
+    where
+      go : (b : Bool)
+          → classIn (D .xs) (D .ys) c (cond b (drawn (lineOf w)) (shortcut (toZ w32 (w .p)) (w .q) (w .r))) ≡ Kept
+          → cond b (drawn (lineOf w)) (shortcut (toZ w32 (w .p)) (w .q) (w .r)) ≡ drawn (lineOf w)
+      go true e = refl
+      go false e =
+          let n : _≡_ {A = ℕ} 1 65537 = kept-weight areas D c (R .agrees) (shortcut (toZ w32 (w .p)) (w .q) (w .r)) e in absurd (omega arith)
 
   -- after the area that waits
   abbrev settled : List ℕ
@@ -148,27 +151,15 @@ module _ (v : Env) (D : Drawing) (c : Cell) (R : Reads v D) (k : ℕ) (mk : Make
         }
 
     -- a line or a shortcut
-    on-segment : (g : Segment)
-        → u ≡ segmentPut limit t mk (classIn (D .xs) (D .ys) c g) (signOf (D .xs) (D .ys) g) w
-        → (classIn (D .xs) (D .ys) c g ≡ Kept → wordsOf (Rows.segment g) ≡ words 5 (w .p) (w .q) 0)
-        → Writes limit u (addTo D c g rows)
-    on-segment g e k′ = rw e (segment-writes limit areas D c (R .agrees) k mk rows t g w l room k′ (s .standing .follows) (s .writes))
-
-    on-line : w .kind ≡ 5 → Passes v (s .standing .place) (Entries.line (w .p) (w .q)) ws → Writes limit u (next (Entries.line (w .p) (w .q)))
-    on-line e h =
-        let b = line-used (v .xs) (v .ys) (v .used .corners) (w .p) (w .q) (h .range) in
-        let d = R .edges (w .p) (w .q) (b .0) (b .1) in
-        let x : f ≡ edgeClass (edgeBetween (v .xs) (v .ys) (w .p) (w .q)) (squareOf c) = rw e at hf in
-        let y : z ≡ sign (edgeBetween (v .xs) (v .ys) (w .p) (w .q)) = rw e at hz in
-        let g : u ≡ segmentPut limit t mk f z w = simp (eq-eqb (w .kind) 5 e) at hu in
-        on-segment (drawn (Windings.line (w .p) (w .q))) (rw (d, ← x, ← y) g) (λ q. refl)
-
-    on-shortcut : w .kind ≡ 6 → Writes limit u (next (Entries.shortcut (w .p) (w .q) (w .r)))
-    on-shortcut e =
-        let x : f ≡ classIn (D .xs) (D .ys) c (Segments.shortcut (toZ w32 (w .p)) (w .q) (w .r)) = rw e at hf in
-        let y : z ≡ toZ w32 (w .p) = rw e at hz in
-        let g : u ≡ segmentPut limit t mk f z w = simp (ne-eqb (w .kind) 5 (λ q. omega arith), eq-eqb (w .kind) 6 e) at hu in
-        on-segment (Segments.shortcut (toZ w32 (w .p)) (w .q) (w .r)) (rw (← x, ← y) g) (λ q. absurd (never-kept (toZ w32 (w .p)) (w .q) (w .r) q))
+    on-segment : isSegment (w .kind) ≡ true → Passes v (s .standing .place) (decode w) ws → Writes limit u (next (decode w))
+    on-segment e h =
+        let g = segmentOf w in
+        let b : SegmentBelow (v .used .corners) g = range-below (v .xs) (v .ys) (v .used .corners) w (in-segment v w e (h .range)) in
+        let x : f ≡ classOn (v .xs) (v .ys) (squareOf c) g = rw e at hf in
+        let y : z ≡ signOf (v .xs) (v .ys) g = rw e at hz in
+        let q : u ≡ segmentPut limit t mk f z w = rw e at hu in
+        rw (row-segment w [] e, q, x, y, ← sign-same v D R g b, ← class-same v D R (squareOf c) g b)
+        (segment-writes limit areas D c (R .agrees) k mk rows t g w l room kept-line (s .standing .follows) (s .writes))
 
     pub writing-next : (nk : Maker)
         → n ≡ nk .pruner .weight
@@ -184,8 +175,8 @@ module _ (v : Env) (D : Drawing) (c : Cell) (R : Reads v D) (k : ℕ) (mk : Make
         ∙ (weight-is (stateOf (x .0 .rows)) ∙ ap (λ (y : Making). total rowSize (outOf (stateOf y))) (x .1)))) in
         let y : Writes limit u (next (decode w)) = by-kind w
         (λ e. Passes v (s .standing .place) e ws → n ≡ total rowSize (outOf (stateOf (next e))) → Writes limit u (next e))
-        (λ e h a. on-open e a) (λ e h a. on-bar e a) (λ e h a. on-close e a) (λ e h a. on-area e a) (λ e h a. on-line e h)
-        (λ e h a. on-shortcut e) (λ e h a. on-passes e) (λ h a. clash (h .range))
+        (λ e h a. on-open e a) (λ e h a. on-bar e a) (λ e h a. on-close e a) (λ e h a. on-area e a) (λ e h a. on-segment e h)
+        (λ e h a. on-passes e) (λ h a. clash (h .range))
         (one-passes v (s .standing .place) w ws (s .standing .rest)) m in
         record {
           standing = x .0;

@@ -25,7 +25,7 @@ use Rattle.pruning.specs.code.Weights.{total, weighed}
 use Rattle.pruning.proofs.Counters.{Fit, count}
 use Rattle.pruning.proofs.Weights.{total-append}
 use Rattle.cells.specs.Cells.{Cell}
-use Rattle.cells.specs.Segments.{Segment, shortcut, signOf, classIn, keptBy, startBy}
+use Rattle.cells.specs.Segments.{Segment, drawn, shortcut, signOf, classIn, keptBy, startBy}
 use Rattle.cells.specs.Drawings.{Drawing}
 use Rattle.cells.specs.Streams.{always, area, items}
 use Rattle.cells.specs.Rows.{Row, bare, named, segment, itemRows, entryRows}
@@ -35,7 +35,8 @@ use Rattle.stream.specs.declared.Words.{Words}
 use Rattle.pruner.specs.declared.Pruner.{Pruner}
 use Rattle.pruner.specs.code.Numbers.{counted, baseOf, skipIn}
 use Rattle.pruner.proofs.Near.{counted-weight, counted-base, counted-skip}
-use Rattle.evaluate.specs.Words.{words, wordsOf, Agrees}
+use Rattle.evaluate.specs.Words.{words, segmentWords, wordsOf, Agrees}
+use Rattle.evaluate.specs.code.Numbers.{lineOf}
 use Rattle.making.specs.declared.Maker.{Maker}
 use Rattle.making.specs.code.Numbers.{classN}
 use Rattle.making.proofs.Follows.{stateOf, waitingOf, waitingFor, Follows, class-is}
@@ -196,14 +197,16 @@ module _ (limit : ℕ) where
         (at : ℕ) (f : Class)
         → at ≡ length out + 1 + length gs
         → limit * 4 ≤ length t
-        → (f ≡ Kept → wordsOf (segment g) ≡ words 5 (wd .p) (wd .q) 0)
+        → (f ≡ Kept → g ≡ drawn (lineOf wd))
         → Writes limit t (making (st out b going fs) (held n z gs))
         → Writes limit (keptPut f limit t at (signOf (D .xs) (D .ys) g) wd)
         (making (st out b going fs) (held n (startBy (D .xs) (D .ys) f g z) (gs ++ keptBy (D .xs) (D .ys) f g [])))
     kept-writes t out b fs n z gs g wd at Dropped e h k w = none-more t (st out b going fs) n z z gs w
     kept-writes t out b fs n z gs g wd at Start e h k w = none-more t (st out b going fs) n z (z +ℤ signOf (D .xs) (D .ys) g) gs w
     kept-writes t out b fs n z gs g wd at (Shortcut lo hi) e h k w = one-more t out b fs n z gs (shortcut (signOf (D .xs) (D .ys) g) lo hi) at e h w z
-    kept-writes t out b fs n z gs g wd at Kept e h k w = rw (← k refl) (one-more t out b fs n z gs g at e h w z)
+    kept-writes t out b fs n z gs g wd at Kept e h k w =
+        subst (λ (u : Words). Writes limit (putBelow limit t at u) (making (st out b going fs) (held n z (gs ++ (g ∷ []))))) (ap segmentWords (k refl))
+        (one-more t out b fs n z gs g at e h w z)
 
     -- nothing is written on a side that is skipped
     shut-writes : (t : List ℕ) (out : List Row) (b s : ℕ) (fs : List Frame) (n : ℕ) (z z′ : ℤ) (gs gs′ : List Segment)
@@ -214,7 +217,7 @@ module _ (limit : ℕ) where
     pub segment-writes : (k : ℕ) (mk : Maker) (m : Making) (t : List ℕ) (g : Segment) (wd : Words)
         → k ≤ 4096
         → limit * 4 ≤ length t
-        → (classIn (D .xs) (D .ys) c g ≡ Kept → wordsOf (segment g) ≡ words 5 (wd .p) (wd .q) 0)
+        → (classIn (D .xs) (D .ys) c g ≡ Kept → g ≡ drawn (lineOf wd))
         → Follows D k (mk .pruner) (mk .waiting) m
         → Writes limit t m
         → Writes limit (segmentPut limit t mk (classIn (D .xs) (D .ys) c g) (signOf (D .xs) (D .ys) g) wd) (addTo D c g m)

@@ -14,8 +14,11 @@ use Rattle.pruning.specs.code.Counters.{Count, lengthOf}
 use Rattle.pruner.specs.declared.Pruner.{Pruner}
 use Rattle.pruner.specs.code.Numbers.{counted, baseOf, skipIn}
 use Rattle.stream.specs.declared.Words.{Words}
+use Rattle.stream.specs.Entry.{isSegment}
 use Rattle.stream.specs.Table.{putAt}
-use Rattle.evaluate.specs.Words.{words}
+use Rattle.cells.specs.Segments.{drawn, shortcut}
+use Rattle.evaluate.specs.Words.{words, segmentWords}
+use Rattle.evaluate.specs.code.Numbers.{lineOf}
 use Rattle.making.specs.declared.Maker.{Maker}
 use Rattle.making.specs.code.Numbers.{classN, settledN}
 
@@ -31,8 +34,8 @@ placeOf n = n % 65536
 abbrev pub keptPut : Class → (limit : ℕ) → List ℕ → (at : ℕ) → ℤ → Words → List ℕ
 keptPut Dropped limit t at z w = t
 keptPut Start limit t at z w = t
-keptPut (Shortcut lo hi) limit t at z w = putBelow limit t at (words 6 (ofZ w32 z) lo hi)
-keptPut Kept limit t at z w = putBelow limit t at (words 5 (w .p) (w .q) 0)
+keptPut (Shortcut lo hi) limit t at z w = putBelow limit t at (segmentWords (shortcut z lo hi))
+keptPut Kept limit t at z w = putBelow limit t at (segmentWords (drawn (lineOf w)))
 
 abbrev pub segmentPut : (limit : ℕ) → List ℕ → Maker → Class → ℤ → Words → List ℕ
 segmentPut limit t m f z w =
@@ -70,6 +73,5 @@ markOn limit t c n kind =
 
 abbrev pub onePut : (limit : ℕ) → (areas t : List ℕ) → Maker → Class → ℤ → Words → (weight : ℕ) → List ℕ
 onePut limit areas t m f z w n =
-    cond (eqb (w .kind) 5) (segmentPut limit t m f z w)
-    (cond (eqb (w .kind) 6) (segmentPut limit t m f z w)
-    (markOn limit (settledPut limit areas t m) (settledN areas (counted (m .pruner)) (m .waiting)) n (w .kind)))
+    cond (isSegment (w .kind)) (segmentPut limit t m f z w)
+    (markOn limit (settledPut limit areas t m) (settledN areas (counted (m .pruner)) (m .waiting)) n (w .kind))
