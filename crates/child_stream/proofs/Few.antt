@@ -14,11 +14,11 @@ use Rattle.cells.specs.Drawings.{Drawing}
 use Rattle.cells.specs.Rows.{Row, opens, bar, closes, bare, named, segment}
 use Rattle.cells.specs.code.Making.{Waiting, nothing, held, Making, making, settle, onRow, onRows, begun}
 use Rattle.stream.specs.declared.Words.{Words}
-use Rattle.stream.specs.Entry as Entries
 use Rattle.stream.specs.Entry.{decode}
 use Rattle.stream.specs.Grammar.{Env, Place, place, at, after, course, isWhole, accepts}
 use Rattle.evaluate.specs.Reading.{rowFor, rowsIn}
 use Rattle.making.specs.Made.{rowsMade}
+use Rattle.making.proofs.Laws.{by-kind, row-segment, after-segment}
 use Rattle.making.proofs.Follows.{stateOf, waitingOf}
 use Rattle.making.proofs.Grammar.{Passes, one-passes}
 use Rattle.making.proofs.Standing.{Reads}
@@ -72,24 +72,24 @@ module _ (D : Drawing) (c : Cell) where
 
 -- the areas of a stream that passes: "Limits: ... 64 areas"
 module _ (v : Env) where
-  one-few : (e : Entries.Entry) (p : Place) (ws : List Words)
-      → Passes v p e ws
+  one-few : (w : Words) (p : Place) (ws : List Words)
       → p .areas ≤ 64
+      → Passes v p (decode w) ws
+      → (after p (decode w) .areas ≤ 64 → after p (decode w) .areas + length (startsOf (rowsIn ws)) ≤ 64)
+      → p .areas + length (startsOf (rowFor (decode w) (rowsIn ws))) ≤ 64
+  one-few w p ws l =
+      by-kind w
+      (λ e. Passes v p e ws
       → (after p e .areas ≤ 64 → after p e .areas + length (startsOf (rowsIn ws)) ≤ 64)
-      → p .areas + length (startsOf (rowFor e (rowsIn ws))) ≤ 64
-  one-few Entries.opens p ws h l f = f l
-  one-few Entries.bar p ws h l f = f l
-  one-few Entries.closes p ws h l f = f l
-  one-few (Entries.area n q) p ws h l f = omega (arith, f (omega (arith, ltb-true (p .areas) 64 (h .room))))
-  one-few (Entries.line a b) p ws h l f = f l
-  one-few (Entries.shortcut s a b) p ws h l f = f l
-  one-few Entries.passes p ws h l f = f l
-  one-few Entries.bad p ws h l f = clash (h .range)
+      → p .areas + length (startsOf (rowFor e (rowsIn ws))) ≤ 64)
+      (λ e h f. f l) (λ e h f. f l) (λ e h f. f l) (λ e h f. omega (arith, f (omega (arith, ltb-true (p .areas) 64 (h .room)))))
+      (λ s h f. rw (row-segment w (rowsIn ws) s) (rw (after-segment p w s) at (f (rw (after-segment p w s) l))))
+      (λ e h f. f l) (λ h f. clash (h .range))
 
   all-few : (ws : List Words) (p : Place) → p .areas ≤ 64 → isWhole (course v (at p) ws) ≡ true → p .areas + length (startsOf (rowsIn ws)) ≤ 64
   unfolding rowsIn
   all-few [] p l h = omega arith
-  all-few (w ∷ ws) p l h = let q = one-passes v p w ws h in one-few (decode w) p ws q l (λ m. all-few ws (after p (decode w)) m (q .rest))
+  all-few (w ∷ ws) p l h = let q = one-passes v p w ws h in one-few w p ws l q (λ m. all-few ws (after p (decode w)) m (q .rest))
 
   entries-few : (ws : List Words) → accepts v ws ≡ true → length (startsOf (rowsIn ws)) ≤ 64
   unfolding accepts

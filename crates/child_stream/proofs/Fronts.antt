@@ -22,8 +22,11 @@ use Rattle.cells.specs.Drawings.{Drawing}
 use Rattle.cells.specs.Streams.{always, area, items, classOf}
 use Rattle.cells.specs.Rows.{Row, opens, bar, closes, bare, named, segment, entryRows, roleIn}
 use Rattle.cells.specs.code.Making.{nothing, held, Making, making, prune, settle, addTo, onRows, rowSize}
-use Rattle.stream.specs.Entry as Entries
+use Rattle.stream.specs.declared.Words.{Words}
+use Rattle.stream.specs.Entry.{decode}
 use Rattle.evaluate.specs.Reading.{rowFor}
+use Rattle.evaluate.specs.code.Numbers.{segmentOf}
+use Rattle.making.proofs.Laws.{by-kind, row-segment}
 use Rattle.making.proofs.Follows.{stateOf, waitingOf, waitingFor}
 use Rattle.writing.proofs.Places.{Moves, adds, cuts, open-moves, bar-moves, close-moves}
 use Rattle.child_stream.specs.code.Starts.{startsOf}
@@ -117,15 +120,16 @@ module _ (D : Drawing) (c : Cell) where
   same-front g (making x nothing) = front-of (startsOf (outOf x)) (pos 0 ∷ [])
   same-front g (making x (held n z gs)) = front-of (startsOf (outOf x)) (z ∷ [])
 
-  pub turn-front : (e : Entries.Entry) (m : Making) → Front (startsOf (outOf (stateOf (onRows D c (rowFor e []) m)))) (withNext m)
-  turn-front Entries.opens m = front-then (open-front (settle D c m)) (settle-front m)
-  turn-front Entries.bar m = front-then (bar-front (settle D c m)) (settle-front m)
-  turn-front Entries.closes m = front-then (close-front (settle D c m)) (settle-front m)
-  turn-front (Entries.area n q) m = settle-front m
-  turn-front (Entries.line a b) m = same-front _ m
-  turn-front (Entries.shortcut s a b) m = same-front _ m
-  turn-front Entries.passes m = front-then (bare-front (settle D c m)) (settle-front m)
-  turn-front Entries.bad m = front-of (startsOf (outOf (stateOf m))) (waitingFor (waitingOf m) .start ∷ [])
+  pub turn-front : (w : Words) (m : Making) → Front (startsOf (outOf (stateOf (onRows D c (rowFor (decode w) []) m)))) (withNext m)
+  turn-front w m =
+      by-kind w (λ e. Front (startsOf (outOf (stateOf (onRows D c (rowFor e []) m)))) (withNext m))
+      (λ e. front-then (open-front (settle D c m)) (settle-front m))
+      (λ e. front-then (bar-front (settle D c m)) (settle-front m))
+      (λ e. front-then (close-front (settle D c m)) (settle-front m))
+      (λ e. settle-front m)
+      (λ s. rw (row-segment w [] s) (same-front (segmentOf w) m))
+      (λ e. front-then (bare-front (settle D c m)) (settle-front m))
+      (front-of (startsOf (outOf (stateOf m))) (waitingFor (waitingOf m) .start ∷ []))
 
 -- ---- how many, from one number
 

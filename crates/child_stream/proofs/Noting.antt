@@ -17,7 +17,6 @@ use Rattle.cells.specs.Drawings.{Drawing}
 use Rattle.cells.specs.Rows.{Row}
 use Rattle.cells.specs.code.Making.{Making, begun, settle, rowSize}
 use Rattle.stream.specs.declared.Words.{Words}
-use Rattle.stream.specs.Entry.{decode}
 use Rattle.stream.specs.Table.{wordsAt, wordsFrom}
 use Rattle.stream.specs.Grammar.{Env, Passed}
 use Rattle.stream.proofs.Table.{words-step, words-none}
@@ -119,7 +118,7 @@ module _ (v : Env) (D : Drawing) (c : Cell) (R : Reads v D) (t : List ℕ) (firs
         b in
         let done : Stands next (startsOf (outOf (stateOf (s .0 .rows)))) = subst
         (λ (y : Making). Stands next (startsOf (outOf (stateOf y)))) (sym (s .1))
-        (stands-front next _ (withNext D c (now .standing .rows)) (turn-front D c (decode w) (now .standing .rows))
+        (stands-front next _ (withNext D c (now .standing .rows)) (turn-front D c w (now .standing .rows))
         (noted-stands v D c (i - first) m (w ∷ ws) whole zs few (l .size) now)) in
         rw hz
         (record {

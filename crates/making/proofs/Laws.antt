@@ -18,7 +18,7 @@ use Rattle.cells.proofs.Bounds.{sign-abs}
 use Rattle.stream.specs.declared.Words.{Words}
 use Rattle.stream.specs.Entry as Entries
 use Rattle.stream.specs.Entry.{decode, isLine, isSegment, signRange}
-use Rattle.stream.specs.Grammar.{Env, Place, inRange, after, lineRange}
+use Rattle.stream.specs.Grammar.{Env, Place, place, inRange, after, lineRange}
 use Rattle.stream.proofs.Runs as Runs
 use Rattle.evaluate.specs.Reading.{rowFor}
 use Rattle.evaluate.specs.code.Numbers.{lineOf, segmentOf, segmentRange}
@@ -49,11 +49,11 @@ by-kind w P p₁ p₂ p₃ p₄ pₛ p₇ p₈ = go (isSegment (w .kind)) refl
     go false s =
         test 1 p₁ (test 2 p₂ (test 3 p₃ (test 4 p₄ (test 5 (λ e. clash (sym (rw e at s))) (test 6 (λ e. clash (sym (rw e at s))) (test 7 p₇ p₈))))))
 
--- the row of a line or a shortcut; it leaves the open groups as they are
+-- the row of a line or a shortcut, and the place behind it
 pub row-segment : (w : Words) (rs : List Row) → isSegment (w .kind) ≡ true → rowFor (decode w) rs ≡ segment (segmentOf w) ∷ rs
 row-segment w rs s = Runs.by-kind (w .kind) s (λ e. rw e) (λ e. rw e)
 
-pub after-segment : (p : Place) (w : Words) → isSegment (w .kind) ≡ true → after p (decode w) .groups ≡ p .groups
+pub after-segment : (p : Place) (w : Words) → isSegment (w .kind) ≡ true → after p (decode w) ≡ place (p .groups) true (p .areas) (p .lines + 1)
 after-segment p w s = Runs.by-kind (w .kind) s (λ e. rw e) (λ e. rw e)
 
 -- ---- ranges

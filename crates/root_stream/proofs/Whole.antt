@@ -8,7 +8,8 @@ use lib.Dec.{eqb}
 use lib.ListN.{length, length-map}
 use lib.IntN.{pos}
 use Rattle.geometry.specs.FillRules as FillRules
-use Rattle.geometry.specs.Windings.{Line, line, edgeBetween}
+use Rattle.geometry.specs.Windings.{Line, line, edgeOf}
+use Rattle.geometry.specs.code.Reach.{LineBelow}
 use Rattle.records.specs.declared.Fields.{Fields}
 use Rattle.records.specs.declared.Record.{Record}
 use Rattle.records.specs.declared.Record.the-variants.{Area, First, Next, Open, Bar, Close}
@@ -68,10 +69,10 @@ module _ (D : Drawing) (areas xs ys : List ℕ) (b : Bounds) (H : Held areas xs 
         opaque = ap (λ (f : Fields). eqb (f .alpha) 255) e;
       }
 
-  held-edges : (p q : ℕ) → p < b .corners → q < b .corners → edgeBetween (D .xs) (D .ys) p q ≡ edgeBetween xs ys p q
-  held-edges p q h g =
-      let i : p < length (D .xs) = omega (arith, H .corners-used) in
-      let j : q < length (D .xs) = omega (arith, H .corners-used) in
+  held-edges : (l : Line) → LineBelow (b .corners) l → edgeOf (D .xs) (D .ys) l ≡ edgeOf xs ys l
+  held-edges (line p q) h =
+      let i : p < length (D .xs) = omega (arith, H .corners-used, h .0) in
+      let j : q < length (D .xs) = omega (arith, H .corners-used, h .1) in
       rw (same-x D areas xs ys b H p i, same-y D areas xs ys b H p i, same-x D areas xs ys b H q j, same-y D areas xs ys b H q j)
 
   -- tables that hold the drawing say of its areas and corners what it says

@@ -6,13 +6,15 @@ use mathlib.Core.List.{List, [], _∷_}
 use Prim.Native.Nat.{ℕ, zero, suc, _+_}
 use lib.Dec.{eqb, ltb}
 use lib.ListN.{getD}
+use Rattle.geometry.specs.Windings.{line}
 use Rattle.grammar.specs.declared.Counts.{Counts}
 use Rattle.drawing.specs.Tables.{Tables, drawnIn}
 use Rattle.drawing.specs.code.Held.{Acceptable, Holding}
+use Rattle.cells.specs.Segments.{drawn}
 use Rattle.stream.specs.declared.Words.{Words}
 use Rattle.stream.specs.declared.Bounds.{Bounds}
 use Rattle.stream.specs.Grammar.{bounds}
-use Rattle.evaluate.specs.Words.{words}
+use Rattle.evaluate.specs.Words.{words, segmentWords}
 use Rattle.root_stream.specs.declared.Source.{Source}
 
 -- the areas and the corners before a record, and the first corner of the contour in progress
@@ -24,7 +26,7 @@ abbrev pub endN : List ℕ → (i records corner first : ℕ) → ℕ
 endN plan i records c f = cond (ltb (i + 1) records) (cond (eqb (getD plan (i + 4) 0) 3) (c + 1) f) f
 
 abbrev pub edgeN : List ℕ → (i records corner first : ℕ) → Words
-edgeN plan i records c f = words 5 c (endN plan i records c f) 0
+edgeN plan i records c f = segmentWords (drawn (line c (endN plan i records c f)))
 
 -- `(`, `|` and `)`
 abbrev pub markN : ℕ → Words
