@@ -1,4 +1,5 @@
-//! A second implementation of document 01, and what is needed to compare the library with it.
+//! A second implementation of document 01, with Item 1 of document 02, and what is needed to compare
+//! the library with it.
 
 #![deny(unsafe_code)]
 

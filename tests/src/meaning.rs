@@ -1,5 +1,6 @@
 //! What a drawing says at a position, with no tree: document 01, "Winding and meaning", word for
-//! word. The sides and groups of this page serve the streams of leaves too.
+//! word, with the rule for pixels of document 02, Item 1. The sides and groups of this page serve
+//! the streams of leaves too.
 
 use std::ops::Range;
 
@@ -234,15 +235,27 @@ pub fn weights(drawing: Drawing, shown: u64) -> (Vec<(u32, u32)>, u32) {
     (weights, left)
 }
 
-/// "Each channel is (sum of weight × channel + left × 255 + 127) / 255 rounded down; the ground is
-/// white."
-pub fn colour(drawing: Drawing, shown: u64) -> [u32; 3] {
+/// "sum of weight × channel + left × 255": what document 02 calls "the unrounded channel sums
+/// (before + 127 and the division)". The largest is 255 × 255, that of the white ground.
+pub fn channel_sums(drawing: Drawing, shown: u64) -> [u32; 3] {
     let (weights, left) = weights(drawing, shown);
     [0, 1, 2].map(|channel| {
         let of_area = |(area, weight): &(u32, u32)| weight * drawing.area(*area).colour[channel];
         let sum: u32 = weights.iter().map(of_area).sum();
-        (sum + left * 255 + 127) / 255
+        sum + left * 255
     })
+}
+
+/// The channels of a position from its sums: "(sum of weight × channel + left × 255 + 127) / 255
+/// rounded down". Document 02, Item 1: "Single positions keep their rounding."
+pub fn rounded(sums: [u32; 3]) -> [u32; 3] {
+    sums.map(|sum| (sum + 127) / 255)
+}
+
+/// "Each channel is (sum of weight × channel + left × 255 + 127) / 255 rounded down; the ground is
+/// white."
+pub fn colour(drawing: Drawing, shown: u64) -> [u32; 3] {
+    rounded(channel_sums(drawing, shown))
 }
 
 /// What is said of one position.
@@ -274,8 +287,20 @@ pub fn samples(row: u32, pixel: u32) -> [(u32, u32); 16] {
     positions
 }
 
-/// "Its channel is (sum of the sixteen sample channels + 8) / 16 rounded down."
-pub fn pixel(colours: [[u32; 3]; 16]) -> [u8; 3] {
+/// From the channel sums of the sixteen samples, by document 02, Item 1: "a pixel's channel is the
+/// sum over its sixteen samples of the unrounded channel sums (before + 127 and the division), plus
+/// 2,040, divided by 4,080 and rounded down."
+pub fn pixel(sums: [[u32; 3]; 16]) -> [u8; 3] {
+    [0, 1, 2].map(|channel| {
+        let sum: u32 = sums.iter().map(|sums| sums[channel]).sum();
+        ((sum + 2_040) / 4_080) as u8
+    })
+}
+
+/// From the colours of the sixteen samples, by document 01 as it was before document 02, Item 1:
+/// "Its channel is (sum of the sixteen sample channels + 8) / 16 rounded down." Only to see where
+/// the two rules differ: "Pixels are compared with this rule alone", which is that of `pixel`.
+pub fn pixel_before_item_1(colours: [[u32; 3]; 16]) -> [u8; 3] {
     [0, 1, 2].map(|channel| {
         let sum: u32 = colours.iter().map(|colour| colour[channel]).sum();
         ((sum + 8) / 16) as u8
@@ -368,8 +393,13 @@ impl<'a> Scene<'a> {
         Reading::of_set(self.drawing, self.shown(x, y))
     }
 
+    /// The channel sums of a pixel's samples.
+    pub fn sums(&self, row: u32, number: u32) -> [[u32; 3]; 16] {
+        samples(row, number).map(|(x, y)| channel_sums(self.drawing, self.shown(x, y)))
+    }
+
     pub fn pixel(&self, row: u32, number: u32) -> [u8; 3] {
-        pixel(samples(row, number).map(|(x, y)| self.position(x, y).colour))
+        pixel(self.sums(row, number))
     }
 
     pub fn zone_log(&self, px: &[u32], py: &[u32]) -> Vec<u32> {

@@ -1,7 +1,7 @@
 //! The answers from a tree: positions, pixel rows and zone logs.
 
 use crate::drawing::{refusal, Refusal};
-use crate::meaning::{log, pixel, samples, Drawing, Reading};
+use crate::meaning::{channel_sums, log, pixel, samples, Drawing, Reading};
 use crate::stream;
 use crate::tree::{leaf_at, off_the_grid, Tree};
 
@@ -10,10 +10,14 @@ pub const PIXELS: u32 = 4_096;
 /// "A row call fills red, green, blue per pixel."
 pub const CHANNELS: usize = 3;
 
-/// What the leaf's stream says at a position of the grid, if all that is met passes 12.
-fn reading_at(drawing: Drawing, tree: Tree, x: u32, y: u32) -> Option<Reading> {
+/// The set that the leaf's stream shows at a position of the grid, if all that is met passes 12.
+fn shown_at(drawing: Drawing, tree: Tree, x: u32, y: u32) -> Option<u64> {
     let leaf = leaf_at(drawing, tree, x, y)?;
-    let shown = stream::shown(drawing, &leaf.stream, x, y);
+    Some(stream::shown(drawing, &leaf.stream, x, y))
+}
+
+fn reading_at(drawing: Drawing, tree: Tree, x: u32, y: u32) -> Option<Reading> {
+    let shown = shown_at(drawing, tree, x, y)?;
     Some(Reading::of_set(drawing, shown))
 }
 
@@ -44,12 +48,12 @@ pub fn pixel_row(
         return Err(refusal(7, 0));
     }
     for (i, out) in out.as_chunks_mut::<CHANNELS>().0.iter_mut().enumerate() {
-        let mut colours = [[0; CHANNELS]; 16];
-        for (colour, (x, y)) in colours.iter_mut().zip(samples(row, first + i as u32)) {
-            let reading = reading_at(drawing, tree, x, y).ok_or(refusal(12, i))?;
-            *colour = reading.colour;
+        let mut sums = [[0; CHANNELS]; 16];
+        for (sums, (x, y)) in sums.iter_mut().zip(samples(row, first + i as u32)) {
+            let shown = shown_at(drawing, tree, x, y).ok_or(refusal(12, i))?;
+            *sums = channel_sums(drawing, shown);
         }
-        *out = pixel(colours);
+        *out = pixel(sums);
     }
     Ok(())
 }

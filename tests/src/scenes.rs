@@ -395,6 +395,33 @@ pub fn painted(alpha: u8, colour: [u8; 3], contour: Vec<Record>) -> Vec<Record> 
     [vec![area(PAINT, 0, alpha, colour, 7)], contour].concat()
 }
 
+/// Faint areas that overlap, in a square of the grid: two of slanting sides, before a ramp of slices.
+/// Each slice is all that lies right of a slanting line, so that most pixels have samples of several
+/// shown sets.
+pub fn faint(random: &mut Random, square: Square) -> Vec<Record> {
+    let Square { x, y, side } = square;
+    let (right, top) = (x + side, y + side);
+    let mut paint = |corners: &[(u32, u32)]| {
+        let colour = [0; 3].map(|_| random.byte());
+        painted(random.within(1..=40) as u8, colour, contour(corners))
+    };
+    let quarter = side / 4;
+    let mut records = [
+        paint(&[(x, y), (right, y + quarter), (right - quarter, top)]),
+        paint(&[(right, y), (x + quarter, top), (x, y + quarter)]),
+    ]
+    .concat();
+    for slice in 0..FAINT_SLICES {
+        let low = x + slice * side / FAINT_SLICES;
+        let high = x + (slice + FAINT_SLICES / 2) * side / (2 * FAINT_SLICES);
+        records.extend(paint(&[(low, y), (right, y), (right, top), (high, top)]));
+    }
+    records
+}
+
+/// Slices of a ramp.
+const FAINT_SLICES: u32 = 16;
+
 /// Corners of an area, and rows and columns of a block of the grid.
 const ZIGZAG_CORNERS: u32 = 32;
 const HIGH: u32 = 65_536 / 8;

@@ -182,12 +182,23 @@ fn the_samples_of_a_pixel() {
             let tables = samples::tables(&painted(255, [0, 255, 15], unit));
             let scene = Scene::of(Drawing::of(&tables));
             let expected = match y == offset {
-                // (15 x 255 + 8) / 16, and (15 x 255 + 15 + 8) / 16
+                // (15 x 65,025 + 2,040) / 4,080, and (15 x 65,025 + 255 x 15 + 2,040) / 4,080
                 true => [239, 255, 240],
                 false => [255; 3],
             };
             assert_eq!(scene.pixel(row, pixel), expected, "{column} {y}");
         }
+    }
+}
+
+/// A pixel whose samples are all alike has the colour of a position: (16 s + 2,040) / 4,080 is
+/// (s + 127) / 255 for every sum s that a channel can have.
+#[test]
+fn sixteen_equal_samples_make_the_colour_of_one() {
+    for sum in 0..=255 * 255 {
+        let of_position = meaning::rounded([sum; 3]);
+        let of_pixel = meaning::pixel([[sum; 3]; 16]);
+        assert_eq!(of_pixel.map(u32::from), of_position, "sum {sum}");
     }
 }
 

@@ -10,7 +10,7 @@ use zones_tests::drawing::{
     AREA, AREA_WORDS, BAR, CLIP, CLOSE, FIRST, MOST_AREAS, MOST_CORNERS, MOST_GROUPS, MOST_RECORDS,
     NEXT, OPEN, PAINT,
 };
-use zones_tests::meaning::{fill_passes, pixel, samples, Drawing, MOST_POSITION, OPAQUE};
+use zones_tests::meaning::{fill_passes, pixel, rounded, samples, Drawing, MOST_POSITION, OPAQUE};
 use zones_tests::query::CHANNELS;
 use zones_tests::random::Random;
 use zones_tests::readings::SPOT_WORDS;
@@ -142,7 +142,7 @@ impl Machine {
 
 /// The words of a reading: the set, its material and its colour.
 fn words(areas: &[[u32; AREA_WORDS]], set: u64) -> [u32; SPOT_WORDS] {
-    let [red, green, blue] = colour(areas, set);
+    let [red, green, blue] = rounded(channel_sums(areas, set));
     let (low, high) = (set as u32, (set >> 32) as u32);
     [low, high, material(areas, set), red, green, blue]
 }
@@ -154,7 +154,8 @@ fn material(areas: &[[u32; AREA_WORDS]], set: u64) -> u32 {
     }
 }
 
-fn colour(areas: &[[u32; AREA_WORDS]], set: u64) -> [u32; CHANNELS] {
+/// The channels before their rounding.
+fn channel_sums(areas: &[[u32; AREA_WORDS]], set: u64) -> [u32; CHANNELS] {
     let (mut left, mut sums, mut rest) = (255, [0; CHANNELS], set);
     while rest != 0 {
         let [_, _, alpha, red, green, blue, ..] = areas[rest.trailing_zeros() as usize];
@@ -165,7 +166,7 @@ fn colour(areas: &[[u32; AREA_WORDS]], set: u64) -> [u32; CHANNELS] {
             *sum += weight * channel;
         }
     }
-    sums.map(|sum| (sum + left * 255 + 127) / 255)
+    sums.map(|sum| sum + left * 255)
 }
 
 /// An edge from its lower end on.
@@ -508,7 +509,7 @@ fn fill_row(
 ) {
     let pixels = out.as_chunks_mut::<CHANNELS>().0;
     for (out, number) in pixels.iter_mut().zip(first..) {
-        *out = pixel(samples(row, number).map(|(x, y)| colour(areas, shown(x, y))));
+        *out = pixel(samples(row, number).map(|(x, y)| channel_sums(areas, shown(x, y))));
     }
 }
 
