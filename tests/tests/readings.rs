@@ -324,10 +324,8 @@ fn pixels_of_faint_areas_that_overlap() {
         counts.push(count);
     }
     let all: usize = counts.iter().sum();
-    println!(
-        "{DIFFERS}: {all} of {}; in each drawing: {counts:?}",
-        60 * 256
-    );
+    let (least, most) = (counts.iter().min(), counts.iter().max());
+    println!("{DIFFERS}: {all}, in a drawing {least:?} to {most:?} of 256");
     assert!(counts.iter().all(|count| *count > 0), "{counts:?}");
 }
 
