@@ -17,8 +17,9 @@ use Rattle.stream.specs.declared.Words.{Words}
 use Rattle.stream.specs.Entry.{decode}
 use Rattle.stream.specs.Grammar.{Env, Place, place, at, after, course, isWhole, accepts}
 use Rattle.evaluate.specs.Reading.{rowFor, rowsIn}
+use Rattle.evaluate.proofs.Laws.{row-segment}
 use Rattle.making.specs.Made.{rowsMade}
-use Rattle.making.proofs.Laws.{by-kind, row-segment, after-segment}
+use Rattle.making.proofs.Laws.{by-kind, after-segment}
 use Rattle.making.proofs.Follows.{stateOf, waitingOf}
 use Rattle.making.proofs.Grammar.{Passes, one-passes}
 use Rattle.making.proofs.Standing.{Reads}

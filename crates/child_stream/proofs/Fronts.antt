@@ -26,7 +26,8 @@ use Rattle.stream.specs.declared.Words.{Words}
 use Rattle.stream.specs.Entry.{decode}
 use Rattle.evaluate.specs.Reading.{rowFor}
 use Rattle.evaluate.specs.code.Numbers.{segmentOf}
-use Rattle.making.proofs.Laws.{by-kind, row-segment}
+use Rattle.evaluate.proofs.Laws.{row-segment}
+use Rattle.making.proofs.Laws.{by-kind}
 use Rattle.making.proofs.Follows.{stateOf, waitingOf, waitingFor}
 use Rattle.writing.proofs.Places.{Moves, adds, cuts, open-moves, bar-moves, close-moves}
 use Rattle.child_stream.specs.code.Starts.{startsOf}

@@ -17,7 +17,7 @@ use Rattle.pruning.specs.Sides.{clip}
 use Rattle.pruning.specs.Registers.{Registers, onItem}
 use Rattle.pruning.proofs.Registers.{clip-shows}
 use Rattle.laws.proofs.Booleans.{clash}
-use Rattle.geometry.specs.code.Reach.{EndsIn, EdgeIn, LineBelow}
+use Rattle.geometry.specs.code.Reach.{EdgeIn, LineBelow}
 use Rattle.geometry.specs.Windings.{line, edgeOf}
 use Rattle.cells.specs.Segments.{drawn, shortcut}
 use Rattle.cells.specs.Rows.{Row, segment}
@@ -33,7 +33,6 @@ use Rattle.stream.specs.Entry as Entry
 use Rattle.stream.proofs.Entries.{segmentEntry, decode-segment, segment-range}
 use Rattle.stream.proofs.Signed.{upper}
 use Rattle.evaluate.specs.Reading.{rowFor}
-use Rattle.evaluate.specs.Words.{words}
 use Rattle.evaluate.specs.code.Numbers.{lineOf, segmentOf, segmentRange}
 
 -- a sign that is not 1 is −1
@@ -108,24 +107,15 @@ module _ (xs ys : List ℕ) (used : ℕ) (w : Words) (h : segmentRange xs ys use
   pub line-in-use : LineBelow used (lineOf w)
   line-in-use = line-used xs ys used (w .p) (w .q) in-line
 
-  pub line-corners-below : (used ≤ length xs) × (used ≤ length ys) → LineBelow (length xs) (lineOf w) × LineBelow (length ys) (lineOf w)
-  line-corners-below k = let u = line-in-use in ((omega arith, omega arith), (omega arith, omega arith))
+  pub line-below : (used ≤ length xs) × (used ≤ length ys) → LineBelow (length xs) (lineOf w) × LineBelow (length ys) (lineOf w)
+  line-below k = let u = line-in-use in ((omega arith, omega arith), (omega arith, omega arith))
 
-  pub line-edge-in : EdgeIn (edgeOf xs ys (lineOf w))
-  line-edge-in =
+  pub edge-in : EdgeIn (edgeOf xs ys (lineOf w))
+  edge-in =
       let p = both (cornerMet xs ys used (w .p)) (cornerMet xs ys used (w .q)) in-line in
       let u = met-in xs ys used (w .p) (p .0) in
       let v = met-in xs ys used (w .q) (p .1) in
       record { first-x = omega arith; first-y = omega arith; second-x = omega arith; second-y = omega arith }
-
-pub line-below : (xs ys : List ℕ) (used a b : ℕ)
-    → lineRange xs ys used a b ≡ true
-    → (used ≤ length xs) × (used ≤ length ys)
-    → (a < length xs) × (a < length ys) × (b < length xs) × (b < length ys)
-line-below xs ys used a b h k = let p = line-corners-below xs ys used (words 5 a b 0) h refl k in (p .0 .0, p .1 .0, p .0 .1, p .1 .1)
-
-pub line-ends : (xs ys : List ℕ) (used a b : ℕ) → lineRange xs ys used a b ≡ true → EndsIn (getD xs a 0) (getD ys a 0) (getD xs b 0) (getD ys b 0)
-line-ends xs ys used a b h = line-edge-in xs ys used (words 5 a b 0) h refl
 
 -- ---- an entry that is a line or a shortcut
 

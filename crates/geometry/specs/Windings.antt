@@ -16,10 +16,6 @@ pub data Line : Type 0 where
 abbrev pub edgeOf : (xs ys : List ℕ) → Line → Edge
 edgeOf xs ys (line p q) = record { x0 = getD xs p 0; y0 = getD ys p 0; x1 = getD xs q 0; y1 = getD ys q 0 }
 
--- the edge drawn from corner p to corner q
-abbrev pub edgeBetween : (xs ys : List ℕ) (p q : ℕ) → Edge
-edgeBetween xs ys p q = edgeOf xs ys (line p q)
-
 -- a contour: the number of its first corner, and how many corners it has
 pub data Contour : Type 0 where
   contour : (first count : ℕ) → Contour

@@ -32,9 +32,9 @@ use Rattle.cells.specs.Rows as Rows
 use Rattle.cells.specs.Rows.{Decoded, dec, entriesOf, decodeRow, decode}
 use Rattle.evaluate.specs.Reading.{rowFor, rowsIn, roleAt}
 use Rattle.evaluate.specs.code.Numbers.{segmentOf}
-use Rattle.evaluate.proofs.Laws.{both, area-below}
+use Rattle.evaluate.proofs.Laws.{both, area-below, row-segment}
 use Rattle.ranges.proofs.Groups.{opens, kindBy, kindOn, Nested, nested-open, nested-right, nested-outer, fits-end, fits-open, fits-bar, fits-close}
-use Rattle.making.proofs.Laws.{by-kind, row-segment, after-segment}
+use Rattle.making.proofs.Laws.{by-kind, after-segment}
 
 -- ---- one entry of a stream that passes
 

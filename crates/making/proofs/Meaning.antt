@@ -25,11 +25,11 @@ use Rattle.stream.specs.Grammar.{Env, env, Place, at, isGood, areaMet, after, c
 use Rattle.evaluate.specs.Reading.{rowFor, rowsIn, roleAt, passAt, opaqueAt, setAt}
 use Rattle.evaluate.specs.Words.{EachAgrees}
 use Rattle.evaluate.specs.code.Numbers.{segmentOf}
-use Rattle.evaluate.proofs.Laws.{both, area-below}
+use Rattle.evaluate.proofs.Laws.{both, area-below, row-segment, in-segment}
 use Rattle.evaluate.proofs.Words.{agreed-read}
 use Rattle.ranges.specs.Held.{lent}
 use Rattle.ranges.proofs.Reading.{SameOn, read-same}
-use Rattle.making.proofs.Laws.{by-kind, row-segment, in-segment, SegmentBelow, range-below}
+use Rattle.making.proofs.Laws.{by-kind, SegmentBelow, range-below}
 use Rattle.making.proofs.Grammar.{one-passes, entries-flat}
 use Rattle.making.proofs.Standing.{Reads}
 use Rattle.making.proofs.Lent.{lent-reads}

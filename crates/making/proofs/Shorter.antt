@@ -21,8 +21,9 @@ use Rattle.stream.specs.declared.Words.{Words}
 use Rattle.stream.specs.Entry.{decode}
 use Rattle.stream.specs.Grammar.{Env, accepts}
 use Rattle.evaluate.specs.Reading.{rowFor, rowsIn}
+use Rattle.evaluate.proofs.Laws.{row-segment}
 use Rattle.making.specs.Made.{rowsMade}
-use Rattle.making.proofs.Laws.{by-kind, row-segment}
+use Rattle.making.proofs.Laws.{by-kind}
 use Rattle.making.proofs.Follows.{stateOf, waitingOf, rowsFor, step-fits, step-short}
 use Rattle.making.proofs.Standing.{Reads}
 use Rattle.making.proofs.Whole.{allOf, rows-all}

@@ -34,8 +34,9 @@ use Rattle.pruner.specs.declared.Pruner.{Pruner}
 use Rattle.evaluate.specs.Reading.{rowFor, rowsIn}
 use Rattle.evaluate.specs.Words.{Agrees}
 use Rattle.ranges.proofs.Groups.{opens}
+use Rattle.evaluate.proofs.Laws.{row-segment}
 use Rattle.making.specs.declared.Waiting.{Waiting}
-use Rattle.making.proofs.Laws.{by-kind, row-segment, SegmentBelow}
+use Rattle.making.proofs.Laws.{by-kind, SegmentBelow}
 use Rattle.making.proofs.Follows.{stateOf, row-some, Follows}
 
 -- the tables say of their areas and corners what the drawing says

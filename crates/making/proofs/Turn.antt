@@ -36,12 +36,12 @@ use Rattle.pruner.specs.code.Numbers.{counted, baseOf, skipIn}
 use Rattle.pruner.proofs.Near.{counted-weight, counted-base, counted-skip, counted-depth}
 use Rattle.evaluate.specs.Reading.{rowFor, rowsIn}
 use Rattle.evaluate.specs.code.Numbers.{segmentOf}
-use Rattle.evaluate.proofs.Laws.{both, area-below, start-small}
+use Rattle.evaluate.proofs.Laws.{both, area-below, start-small, row-segment, in-segment}
 use Rattle.ranges.proofs.Groups.{opens, opens-length}
 use Rattle.making.specs.declared.Waiting as Declared
 use Rattle.making.specs.code.Numbers.{leftSign, leftClass, leftRange, waiting, resting, withLeft, waitingN, settledN, prunedN, Room, Inside}
 use Rattle.cells.proofs.Making.{entry-some}
-use Rattle.making.proofs.Laws.{by-kind, row-segment, after-segment, in-segment, SegmentBelow, range-below, range-sign, left-small}
+use Rattle.making.proofs.Laws.{by-kind, after-segment, SegmentBelow, range-below, range-sign, left-small}
 use Rattle.making.proofs.Follows.{
   stateOf,
   waitingOf,

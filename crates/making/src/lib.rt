@@ -3,7 +3,6 @@ use geometry::class;
 use geometry::class::Class;
 use geometry::class::Square;
 use geometry::edge;
-use geometry::winding;
 use pruner::Pruner;
 use stream::Words;
 ghost use mathlib.Core.Path.{_≡_};
@@ -37,7 +36,7 @@ fn line_left(xs: &[u32], ys: &[u32], s: Square, w: Words) -> Left
     ensures answer { λ r. ⌜ (r .sign ≡ sign (edgeOf (now (xs .entry)) (now (ys .entry)) (lineOf w)))
         × (r .class ≡ edgeClass (edgeOf (now (xs .entry)) (now (ys .entry)) (lineOf w)) s) ⌝ }
 {
-    let e = winding::edge_between(xs, ys, w.p as usize, w.q as usize);
+    let e = evaluate::edge_of(xs, ys, w);
     let z = edge::edge_sign(e);
     let k = class::classify(e, s);
     Left { sign: z, class: k }
@@ -63,7 +62,7 @@ pub fn left_of(xs: &[u32], ys: &[u32], corners: usize, s: Square, w: Words) -> L
     ensures answer { λ r. ⌜ (r .sign ≡ leftSign (now (xs .entry)) (now (ys .entry)) w) × (r .class ≡ leftClass (now (xs .entry)) (now (ys .entry)) s w) ⌝ }
 {
     if stream::is_segment(w.kind) {
-        if w.kind == stream::ENTRY_LINE {
+        if stream::is_line(w.kind) {
             return line_left(xs, ys, s, w);
         }
         return shortcut_left(s, w);

@@ -12,7 +12,7 @@ use borrow.Author.Tests.{lt-ltb, le-leb, lt-leb, eq-eqb}
 use mir.Syntax.{w32}
 use mir.Val.{ofZ}
 use Rattle.laws.proofs.Booleans.{clash, and-both}
-use Rattle.geometry.specs.Windings.{Line, line}
+use Rattle.geometry.specs.Windings.{Line, line, edgeOf}
 use Rattle.geometry.specs.code.Reach.{LineBelow}
 use Rattle.records.specs.declared.Fields.{Fields}
 use Rattle.records.specs.declared.Record.the-variants.{Area}
@@ -62,6 +62,9 @@ module _ (D : Drawing) (areas xs ys : List ℕ) (b : Bounds) (H : Held areas xs 
 
   pub same-y : (n : ℕ) → n < length (D .xs) → getD ys n 0 ≡ getD (D .ys) n 0
   same-y n l = sym (getD-take (b .corners) ys n 0 (omega (arith, H .corners-used))) ∙ ap (λ t. getD t n 0) (H .ys-same)
+
+  pub edge-same : (l : Line) → LineBelow (length (D .xs)) l → edgeOf xs ys l ≡ edgeOf (D .xs) (D .ys) l
+  edge-same (line i j) h = rw (same-x i (h .0), same-x j (h .1), same-y i (h .0), same-y j (h .1))
 
   corner-met : Valid D → (n : ℕ) → n < length (D .xs) → cornerMet xs ys (b .corners) n ≡ true
   corner-met ok n l = rw (lt-ltb n (b .corners) (omega (arith, H .corners-used))) (ap₂ cornerRange (same-x n l) (same-y n l) ∙ ok .coordinates n l)

@@ -9,7 +9,7 @@ use lib.ListN.{length, getD}
 use lib.IntN.{ℤ, pos, _+ℤ_}
 use Rattle.geometry.specs.FillRules as FillRules
 use Rattle.geometry.specs.Edges.{counts, sign}
-use Rattle.geometry.specs.Windings.{Line, line, edgeOf}
+use Rattle.geometry.specs.Windings.{Line, line}
 use Rattle.geometry.specs.code.Reach.{LineBelow}
 use Rattle.geometry.specs.declared.edge.Edge.{Edge}
 use Rattle.drawing.specs.Tables.{fieldsAt}
@@ -29,7 +29,7 @@ use Rattle.evaluate.proofs.Words.{cell-words-read}
 use Rattle.ranges.specs.code.Valid.{Valid}
 use Rattle.ranges.specs.Held.{fieldsFrom, Held}
 use Rattle.ranges.proofs.Segments.{EachIn}
-use Rattle.ranges.proofs.Numbers.{same-x, same-y}
+use Rattle.ranges.proofs.Numbers.{edge-same}
 use Rattle.ranges.proofs.Items.{on-both, Numbered, made-numbered}
 
 -- ---- the table of areas
@@ -102,12 +102,8 @@ module _ (D : Drawing) (areas xs ys : List ℕ) (b : Bounds) (H : Held areas xs 
   abbrev Same : List Row → Type 0
   Same = SameOn (roleAt areas) (passAt areas) (opaqueAt areas) (addsAt xs ys (at x y)) (addsAt (D .xs) (D .ys) (at x y))
 
-  edge-same : (l : Line) → LineBelow (length (D .xs)) l → edgeOf xs ys l ≡ edgeOf (D .xs) (D .ys) l
-  edge-same (line i j) h =
-      rw (same-x D areas xs ys b H i (h .0), same-x D areas xs ys b H j (h .1), same-y D areas xs ys b H i (h .0), same-y D areas xs ys b H j (h .1))
-
   line-same : (l : Line) → LineBelow (length (D .xs)) l → addsAt xs ys (at x y) (drawn l) ≡ addsAt (D .xs) (D .ys) (at x y) (drawn l)
-  line-same l h = ap (λ (e : Edge). cond (counts e x y) (sign e) (pos 0)) (edge-same l h)
+  line-same l h = ap (λ (e : Edge). cond (counts e x y) (sign e) (pos 0)) (edge-same D areas xs ys b H l h)
 
   segments-same : (gs : List Segment) (ws : List Row)
       → EachIn (length (D .xs)) c gs

@@ -1,5 +1,5 @@
 -- What cell 0's stream is made from, of a drawing in tables that hold it: its words pass the check of streams and say the drawing's own stream.
-use mathlib.Core.Path.{_≡_, refl, sym, ap, _∙_}
+use mathlib.Core.Path.{_≡_, refl, sym, ap, subst, _∙_}
 use mathlib.Core.Bool.{true, false}
 use mathlib.Core.List.{List, [], _∷_, map}
 use Prim.Native.Nat.{ℕ, suc, _≤_, _<_}
@@ -8,7 +8,7 @@ use lib.Dec.{eqb}
 use lib.ListN.{length, length-map}
 use lib.IntN.{pos}
 use Rattle.geometry.specs.FillRules as FillRules
-use Rattle.geometry.specs.Windings.{Line, line, edgeOf}
+use Rattle.geometry.specs.Windings.{Line, edgeOf}
 use Rattle.geometry.specs.code.Reach.{LineBelow}
 use Rattle.records.specs.declared.Fields.{Fields}
 use Rattle.records.specs.declared.Record.{Record}
@@ -33,7 +33,7 @@ use Rattle.ranges.specs.code.Valid.{Valid, CornersBelow, lines, weigh}
 use Rattle.ranges.specs.Held.{Held}
 use Rattle.ranges.proofs.Segments.{EachIn}
 use Rattle.ranges.proofs.Passing.{isPaintSide, ItemPasses, AreaPasses, side-passes}
-use Rattle.ranges.proofs.Numbers.{start-word, role-fits, same-x, same-y, each-passes}
+use Rattle.ranges.proofs.Numbers.{start-word, role-fits, edge-same, each-passes}
 use Rattle.ranges.proofs.Items.{on-both}
 use Rattle.ranges.proofs.Depth.{depth-map}
 use Rattle.ranges.proofs.Weights.{oneArea, segments, weigh-map}
@@ -57,7 +57,7 @@ on-mapped Q P f h k (group l r t) o = (on-mapped Q P f h clip l (o .0), on-mappe
 -- the lines of an area whose corners are in use
 lines-in : (n : ℕ) (c : Cell) (ls : List Line) → CornersBelow n ls → EachIn n c (map drawn ls)
 lines-in n c [] h = tt
-lines-in n c (line a b ∷ ls) h = (h .0, lines-in n c ls (h .1))
+lines-in n c (l ∷ ls) h = (h .0, lines-in n c ls (h .1))
 
 module _ (D : Drawing) (areas xs ys : List ℕ) (b : Bounds) (H : Held areas xs ys b D) where
   held-agrees : (n : ℕ) → n < length (D .fields) → Agrees areas D n
@@ -70,10 +70,7 @@ module _ (D : Drawing) (areas xs ys : List ℕ) (b : Bounds) (H : Held areas xs 
       }
 
   held-edges : (l : Line) → LineBelow (b .corners) l → edgeOf (D .xs) (D .ys) l ≡ edgeOf xs ys l
-  held-edges (line p q) h =
-      let i : p < length (D .xs) = omega (arith, H .corners-used, h .0) in
-      let j : q < length (D .xs) = omega (arith, H .corners-used, h .1) in
-      rw (same-x D areas xs ys b H p i, same-y D areas xs ys b H p i, same-x D areas xs ys b H q j, same-y D areas xs ys b H q j)
+  held-edges l h = sym (edge-same D areas xs ys b H l (subst (λ (n : ℕ). LineBelow n l) (H .corners-used) h))
 
   -- tables that hold the drawing say of its areas and corners what it says
   pub held-reads : Reads (env areas xs ys b) D

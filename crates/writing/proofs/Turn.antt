@@ -35,9 +35,10 @@ use Rattle.pruner.proofs.Near.{counted-weight}
 use Rattle.evaluate.specs.Reading.{rowFor}
 use Rattle.evaluate.specs.Words.{words, wordsOf}
 use Rattle.evaluate.specs.code.Numbers.{lineOf, segmentOf}
+use Rattle.evaluate.proofs.Laws.{row-segment, in-segment}
 use Rattle.making.specs.declared.Maker.{Maker}
 use Rattle.making.specs.code.Numbers.{leftSign, leftClass, waitingN, settledN, prunedN}
-use Rattle.making.proofs.Laws.{by-kind, row-segment, in-segment, SegmentBelow, range-below}
+use Rattle.making.proofs.Laws.{by-kind, SegmentBelow, range-below}
 use Rattle.making.proofs.Follows.{stateOf, settle-counts, settle-fits, settle-short, kept-weight}
 use Rattle.making.proofs.Grammar.{Passes, one-passes}
 use Rattle.making.proofs.Standing.{Reads, sign-same, class-same, Standing}
