@@ -3,6 +3,7 @@
 //! positions. The lowest rows are drawn first. Both are stretched alike: the darkest channel of the two
 //! pictures is drawn black and 255 white, here one step of 255. Where the mean of the samples itself
 //! passes from one step to the next, as at the sides of the overlap, a picture by either rule shows it.
+//! The drawing was chosen to show the bands plainly.
 
 use std::fs;
 use std::path::Path;

@@ -26,7 +26,7 @@ use Rattle.evaluate.specs.Reading.{roleAt, passAt, opaqueAt, rowsIn}
 
 -- ---- the lines and shortcuts of an area
 
--- the line that such an entry names; the line or the shortcut
+-- the line that an entry of a line names; the line or the shortcut that an entry says
 abbrev pub lineOf : Words → Line
 lineOf w = line (w .p) (w .q)
 
