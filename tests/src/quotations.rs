@@ -251,10 +251,12 @@ pub fn unquoted(
         .flat_map(|passage| quotations(passage).unwrap_or_default());
     let quoted: Vec<Vec<String>> = found.map(|quotation| pieces(&quotation.words)).collect();
     let mut left = Vec::new();
+    let mut count = 0;
     let named = documents.iter().filter(|document| document.name == name);
     for document in named {
         let here = document.paragraphs.iter();
         for paragraph in here.filter(|paragraph| paragraph.starts_with(begins)) {
+            count += 1;
             let spans: Vec<Range<usize>> = quoted
                 .iter()
                 .filter_map(|pieces| span(paragraph, pieces))
@@ -263,17 +265,21 @@ pub fn unquoted(
             for sentence in paragraph.split_inclusive(". ") {
                 let end = begin + sentence.len();
                 let inside = |at: &usize| spans.iter().any(|span| span.contains(at));
-                let count = (begin..end).filter(inside).count();
+                let quoted = (begin..end).filter(inside).count();
                 begin = end;
                 let words = sentence
                     .split(' ')
                     .filter(|word| word.contains(char::is_alphabetic));
                 let says = words.count() > 1 && !document.headings.contains(paragraph);
-                if says && 2 * count < sentence.len() {
+                if says && 2 * quoted < sentence.len() {
                     left.push(sentence.trim().to_string());
                 }
             }
         }
     }
+    assert!(
+        count > 0,
+        "{name} has no paragraph that begins with {begins:?}"
+    );
     left
 }

@@ -32,7 +32,9 @@ fn each_has_the_words_of_its_document() {
     let Some(documents) = documents() else { return };
     let top = pages::top();
     let mut files: Vec<PathBuf> = vec![top.join("README.md"), top.join("include/zones.h")];
-    files.extend(pages::files_below(&top.join("docs")));
+    let in_docs = pages::files_below(&top.join("docs"));
+    let is_picture = |path: &PathBuf| path.extension().is_some_and(|ending| ending == "png");
+    files.extend(in_docs.into_iter().filter(|path| !is_picture(path)));
     let sources = pages::files_below(&top.join("crates"));
     files.extend(sources.into_iter().filter(|path| is_source(path)));
 

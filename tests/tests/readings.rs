@@ -129,11 +129,13 @@ fn rows(
 /// A pixel by document 02, Item 1; whether the rule of before gives another colour.
 fn expect_pixel(pixel: &[u8], scene: &Scene, (row, number): (u32, u32)) -> bool {
     let sums = scene.sums(row, number);
-    assert_eq!(*pixel, meaning::pixel(sums), "pixel {number} of row {row}");
+    let now = meaning::pixel(sums);
+    assert_eq!(*pixel, now, "pixel {number} of row {row}");
     let before = meaning::pixel_before_item_1(sums.map(meaning::rounded));
-    let nearly = |(now, then): (&u8, u8)| now.abs_diff(then) <= 1;
-    assert!(pixel.iter().zip(before).all(nearly), "{pixel:?} {before:?}");
-    *pixel != before
+    let nearly = |(now, then): (u8, u8)| now.abs_diff(then) <= 1;
+    let nearly_all = now.into_iter().zip(before).all(nearly);
+    assert!(nearly_all, "the two rules: {now:?} {before:?}");
+    now != before
 }
 
 const DIFFERS: &str = "pixels on which the rules differ";

@@ -11,7 +11,7 @@ pub const PIXEL_SIDE: u32 = 16;
 
 pub const SAMPLES: u32 = 16;
 
-// What the weights of sixteen samples make together, and its half, for rounding.
+// What the weights and what is left of sixteen samples make together, and its half, for rounding.
 const WHOLE: u32 = 4080;
 
 const HALF: u32 = 2040;

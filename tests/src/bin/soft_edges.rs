@@ -1,7 +1,7 @@
 //! Two pictures of faint areas that overlap, in the folder given: `after.ppm` has the pixels of the
 //! library, `before.ppm` those that the rule of before Item 1 of document 02 makes of the library's
 //! positions. The lowest rows are drawn first. Both are stretched alike: the darkest channel of the two
-//! pictures is drawn black and 255 white, here one step of 255. Where the mean of the samples itself
+//! pictures is drawn black and 255 white, here 254 and 255, one step apart. Where the mean of the samples itself
 //! passes from one step to the next, as at the sides of the overlap, a picture by either rule shows it.
 //! The drawing was chosen to show the bands plainly.
 
@@ -22,7 +22,7 @@ const WIDE: usize = 160;
 const HIGH: usize = 120;
 const DOTS: usize = 4;
 
-/// A faint area of slanting stripes, six of eight units wide, from a first x on; over the height of
+/// A faint area of slanting stripes, six units wide, one every eight units, from a first x on; over the height of
 /// the picture they go so many units to the right. In one stripe the sum of a channel is 64,899, or
 /// 254.5, rounded to 255; in two it is 64,782, or 254.05, rounded to 254. Pixels where two such areas
 /// overlap all have a mean near 254.3, but more or fewer samples that lie in two stripes.
