@@ -4,6 +4,6 @@ pub mod Segments
 pub mod Each
 pub mod Streams
 pub mod Bounds
-pub mod Rows
+pub mod Elements
 mod Examples
 pub mod Making

@@ -1,4 +1,4 @@
--- From any rows, in one pass, come the rows of what is made of the stream that they say.
+-- From any elements, in one pass, come the elements of what is made of the stream that they say.
 use mathlib.Core.Path.{_≡_, refl, sym, ap, _∙_}
 use mathlib.Core.List.{List, [], _∷_, _++_, map, append-assoc, append-nil}
 use Prim.Native.Nat.{_<_}
@@ -11,17 +11,33 @@ use Rattle.pruning.specs.Normal.{normal}
 use Rattle.pruning.specs.code.Pruner as Pruner
 use Rattle.pruning.specs.code.Pruner.{st, going, run}
 use Rattle.pruning.specs.code.Effects.{outOf}
-use Rattle.pruning.proofs.Pruner.{rows-flat, stream-normal}
+use Rattle.pruning.proofs.Pruner.{elements-flat, stream-normal}
 use Rattle.pruning.proofs.Sides.{flat-map}
 use Rattle.cells.specs.Cells.{Cell}
 use Rattle.cells.specs.Segments.{Segment, classIn, keptBy, keptIn, startIn}
 use Rattle.cells.specs.Drawings.{Drawing}
 use Rattle.cells.specs.Streams.{Item, always, area, items, within, made}
-use Rattle.cells.specs.Rows.{Row, opens, bar, closes, bare, named, segment, entryRows, rowsOf, Decoded, dec, entriesOf, decodeRow, decode, roleIn}
-use Rattle.cells.specs.code.Making.{nothing, held, Making, making, prune, settle, addTo, onRows, begun, madeRows}
+use Rattle.cells.specs.Elements.{
+  Element,
+  opens,
+  bar,
+  closes,
+  bare,
+  named,
+  segment,
+  entryElements,
+  elementsOf,
+  Decoded,
+  dec,
+  entriesOf,
+  decodeElement,
+  decode,
+  roleIn,
+}
+use Rattle.cells.specs.code.Making.{nothing, held, Making, making, prune, settle, addTo, onElements, begun, madeElements}
 use Rattle.cells.proofs.Streams.{made-normal}
 
-pub entry-some : (e : Entry Item) → 0 < length (entryRows e)
+pub entry-some : (e : Entry Item) → 0 < length (entryElements e)
 entry-some (item k always) = omega arith
 entry-some (item k (area n z gs)) = omega arith
 entry-some push = omega arith
@@ -29,10 +45,10 @@ entry-some activate = omega arith
 entry-some pop = omega arith
 
 module _ (D : Drawing) (c : Cell) where
-  abbrev prunes : List (Entry Item) → Pruner.State Row → Pruner.State Row
-  prunes es x = run (items D) Row entryRows (map (mapEntry (within D c)) es) x
+  abbrev prunes : List (Entry Item) → Pruner.State Element → Pruner.State Element
+  prunes es x = run (items D) Element entryElements (map (mapEntry (within D c)) es) x
 
-  abbrev end : Making → Pruner.State Row
+  abbrev end : Making → Pruner.State Element
   end = settle D c
 
   -- the waiting area with the lines and shortcuts in front
@@ -55,39 +71,40 @@ module _ (D : Drawing) (c : Cell) where
   later-more g (making x (held n z ks)) gs =
       ap (λ k. making x (held n (startIn (D .xs) (D .ys) c z (g ∷ gs)) k)) (kept-more (classIn (D .xs) (D .ys) c g) g ks (keptIn (D .xs) (D .ys) c gs))
 
-  abbrev Says : List Row → Decoded → Type 0
-  Says ws (dec gs es) = (m : Making) → end (onRows D c ws m) ≡ prunes es (end (later m gs))
+  abbrev Says : List Element → Decoded → Type 0
+  Says ws (dec gs es) = (m : Making) → end (onElements D c ws m) ≡ prunes es (end (later m gs))
 
-  row-says : (w : Row) (ws : List Row) (d : Decoded) → Says ws d → Says (w ∷ ws) (decodeRow (roleIn D) w d)
-  row-says opens ws (dec gs es) h = λ m. h (making (prune D c (end m) push) nothing) ∙ ap (λ x. prunes es (prune D c x push)) (sym (later-none m))
-  row-says bar ws (dec gs es) h = λ m. h (making (prune D c (end m) activate) nothing) ∙ ap (λ x. prunes es (prune D c x activate)) (sym (later-none m))
-  row-says closes ws (dec gs es) h = λ m. h (making (prune D c (end m) pop) nothing) ∙ ap (λ x. prunes es (prune D c x pop)) (sym (later-none m))
-  row-says bare ws (dec gs es) h =
+  element-says : (w : Element) (ws : List Element) (d : Decoded) → Says ws d → Says (w ∷ ws) (decodeElement (roleIn D) w d)
+  element-says opens ws (dec gs es) h = λ m. h (making (prune D c (end m) push) nothing) ∙ ap (λ x. prunes es (prune D c x push)) (sym (later-none m))
+  element-says bar ws (dec gs es) h = λ m. h (making (prune D c (end m) activate) nothing) ∙ ap (λ x. prunes es (prune D c x activate)) (sym (later-none m))
+  element-says closes ws (dec gs es) h = λ m. h (making (prune D c (end m) pop) nothing) ∙ ap (λ x. prunes es (prune D c x pop)) (sym (later-none m))
+  element-says bare ws (dec gs es) h =
       λ m.
       h (making (prune D c (end m) (item clip always)) nothing) ∙ ap (λ x. prunes es (prune D c x (item clip always))) (sym (later-none m))
-  row-says (named n z) ws (dec gs es) h = λ m. h (making (end m) (held n z []))
+  element-says (named n z) ws (dec gs es) h = λ m. h (making (end m) (held n z []))
       ∙ ap (λ x. prunes es (prune D c x (item (roleIn D n) (within D c (area n z gs))))) (sym (later-none m))
-  row-says (segment g) ws (dec gs es) h = λ m. h (addTo D c g m) ∙ ap (λ x. prunes es (end x)) (later-more g m gs)
+  element-says (segment g) ws (dec gs es) h = λ m. h (addTo D c g m) ∙ ap (λ x. prunes es (end x)) (later-more g m gs)
 
-  pub rows-say : (ws : List Row) → Says ws (decode (roleIn D) ws)
-  rows-say [] = λ m. sym (later-none m)
-  rows-say (w ∷ ws) = row-says w ws (decode (roleIn D) ws) (rows-say ws)
+  pub elements-say : (ws : List Element) → Says ws (decode (roleIn D) ws)
+  elements-say [] = λ m. sym (later-none m)
+  elements-say (w ∷ ws) = element-says w ws (decode (roleIn D) ws) (elements-say ws)
 
-  made-by : (ws : List Row) (d : Decoded) → Says ws d → end (onRows D c ws (begun D c)) ≡ prunes (entriesOf d) (st [] 0 going [])
+  made-by : (ws : List Element) (d : Decoded) → Says ws d → end (onElements D c ws (begun D c)) ≡ prunes (entriesOf d) (st [] 0 going [])
   made-by ws (dec gs es) h = h (begun D c)
 
-  rows-written : (es : List (Entry Item)) → Pruner.written (items D) Row entryRows es ≡ rowsOf es
-  rows-written [] = refl
-  rows-written (e ∷ es) = ap (λ x. entryRows e ++ x) (rows-written es)
+  elements-written : (es : List (Entry Item)) → Pruner.written (items D) Element entryElements es ≡ elementsOf es
+  elements-written [] = refl
+  elements-written (e ∷ es) = ap (λ x. entryElements e ++ x) (elements-written es)
 
-  -- rows whose entries are a side's: the rows of what is made of that side
-  pub rows-made : (ws : List Row) (x : Side Item) → entriesOf (decode (roleIn D) ws) ≡ flat paint x → madeRows D c ws ≡ rowsOf (flat paint (made D c x))
-  rows-made ws x e =
+  -- elements whose entries are a side's: the elements of what is made of that side
+  pub elements-made : (ws : List Element) (x : Side Item) → entriesOf (decode (roleIn D) ws) ≡ flat paint x
+      → madeElements D c ws ≡ elementsOf (flat paint (made D c x))
+  elements-made ws x e =
       ap outOf
-      (made-by ws (decode (roleIn D) ws) (rows-say ws)
+      (made-by ws (decode (roleIn D) ws) (elements-say ws)
       ∙ (ap (λ es. prunes es (st [] 0 going [])) e
-      ∙ (ap (λ es. run (items D) Row entryRows es (st [] 0 going [])) (sym (flat-map (within D c) paint x))
-      ∙ stream-normal (items D) Row entryRows entry-some (mapSide (within D c) x))))
-      ∙ (rows-flat (items D) Row entryRows entry-some paint (normal (items D) paint (mapSide (within D c) x))
-      ∙ (rows-written (flat paint (normal (items D) paint (mapSide (within D c) x)))
-      ∙ ap (λ y. rowsOf (flat paint y)) (sym (made-normal D c x))))
+      ∙ (ap (λ es. run (items D) Element entryElements es (st [] 0 going [])) (sym (flat-map (within D c) paint x))
+      ∙ stream-normal (items D) Element entryElements entry-some (mapSide (within D c) x))))
+      ∙ (elements-flat (items D) Element entryElements entry-some paint (normal (items D) paint (mapSide (within D c) x))
+      ∙ (elements-written (flat paint (normal (items D) paint (mapSide (within D c) x)))
+      ∙ ap (λ y. elementsOf (flat paint y)) (sym (made-normal D c x))))

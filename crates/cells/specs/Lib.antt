@@ -3,5 +3,5 @@ pub mod Cells
 pub mod Segments
 pub mod Drawings
 pub mod Streams
-pub mod Rows
+pub mod Elements
 pub mod code

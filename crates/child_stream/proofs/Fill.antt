@@ -19,7 +19,7 @@ use Rattle.stream.specs.Grammar.{Env, Passed}
 use Rattle.stream.proofs.Table.{words-step, words-none, at-agree}
 use Rattle.pruner.specs.code.Numbers.{counted}
 use Rattle.making.specs.declared.Maker.{Maker}
-use Rattle.making.specs.Made.{rowsMade, wordsMade}
+use Rattle.making.specs.Made.{elementsMade, wordsMade}
 use Rattle.making.specs.code.Numbers.{resting, leftSign, leftClass, waitingN, prunedN}
 use Rattle.making.proofs.Made.{made-length}
 use Rattle.making.proofs.Standing.{Reads}
@@ -119,7 +119,7 @@ module _ (v : Env) (D : Drawing) (c : Cell) (R : Reads v D) (t₀ : List ℕ) (f
           })
 
     -- where no entry is left
-    module _ (h : first + count ≤ i) (exact : limit ≡ length (rowsMade D c (wordsFrom t₀ first count))) where
+    module _ (h : first + count ≤ i) (exact : limit ≡ length (elementsMade D c (wordsFrom t₀ first count))) where
       length-made : length (wordsMade D c (wordsFrom t₀ first count)) ≡ limit
       length-made = made-length D c (wordsFrom t₀ first count) ∙ sym exact
 

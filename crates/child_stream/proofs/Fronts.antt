@@ -20,22 +20,22 @@ use Rattle.cells.specs.Cells.{Cell}
 use Rattle.cells.specs.Segments.{Segment, drawn, shortcut}
 use Rattle.cells.specs.Drawings.{Drawing}
 use Rattle.cells.specs.Streams.{always, area, items, classOf}
-use Rattle.cells.specs.Rows.{Row, opens, bar, closes, bare, named, segment, entryRows, roleIn}
-use Rattle.cells.specs.code.Making.{nothing, held, Making, making, prune, settle, addTo, onRows, rowSize}
+use Rattle.cells.specs.Elements.{Element, opens, bar, closes, bare, named, segment, entryElements, roleIn}
+use Rattle.cells.specs.code.Making.{nothing, held, Making, making, prune, settle, addTo, onElements, elementSize}
 use Rattle.stream.specs.declared.Words.{Words}
 use Rattle.stream.specs.Entry.{decode}
-use Rattle.evaluate.specs.Reading.{rowFor}
+use Rattle.evaluate.specs.Reading.{elementFor}
 use Rattle.evaluate.specs.code.Numbers.{segmentOf}
-use Rattle.evaluate.proofs.Laws.{row-segment}
+use Rattle.evaluate.proofs.Laws.{element-segment}
 use Rattle.making.proofs.Laws.{by-kind}
 use Rattle.making.proofs.Follows.{stateOf, waitingOf, waitingFor}
 use Rattle.writing.proofs.Places.{Moves, adds, cuts, open-moves, bar-moves, close-moves}
 use Rattle.child_stream.specs.code.Starts.{startsOf}
 use Rattle.child_stream.specs.code.Numbers.{putStart}
 
--- ---- the start numbers of rows
+-- ---- the start numbers of elements
 
-pub starts-append : (x y : List Row) → startsOf (x ++ y) ≡ startsOf x ++ startsOf y
+pub starts-append : (x y : List Element) → startsOf (x ++ y) ≡ startsOf x ++ startsOf y
 starts-append [] y = refl
 starts-append (opens ∷ x) y = starts-append x y
 starts-append (bar ∷ x) y = starts-append x y
@@ -61,19 +61,19 @@ front-then : {x y z : List ℤ} → Front x y → Front y z → Front x z
 front-then {x} {y} {z} a b =
     record { rest = a .rest ++ b .rest; is = b .is ∙ (ap (λ (l : List ℤ). l ++ b .rest) (a .is) ∙ append-assoc x (a .rest) (b .rest)) }
 
-front-take : (p : ℕ) (out : List Row) → Front (startsOf (take p out)) (startsOf out)
+front-take : (p : ℕ) (out : List Element) → Front (startsOf (take p out)) (startsOf out)
 front-take p out = record { rest = startsOf (drop p out); is = ap startsOf (sym (take-append-drop p out)) ∙ starts-append (take p out) (drop p out) }
 
--- a row that is no area behind them
-front-mark : (r : Row) (x out : List Row) → startsOf (r ∷ []) ≡ [] → Front (startsOf x) (startsOf out) → Front (startsOf (x ++ (r ∷ []))) (startsOf out)
+-- an element that is no area behind them
+front-mark : (r : Element) (x out : List Element) → startsOf (r ∷ []) ≡ [] → Front (startsOf x) (startsOf out) → Front (startsOf (x ++ (r ∷ []))) (startsOf out)
 front-mark r x out e f =
     subst (λ (l : List ℤ). Front l (startsOf out))
     (sym (starts-append x (r ∷ []) ∙ (ap (λ (l : List ℤ). startsOf x ++ l) e ∙ append-nil (startsOf x)))) f
 
-front-same : (out : List Row) → Front (startsOf out) (startsOf out)
+front-same : (out : List Element) → Front (startsOf out) (startsOf out)
 front-same out = record { rest = []; is = sym (append-nil (startsOf out)) }
 
-front-moves : (out out′ : List Row) (r : Row) → startsOf (r ∷ []) ≡ [] → Moves out r out′ → Front (startsOf out′) (startsOf out)
+front-moves : (out out′ : List Element) (r : Element) → startsOf (r ∷ []) ≡ [] → Moves out r out′ → Front (startsOf out′) (startsOf out)
 front-moves out out′ r e (adds m) = rw m (front-mark r out out e (front-same out))
 front-moves out out′ r e (cuts p m) = rw m (front-take p out)
 
@@ -82,8 +82,8 @@ module _ (D : Drawing) (c : Cell) where
   abbrev pub withNext : Making → List ℤ
   withNext m = startsOf (outOf (stateOf m)) ++ (waitingFor (waitingOf m) .start ∷ [])
 
-  item-front : (k : Kind) (f : Items.Class) (n : ℕ) (z : ℤ) (gs : List Segment) (out : List Row) (b : ℕ) (fs : List Frame)
-      → Front (startsOf (outOf (addItem (items D) Row entryRows k f (area n z gs) out b fs))) (startsOf out ++ (z ∷ []))
+  item-front : (k : Kind) (f : Items.Class) (n : ℕ) (z : ℤ) (gs : List Segment) (out : List Element) (b : ℕ) (fs : List Frame)
+      → Front (startsOf (outOf (addItem (items D) Element entryElements k f (area n z gs) out b fs))) (startsOf out ++ (z ∷ []))
   item-front k f n z gs out b fs = go k f
     where
       kept : Front (startsOf (out ++ (named n z ∷ map segment gs))) (startsOf out ++ (z ∷ []))
@@ -92,7 +92,8 @@ module _ (D : Drawing) (c : Cell) where
           starts-append out (named n z ∷ map segment gs) ∙ ap (λ (l : List ℤ). startsOf out ++ (z ∷ l)) (starts-segments gs) in
           record { rest = []; is = sym e ∙ sym (append-nil (startsOf (out ++ (named n z ∷ map segment gs)))) }
 
-      go : (k : Kind) (f : Items.Class) → Front (startsOf (outOf (addItem (items D) Row entryRows k f (area n z gs) out b fs))) (startsOf out ++ (z ∷ []))
+      go : (k : Kind) (f : Items.Class)
+          → Front (startsOf (outOf (addItem (items D) Element entryElements k f (area n z gs) out b fs))) (startsOf out ++ (z ∷ []))
       go k fails = front-of (startsOf out) (z ∷ [])
       go paint passes = kept
       go clip passes = front-then (front-mark bare (take b out) out refl (front-take b out)) (front-of (startsOf out) (z ∷ []))
@@ -104,37 +105,37 @@ module _ (D : Drawing) (c : Cell) where
   settle-front (making (st out b going fs) (held n z gs)) = item-front (roleIn D n) (classOf D (roleIn D n) (area n z gs)) n z gs out b fs
   settle-front (making (st out b (shut s) fs) (held n z gs)) = front-of (startsOf out) (z ∷ [])
 
-  pub bare-front : (x : Pruning.State Row) → Front (startsOf (outOf (prune D c x (item clip always)))) (startsOf (outOf x))
+  pub bare-front : (x : Pruning.State Element) → Front (startsOf (outOf (prune D c x (item clip always)))) (startsOf (outOf x))
   bare-front (st out b going fs) = front-mark bare (take b out) out refl (front-take b out)
   bare-front (st out b (shut s) fs) = front-same out
 
-  pub open-front : (x : Pruning.State Row) → Front (startsOf (outOf (prune D c x push))) (startsOf (outOf x))
+  pub open-front : (x : Pruning.State Element) → Front (startsOf (outOf (prune D c x push))) (startsOf (outOf x))
   open-front x = front-moves (outOf x) (outOf (prune D c x push)) opens refl (open-moves D c x)
 
-  pub bar-front : (x : Pruning.State Row) → Front (startsOf (outOf (prune D c x activate))) (startsOf (outOf x))
+  pub bar-front : (x : Pruning.State Element) → Front (startsOf (outOf (prune D c x activate))) (startsOf (outOf x))
   bar-front x = front-moves (outOf x) (outOf (prune D c x activate)) bar refl (bar-moves D c x)
 
-  pub close-front : (x : Pruning.State Row) → Front (startsOf (outOf (prune D c x pop))) (startsOf (outOf x))
+  pub close-front : (x : Pruning.State Element) → Front (startsOf (outOf (prune D c x pop))) (startsOf (outOf x))
   close-front x = front-moves (outOf x) (outOf (prune D c x pop)) closes refl (close-moves D c x)
 
   same-front : (g : Segment) (m : Making) → Front (startsOf (outOf (stateOf (addTo D c g m)))) (withNext m)
   same-front g (making x nothing) = front-of (startsOf (outOf x)) (pos 0 ∷ [])
   same-front g (making x (held n z gs)) = front-of (startsOf (outOf x)) (z ∷ [])
 
-  pub turn-front : (w : Words) (m : Making) → Front (startsOf (outOf (stateOf (onRows D c (rowFor (decode w) []) m)))) (withNext m)
+  pub turn-front : (w : Words) (m : Making) → Front (startsOf (outOf (stateOf (onElements D c (elementFor (decode w) []) m)))) (withNext m)
   turn-front w m =
-      by-kind w (λ e. Front (startsOf (outOf (stateOf (onRows D c (rowFor e []) m)))) (withNext m))
+      by-kind w (λ e. Front (startsOf (outOf (stateOf (onElements D c (elementFor e []) m)))) (withNext m))
       (λ e. front-then (open-front (settle D c m)) (settle-front m))
       (λ e. front-then (bar-front (settle D c m)) (settle-front m))
       (λ e. front-then (close-front (settle D c m)) (settle-front m))
       (λ e. settle-front m)
-      (λ s. rw (row-segment w [] s) (same-front (segmentOf w) m))
+      (λ s. rw (element-segment w [] s) (same-front (segmentOf w) m))
       (λ e. front-then (bare-front (settle D c m)) (settle-front m))
       (front-of (startsOf (outOf (stateOf m))) (waitingFor (waitingOf m) .start ∷ []))
 
 -- ---- how many, from one number
 
-abbrev lineOne : Row → ℕ
+abbrev lineOne : Element → ℕ
 lineOne opens = 0
 lineOne bar = 0
 lineOne closes = 0
@@ -143,11 +144,11 @@ lineOne (named n z) = 0
 lineOne (segment (drawn l)) = 1
 lineOne (segment (shortcut z lo hi)) = 0
 
-abbrev lines : List Row → ℕ
+abbrev lines : List Element → ℕ
 lines [] = 0
 lines (r ∷ rs) = lineOne r + lines rs
 
-one-is : (r : Row) → (rowSize r ≡ 1 + 65536 * lineOne r + 4294967296 * length (startsOf (r ∷ []))) × (lineOne r ≤ 1)
+one-is : (r : Element) → (elementSize r ≡ 1 + 65536 * lineOne r + 4294967296 * length (startsOf (r ∷ []))) × (lineOne r ≤ 1)
 one-is opens = (refl, omega arith)
 one-is bar = (refl, omega arith)
 one-is closes = (refl, omega arith)
@@ -156,7 +157,7 @@ one-is (named n z) = (refl, omega arith)
 one-is (segment (drawn l)) = (refl, omega arith)
 one-is (segment (shortcut z lo hi)) = (refl, omega arith)
 
-total-is : (rs : List Row) → (total rowSize rs ≡ length rs + 65536 * lines rs + 4294967296 * length (startsOf rs)) × (lines rs ≤ length rs)
+total-is : (rs : List Element) → (total elementSize rs ≡ length rs + 65536 * lines rs + 4294967296 * length (startsOf rs)) × (lines rs ≤ length rs)
 total-is [] = (refl, omega arith)
 total-is (r ∷ rs) =
     let a = one-is r in
@@ -165,7 +166,7 @@ total-is (r ∷ rs) =
     ap length (starts-append (r ∷ []) rs) ∙ length-append (startsOf (r ∷ [])) (startsOf rs) in
     (omega (arith, a .0, b .0, e), omega (arith, a .1, b .1))
 
-pub areas-is : (rs : List Row) → length rs ≤ 8192 → total rowSize rs / 4294967296 ≡ length (startsOf rs)
+pub areas-is : (rs : List Element) → length rs ≤ 8192 → total elementSize rs / 4294967296 ≡ length (startsOf rs)
 areas-is rs h = omega (arith, total-is rs .0, total-is rs .1)
 
 -- ---- numbers that stand in the array, as far as it goes

@@ -13,14 +13,14 @@ use Rattle.pruning.specs.code.Counters.{ct, lengthOf}
 use Rattle.pruning.specs.code.Weights.{total}
 use Rattle.cells.specs.Cells.{Cell, squareOf}
 use Rattle.cells.specs.Drawings.{Drawing}
-use Rattle.cells.specs.code.Making.{rowSize}
+use Rattle.cells.specs.code.Making.{elementSize}
 use Rattle.stream.specs.declared.Words.{Words}
 use Rattle.stream.specs.Table.{wordsAt, wordsFrom}
 use Rattle.stream.specs.Grammar.{Env, Passed}
 use Rattle.stream.proofs.Table.{words-step, words-none}
 use Rattle.pruner.specs.code.Numbers.{counted}
 use Rattle.making.specs.declared.Maker.{Maker}
-use Rattle.making.specs.Made.{rowsMade}
+use Rattle.making.specs.Made.{elementsMade}
 use Rattle.making.specs.code.Numbers.{resting, leftSign, leftClass, leftRange, waitingN, settledN, prunedN, Inside, Asks}
 use Rattle.making.proofs.Standing.{Reads, Standing}
 use Rattle.making.proofs.Turn.{standing-weight, standing-base, standing-inside, standing-room, standing-start, standing-left, standing-sign, standing-next}
@@ -122,5 +122,5 @@ module _ (v : Env) (D : Drawing) (c : Cell) (R : Reads v D) (t : List ℕ) (firs
       omega (arith, standing-base v D c R (i - first) (m .pruner) (m .waiting) (allOf D c (wordsFrom t first count)) [] none, P .few, l .to, l .from),
     )
 
-    pub end-weight : lengthOf (settledN (v .areas) (counted (m .pruner)) (m .waiting)) ≡ total rowSize (rowsMade D c (wordsFrom t first count))
+    pub end-weight : lengthOf (settledN (v .areas) (counted (m .pruner)) (m .waiting)) ≡ total elementSize (elementsMade D c (wordsFrom t first count))
     end-weight = weight-end v D c R (wordsFrom t first count) (P .grammar) (i - first) (m .pruner) (m .waiting) none

@@ -14,23 +14,23 @@ use Rattle.pruning.specs.code.Effects.{outOf}
 use Rattle.pruning.specs.code.Weights.{total}
 use Rattle.cells.specs.Cells.{Cell, squareOf}
 use Rattle.cells.specs.Drawings.{Drawing}
-use Rattle.cells.specs.Rows.{Row}
-use Rattle.cells.specs.code.Making.{Making, begun, settle, rowSize}
+use Rattle.cells.specs.Elements.{Element}
+use Rattle.cells.specs.code.Making.{Making, begun, settle, elementSize}
 use Rattle.stream.specs.declared.Words.{Words}
 use Rattle.stream.specs.Table.{wordsAt, wordsFrom}
 use Rattle.stream.specs.Grammar.{Env, Passed}
 use Rattle.stream.proofs.Table.{words-step, words-none}
 use Rattle.pruner.specs.code.Numbers.{counted}
 use Rattle.pruner.proofs.Near.{counted-weight}
-use Rattle.evaluate.specs.Reading.{rowsIn}
+use Rattle.evaluate.specs.Reading.{elementsIn}
 use Rattle.making.specs.declared.Maker.{Maker}
 use Rattle.making.specs.declared.Waiting.{Waiting}
-use Rattle.making.specs.Made.{rowsMade}
+use Rattle.making.specs.Made.{elementsMade}
 use Rattle.making.specs.code.Numbers.{resting, leftSign, leftClass, waitingN, prunedN}
 use Rattle.making.proofs.Follows.{stateOf, waitingOf, waitingFor, settle-short}
 use Rattle.making.proofs.Standing.{Reads, Standing}
-use Rattle.making.proofs.Turn.{standing-rows, weight-is}
-use Rattle.making.proofs.Whole.{allOf, standing-start, rows-all}
+use Rattle.making.proofs.Turn.{standing-elements, weight-is}
+use Rattle.making.proofs.Whole.{allOf, standing-start, elements-all}
 use Rattle.child_stream.specs.code.Starts.{startsOf}
 use Rattle.child_stream.specs.code.Numbers.{starts, areasIn, putStart, firstOf, startsIn}
 use Rattle.child_stream.proofs.Loop.{Looping}
@@ -40,22 +40,22 @@ use Rattle.child_stream.proofs.Clear.{first-filled}
 -- the start numbers of what is made so far stand in the array
 pub record Noting (v : Env) (D : Drawing) (c : Cell) (k : ℕ) (mk : Maker) (ws : List Words) (whole : Making) (zs : List ℤ) : Type 0 where
   pub standing : Standing v D c k (mk .pruner) (mk .waiting) ws whole
-  pub stands : Stands zs (startsOf (outOf (stateOf (standing .rows))))
+  pub stands : Stands zs (startsOf (outOf (stateOf (standing .elements))))
 
 -- the start number of the area that waits, behind them
 noted-stands : (v : Env) (D : Drawing) (c : Cell) (k : ℕ) (mk : Maker) (ws : List Words) (whole : Making) (zs : List ℤ)
     → k ≤ 4096
     → length zs ≡ 64
     → (s : Noting v D c k mk ws whole zs)
-    → Stands (putStart zs (areasIn (mk .pruner .weight)) (mk .waiting .start)) (withNext D c (s .standing .rows))
+    → Stands (putStart zs (areasIn (mk .pruner .weight)) (mk .waiting .start)) (withNext D c (s .standing .elements))
 noted-stands v D c k mk ws whole zs l e s =
     let f = s .standing .follows in
-    let out : List Row = outOf (stateOf (s .standing .rows)) in
+    let out : List Element = outOf (stateOf (s .standing .elements)) in
     let short : length out ≤ 8192 = omega (arith, f .short) in
     let n : areasIn (mk .pruner .weight) ≡ length (startsOf out) =
-    ap areasIn (sym (counted-weight (mk .pruner)) ∙ (ap lengthOf (f .counts) ∙ weight-is (stateOf (s .standing .rows)))) ∙ areas-is out short in
-    let z : mk .waiting .start ≡ waitingFor (waitingOf (s .standing .rows)) .start = ap (λ (a : Waiting). a .start) (f .waits) in
-    rw (n, z) (stands-more zs (startsOf out) (waitingFor (waitingOf (s .standing .rows)) .start) e (s .stands))
+    ap areasIn (sym (counted-weight (mk .pruner)) ∙ (ap lengthOf (f .counts) ∙ weight-is (stateOf (s .standing .elements)))) ∙ areas-is out short in
+    let z : mk .waiting .start ≡ waitingFor (waitingOf (s .standing .elements)) .start = ap (λ (a : Waiting). a .start) (f .waits) in
+    rw (n, z) (stands-more zs (startsOf out) (waitingFor (waitingOf (s .standing .elements)) .start) e (s .stands))
 
 -- entries i to first + count - 1 are to come
 pub record Counting (v : Env) (D : Drawing) (c : Cell) (t : List ℕ) (first count i : ℕ) (m : Maker) (zs : List ℤ) : Type 0 where
@@ -113,12 +113,12 @@ module _ (v : Env) (D : Drawing) (c : Cell) (R : Reads v D) (t : List ℕ) (firs
         let ws : List Words = wordsFrom t (i + 1) (first + count - (i + 1)) in
         let now : Noting v D c (i - first) m (w ∷ ws) whole zs = subst (λ (u : List Words). Noting v D c (i - first) m u whole zs)
         (words-step t i (first + count) h ∙ ap (λ (u : Words). u ∷ ws) (sym e)) (l .noting) in
-        let s = standing-rows v D c R (i - first) (m .pruner) (m .waiting) whole w ws (now .standing) (n .pruner) (n .waiting) hp
+        let s = standing-elements v D c R (i - first) (m .pruner) (m .waiting) whole w ws (now .standing) (n .pruner) (n .waiting) hp
         (ha ∙ ap₂ (λ (d : Class) (y : ℤ). waitingN (m .waiting) d y w) (x ∙ ap (λ (r : Square). leftClass (v .xs) (v .ys) r w) (sym g)) y)
         b in
-        let done : Stands next (startsOf (outOf (stateOf (s .0 .rows)))) = subst
+        let done : Stands next (startsOf (outOf (stateOf (s .0 .elements)))) = subst
         (λ (y : Making). Stands next (startsOf (outOf (stateOf y)))) (sym (s .1))
-        (stands-front next _ (withNext D c (now .standing .rows)) (turn-front D c w (now .standing .rows))
+        (stands-front next _ (withNext D c (now .standing .elements)) (turn-front D c w (now .standing .elements))
         (noted-stands v D c (i - first) m (w ∷ ws) whole zs few (l .size) now)) in
         rw hz
         (record {
@@ -133,34 +133,34 @@ module _ (v : Env) (D : Drawing) (c : Cell) (R : Reads v D) (t : List ℕ) (firs
       last : Noting v D c (i - first) m [] whole zs
       last = subst (λ (u : List Words). Noting v D c (i - first) m u whole zs) (words-none t i (first + count) h) (l .noting)
 
-      rows-end : last .standing .rows ≡ whole
-      unfolding rowsIn
-      rows-end = last .standing .ahead
+      elements-end : last .standing .elements ≡ whole
+      unfolding elementsIn
+      elements-end = last .standing .ahead
 
-      made-is : outOf (settle D c (last .standing .rows)) ≡ rowsMade D c (wordsFrom t first count)
-      made-is = ap (λ (y : Making). outOf (settle D c y)) rows-end ∙ rows-all v D c R (wordsFrom t first count) (P .grammar)
+      made-is : outOf (settle D c (last .standing .elements)) ≡ elementsMade D c (wordsFrom t first count)
+      made-is = ap (λ (y : Making). outOf (settle D c y)) elements-end ∙ elements-all v D c R (wordsFrom t first count) (P .grammar)
 
-      made-short : length (rowsMade D c (wordsFrom t first count)) ≤ 8192
+      made-short : length (elementsMade D c (wordsFrom t first count)) ≤ 8192
       made-short =
           omega (
             arith,
-            settle-short (v .areas) D c (R .agrees) (i - first) (m .pruner) (m .waiting) (last .standing .rows) (last .standing .follows),
+            settle-short (v .areas) D c (R .agrees) (i - first) (m .pruner) (m .waiting) (last .standing .elements) (last .standing .follows),
             ap length made-is,
             few,
           )
 
-      made-stands : Stands next (startsOf (rowsMade D c (wordsFrom t first count)))
+      made-stands : Stands next (startsOf (elementsMade D c (wordsFrom t first count)))
       made-stands =
-          subst (λ (y : List Row). Stands next (startsOf y)) made-is
-          (stands-front next _ (withNext D c (last .standing .rows)) (settle-front D c (last .standing .rows))
+          subst (λ (y : List Element). Stands next (startsOf y)) made-is
+          (stands-front next _ (withNext D c (last .standing .elements)) (settle-front D c (last .standing .elements))
           (noted-stands v D c (i - first) m [] whole zs few (l .size) last))
 
-      pub counting-end : (zs′ : List ℤ) → zs′ ≡ next → (n : ℕ) → n ≡ total rowSize (rowsMade D c (wordsFrom t first count))
-          → starts (areasIn n) (firstOf (areasIn n) zs′) ≡ startsIn (rowsMade D c (wordsFrom t first count))
+      pub counting-end : (zs′ : List ℤ) → zs′ ≡ next → (n : ℕ) → n ≡ total elementSize (elementsMade D c (wordsFrom t first count))
+          → starts (areasIn n) (firstOf (areasIn n) zs′) ≡ startsIn (elementsMade D c (wordsFrom t first count))
       counting-end zs′ hz n e =
-          let k : areasIn n ≡ length (startsOf (rowsMade D c (wordsFrom t first count))) =
-          ap areasIn e ∙ areas-is (rowsMade D c (wordsFrom t first count)) made-short in
+          let k : areasIn n ≡ length (startsOf (elementsMade D c (wordsFrom t first count))) =
+          ap areasIn e ∙ areas-is (elementsMade D c (wordsFrom t first count)) made-short in
           rw (hz, k)
-          (ap (starts (length (startsOf (rowsMade D c (wordsFrom t first count)))))
-          (first-filled next (startsOf (rowsMade D c (wordsFrom t first count)))
+          (ap (starts (length (startsOf (elementsMade D c (wordsFrom t first count)))))
+          (first-filled next (startsOf (elementsMade D c (wordsFrom t first count)))
           (put-length zs (areasIn (m .pruner .weight)) (m .waiting .start) ∙ l .size) made-stands))

@@ -10,12 +10,12 @@ ghost use lib.ListN.{length};
 ghost use lib.IntN.{natAbs};
 ghost use Rattle.geometry.specs.code.Reach.{SquareIn};
 ghost use Rattle.cells.specs.Cells.{squareOf};
-ghost use Rattle.cells.specs.code.Making.{rowSize};
+ghost use Rattle.cells.specs.code.Making.{elementSize};
 ghost use Rattle.pruning.specs.code.Weights.{total};
 ghost use Rattle.stream.specs.Table.{wordsFrom, written};
 ghost use Rattle.stream.specs.Grammar.{env, Passed};
 ghost use Rattle.ranges.specs.Held.{lent};
-ghost use Rattle.making.specs.Made.{rowsMade, wordsMade};
+ghost use Rattle.making.specs.Made.{elementsMade, wordsMade};
 ghost use Rattle.making.specs.code.Numbers.{cellIn};
 ghost use Rattle.child_stream.specs.code.Numbers.{starts, notedN, firstOf, startsIn};
 
@@ -77,9 +77,9 @@ pub fn count_child(
     requires { ⌜ Passed (now entries) first count (env (now areas) (now xs) (now ys) b) ⌝ }
     requires { ⌜ SquareIn s ⌝ }
     requires { ⌜ squareOf (cellIn s) ≡ s ⌝ }
-    ensures weight { λ r. ⌜ r .weight ≡ total rowSize (rowsMade
+    ensures weight { λ r. ⌜ r .weight ≡ total elementSize (elementsMade
         (lent (now (areas .entry)) (now (xs .entry)) (now (ys .entry)) b) (cellIn s) (wordsFrom (now (entries .entry)) first count)) ⌝ }
-    ensures starts { λ r. ⌜ r .starts ≡ startsIn (rowsMade
+    ensures starts { λ r. ⌜ r .starts ≡ startsIn (elementsMade
         (lent (now (areas .entry)) (now (xs .entry)) (now (ys .entry)) b) (cellIn s) (wordsFrom (now (entries .entry)) first count)) ⌝ }
 {
     let end = first + count;
@@ -132,7 +132,7 @@ pub fn write_child(
     requires { ⌜ squareOf (cellIn s) ≡ s ⌝ }
     requires { ⌜ first + count ≤ free ⌝ }
     requires { ⌜ (free + made) * 4 ≤ length (now entries) ⌝ }
-    requires { ⌜ made ≡ length (rowsMade (lent (now areas) (now xs) (now ys) b) (cellIn s) (wordsFrom (now entries) first count)) ⌝ }
+    requires { ⌜ made ≡ length (elementsMade (lent (now areas) (now xs) (now ys) b) (cellIn s) (wordsFrom (now entries) first count)) ⌝ }
     ensures entries { λ _. ⌜ now (entries .exit) ≡ written (now (entries .entry)) free (wordsMade
         (lent (now (areas .entry)) (now (xs .entry)) (now (ys .entry)) b) (cellIn s) (wordsFrom (now (entries .entry)) first count)) ⌝ }
 {

@@ -29,14 +29,14 @@ use Rattle.cells.specs.Drawings.{Drawing}
 use Rattle.cells.specs.Streams.{source, made}
 use Rattle.pruning.specs.Sides.{paint}
 use Rattle.ranges.specs.code.Valid.{weigh, lines}
-use Rattle.ranges.proofs.Weights.{rows-length, made-rows}
+use Rattle.ranges.proofs.Weights.{elements-length, made-elements}
 use Rattle.plans.specs.Plans.{drawingFrom}
-use Rattle.root_stream.specs.Opened.{rowsOpened}
+use Rattle.root_stream.specs.Opened.{elementsOpened}
 use Rattle.tables.specs.Tables.{Tree, tree}
 use Rattle.open.specs.declared.Answer as Opening
 use Rattle.open.specs.declared.Answer.the-variants.{Opened, Not}
 use Rattle.open.specs.Open.{drawingTables, streamOpened, roomFor, drawingAnswer, openAnswer, openTree}
-use Rattle.open.proofs.Rooms.{rows-words, has-room}
+use Rattle.open.proofs.Rooms.{elements-words, has-room}
 use Rattle.open.proofs.Answers.{passed}
 use Rattle.position.specs.declared.Spot.{Spot}
 use Rattle.demand.specs.History.{begun}
@@ -81,17 +81,17 @@ drawing-is : drawingOf example ≡ drawingFrom triangle
 drawing-is = ap drawingFrom (drawn-records (drawingTables example) triangle (accepted .range) held)
 
 -- ---- it is opened
-four-rows : (D : Drawing) → D ≡ drawingFrom triangle → weigh (λ n. suc (length (lines D n))) 1 (D .plan) ≡ 4
-four-rows D e = ap (λ (E : Drawing). weigh (λ n. suc (length (lines E n))) 1 (E .plan)) e
+four-elements : (D : Drawing) → D ≡ drawingFrom triangle → weigh (λ n. suc (length (lines D n))) 1 (D .plan) ≡ 4
+four-elements D e = ap (λ (E : Drawing). weigh (λ n. suc (length (lines E n))) 1 (E .plan)) e
 
-few-rows : length (rowsOpened (drawingTables example)) ≤ 4
-unfolding rowsOpened
-few-rows =
+few-elements : length (elementsOpened (drawingTables example)) ≤ 4
+unfolding elementsOpened
+few-elements =
     let D : Drawing = drawingOf example in
-    omega (arith, rows-length paint (made D root (source D)), made-rows D root, four-rows D drawing-is)
+    omega (arith, elements-length paint (made D root (source D)), made-elements D root, four-elements D drawing-is)
 
 few : length (streamOpened example) ≤ 4
-few = omega (arith, rows-words (drawingTables example), few-rows)
+few = omega (arith, elements-words (drawingTables example), few-elements)
 
 room : (n : ℕ) → n ≤ 4 → roomFor 2 72 160 n ≡ true
 room n h = rw (le-leb n 40 (omega arith), le-leb n 65536 (omega arith))

@@ -14,17 +14,17 @@ use Rattle.cells.specs.Cells.{Cell, Quarter, child}
 use Rattle.cells.specs.Segments.{keptIn, startIn}
 use Rattle.cells.specs.Drawings.{Drawing, noFields, fieldsOf, passesBy, isOpaque}
 use Rattle.cells.specs.Streams.{Item, always, area, passing, classOf, items, within, source, made}
-use Rattle.cells.specs.Rows.{rowsOf, roleIn, streamOf}
+use Rattle.cells.specs.Elements.{elementsOf, roleIn, streamOf}
 use Rattle.cells.proofs.Streams.{child-made}
 use Rattle.cells.proofs.Bounds.{made-small}
-use Rattle.cells.proofs.Rows as Rows
+use Rattle.cells.proofs.Elements as Elements
 use Rattle.stream.specs.declared.Bounds.{Bounds}
-use Rattle.evaluate.specs.Reading.{rowsIn}
+use Rattle.evaluate.specs.Reading.{elementsIn}
 use Rattle.evaluate.specs.Words.{wordsOf}
-use Rattle.evaluate.proofs.Words.{rows-back, fits-rows}
+use Rattle.evaluate.proofs.Words.{elements-back, fits-elements}
 use Rattle.ranges.specs.code.Valid.{Valid}
 use Rattle.ranges.specs.Held.{Held, lent}
-use Rattle.making.specs.Made.{rowsMade, wordsMade}
+use Rattle.making.specs.Made.{elementsMade, wordsMade}
 use Rattle.demand.specs.Stands.{wordsOfCell}
 
 -- ---- two drawings with the same areas and corners
@@ -65,21 +65,23 @@ module _ (E D : Drawing) (f : E .fields ≡ D .fields) (x : E .xs ≡ D .xs) (y 
 
 -- ---- the words of a cell's stream say the stream
 module _ (D : Drawing) (ok : Valid D) where
-  pub words-say : (c : Cell) → rowsIn (wordsOfCell D c) ≡ rowsOf (flat paint (made D c (source D)))
-  words-say c = rows-back (rowsOf (flat paint (made D c (source D)))) (fits-rows D (flat paint (made D c (source D))) (made-small D 2048 (ok .few-each) c))
+  pub words-say : (c : Cell) → elementsIn (wordsOfCell D c) ≡ elementsOf (flat paint (made D c (source D)))
+  words-say c =
+      elements-back (elementsOf (flat paint (made D c (source D))))
+      (fits-elements D (flat paint (made D c (source D))) (made-small D 2048 (ok .few-each) c))
 
-  pub words-stream : (c : Cell) → streamOf (roleIn D) (rowsIn (wordsOfCell D c)) ≡ made D c (source D)
-  words-stream c = ap (streamOf (roleIn D)) (words-say c) ∙ Rows.rows-back (roleIn D) (made D c (source D)) (Rows.made-on-side D (ok .roles) c)
+  pub words-stream : (c : Cell) → streamOf (roleIn D) (elementsIn (wordsOfCell D c)) ≡ made D c (source D)
+  words-stream c = ap (streamOf (roleIn D)) (words-say c) ∙ Elements.elements-back (roleIn D) (made D c (source D)) (Elements.made-on-side D (ok .roles) c)
 
   -- a split of a cell's stream
   module _ (areas xs ys : List ℕ) (b : Bounds) (H : Held areas xs ys b D) where
-    stream-lent : (c : Cell) → streamOf (roleIn (lent areas xs ys b)) (rowsIn (wordsOfCell D c)) ≡ made D c (source D)
+    stream-lent : (c : Cell) → streamOf (roleIn (lent areas xs ys b)) (elementsIn (wordsOfCell D c)) ≡ made D c (source D)
     stream-lent c =
-        ap (λ r. streamOf r (rowsIn (wordsOfCell D c))) (same-role (lent areas xs ys b) D (H .fields-same) (H .xs-same) (H .ys-same)) ∙ words-stream c
+        ap (λ r. streamOf r (elementsIn (wordsOfCell D c))) (same-role (lent areas xs ys b) D (H .fields-same) (H .xs-same) (H .ys-same)) ∙ words-stream c
 
     pub split-made : (c : Cell) (q : Quarter) → wordsMade (lent areas xs ys b) (child c q) (wordsOfCell D c) ≡ wordsOfCell D (child c q)
-    unfolding wordsMade rowsMade
+    unfolding wordsMade elementsMade
     split-made c q =
-        ap (λ (s : Side Item). map wordsOf (rowsOf (flat paint s)))
+        ap (λ (s : Side Item). map wordsOf (elementsOf (flat paint s)))
         (ap (made (lent areas xs ys b) (child c q)) (stream-lent c)
         ∙ (same-made (lent areas xs ys b) D (H .fields-same) (H .xs-same) (H .ys-same) (child c q) (made D c (source D)) ∙ child-made D c q (source D)))

@@ -21,7 +21,7 @@ use Rattle.plans.proofs.Held.{accepted-held}
 use Rattle.celltable.specs.declared.CellWords.{CellWords}
 use Rattle.celltable.proofs.Table.{put-cell-same, length-put-cell}
 use Rattle.celltable.proofs.Grid.{SaysCell}
-use Rattle.root_stream.specs.Opened.{rowsOpened, wordsOpened}
+use Rattle.root_stream.specs.Opened.{elementsOpened, wordsOpened}
 use Rattle.tables.specs.Tables.{Tree, cellsUsed, entriesUsed, countsIn}
 use Rattle.split.specs.Split.{words, stream}
 use Rattle.tables.proofs.Heads.{used-is}
@@ -116,7 +116,7 @@ module _ (t : Tree) (n : ℕ) (a : Accepts t n) (long : 3 ≤ length (t .plan)) 
   entries (suc i) h = absurd (omega arith)
 
   stream-opened : streamOpened t ≡ wordsOfCell (drawingOf t) root
-  unfolding rowsOpened wordsOpened
+  unfolding elementsOpened wordsOpened
   stream-opened = refl
 
   streams : (i : ℕ) → Leaf begun i → stream u i ≡ wordsOfCell (drawingOf t) (cellIn begun i)

@@ -11,9 +11,9 @@ use Rattle.pruning.specs.Sides.{paint, flat}
 use Rattle.cells.specs.Cells.{at, Cell, Holds}
 use Rattle.cells.specs.Drawings.{Drawing}
 use Rattle.cells.specs.Streams.{Each, Winds, source, made, shownIn}
-use Rattle.cells.specs.Rows.{rowsOf, entriesOf, decode, roleIn}
+use Rattle.cells.specs.Elements.{elementsOf, entriesOf, decode, roleIn}
 use Rattle.cells.proofs.Streams.{made-shown, source-shown, made-winds}
-use Rattle.cells.proofs.Rows.{decode-rows, made-on-side}
+use Rattle.cells.proofs.Elements.{decode-elements, made-on-side}
 use Rattle.stream.specs.Grammar.{bounds}
 use Rattle.evaluate.specs.Reading.{setAt}
 use Rattle.ranges.specs.code.Valid.{Valid}
@@ -51,10 +51,10 @@ module _ (t : Tree) (d : Drawn t) (c : Cell) where
   abbrev D : Drawing
   D = drawingOf t
 
-  entries-are : entriesOf (decode (roleIn D) (rowsOf (flat paint (made D c (source D))))) ≡ flat paint (made D c (source D))
-  entries-are = ap entriesOf (decode-rows (roleIn D) (flat paint (made D c (source D))) (made-on-side D (d .valid .roles) c))
+  entries-are : entriesOf (decode (roleIn D) (elementsOf (flat paint (made D c (source D))))) ≡ flat paint (made D c (source D))
+  entries-are = ap entriesOf (decode-elements (roleIn D) (flat paint (made D c (source D))) (made-on-side D (d .valid .roles) c))
 
-  cell-winds : Each (Winds D c) (entriesOf (decode (roleIn D) (rowsOf (flat paint (made D c (source D))))))
+  cell-winds : Each (Winds D c) (entriesOf (decode (roleIn D) (elementsOf (flat paint (made D c (source D))))))
   cell-winds = rw entries-are (made-winds D c)
 
   pub cell-set : (x y : ℕ) → Holds c (at x y) → setAt (t .areas) (t .xs) (t .ys) x y (wordsOfCell D c) ≡ setShown D (at x y)

@@ -10,9 +10,9 @@ use Rattle.pruning.specs.Sides.{paint, flat}
 use Rattle.cells.specs.Cells.{Position, at, Cell, Holds}
 use Rattle.cells.specs.Drawings.{Drawing, shownAt}
 use Rattle.cells.specs.Streams.{Each, Winds, source, made, shownIn}
-use Rattle.cells.specs.Rows.{rowsOf, entriesOf, decode, streamOf, roleIn}
+use Rattle.cells.specs.Elements.{elementsOf, entriesOf, decode, streamOf, roleIn}
 use Rattle.stream.specs.declared.Words.{Words}
-use Rattle.evaluate.specs.Reading.{rowsIn, setAt}
+use Rattle.evaluate.specs.Reading.{elementsIn, setAt}
 use Rattle.evaluate.specs.Words.{wordsOf}
 use Rattle.celltable.specs.Table.{cellAt}
 use Rattle.celltable.specs.Descent.{onSquare}
@@ -29,7 +29,7 @@ drawingOf t = drawingIn (drawingTables t)
 
 -- the words of a cell's stream, made straight from a drawing
 abbrev pub wordsOfCell : Drawing → Cell → List Words
-wordsOfCell D c = map wordsOf (rowsOf (flat paint (made D c (source D))))
+wordsOfCell D c = map wordsOf (elementsOf (flat paint (made D c (source D))))
 
 -- ws are the words of the stream of a leaf c
 pub record LeafStands (D : Drawing) (t : Tree) (c : Cell) (ws : List Words) : Type 0 where
@@ -37,9 +37,9 @@ pub record LeafStands (D : Drawing) (t : Tree) (c : Cell) (ws : List Words) : Ty
   pub stream : ws ≡ wordsOfCell D c
   -- "An area's winding in it at (x, y) is its start number, plus the sign of each of its shortcuts with row y, plus +1 or −1 for each of its kept
   -- lines that counts there": of each area entry, at each position of the leaf, the winding in the whole drawing
-  pub windings : Each (Winds D c) (entriesOf (decode (roleIn D) (rowsIn ws)))
+  pub windings : Each (Winds D c) (entriesOf (decode (roleIn D) (elementsIn ws)))
   -- ""Read there" is by "Winding and meaning" over the leaf's stream with these windings, "passes" being a clip area that passes"
-  pub meaning : (p : Position) → Holds c p → shownIn D p (streamOf (roleIn D) (rowsIn ws)) ≡ shownAt D p
+  pub meaning : (p : Position) → Holds c p → shownIn D p (streamOf (roleIn D) (elementsIn ws)) ≡ shownAt D p
   -- the shown set, the material and the colour that one pass over the words in the tables gives
   pub set : (x y : ℕ) → Holds c (at x y) → setAt (t .areas) (t .xs) (t .ys) x y ws ≡ setShown D (at x y)
   pub material : (x y : ℕ) → Holds c (at x y) → materialOf (paintAt (t .areas)) (setAt (t .areas) (t .xs) (t .ys) x y ws) ≡ materialShown D (at x y)

@@ -1,4 +1,4 @@
--- Signs and start numbers as words; an area on a clip side is not shown; lines and shortcuts as rows, and what their ranges say.
+-- Signs and start numbers as words; an area on a clip side is not shown; lines and shortcuts as elements, and what their ranges say.
 use mathlib.Core.Path.{_≡_, refl, sym, ap, ap₂, _∙_}
 use mathlib.Core.Bool.{Bool, true, false, cond, _&&_, _||_, true≢false}
 use mathlib.Core.List.{List, _∷_}
@@ -20,7 +20,7 @@ use Rattle.laws.proofs.Booleans.{clash}
 use Rattle.geometry.specs.code.Reach.{EdgeIn, LineBelow}
 use Rattle.geometry.specs.Windings.{line, edgeOf}
 use Rattle.cells.specs.Segments.{drawn, shortcut}
-use Rattle.cells.specs.Rows.{Row, segment}
+use Rattle.cells.specs.Elements.{Element, segment}
 use Rattle.records.specs.Record.{cornerRange, ranged}
 use Rattle.records.specs.declared.Record.the-variants.{Area}
 use Rattle.records.specs.declared.Decoded.the-variants.{Bad}
@@ -32,7 +32,7 @@ use Rattle.stream.specs.Entry.{decode, isLine, isSegment, startRange, signRange
 use Rattle.stream.specs.Entry as Entry
 use Rattle.stream.proofs.Entries.{segmentEntry, decode-segment, segment-range}
 use Rattle.stream.proofs.Signed.{upper}
-use Rattle.evaluate.specs.Reading.{rowFor}
+use Rattle.evaluate.specs.Reading.{elementFor}
 use Rattle.evaluate.specs.code.Numbers.{lineOf, segmentOf, segmentRange}
 
 -- a sign that is not 1 is −1
@@ -119,18 +119,18 @@ module _ (xs ys : List ℕ) (used : ℕ) (w : Words) (h : segmentRange xs ys use
 
 -- ---- an entry that is a line or a shortcut
 
--- its row
-pub entry-row : (w : Words) (ws : List Row) → rowFor (segmentEntry w) ws ≡ segment (segmentOf w) ∷ ws
-entry-row w ws = go (isLine (w .kind))
+-- its element
+pub entry-element : (w : Words) (ws : List Element) → elementFor (segmentEntry w) ws ≡ segment (segmentOf w) ∷ ws
+entry-element w ws = go (isLine (w .kind))
   where
     go : (l : Bool)
-        → rowFor (cond l (Entry.line (w .p) (w .q)) (Entry.shortcut (w .p) (w .q) (w .r))) ws
+        → elementFor (cond l (Entry.line (w .p) (w .q)) (Entry.shortcut (w .p) (w .q) (w .r))) ws
         ≡ segment (cond l (drawn (lineOf w)) (shortcut (toZ w32 (w .p)) (w .q) (w .r))) ∷ ws
     go true = refl
     go false = refl
 
-pub row-segment : (w : Words) (ws : List Row) → isSegment (w .kind) ≡ true → rowFor (decode w) ws ≡ segment (segmentOf w) ∷ ws
-row-segment w ws s = ap (λ e. rowFor e ws) (decode-segment w s) ∙ entry-row w ws
+pub element-segment : (w : Words) (ws : List Element) → isSegment (w .kind) ≡ true → elementFor (decode w) ws ≡ segment (segmentOf w) ∷ ws
+element-segment w ws s = ap (λ e. elementFor e ws) (decode-segment w s) ∙ entry-element w ws
 
 -- what its range says
 pub in-segment : (v : Env) (w : Words) → isSegment (w .kind) ≡ true → inRange v (decode w) ≡ true → segmentRange (v .xs) (v .ys) (v .used .corners) w ≡ true

@@ -12,7 +12,7 @@ use Rattle.paint.specs.Sets.{withArea}
 use Rattle.pruning.specs.Registers.{onItem}
 use Rattle.machine.specs.declared.Machine.{Machine}
 use Rattle.machine.specs.code.Registers.{machine, meant}
-use Rattle.cells.specs.Rows.{settled, state}
+use Rattle.cells.specs.Elements.{settled, state}
 use Rattle.stream.specs.Entry.{decode, startRange, isSegment}
 use Rattle.stream.specs.Table.{wordsAt, wordsFrom}
 use Rattle.stream.specs.Grammar.{Env, isGood, areaMet, inRange, Passed}

@@ -1,4 +1,4 @@
--- The words of an entry, read by the code, are its row read by the machine.
+-- The words of an entry, read by the code, are its element read by the machine.
 use mathlib.Core.Path.{_≡_, refl, sym, ap, ap₂, _∙_}
 use mathlib.Core.Bool.{Bool, true, false, cond}
 use mathlib.Core.List.{List, [], _∷_}
@@ -16,7 +16,7 @@ use Rattle.machine.specs.declared.Machine.{Machine}
 use Rattle.machine.specs.code.Registers.{meant}
 use Rattle.cells.specs.Cells.{at}
 use Rattle.cells.specs.Segments.{addsAt}
-use Rattle.cells.specs.Rows.{Row, settled, waits, State, state, settle, onRows}
+use Rattle.cells.specs.Elements.{Element, settled, waits, State, state, settle, onElements}
 use Rattle.stream.specs.declared.Words.{Words}
 use Rattle.stream.specs.Entry.{Entry, decode, startRange, isSegment}
 use Rattle.stream.specs.Table.{wordsAt, wordsFrom}
@@ -24,9 +24,9 @@ use Rattle.stream.specs.Grammar.{Env, isGood, areaMet, inRange}
 use Rattle.stream.specs.code.Machine.{segmentsIn}
 use Rattle.stream.proofs.Table.{words-step, words-none}
 use Rattle.stream.proofs.Entries.{byTests, decode-is}
-use Rattle.evaluate.specs.Reading.{roleAt, passAt, opaqueAt, rowFor, rowsIn}
+use Rattle.evaluate.specs.Reading.{roleAt, passAt, opaqueAt, elementFor, elementsIn}
 use Rattle.evaluate.specs.code.Numbers.{segmentAdds, segmentsSum, movedBy, setFrom}
-use Rattle.evaluate.proofs.Laws.{both, entry-row, row-segment}
+use Rattle.evaluate.proofs.Laws.{both, entry-element, element-segment}
 use Rattle.evaluate.proofs.Idle.{Idle, pending-idle, stopped}
 
 -- ---- what the range of an area says
@@ -60,35 +60,35 @@ module _ (areas xs ys : List ℕ) (x y : ℕ) where
   abbrev afterArea : Registers ℕ → (n : ℕ) (z : ℤ) → Registers ℕ
   afterArea g n z = settle (roleAt areas) (passAt areas) (opaqueAt areas) (addsAt xs ys (at x y)) (state g (waits n z))
 
-  -- the set in the end, from rows; from an entry and the words behind it
-  abbrev FromRows : List Row → State → ℕ
-  FromRows rs st =
+  -- the set in the end, from elements; from an entry and the words behind it
+  abbrev FromElements : List Element → State → ℕ
+  FromElements rs st =
       outOf
       (settle (roleAt areas) (passAt areas) (opaqueAt areas) (addsAt xs ys (at x y))
-      (onRows (roleAt areas) (passAt areas) (opaqueAt areas) (addsAt xs ys (at x y)) rs st))
+      (onElements (roleAt areas) (passAt areas) (opaqueAt areas) (addsAt xs ys (at x y)) rs st))
 
-  abbrev FromRow : Entry → List Words → State → ℕ
-  FromRow e ws st = FromRows (rowFor e (rowsIn ws)) st
+  abbrev FromElement : Entry → List Words → State → ℕ
+  FromElement e ws st = FromElements (elementFor e (elementsIn ws)) st
 
   -- an area waits with its start number
   named-step : (w : Words) (ws : List Words) (g : Registers ℕ)
       → w .kind ≡ 4
       → From (state g settled) (w ∷ ws) ≡ From (state g (waits (w .p) (toZ w32 (w .q)))) ws
-  unfolding rowsIn
+  unfolding elementsIn
   named-step w ws g e = rw e
 
   -- a line or a shortcut is added to the sum of the area that waits
   segment-step : (w : Words) (ws : List Words) (g : Registers ℕ) (n : ℕ) (z : ℤ)
       → isSegment (w .kind) ≡ true
       → From (state g (waits n z)) (w ∷ ws) ≡ From (state g (waits n (z +ℤ segmentAdds xs ys x y w))) ws
-  unfolding rowsIn
-  segment-step w ws g n z s = ap (λ rs. FromRows rs (state g (waits n z))) (row-segment w (rowsIn ws) s)
+  unfolding elementsIn
+  segment-step w ws g n z s = ap (λ rs. FromElements rs (state g (waits n z))) (element-segment w (elementsIn ws) s)
 
   -- before an entry that is neither, the area that waits has all its lines and shortcuts
   settle-entry : (v : Env) (a b c d e f : Bool) (w : Words) (ws : List Words) (m : Registers ℕ) (n : ℕ) (z : ℤ)
       → inRange v (byTests a b c d e f w) ≡ true
       → e ≡ false
-      → FromRow (byTests a b c d e f w) ws (state m (waits n z)) ≡ FromRow (byTests a b c d e f w) ws (state (afterArea m n z) settled)
+      → FromElement (byTests a b c d e f w) ws (state m (waits n z)) ≡ FromElement (byTests a b c d e f w) ws (state (afterArea m n z) settled)
   settle-entry v true b c d e f w ws m n z h k = refl
   settle-entry v false true c d e f w ws m n z h k = refl
   settle-entry v false false true d e f w ws m n z h k = refl
@@ -99,7 +99,7 @@ module _ (areas xs ys : List ℕ) (x y : ℕ) where
 
   settle-step : (v : Env) (w : Words) (ws : List Words) (g : Registers ℕ) (n : ℕ) (z : ℤ) → inRange v (decode w) ≡ true → isSegment (w .kind) ≡ false
       → From (state g (waits n z)) (w ∷ ws) ≡ From (state (afterArea g n z) settled) (w ∷ ws)
-  unfolding rowsIn
+  unfolding elementsIn
   settle-step v w ws g n z h k =
       rw (decode-is w)
       (settle-entry v (eqb (w .kind) 1) (eqb (w .kind) 2) (eqb (w .kind) 3) (eqb (w .kind) 4) (isSegment (w .kind)) (eqb (w .kind) 7) w ws g n z
@@ -111,7 +111,7 @@ module _ (areas xs ys : List ℕ) (x y : ℕ) where
       → From (state (afterArea g m (z +ℤ segmentsSum xs ys x y (wordsFrom t i k))) settled)
       (wordsFrom t (i + segmentsIn (wordsFrom t i k)) (k - segmentsIn (wordsFrom t i k)))
       ≡ From (state g (waits m z)) (wordsFrom t i k)
-  unfolding wordsFrom segmentsIn segmentsSum rowsIn
+  unfolding wordsFrom segmentsIn segmentsSum elementsIn
   winding-step v t g m zero i z h = ap (λ u. From (state (afterArea g m u) settled) []) (+ℤ-idr z)
   winding-step v t g m (suc k) i z h =
       go (isSegment (wordsAt t i .kind)) refl
@@ -174,7 +174,7 @@ module _ (areas xs ys : List ℕ) (x y : ℕ) where
   idle-step m t i e w q a l n =
       let ws = wordsFrom t (i + 1) (e - (i + 1)) in
       let d = idle-by (m .depth) (m .stop) (m .set) (eqb (m .state) 0) (eqb (m .state) 1) (eqb (m .state) 2) (ne-eqb (m .state) 0 n) in
-      sym (ap outOf (pending-idle (roleAt areas) (passAt areas) (opaqueAt areas) (addsAt xs ys (at x y)) (meant m) d (rowsIn ws) (w .p) (toZ w32 (w .q))))
+      sym (ap outOf (pending-idle (roleAt areas) (passAt areas) (opaqueAt areas) (addsAt xs ys (at x y)) (meant m) d (elementsIn ws) (w .p) (toZ w32 (w .q))))
       ∙ (sym (named-step w ws (meant m) a) ∙ first-step (state (meant m) settled) t i e w q l)
 
   -- ---- an entry that is no area
@@ -183,12 +183,12 @@ module _ (areas xs ys : List ℕ) (x y : ℕ) where
       → inRange v (byTests a b c d e f w) ≡ true
       → d ≡ false
       → From (state (cond a (onPush m) (cond b (onActivate m) (cond c (onPop m) (cond e m (onItem clip true true (λ s. s) m))))) settled) ws
-      ≡ FromRow (byTests a b c d e f w) ws (state m settled)
+      ≡ FromElement (byTests a b c d e f w) ws (state m settled)
   moved-entry v true b c d e f w ws m h k = refl
   moved-entry v false true c d e f w ws m h k = refl
   moved-entry v false false true d e f w ws m h k = refl
   moved-entry v false false false true e f w ws m h k = clash (sym k)
-  moved-entry v false false false false true f w ws m h k = ap (λ rs. FromRows rs (state m settled)) (sym (entry-row w (rowsIn ws)))
+  moved-entry v false false false false true f w ws m h k = ap (λ rs. FromElements rs (state m settled)) (sym (entry-element w (elementsIn ws)))
   moved-entry v false false false false false true w ws m h k = refl
   moved-entry v false false false false false false w ws m h k = clash h
 
@@ -196,7 +196,7 @@ module _ (areas xs ys : List ℕ) (x y : ℕ) where
       → inRange v (decode w) ≡ true
       → (w .kind ≡ 4 → ⊥)
       → From (state (movedBy (w .kind) g) settled) ws ≡ From (state g settled) (w ∷ ws)
-  unfolding rowsIn
+  unfolding elementsIn
   moved-step v w ws g h n =
       rw (decode-is w)
       (moved-entry v (eqb (w .kind) 1) (eqb (w .kind) 2) (eqb (w .kind) 3) (eqb (w .kind) 4) (isSegment (w .kind)) (eqb (w .kind) 7) w ws g
@@ -212,11 +212,11 @@ module _ (areas xs ys : List ℕ) (x y : ℕ) where
   stopped-set m ws h k =
       sym
       (ap (λ g. From (state g settled) ws) (three m h)
-      ∙ ap outOf (stopped (roleAt areas) (passAt areas) (opaqueAt areas) (addsAt xs ys (at x y)) (m .set) (rowsIn ws)))
+      ∙ ap outOf (stopped (roleAt areas) (passAt areas) (opaqueAt areas) (addsAt xs ys (at x y)) (m .set) (elementsIn ws)))
       ∙ k
 
   pub last-set : (m : Machine) (t : List ℕ) (i e : ℕ) {whole : ℕ} → e ≤ i → From (state (meant m) settled) (wordsFrom t i (e - i)) ≡ whole → m .set ≡ whole
-  unfolding rowsIn
+  unfolding elementsIn
   last-set m t i e h k =
       sym (out-meant (m .depth) (m .stop) (m .set) (eqb (m .state) 0) (eqb (m .state) 1) (eqb (m .state) 2))
       ∙ (ap (From (state (meant m) settled)) (sym (words-none t i e h)) ∙ k)

@@ -1,4 +1,4 @@
--- The words of rows say those rows; so a cell's stream, in tables that hold the drawing, is read for the set that the drawing shows.
+-- The words of elements say those elements; so a cell's stream, in tables that hold the drawing, is read for the set that the drawing shows.
 use mathlib.Core.Path.{_≡_, refl, ap, _∙_}
 use mathlib.Core.List.{List, [], _∷_, _++_, map}
 use Prim.Native.Nat.{ℕ, _≤_}
@@ -21,24 +21,24 @@ use Rattle.pruning.proofs.Sides.{map-map}
 use Rattle.pruning.proofs.Survivors.{normal-sub}
 use Rattle.cells.specs.Streams.{Item, always, area, Each, On, items, within, whole, source, made}
 use Rattle.cells.specs.code.Sizes.{SignsIn, Small}
-use Rattle.cells.specs.Rows.{
-  Row,
+use Rattle.cells.specs.Elements.{
+  Element,
   opens,
   bar,
   closes,
   bare,
   named,
   segment,
-  rowsOf,
+  elementsOf,
   settled,
   waits,
   State,
   state,
   settle,
   addTo,
-  onRow,
-  onRows,
-  readRows,
+  onElement,
+  onElements,
+  readElements,
   roleIn,
   readAt,
   Fitted,
@@ -46,25 +46,25 @@ use Rattle.cells.specs.Rows.{
 use Rattle.cells.proofs.Each.{each-sub, each-mapped}
 use Rattle.cells.proofs.Streams.{made-normal}
 use Rattle.cells.proofs.Bounds.{made-small}
-use Rattle.cells.proofs.Rows.{cell-read}
-use Rattle.evaluate.specs.Reading.{rowFor, rowsIn, roleAt, passAt, opaqueAt, setAt}
-use Rattle.evaluate.specs.Words.{wordsOf, RowFits, EachFits, Agrees, EachAgrees}
+use Rattle.cells.proofs.Elements.{cell-read}
+use Rattle.evaluate.specs.Reading.{elementFor, elementsIn, roleAt, passAt, opaqueAt, setAt}
+use Rattle.evaluate.specs.Words.{wordsOf, ElementFits, EachFits, Agrees, EachAgrees}
 
 -- ---- there and back
 
-row-back : (w : Row) (ws : List Row) → RowFits w → rowFor (decode (wordsOf w)) ws ≡ w ∷ ws
-row-back opens ws h = refl
-row-back bar ws h = refl
-row-back closes ws h = refl
-row-back bare ws h = refl
-row-back (named n z) ws h = rw (toZ-ofZ w32 z h)
-row-back (segment (drawn (line a b))) ws h = refl
-row-back (segment (shortcut z lo hi)) ws h = rw (toZ-ofZ w32 z h)
+element-back : (w : Element) (ws : List Element) → ElementFits w → elementFor (decode (wordsOf w)) ws ≡ w ∷ ws
+element-back opens ws h = refl
+element-back bar ws h = refl
+element-back closes ws h = refl
+element-back bare ws h = refl
+element-back (named n z) ws h = rw (toZ-ofZ w32 z h)
+element-back (segment (drawn (line a b))) ws h = refl
+element-back (segment (shortcut z lo hi)) ws h = rw (toZ-ofZ w32 z h)
 
-pub rows-back : (ws : List Row) → EachFits ws → rowsIn (map wordsOf ws) ≡ ws
-unfolding rowsIn
-rows-back [] h = refl
-rows-back (w ∷ ws) h = ap (rowFor (decode (wordsOf w))) (rows-back ws (h .1)) ∙ row-back w ws (h .0)
+pub elements-back : (ws : List Element) → EachFits ws → elementsIn (map wordsOf ws) ≡ ws
+unfolding elementsIn
+elements-back [] h = refl
+elements-back (w ∷ ws) h = ap (elementFor (decode (wordsOf w))) (elements-back ws (h .1)) ∙ element-back w ws (h .0)
 
 -- ---- tables that hold the drawing
 
@@ -81,39 +81,39 @@ module _ (areas : List ℕ) (D : Drawing) (f : Segment → ℤ) where
   abbrev end : State → Registers ℕ
   end = settle (roleIn D) (passesBy D) (isOpaque D) f
 
-  read-same : (ws : List Row) (st : State) → AgreesOn st → EachAgrees areas D ws
-      → settle (roleAt areas) (passAt areas) (opaqueAt areas) f (onRows (roleAt areas) (passAt areas) (opaqueAt areas) f ws st)
-      ≡ end (onRows (roleIn D) (passesBy D) (isOpaque D) f ws st)
+  read-same : (ws : List Element) (st : State) → AgreesOn st → EachAgrees areas D ws
+      → settle (roleAt areas) (passAt areas) (opaqueAt areas) f (onElements (roleAt areas) (passAt areas) (opaqueAt areas) f ws st)
+      ≡ end (onElements (roleIn D) (passesBy D) (isOpaque D) f ws st)
   read-same [] st a e = settle-same st a
   read-same (opens ∷ ws) st a e = rw (settle-same st a) (read-same ws (state (onPush (end st)) settled) tt e)
   read-same (bar ∷ ws) st a e = rw (settle-same st a) (read-same ws (state (onActivate (end st)) settled) tt e)
   read-same (closes ∷ ws) st a e = rw (settle-same st a) (read-same ws (state (onPop (end st)) settled) tt e)
-  read-same (bare ∷ ws) st a e = rw (settle-same st a) (read-same ws (onRow (roleIn D) (passesBy D) (isOpaque D) f bare st) tt e)
+  read-same (bare ∷ ws) st a e = rw (settle-same st a) (read-same ws (onElement (roleIn D) (passesBy D) (isOpaque D) f bare st) tt e)
   read-same (named n z ∷ ws) st a e = rw (settle-same st a) (read-same ws (state (end st) (waits n z)) (e .0) (e .1))
   read-same (segment g ∷ ws) (state r settled) a e = read-same ws (state r settled) tt e
   read-same (segment g ∷ ws) (state r (waits n z)) a e = read-same ws (addTo (roleIn D) (passesBy D) (isOpaque D) f g (state r (waits n z))) a e
 
--- rows on whose areas the tables and the drawing agree show the same set with both
-pub agreed-read : (areas : List ℕ) (D : Drawing) (p : Position) (ws : List Row) → EachAgrees areas D ws
-    → readRows (roleAt areas) (passAt areas) (opaqueAt areas) (addsAt (D .xs) (D .ys) p) ws ≡ readAt D p ws
+-- elements on whose areas the tables and the drawing agree show the same set with both
+pub agreed-read : (areas : List ℕ) (D : Drawing) (p : Position) (ws : List Element) → EachAgrees areas D ws
+    → readElements (roleAt areas) (passAt areas) (opaqueAt areas) (addsAt (D .xs) (D .ys) p) ws ≡ readAt D p ws
 agreed-read areas D p ws e = ap outOf (read-same areas D (addsAt (D .xs) (D .ys) p) ws (state (reg P 0 0 0) settled) tt e)
 
--- the words of rows, read in the tables at a position, give the set that the rows show with the drawing
-pub words-read : (areas : List ℕ) (D : Drawing) (x y : ℕ) (ws : List Row)
+-- the words of elements, read in the tables at a position, give the set that the elements show with the drawing
+pub words-read : (areas : List ℕ) (D : Drawing) (x y : ℕ) (ws : List Element)
     → EachFits ws
     → EachAgrees areas D ws
     → setAt areas (D .xs) (D .ys) x y (map wordsOf ws) ≡ readAt D (at x y) ws
 unfolding setAt
 words-read areas D x y ws h e =
-    ap (readRows (roleAt areas) (passAt areas) (opaqueAt areas) (addsAt (D .xs) (D .ys) (at x y))) (rows-back ws h)
+    ap (readElements (roleAt areas) (passAt areas) (opaqueAt areas) (addsAt (D .xs) (D .ys) (at x y))) (elements-back ws h)
     ∙ agreed-read areas D (at x y) ws e
 
--- ---- the rows of a cell's stream
+-- ---- the elements of a cell's stream
 
 small-fits : (z : ℤ) (m : ℕ) → natAbs z ≤ m → m ≤ 2048 → SFits w32 z
 small-fits z m h k = record { sfits = mag-abs z (omega arith) }
 
-fits-append : (x y : List Row) → EachFits x → EachFits y → EachFits (x ++ y)
+fits-append : (x y : List Element) → EachFits x → EachFits y → EachFits (x ++ y)
 fits-append [] y h g = g
 fits-append (w ∷ x) y h g = (h .0, fits-append x y (h .1) g)
 
@@ -122,33 +122,33 @@ fits-segments xs ys [] s = tt
 fits-segments xs ys (drawn l ∷ gs) s = (tt, fits-segments xs ys gs (s .1))
 fits-segments xs ys (shortcut z lo hi ∷ gs) s = (small-fits z 1 (s .0) (omega arith), fits-segments xs ys gs (s .1))
 
-pub fits-rows : (D : Drawing) (es : List (Entry Item)) → Each (Small D 2048) es → EachFits (rowsOf es)
-fits-rows D [] h = tt
-fits-rows D (item k always ∷ es) h = (tt, fits-rows D es (h .1))
-fits-rows D (item k (area n z gs) ∷ es) h = (
+pub fits-elements : (D : Drawing) (es : List (Entry Item)) → Each (Small D 2048) es → EachFits (elementsOf es)
+fits-elements D [] h = tt
+fits-elements D (item k always ∷ es) h = (tt, fits-elements D es (h .1))
+fits-elements D (item k (area n z gs) ∷ es) h = (
   small-fits z 2048 (omega (arith, h .0 .0)) (omega arith),
-  fits-append (map segment gs) (rowsOf es) (fits-segments (D .xs) (D .ys) gs (h .0 .1)) (fits-rows D es (h .1)),
+  fits-append (map segment gs) (elementsOf es) (fits-segments (D .xs) (D .ys) gs (h .0 .1)) (fits-elements D es (h .1)),
 )
-fits-rows D (push ∷ es) h = (tt, fits-rows D es h)
-fits-rows D (activate ∷ es) h = (tt, fits-rows D es h)
-fits-rows D (pop ∷ es) h = (tt, fits-rows D es h)
+fits-elements D (push ∷ es) h = (tt, fits-elements D es h)
+fits-elements D (activate ∷ es) h = (tt, fits-elements D es h)
+fits-elements D (pop ∷ es) h = (tt, fits-elements D es h)
 
 module _ (areas : List ℕ) (D : Drawing) where
   abbrev AgreesIn : Kind → Item → Type 0
   AgreesIn k always = Unit {0}
   AgreesIn k (area n z gs) = Agrees areas D n
 
-  agrees-segments : (gs : List Segment) (ws : List Row) → EachAgrees areas D ws → EachAgrees areas D (map segment gs ++ ws)
+  agrees-segments : (gs : List Segment) (ws : List Element) → EachAgrees areas D ws → EachAgrees areas D (map segment gs ++ ws)
   agrees-segments [] ws e = e
   agrees-segments (g ∷ gs) ws e = agrees-segments gs ws e
 
-  agrees-rows : (es : List (Entry Item)) → Each AgreesIn es → EachAgrees areas D (rowsOf es)
-  agrees-rows [] h = tt
-  agrees-rows (item k always ∷ es) h = agrees-rows es (h .1)
-  agrees-rows (item k (area n z gs) ∷ es) h = (h .0, agrees-segments gs (rowsOf es) (agrees-rows es (h .1)))
-  agrees-rows (push ∷ es) h = agrees-rows es h
-  agrees-rows (activate ∷ es) h = agrees-rows es h
-  agrees-rows (pop ∷ es) h = agrees-rows es h
+  agrees-elements : (es : List (Entry Item)) → Each AgreesIn es → EachAgrees areas D (elementsOf es)
+  agrees-elements [] h = tt
+  agrees-elements (item k always ∷ es) h = agrees-elements es (h .1)
+  agrees-elements (item k (area n z gs) ∷ es) h = (h .0, agrees-segments gs (elementsOf es) (agrees-elements es (h .1)))
+  agrees-elements (push ∷ es) h = agrees-elements es h
+  agrees-elements (activate ∷ es) h = agrees-elements es h
+  agrees-elements (pop ∷ es) h = agrees-elements es h
 
   agrees-made : On (λ k n. Agrees areas D n) paint (D .plan) → (c : Cell) → Each AgreesIn (flat paint (made D c (source D)))
   agrees-made o c =
@@ -163,9 +163,9 @@ module _ (areas : List ℕ) (D : Drawing) where
       → ((n : ℕ) → length (linesOf (getD (D .contours) n [])) ≤ 2048)
       → (c : Cell) (x y : ℕ)
       → Holds c (at x y)
-      → setAt areas (D .xs) (D .ys) x y (map wordsOf (rowsOf (flat paint (made D c (source D))))) ≡ setOf (shownAt D (at x y))
+      → setAt areas (D .xs) (D .ys) x y (map wordsOf (elementsOf (flat paint (made D c (source D))))) ≡ setOf (shownAt D (at x y))
   cell-words-read f o m c x y i =
-      words-read areas D x y (rowsOf (flat paint (made D c (source D))))
-      (fits-rows D (flat paint (made D c (source D))) (made-small D 2048 m c))
-      (agrees-rows (flat paint (made D c (source D))) (agrees-made o c))
+      words-read areas D x y (elementsOf (flat paint (made D c (source D))))
+      (fits-elements D (flat paint (made D c (source D))) (made-small D 2048 m c))
+      (agrees-elements (flat paint (made D c (source D))) (agrees-made o c))
       ∙ cell-read D f c (at x y) i

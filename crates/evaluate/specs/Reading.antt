@@ -16,23 +16,23 @@ use Rattle.cells.specs.Cells.{at}
 use Rattle.cells.specs.Segments.{drawn, addsAt}
 use Rattle.cells.specs.Segments as Segments
 use Rattle.cells.specs.Drawings.{ruleOf, kindOf}
-use Rattle.cells.specs.Rows.{Row, named, segment, bare, readRows}
-use Rattle.cells.specs.Rows as Rows
+use Rattle.cells.specs.Elements.{Element, named, segment, bare, readElements}
+use Rattle.cells.specs.Elements as Elements
 
--- what the words of an entry say, in front of the rows behind it
-abbrev pub rowFor : Entry → List Row → List Row
-rowFor opens ws = Rows.opens ∷ ws
-rowFor bar ws = Rows.bar ∷ ws
-rowFor closes ws = Rows.closes ∷ ws
-rowFor (area n q) ws = named n (toZ w32 q) ∷ ws
-rowFor (line a b) ws = segment (drawn (Windings.line a b)) ∷ ws
-rowFor (shortcut s a b) ws = segment (Segments.shortcut (toZ w32 s) a b) ∷ ws
-rowFor passes ws = bare ∷ ws
-rowFor bad ws = ws
+-- what the words of an entry say, in front of the elements behind it
+abbrev pub elementFor : Entry → List Element → List Element
+elementFor opens ws = Elements.opens ∷ ws
+elementFor bar ws = Elements.bar ∷ ws
+elementFor closes ws = Elements.closes ∷ ws
+elementFor (area n q) ws = named n (toZ w32 q) ∷ ws
+elementFor (line a b) ws = segment (drawn (Windings.line a b)) ∷ ws
+elementFor (shortcut s a b) ws = segment (Segments.shortcut (toZ w32 s) a b) ∷ ws
+elementFor passes ws = bare ∷ ws
+elementFor bad ws = ws
 
-unfoldable pub rowsIn : List Words → List Row
-rowsIn [] = []
-rowsIn (w ∷ ws) = rowFor (decode w) (rowsIn ws)
+unfoldable pub elementsIn : List Words → List Element
+elementsIn [] = []
+elementsIn (w ∷ ws) = elementFor (decode w) (elementsIn ws)
 
 -- ---- an area in its table of eight words: role, fill rule, alpha, ...
 
@@ -47,4 +47,4 @@ opaqueAt areas n = eqb (getD areas (n * 8 + 2) 0) 255
 
 -- the shown set at (x, y)
 unfoldable pub setAt : (areas xs ys : List ℕ) → (x y : ℕ) → List Words → ℕ
-setAt areas xs ys x y ws = readRows (roleAt areas) (passAt areas) (opaqueAt areas) (addsAt xs ys (at x y)) (rowsIn ws)
+setAt areas xs ys x y ws = readElements (roleAt areas) (passAt areas) (opaqueAt areas) (addsAt xs ys (at x y)) (elementsIn ws)

@@ -15,7 +15,7 @@ use Rattle.stream.specs.Grammar.{Env, accepts, Passed}
 use Rattle.stream.proofs.Table.{from-agree, written-nil, written-append, written-keeps, length-written}
 use Rattle.making.proofs.Made.{made-length}
 use Rattle.four_children.specs.declared.Tally.{Tally}
-use Rattle.four_children.specs.Children.{cellOfChild, rowsOfChild, wordsOfChild, entriesOfChild, streamsTo}
+use Rattle.four_children.specs.Children.{cellOfChild, elementsOfChild, wordsOfChild, entriesOfChild, streamsTo}
 use Rattle.four_children.specs.code.Numbers.{tally, fourTallies, noTally}
 
 pub length-child : (D : Drawing) (c : Cell) (ws : List Words) (q : ℕ) → length (wordsOfChild D c ws q) ≡ entriesOfChild D c ws q
@@ -31,7 +31,7 @@ streams-more D c ws n = length-append (streamsTo D c ws n) (wordsOfChild D c ws 
 tally-at : (D : Drawing) (c : Cell) (ws : List Words) (ts : List Tally) (q : ℕ)
     → q < 4
     → ts ≡ fourTallies D c ws
-    → getD ts q noTally ≡ tally (rowsOfChild D c ws q)
+    → getD ts q noTally ≡ tally (elementsOfChild D c ws q)
 tally-at D c ws ts zero h e = rw e
 tally-at D c ws ts (suc zero) h e = rw e
 tally-at D c ws ts (suc (suc zero)) h e = rw e

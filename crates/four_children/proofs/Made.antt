@@ -9,14 +9,14 @@ use Rattle.stream.specs.Table.{wordsFrom}
 use Rattle.stream.specs.Grammar.{env, Passed}
 use Rattle.ranges.specs.Held.{lent}
 use Rattle.ranges.proofs.Streams.{words-length}
-use Rattle.making.specs.Made.{rowsMade}
+use Rattle.making.specs.Made.{elementsMade}
 use Rattle.making.proofs.Lent.{lent-reads}
 use Rattle.making.proofs.Shorter.{made-shorter}
 
-pub few-rows : (t areas xs ys : List ℕ) (b : Bounds) (first count : ℕ) (c : Cell)
+pub few-elements : (t areas xs ys : List ℕ) (b : Bounds) (first count : ℕ) (c : Cell)
     → Passed t first count (env areas xs ys b)
-    → length (rowsMade (lent areas xs ys b) c (wordsFrom t first count)) ≤ 4096
-few-rows t areas xs ys b first count c p =
+    → length (elementsMade (lent areas xs ys b) c (wordsFrom t first count)) ≤ 4096
+few-elements t areas xs ys b first count c p =
     omega (
       arith,
       made-shorter (env areas xs ys b) (lent areas xs ys b) c (lent-reads areas xs ys b) (wordsFrom t first count) (p .grammar),

@@ -6,13 +6,13 @@ use native.Mathlib.Omega.{arith}
 use lib.ListN.{length}
 use Rattle.pruning.specs.code.Weights.{total}
 use Rattle.cells.specs.Segments.{drawn, shortcut}
-use Rattle.cells.specs.Rows.{Row, opens, bar, closes, bare, named, segment}
-use Rattle.cells.specs.code.Making.{rowSize}
+use Rattle.cells.specs.Elements.{Element, opens, bar, closes, bare, named, segment}
+use Rattle.cells.specs.code.Making.{elementSize}
 use Rattle.child_stream.specs.declared.Count.{Count}
 use Rattle.child_stream.specs.code.Numbers.{startsIn}
 use Rattle.four_children.specs.code.Numbers.{lineOne, sumOf, tally, tallyN}
 
-abbrev areaOne : Row → ℕ
+abbrev areaOne : Element → ℕ
 areaOne opens = 0
 areaOne bar = 0
 areaOne closes = 0
@@ -20,24 +20,24 @@ areaOne bare = 0
 areaOne (named n z) = 1
 areaOne (segment g) = 0
 
-row-is : (r : Row) → (rowSize r ≡ 1 + 65536 * lineOne r + 4294967296 * areaOne r) × (lineOne r ≤ 1)
-row-is opens = (refl, omega arith)
-row-is bar = (refl, omega arith)
-row-is closes = (refl, omega arith)
-row-is bare = (refl, omega arith)
-row-is (named n z) = (refl, omega arith)
-row-is (segment (drawn l)) = (refl, omega arith)
-row-is (segment (shortcut z lo hi)) = (refl, omega arith)
+element-is : (r : Element) → (elementSize r ≡ 1 + 65536 * lineOne r + 4294967296 * areaOne r) × (lineOne r ≤ 1)
+element-is opens = (refl, omega arith)
+element-is bar = (refl, omega arith)
+element-is closes = (refl, omega arith)
+element-is bare = (refl, omega arith)
+element-is (named n z) = (refl, omega arith)
+element-is (segment (drawn l)) = (refl, omega arith)
+element-is (segment (shortcut z lo hi)) = (refl, omega arith)
 
-total-is : (rs : List Row) → (total rowSize rs ≡ length rs + 65536 * sumOf lineOne rs + 4294967296 * sumOf areaOne rs) × (sumOf lineOne rs ≤ length rs)
+total-is : (rs : List Element) → (total elementSize rs ≡ length rs + 65536 * sumOf lineOne rs + 4294967296 * sumOf areaOne rs) × (sumOf lineOne rs ≤ length rs)
 total-is [] = (refl, omega arith)
 total-is (r ∷ rs) =
-    let a = row-is r in
+    let a = element-is r in
     let b = total-is rs in
     (omega (arith, a .0, b .0), omega (arith, a .1, b .1))
 
 -- of a stream that is not too long
-pub tally-is : (rs : List Row) (k : Count) → length rs ≤ 4096 → k .weight ≡ total rowSize rs → k .starts ≡ startsIn rs → tallyN k ≡ tally rs
+pub tally-is : (rs : List Element) (k : Count) → length rs ≤ 4096 → k .weight ≡ total elementSize rs → k .starts ≡ startsIn rs → tallyN k ≡ tally rs
 tally-is rs k h e z = λ d. record { entries = x d; lines = y d; starts = z d }
   where
     x : k .weight % 65536 ≡ length rs

@@ -4,12 +4,12 @@ use Prim.Native.Nat.{ℕ, zero, suc, _+_}
 use lib.ListN.{length}
 use Rattle.cells.specs.Cells.{Cell, left, low, side, child}
 use Rattle.cells.specs.Drawings.{Drawing}
-use Rattle.cells.specs.Rows.{Row}
+use Rattle.cells.specs.Elements.{Element}
 use Rattle.stream.specs.declared.Words.{Words}
 use Rattle.celltable.specs.declared.CellWords.{CellWords}
 use Rattle.celltable.specs.Table.{putCellAt}
 use Rattle.celltable.specs.Descent.{quarterAt}
-use Rattle.making.specs.Made.{rowsMade, wordsMade}
+use Rattle.making.specs.Made.{elementsMade, wordsMade}
 
 -- the words of a leaf: its square, no child, its stream
 abbrev pub wordsWith : Cell → (first count : ℕ) → CellWords
@@ -21,14 +21,14 @@ module _ (D : Drawing) (c : Cell) (ws : List Words) where
   abbrev pub cellOfChild : ℕ → Cell
   cellOfChild q = child c (quarterAt q)
 
-  abbrev pub rowsOfChild : ℕ → List Row
-  rowsOfChild q = rowsMade D (cellOfChild q) ws
+  abbrev pub elementsOfChild : ℕ → List Element
+  elementsOfChild q = elementsMade D (cellOfChild q) ws
 
   abbrev pub wordsOfChild : ℕ → List Words
   wordsOfChild q = wordsMade D (cellOfChild q) ws
 
   abbrev pub entriesOfChild : ℕ → ℕ
-  entriesOfChild q = length (rowsOfChild q)
+  entriesOfChild q = length (elementsOfChild q)
 
   -- "child by child": the streams of the first n children
   unfoldable pub streamsTo : ℕ → List Words

@@ -11,7 +11,7 @@ ghost use Rattle.stream.specs.Table.{wordsFrom, written};
 ghost use Rattle.stream.specs.Grammar.{env, Passed};
 ghost use Rattle.celltable.specs.Ranges.{squareRange, cellOf};
 ghost use Rattle.ranges.specs.Held.{lent};
-ghost use Rattle.four_children.specs.Children.{rowsOfChild, wordsOfChild, entriesOfChild, streamsTo, wordsWith};
+ghost use Rattle.four_children.specs.Children.{elementsOfChild, wordsOfChild, entriesOfChild, streamsTo, wordsWith};
 ghost use Rattle.four_children.specs.code.Numbers.{tally, tallyN, fourTallies, cellsBy, FewEach};
 ghost use Rattle.cells.specs.Cells.{child};
 ghost use Rattle.celltable.specs.Descent.{quarterAt};
@@ -52,7 +52,7 @@ fn count_one(
     requires { ⌜ Passed (now entries) first count (env (now areas) (now xs) (now ys) b) ⌝ }
     requires { ⌜ squareRange w ≡ true ⌝ }
     requires { ⌜ 1 < w .side ⌝ }
-    ensures answer { λ r. ⌜ r ≡ tally (rowsOfChild
+    ensures answer { λ r. ⌜ r ≡ tally (elementsOfChild
         (lent (now (areas .entry)) (now (xs .entry)) (now (ys .entry)) b) (cellOf w) (wordsFrom (now (entries .entry)) first count) q) ⌝ }
 {
     let s = celltable::quarter_of(w, q);

@@ -1,4 +1,4 @@
--- The numbers go as the rows do: one entry more.
+-- The numbers go as the elements do: one entry more.
 use mathlib.Core.Path.{_≡_, refl, sym, ap, subst, _∙_}
 use mathlib.Core.Bool.{Bool, true, false, cond, _&&_, _||_}
 use mathlib.Core.List.{List, [], _∷_, _++_, map, append-nil}
@@ -25,8 +25,8 @@ use Rattle.cells.specs.Cells.{Cell, low, side}
 use Rattle.cells.specs.Segments.{Segment, drawn, shortcut, signOf, classIn, keptBy, startBy}
 use Rattle.cells.specs.Drawings.{Drawing, passesBy, isOpaque}
 use Rattle.cells.specs.Streams.{Item, always, area, items, classOf, passing}
-use Rattle.cells.specs.Rows.{Row, opens, bar, closes, bare, named, segment, itemRows, entryRows, roleIn}
-use Rattle.cells.specs.code.Making.{Waiting, nothing, held, Making, making, prune, settle, addTo, begun, rowSize}
+use Rattle.cells.specs.Elements.{Element, opens, bar, closes, bare, named, segment, itemElements, entryElements, roleIn}
+use Rattle.cells.specs.code.Making.{Waiting, nothing, held, Making, making, prune, settle, addTo, begun, elementSize}
 use Rattle.cells.proofs.Making.{entry-some}
 use Rattle.pruner.specs.declared.Pruner.{Pruner}
 use Rattle.pruner.specs.code.Numbers as Numbers
@@ -36,7 +36,7 @@ use Rattle.evaluate.specs.Words.{Agrees}
 use Rattle.making.specs.declared.Waiting as Declared
 use Rattle.making.specs.code.Numbers.{waiting, resting, withClass, withLeft, classN, settledN}
 
-abbrev pub stateOf : Making → Pruning.State Row
+abbrev pub stateOf : Making → Pruning.State Element
 stateOf (making x w) = x
 
 abbrev pub waitingOf : Making → Waiting
@@ -45,12 +45,12 @@ waitingOf (making x w) = w
 -- the area that waits, as numbers
 abbrev pub waitingFor : Waiting → Declared.Waiting
 waitingFor nothing = resting
-waitingFor (held n z gs) = waiting true n z (total rowSize (itemRows (area n z gs)))
+waitingFor (held n z gs) = waiting true n z (total elementSize (itemElements (area n z gs)))
 
--- its rows
-abbrev pub rowsFor : Waiting → ℕ
-rowsFor nothing = 0
-rowsFor (held n z gs) = suc (length gs)
+-- its elements
+abbrev pub elementsFor : Waiting → ℕ
+elementsFor nothing = 0
+elementsFor (held n z gs) = suc (length gs)
 
 -- it is one of u areas, and its start number is small
 abbrev pub WaitsIn : (u k : ℕ) → Waiting → Type 0
@@ -59,10 +59,10 @@ WaitsIn u k (held n z gs) = (n < u) × (natAbs z ≤ 2048 + k)
 
 -- after k entries
 pub record Follows (D : Drawing) (k : ℕ) (p : Pruner) (a : Declared.Waiting) (m : Making) : Type 0 where
-  pub counts : counted p ≡ weighed rowSize (stateOf m)
+  pub counts : counted p ≡ weighed elementSize (stateOf m)
   pub waits : a ≡ waitingFor (waitingOf m)
-  pub fit : Fit (count (items D) Row entryRows entry-some (stateOf m))
-  pub short : length (outOf (stateOf m)) + rowsFor (waitingOf m) ≤ k
+  pub fit : Fit (count (items D) Element entryElements entry-some (stateOf m))
+  pub short : length (outOf (stateOf m)) + elementsFor (waitingOf m) ≤ k
   pub named-in : WaitsIn (length (D .fields)) k (waitingOf m)
 
 -- classes that differ
@@ -81,54 +81,54 @@ start-kept e = subst isKept (sym e) tt
 shortcut-kept : (lo hi : ℕ) → Shortcut lo hi ≡ Kept → ⊥
 shortcut-kept lo hi e = subst isKept (sym e) tt
 
-pub row-some : (r : Row) → 0 < rowSize r
-row-some opens = omega arith
-row-some bar = omega arith
-row-some closes = omega arith
-row-some bare = omega arith
-row-some (named n z) = omega arith
-row-some (segment (drawn l)) = omega arith
-row-some (segment (shortcut z lo hi)) = omega arith
+pub element-some : (r : Element) → 0 < elementSize r
+element-some opens = omega arith
+element-some bar = omega arith
+element-some closes = omega arith
+element-some bare = omega arith
+element-some (named n z) = omega arith
+element-some (segment (drawn l)) = omega arith
+element-some (segment (shortcut z lo hi)) = omega arith
 
-pub row-most : (r : Row) → rowSize r ≤ 4294967297
-row-most opens = omega arith
-row-most bar = omega arith
-row-most closes = omega arith
-row-most bare = omega arith
-row-most (named n z) = omega arith
-row-most (segment (drawn l)) = omega arith
-row-most (segment (shortcut z lo hi)) = omega arith
+pub element-most : (r : Element) → elementSize r ≤ 4294967297
+element-most opens = omega arith
+element-most bar = omega arith
+element-most closes = omega arith
+element-most bare = omega arith
+element-most (named n z) = omega arith
+element-most (segment (drawn l)) = omega arith
+element-most (segment (shortcut z lo hi)) = omega arith
 
-pub total-most : (rs : List Row) → total rowSize rs ≤ length rs * 4294967297
+pub total-most : (rs : List Element) → total elementSize rs ≤ length rs * 4294967297
 total-most [] = omega arith
-total-most (r ∷ rs) = omega (arith, row-most r, total-most rs)
+total-most (r ∷ rs) = omega (arith, element-most r, total-most rs)
 
 module _ (areas : List ℕ) (D : Drawing) (c : Cell) (agrees : (n : ℕ) → n < length (D .fields) → Agrees areas D n) where
   -- one entry more in the pruner
-  step-is : (x : Pruning.State Row) (e : Entry Item) → Fit (count (items D) Row entryRows entry-some x)
-      → weighed rowSize (prune D c x e) ≡ countStep (items D) (λ e. total rowSize (entryRows e)) (weighed rowSize x) e
-  step-is x e f = step-weighs rowSize row-some (items D) entryRows entry-some x e f
+  step-is : (x : Pruning.State Element) (e : Entry Item) → Fit (count (items D) Element entryElements entry-some x)
+      → weighed elementSize (prune D c x e) ≡ countStep (items D) (λ e. total elementSize (entryElements e)) (weighed elementSize x) e
+  step-is x e f = step-weighs elementSize element-some (items D) entryElements entry-some x e f
 
-  pub step-fits : (x : Pruning.State Row) (e : Entry Item)
-      → Fit (count (items D) Row entryRows entry-some x)
-      → Fit (count (items D) Row entryRows entry-some (prune D c x e))
-  step-fits x e f = let q = step-counts (items D) Row entryRows entry-some x e f in subst Fit (sym (q .0)) (q .1)
+  pub step-fits : (x : Pruning.State Element) (e : Entry Item)
+      → Fit (count (items D) Element entryElements entry-some x)
+      → Fit (count (items D) Element entryElements entry-some (prune D c x e))
+  step-fits x e f = let q = step-counts (items D) Element entryElements entry-some x e f in subst Fit (sym (q .0)) (q .1)
 
-  out-length : (x : Pruning.State Row) → lengthOf (count (items D) Row entryRows entry-some x) ≡ length (outOf x)
+  out-length : (x : Pruning.State Element) → lengthOf (count (items D) Element entryElements entry-some x) ≡ length (outOf x)
   out-length (st out b w fs) = refl
 
-  bare-short : (a : Item) → 1 ≤ length (itemRows a)
+  bare-short : (a : Item) → 1 ≤ length (itemElements a)
   bare-short always = omega arith
   bare-short (area n z gs) = omega arith
 
-  pub step-short : (x : Pruning.State Row) (e : Entry Item)
-      → Fit (count (items D) Row entryRows entry-some x)
-      → length (outOf (prune D c x e)) ≤ length (outOf x) + length (entryRows e)
+  pub step-short : (x : Pruning.State Element) (e : Entry Item)
+      → Fit (count (items D) Element entryElements entry-some x)
+      → length (outOf (prune D c x e)) ≤ length (outOf x) + length (entryElements e)
   step-short x e f =
-      let q = step-counts (items D) Row entryRows entry-some x e f in
+      let q = step-counts (items D) Element entryElements entry-some x e f in
       omega (
         arith,
-        count-grows (items D) Row entryRows entry-some bare-short (count (items D) Row entryRows entry-some x) e f,
+        count-grows (items D) Element entryElements entry-some bare-short (count (items D) Element entryElements entry-some x) e f,
         out-length x,
         out-length (prune D c x e),
         ap lengthOf (q .0),
@@ -153,39 +153,41 @@ module _ (areas : List ℕ) (D : Drawing) (c : Cell) (agrees : (n : ℕ) → n <
   pub class-is : (n : ℕ) (z : ℤ) (gs : List Segment) → n < length (D .fields)
       → Numbers.classOf (classN areas (waitingFor (held n z gs))) ≡ classOf D (roleIn D n) (area n z gs)
   class-is n z [] h = class-alone n z h
-  class-is n z (g ∷ gs) h = rw (ne-eqb (total rowSize (itemRows (area n z (g ∷ gs)))) 4294967297 (λ e. omega (arith, row-some (segment g))))
+  class-is n z (g ∷ gs) h = rw (ne-eqb (total elementSize (itemElements (area n z (g ∷ gs)))) 4294967297 (λ e. omega (arith, element-some (segment g))))
 
   -- the area that waits goes to the pruner
   pub settle-counts : (k : ℕ) (p : Pruner) (a : Declared.Waiting) (m : Making)
       → Follows D k p a m
-      → settledN areas (counted p) a ≡ weighed rowSize (settle D c m)
+      → settledN areas (counted p) a ≡ weighed elementSize (settle D c m)
   settle-counts k p a (making x nothing) f = rw (f .waits) (f .counts)
   settle-counts k p a (making x (held n z gs)) f =
       rw (f .waits, class-is n z gs (f .named-in .0), agrees n (f .named-in .0) .role, f .counts)
       (sym
       (step-is x (item (roleIn D n) (area n z gs)) (f .fit)
-      ∙ sized-step rowSize row-some (items D) entryRows entry-some refl refl refl refl (weighed rowSize x)
+      ∙ sized-step elementSize element-some (items D) entryElements entry-some refl refl refl refl (weighed elementSize x)
       (item (roleIn D n) (area n z gs))))
 
-  pub settle-fits : (k : ℕ) (p : Pruner) (a : Declared.Waiting) (m : Making) → Follows D k p a m → Fit (count (items D) Row entryRows entry-some (settle D c m))
+  pub settle-fits : (k : ℕ) (p : Pruner) (a : Declared.Waiting) (m : Making)
+      → Follows D k p a m
+      → Fit (count (items D) Element entryElements entry-some (settle D c m))
   settle-fits k p a (making x nothing) f = f .fit
   settle-fits k p a (making x (held n z gs)) f = step-fits x (item (roleIn D n) (area n z gs)) (f .fit)
 
   pub settle-short : (k : ℕ) (p : Pruner) (a : Declared.Waiting) (m : Making) → Follows D k p a m → length (outOf (settle D c m)) ≤ k
   settle-short k p a (making x nothing) f = omega (arith, f .short)
   settle-short k p a (making x (held n z gs)) f =
-      omega (arith, f .short, step-short x (item (roleIn D n) (area n z gs)) (f .fit), length-map {B = Row} gs segment)
+      omega (arith, f .short, step-short x (item (roleIn D n) (area n z gs)) (f .fit), length-map {B = Element} gs segment)
 
   -- a delimiter or "passes"
   pub mark-follows : (k : ℕ) (p p′ : Pruner) (a : Declared.Waiting) (m : Making) (e : Entry Item)
-      → length (entryRows e) ≡ 1
+      → length (entryElements e) ≡ 1
       → Follows D k p a m
-      → counted p′ ≡ countStep (items D) (λ e. total rowSize (entryRows e)) (settledN areas (counted p) a) e
+      → counted p′ ≡ countStep (items D) (λ e. total elementSize (entryElements e)) (settledN areas (counted p) a) e
       → Follows D (k + 1) p′ resting (making (prune D c (settle D c m) e) nothing)
   mark-follows k p p′ a m e l f h =
       record {
         counts = h
-            ∙ (ap (λ x. countStep (items D) (λ e. total rowSize (entryRows e)) x e) (settle-counts k p a m f)
+            ∙ (ap (λ x. countStep (items D) (λ e. total elementSize (entryElements e)) x e) (settle-counts k p a m f)
             ∙ sym (step-is (settle D c m) e (settle-fits k p a m f)));
         waits = refl;
         fit = step-fits (settle D c m) e (settle-fits k p a m f);
@@ -208,9 +210,9 @@ module _ (areas : List ℕ) (D : Drawing) (c : Cell) (agrees : (n : ℕ) → n <
   -- ---- a line or a shortcut
 
   abbrev weights : List Segment → ℕ
-  weights gs = total rowSize (map segment gs)
+  weights gs = total elementSize (map segment gs)
 
-  weight-more : (gs : List Segment) (g : Segment) → weights (gs ++ (g ∷ [])) ≡ weights gs + rowSize (segment g)
+  weight-more : (gs : List Segment) (g : Segment) → weights (gs ++ (g ∷ [])) ≡ weights gs + elementSize (segment g)
   weight-more [] g = omega arith
   weight-more (h ∷ gs) g = omega (arith, weight-more gs g)
 
@@ -226,23 +228,23 @@ module _ (areas : List ℕ) (D : Drawing) (c : Cell) (agrees : (n : ℕ) → n <
       go true e = start-kept e
       go false e = shortcut-kept lo hi e
 
-  pub kept-weight : (g : Segment) → classIn (D .xs) (D .ys) c g ≡ Kept → rowSize (segment g) ≡ 65537
+  pub kept-weight : (g : Segment) → classIn (D .xs) (D .ys) c g ≡ Kept → elementSize (segment g) ≡ 65537
   unfolding cut verdict
   kept-weight (drawn l) e = refl
   kept-weight (shortcut z lo hi) e =
       absurd
       (cut-kept (leb (min hi (low c + side c)) (max lo (low c)) || false) (max lo (low c)) (min hi (low c + side c)) (low c) (side c) e)
 
-  abbrev Left : (k : ℕ) (x : Pruning.State Row) (n : ℕ) (z : ℤ) (gs : List Segment) (g : Segment) → Classes.Class → Type 0
+  abbrev Left : (k : ℕ) (x : Pruning.State Element) (n : ℕ) (z : ℤ) (gs : List Segment) (g : Segment) → Classes.Class → Type 0
   Left k x n z gs g f =
       (withClass f (waitingFor (held n z gs)) (signOf (D .xs) (D .ys) g)
       ≡ waitingFor (held n (startBy (D .xs) (D .ys) f g z) (gs ++ keptBy (D .xs) (D .ys) f g [])))
       × (length (gs ++ keptBy (D .xs) (D .ys) f g []) ≤ length gs + 1)
       × (natAbs (startBy (D .xs) (D .ys) f g z) ≤ natAbs z + 1)
 
-  left-by : (k : ℕ) (x : Pruning.State Row) (n : ℕ) (z : ℤ) (gs : List Segment) (g : Segment) (f : Classes.Class)
+  left-by : (k : ℕ) (x : Pruning.State Element) (n : ℕ) (z : ℤ) (gs : List Segment) (g : Segment) (f : Classes.Class)
       → natAbs (signOf (D .xs) (D .ys) g) ≤ 1
-      → (f ≡ Kept → rowSize (segment g) ≡ 65537)
+      → (f ≡ Kept → elementSize (segment g) ≡ 65537)
       → Left k x n z gs g f
   left-by k x n z gs g Dropped s e = (rw (append-nil gs) refl, rw (append-nil gs) (omega arith), omega arith)
   left-by k x n z gs g Start s e = (rw (append-nil gs) refl, rw (append-nil gs) (omega arith), omega (arith, abs-add z (signOf (D .xs) (D .ys) g)))

@@ -28,11 +28,11 @@ use Rattle.stream.specs.Grammar.{Env, Place, at, isGood, off, areaMet, recordFi
 use Rattle.stream.proofs.Passed.{off-stays}
 use Rattle.cells.specs.Streams.{Item}
 use Rattle.cells.specs.Segments.{Segment}
-use Rattle.cells.specs.Rows as Rows
-use Rattle.cells.specs.Rows.{Decoded, dec, entriesOf, decodeRow, decode}
-use Rattle.evaluate.specs.Reading.{rowFor, rowsIn, roleAt}
+use Rattle.cells.specs.Elements as Elements
+use Rattle.cells.specs.Elements.{Decoded, dec, entriesOf, decodeElement, decode}
+use Rattle.evaluate.specs.Reading.{elementFor, elementsIn, roleAt}
 use Rattle.evaluate.specs.code.Numbers.{segmentOf}
-use Rattle.evaluate.proofs.Laws.{both, area-below, row-segment}
+use Rattle.evaluate.proofs.Laws.{both, area-below, element-segment}
 use Rattle.ranges.proofs.Groups.{opens, kindBy, kindOn, Nested, nested-open, nested-right, nested-outer, fits-end, fits-open, fits-bar, fits-close}
 use Rattle.making.proofs.Laws.{by-kind, after-segment}
 
@@ -89,20 +89,20 @@ module _ (v : Env) (role : ℕ → Kind) (same : (n : ℕ) → n < v .used .area
   abbrev Fits : Place → Decoded → Type 0
   Fits p d = Sides.fits (entriesOf d) (kindOn (p .groups)) (opens (p .groups)) ≡ true
 
-  by-open : (p : Place) (d : Decoded) → Fits (after p Entries.opens) d → Fits p (decodeRow role Rows.opens d)
+  by-open : (p : Place) (d : Decoded) → Fits (after p Entries.opens) d → Fits p (decodeElement role Elements.opens d)
   by-open p (dec gs es) h = fits-open es (p .groups) h
 
-  by-bar : (p : Place) (d : Decoded) → onLeft (p .groups) ≡ true → Fits (after p Entries.bar) d → Fits p (decodeRow role Rows.bar d)
+  by-bar : (p : Place) (d : Decoded) → onLeft (p .groups) ≡ true → Fits (after p Entries.bar) d → Fits p (decodeElement role Elements.bar d)
   by-bar p (dec gs es) f h = fits-bar es (p .groups) f h
 
   by-close : (p : Place) (d : Decoded)
       → Nested (p .groups)
       → onRight (p .groups) ≡ true
       → Fits (after p Entries.closes) d
-      → Fits p (decodeRow role Rows.closes d)
+      → Fits p (decodeElement role Elements.closes d)
   by-close p (dec gs es) n f h = fits-close es (p .groups) n f h
 
-  by-passes : (p : Place) (d : Decoded) → not (isPaint (p .groups)) ≡ true → Fits p d → Fits p (decodeRow role Rows.bare d)
+  by-passes : (p : Place) (d : Decoded) → not (isPaint (p .groups)) ≡ true → Fits p d → Fits p (decodeElement role Elements.bare d)
   by-passes p (dec gs es) f h =
       and-both (sameKind clip (kindOn (p .groups))) (Sides.fits es (kindOn (p .groups)) (opens (p .groups))) (go (isPaint (p .groups)) f) h
     where
@@ -114,41 +114,42 @@ module _ (v : Env) (role : ℕ → Kind) (same : (n : ℕ) → n < v .used .area
       → n < v .used .areas
       → roleFits (areaMet v n) (isPaint (p .groups)) ≡ true
       → Fits p d
-      → Fits p (decodeRow role (Rows.named n z) d)
+      → Fits p (decodeElement role (Elements.named n z) d)
   by-area p n z (dec gs es) l f h =
       and-both (sameKind (role n) (kindOn (p .groups))) (Sides.fits es (kindOn (p .groups)) (opens (p .groups)))
       (rw (← same n l) (role-by (v .areas) (v .used .areas) n (isPaint (p .groups)) f)) h
 
-  by-segment : (p : Place) (g : Segment) (d : Decoded) → Fits p d → Fits p (decodeRow role (Rows.segment g) d)
+  by-segment : (p : Place) (g : Segment) (d : Decoded) → Fits p d → Fits p (decodeElement role (Elements.segment g) d)
   by-segment p g (dec gs es) h = h
 
   one-fits : (w : Words) (p : Place) (ws : List Words)
       → Nested (p .groups)
       → Passes v p (Entries.decode w) ws
-      → (Nested (after p (Entries.decode w) .groups) → Fits (after p (Entries.decode w)) (decode role (rowsIn ws)))
-      → Fits p (decode role (rowFor (Entries.decode w) (rowsIn ws)))
+      → (Nested (after p (Entries.decode w) .groups) → Fits (after p (Entries.decode w)) (decode role (elementsIn ws)))
+      → Fits p (decode role (elementFor (Entries.decode w) (elementsIn ws)))
   one-fits w p ws n =
       by-kind w
-      (λ e. Passes v p e ws → (Nested (after p e .groups) → Fits (after p e) d) → Fits p (decode role (rowFor e (rowsIn ws))))
+      (λ e. Passes v p e ws → (Nested (after p e .groups) → Fits (after p e) d) → Fits p (decode role (elementFor e (elementsIn ws))))
       (λ e h ih. by-open p d (ih (nested-open (p .groups) n)))
       (λ e h ih. by-bar p d (h .fit) (ih (nested-right (p .groups) n)))
       (λ e h ih. by-close p d n (h .fit) (ih (nested-outer (p .groups) n)))
       (λ e h ih. by-area p (w .p) (toZ w32 (w .q)) d
       (area-below (v .areas) (v .used .areas) (w .p) (both (isGood (areaMet v (w .p))) (startRange (w .q)) (h .range) .0)) (h .fit) (ih n))
       (λ s h ih. let g = after-segment p w s in
-      rw (row-segment w (rowsIn ws) s) (by-segment p (segmentOf w) d (rw g at (ih (rw g n)))))
+      rw (element-segment w (elementsIn ws) s) (by-segment p (segmentOf w) d (rw g at (ih (rw g n)))))
       (λ e h ih. by-passes p d (h .fit) (ih n))
       (λ h ih. clash (h .range))
     where
       d : Decoded
-      d = decode role (rowsIn ws)
+      d = decode role (elementsIn ws)
 
-  all-fit : (ws : List Words) (p : Place) → Nested (p .groups) → isWhole (course v (at p) ws) ≡ true → Fits p (decode role (rowsIn ws))
-  unfolding course rowsIn
+  all-fit : (ws : List Words) (p : Place) → Nested (p .groups) → isWhole (course v (at p) ws) ≡ true → Fits p (decode role (elementsIn ws))
+  unfolding course elementsIn
   all-fit [] p n h = fits-end {A = Item} [] (p .groups) (kindOn (p .groups)) h
   all-fit (w ∷ ws) p n h = let q = one-passes v p w ws h in one-fits w p ws n q (λ m. all-fit ws (after p (Entries.decode w)) m (q .rest))
 
   -- the entries of a stream that passes are the stream of its tree
-  pub entries-flat : (ws : List Words) → accepts v ws ≡ true → entriesOf (decode role (rowsIn ws)) ≡ flat paint (tree (entriesOf (decode role (rowsIn ws))))
+  pub entries-flat : (ws : List Words) → accepts v ws ≡ true
+      → entriesOf (decode role (elementsIn ws)) ≡ flat paint (tree (entriesOf (decode role (elementsIn ws))))
   unfolding accepts
-  entries-flat ws h = fits-flat (entriesOf (decode role (rowsIn ws))) (all-fit ws (Stream.place [] false 0 0) tt h)
+  entries-flat ws h = fits-flat (entriesOf (decode role (elementsIn ws))) (all-fit ws (Stream.place [] false 0 0) tt h)

@@ -10,7 +10,7 @@ use Rattle.cells.specs.Cells.{Cell}
 use Rattle.cells.specs.Drawings.{Drawing}
 use Rattle.stream.specs.declared.Words.{Words}
 use Rattle.evaluate.specs.Words.{wordsOf}
-use Rattle.making.specs.Made.{rowsMade, wordsMade}
+use Rattle.making.specs.Made.{elementsMade, wordsMade}
 use Rattle.making.specs.code.Numbers.{levelFrom}
 
 -- the level of a power of two is its exponent
@@ -23,7 +23,7 @@ level-from (suc n) (suc k) h =
     let q : 2 ^ suc k / 2 ≡ 2 ^ k = omega arith in
     rw (lt-leb (2 ^ suc k) 1 (omega (arith, one-le-pow k 2 (omega arith))), q, level-from n k (omega arith))
 
--- an entry for each row
-pub made-length : (D : Drawing) (c : Cell) (ws : List Words) → length (wordsMade D c ws) ≡ length (rowsMade D c ws)
+-- an entry for each element
+pub made-length : (D : Drawing) (c : Cell) (ws : List Words) → length (wordsMade D c ws) ≡ length (elementsMade D c ws)
 unfolding wordsMade
-made-length D c ws = length-map {B = Words} (rowsMade D c ws) wordsOf
+made-length D c ws = length-map {B = Words} (elementsMade D c ws) wordsOf

@@ -14,18 +14,18 @@ use Rattle.cells.specs.Cells as Cells
 use Rattle.cells.specs.Segments.{Segment, drawn, shortcut, addsAt}
 use Rattle.cells.specs.Drawings.{Drawing}
 use Rattle.cells.specs.Streams.{shownIn}
-use Rattle.cells.specs.Rows.{Row, streamOf, roleIn}
-use Rattle.cells.proofs.Rows.{side-read}
+use Rattle.cells.specs.Elements.{Element, streamOf, roleIn}
+use Rattle.cells.proofs.Elements.{side-read}
 use Rattle.stream.specs.declared.Words.{Words}
 use Rattle.stream.specs.declared.Bounds.{Bounds}
 use Rattle.stream.specs.Entry as Entries
 use Rattle.stream.specs.Entry.{startRange}
 use Rattle.stream.specs.Grammar as Stream
 use Rattle.stream.specs.Grammar.{Env, env, Place, at, isGood, areaMet, after, course, isWhole, accepts}
-use Rattle.evaluate.specs.Reading.{rowFor, rowsIn, roleAt, passAt, opaqueAt, setAt}
+use Rattle.evaluate.specs.Reading.{elementFor, elementsIn, roleAt, passAt, opaqueAt, setAt}
 use Rattle.evaluate.specs.Words.{EachAgrees}
 use Rattle.evaluate.specs.code.Numbers.{segmentOf}
-use Rattle.evaluate.proofs.Laws.{both, area-below, row-segment, in-segment}
+use Rattle.evaluate.proofs.Laws.{both, area-below, element-segment, in-segment}
 use Rattle.evaluate.proofs.Words.{agreed-read}
 use Rattle.ranges.specs.Held.{lent}
 use Rattle.ranges.proofs.Reading.{SameOn, read-same}
@@ -35,8 +35,8 @@ use Rattle.making.proofs.Standing.{Reads}
 use Rattle.making.proofs.Lent.{lent-reads}
 
 module _ (v : Env) (D : Drawing) (R : Reads v D) (x y : ℕ) where
-  -- the tables and the drawing agree on the areas, lines and shortcuts of rows
-  abbrev Same : List Row → Type 0
+  -- the tables and the drawing agree on the areas, lines and shortcuts of elements
+  abbrev Same : List Element → Type 0
   Same ws =
       EachAgrees (v .areas) D ws
       × SameOn (roleAt (v .areas)) (passAt (v .areas)) (opaqueAt (v .areas)) (addsAt (v .xs) (v .ys) (Cells.at x y))
@@ -46,38 +46,38 @@ module _ (v : Env) (D : Drawing) (R : Reads v D) (x y : ℕ) where
   adds-same (drawn l) h = ap (λ (e : Edge). cond (counts e x y) (sign e) (pos 0)) (sym (R .edges l h))
   adds-same (shortcut z lo hi) h = refl
 
-  one-same : (w : Words) (ws : List Row) → Stream.inRange v (Entries.decode w) ≡ true → Same ws → Same (rowFor (Entries.decode w) ws)
+  one-same : (w : Words) (ws : List Element) → Stream.inRange v (Entries.decode w) ≡ true → Same ws → Same (elementFor (Entries.decode w) ws)
   one-same w ws =
-      by-kind w (λ e. Stream.inRange v e ≡ true → Same ws → Same (rowFor e ws)) (λ e h s. s) (λ e h s. s) (λ e h s. s)
+      by-kind w (λ e. Stream.inRange v e ≡ true → Same ws → Same (elementFor e ws)) (λ e h s. s) (λ e h s. s) (λ e h s. s)
       (λ e h s. ((R .agrees (w .p) (omega (arith, R .fields, below h)), s .0), s .1))
-      (λ k h s. rw (row-segment w ws k)
+      (λ k h s. rw (element-segment w ws k)
       (s .0, (adds-same (segmentOf w) (range-below (v .xs) (v .ys) (v .used .corners) w (in-segment v w k h)), s .1)))
       (λ e h s. s) (λ h s. clash h)
     where
       below : Stream.inRange v (Entries.area (w .p) (w .q)) ≡ true → w .p < v .used .areas
       below h = area-below (v .areas) (v .used .areas) (w .p) (both (isGood (areaMet v (w .p))) (startRange (w .q)) h .0)
 
-  all-same : (ws : List Words) (p : Place) → isWhole (course v (at p) ws) ≡ true → Same (rowsIn ws)
-  unfolding course rowsIn
+  all-same : (ws : List Words) (p : Place) → isWhole (course v (at p) ws) ≡ true → Same (elementsIn ws)
+  unfolding course elementsIn
   all-same [] p h = (tt, tt)
   all-same (w ∷ ws) p h =
       let q = one-passes v p w ws h in
-      one-same w (rowsIn ws) (q .range) (all-same ws (after p (Entries.decode w)) (q .rest))
+      one-same w (elementsIn ws) (q .range) (all-same ws (after p (Entries.decode w)) (q .rest))
 
   -- of tables that say of their areas and corners what a drawing says
   pub accepted-meaning : (ws : List Words)
       → accepts v ws ≡ true
-      → setAt (v .areas) (v .xs) (v .ys) x y ws ≡ setOf (shownIn D (Cells.at x y) (streamOf (roleIn D) (rowsIn ws)))
+      → setAt (v .areas) (v .xs) (v .ys) x y ws ≡ setOf (shownIn D (Cells.at x y) (streamOf (roleIn D) (elementsIn ws)))
   unfolding accepts setAt
   accepted-meaning ws h =
       let s = all-same ws (Stream.place [] false 0 0) h in
       read-same (roleAt (v .areas)) (passAt (v .areas)) (opaqueAt (v .areas)) (addsAt (v .xs) (v .ys) (Cells.at x y))
-      (addsAt (D .xs) (D .ys) (Cells.at x y)) (rowsIn ws) (s .1)
-      ∙ (agreed-read (v .areas) D (Cells.at x y) (rowsIn ws) (s .0)
-      ∙ side-read D (Cells.at x y) (rowsIn ws) (streamOf (roleIn D) (rowsIn ws))
+      (addsAt (D .xs) (D .ys) (Cells.at x y)) (elementsIn ws) (s .1)
+      ∙ (agreed-read (v .areas) D (Cells.at x y) (elementsIn ws) (s .0)
+      ∙ side-read D (Cells.at x y) (elementsIn ws) (streamOf (roleIn D) (elementsIn ws))
       (entries-flat v (roleIn D) (λ n l. R .agrees n (omega (arith, R .fields)) .role) ws h))
 
 -- the drawing is that of the lent tables: the areas and corners in use
 pub lent-meaning : (areas xs ys : List ℕ) (b : Bounds) (x y : ℕ) (ws : List Words) → accepts (env areas xs ys b) ws ≡ true
-    → setAt areas xs ys x y ws ≡ setOf (shownIn (lent areas xs ys b) (Cells.at x y) (streamOf (roleIn (lent areas xs ys b)) (rowsIn ws)))
+    → setAt areas xs ys x y ws ≡ setOf (shownIn (lent areas xs ys b) (Cells.at x y) (streamOf (roleIn (lent areas xs ys b)) (elementsIn ws)))
 lent-meaning areas xs ys b x y ws h = accepted-meaning (env areas xs ys b) (lent areas xs ys b) (lent-reads areas xs ys b) x y ws h

@@ -14,47 +14,47 @@ use Rattle.cells.specs.Cells.{Cell}
 use Rattle.cells.specs.Segments.{Segment, shortcut, signOf, classIn, keptBy}
 use Rattle.cells.specs.Drawings.{Drawing}
 use Rattle.cells.specs.Streams.{Item, always, area, items}
-use Rattle.cells.specs.Rows.{Row, opens, bar, closes, bare, named, segment, entryRows, roleIn}
-use Rattle.cells.specs.code.Making.{nothing, held, Making, making, prune, settle, addTo, onRow, onRows, begun}
+use Rattle.cells.specs.Elements.{Element, opens, bar, closes, bare, named, segment, entryElements, roleIn}
+use Rattle.cells.specs.code.Making.{nothing, held, Making, making, prune, settle, addTo, onElement, onElements, begun}
 use Rattle.cells.proofs.Making.{entry-some}
 use Rattle.stream.specs.declared.Words.{Words}
 use Rattle.stream.specs.Entry.{decode}
 use Rattle.stream.specs.Grammar.{Env, accepts}
-use Rattle.evaluate.specs.Reading.{rowFor, rowsIn}
-use Rattle.evaluate.proofs.Laws.{row-segment}
-use Rattle.making.specs.Made.{rowsMade}
+use Rattle.evaluate.specs.Reading.{elementFor, elementsIn}
+use Rattle.evaluate.proofs.Laws.{element-segment}
+use Rattle.making.specs.Made.{elementsMade}
 use Rattle.making.proofs.Laws.{by-kind}
-use Rattle.making.proofs.Follows.{stateOf, waitingOf, rowsFor, step-fits, step-short}
+use Rattle.making.proofs.Follows.{stateOf, waitingOf, elementsFor, step-fits, step-short}
 use Rattle.making.proofs.Standing.{Reads}
-use Rattle.making.proofs.Whole.{allOf, rows-all}
+use Rattle.making.proofs.Whole.{allOf, elements-all}
 
--- after k rows
+-- after k elements
 record Short (D : Drawing) (k : ℕ) (m : Making) : Type 0 where
-  fit : Fit (count (items D) Row entryRows entry-some (stateOf m))
-  short : length (outOf (stateOf m)) + rowsFor (waitingOf m) ≤ k
+  fit : Fit (count (items D) Element entryElements entry-some (stateOf m))
+  short : length (outOf (stateOf m)) + elementsFor (waitingOf m) ≤ k
 
--- an entry says one row at most
-row-for : (w : Words) (rs : List Row) → length (rowFor (decode w) rs) ≤ suc (length rs)
-row-for w rs =
-    by-kind w (λ e. length (rowFor e rs) ≤ suc (length rs)) (λ e. omega arith) (λ e. omega arith) (λ e. omega arith) (λ e. omega arith)
-    (λ s. rw (row-segment w rs s) (omega arith)) (λ e. omega arith) (omega arith)
+-- an entry says one element at most
+element-for : (w : Words) (rs : List Element) → length (elementFor (decode w) rs) ≤ suc (length rs)
+element-for w rs =
+    by-kind w (λ e. length (elementFor e rs) ≤ suc (length rs)) (λ e. omega arith) (λ e. omega arith) (λ e. omega arith) (λ e. omega arith)
+    (λ s. rw (element-segment w rs s) (omega arith)) (λ e. omega arith) (omega arith)
 
-rows-in : (ws : List Words) → length (rowsIn ws) ≤ length ws
-unfolding rowsIn
-rows-in [] = omega arith
-rows-in (w ∷ ws) = omega (arith, row-for w (rowsIn ws), rows-in ws)
+elements-in : (ws : List Words) → length (elementsIn ws) ≤ length ws
+unfolding elementsIn
+elements-in [] = omega arith
+elements-in (w ∷ ws) = omega (arith, element-for w (elementsIn ws), elements-in ws)
 
 module _ (v : Env) (D : Drawing) (c : Cell) (R : Reads v D) where
   -- the area that waits goes to the pruner
-  settled : (k : ℕ) (m : Making) → Short D k m → Fit (count (items D) Row entryRows entry-some (settle D c m)) × (length (outOf (settle D c m)) ≤ k)
+  settled : (k : ℕ) (m : Making) → Short D k m → Fit (count (items D) Element entryElements entry-some (settle D c m)) × (length (outOf (settle D c m)) ≤ k)
   settled k (making x nothing) s = (s .fit, omega (arith, s .short))
   settled k (making x (held n z gs)) s = (
     step-fits (v .areas) D c (R .agrees) x (item (roleIn D n) (area n z gs)) (s .fit),
-    omega (arith, s .short, step-short (v .areas) D c (R .agrees) x (item (roleIn D n) (area n z gs)) (s .fit), length-map {B = Row} gs segment),
+    omega (arith, s .short, step-short (v .areas) D c (R .agrees) x (item (roleIn D n) (area n z gs)) (s .fit), length-map {B = Element} gs segment),
   )
 
   -- a delimiter or "passes"
-  marked : (k : ℕ) (m : Making) (e : Entry Item) → length (entryRows e) ≡ 1 → Short D k m → Short D (suc k) (making (prune D c (settle D c m) e) nothing)
+  marked : (k : ℕ) (m : Making) (e : Entry Item) → length (entryElements e) ≡ 1 → Short D k m → Short D (suc k) (making (prune D c (settle D c m) e) nothing)
   marked k m e l s =
       let q = settled k m s in
       record {
@@ -73,20 +73,20 @@ module _ (v : Env) (D : Drawing) (c : Cell) (R : Reads v D) where
   added k (making x nothing) g s = record { fit = s .fit; short = omega (arith, s .short) }
   added k (making x (held n z gs)) g s = record { fit = s .fit; short = omega (arith, s .short, kept-short gs g (classIn (D .xs) (D .ys) c g)) }
 
-  row-short : (k : ℕ) (w : Row) (m : Making) → Short D k m → Short D (suc k) (onRow D c w m)
-  row-short k opens m s = marked k m push (omega arith) s
-  row-short k bar m s = marked k m activate (omega arith) s
-  row-short k closes m s = marked k m pop (omega arith) s
-  row-short k bare m s = marked k m (item clip always) (omega arith) s
-  row-short k (named n z) m s = let q = settled k m s in record { fit = q .0; short = omega (arith, q .1) }
-  row-short k (segment g) m s = added k m g s
+  element-short : (k : ℕ) (w : Element) (m : Making) → Short D k m → Short D (suc k) (onElement D c w m)
+  element-short k opens m s = marked k m push (omega arith) s
+  element-short k bar m s = marked k m activate (omega arith) s
+  element-short k closes m s = marked k m pop (omega arith) s
+  element-short k bare m s = marked k m (item clip always) (omega arith) s
+  element-short k (named n z) m s = let q = settled k m s in record { fit = q .0; short = omega (arith, q .1) }
+  element-short k (segment g) m s = added k m g s
 
-  rows-short : (k : ℕ) (rs : List Row) (m : Making) → Short D k m → Short D (length rs + k) (onRows D c rs m)
-  rows-short k [] m s = record { fit = s .fit; short = omega (arith, s .short) }
-  rows-short k (r ∷ rs) m s =
-      let q = rows-short (suc k) rs (onRow D c r m) (row-short k r m s) in record { fit = q .fit; short = omega (arith, q .short) }
+  elements-short : (k : ℕ) (rs : List Element) (m : Making) → Short D k m → Short D (length rs + k) (onElements D c rs m)
+  elements-short k [] m s = record { fit = s .fit; short = omega (arith, s .short) }
+  elements-short k (r ∷ rs) m s =
+      let q = elements-short (suc k) rs (onElement D c r m) (element-short k r m s) in record { fit = q .fit; short = omega (arith, q .short) }
 
-  pub made-shorter : (ws : List Words) → accepts v ws ≡ true → length (rowsMade D c ws) ≤ length ws
+  pub made-shorter : (ws : List Words) → accepts v ws ≡ true → length (elementsMade D c ws) ≤ length ws
   made-shorter ws h =
-      let s = rows-short 0 (rowsIn ws) (begun D c) (record { fit = (omega arith, tt); short = omega arith }) in
-      omega (arith, settled (length (rowsIn ws) + 0) (allOf D c ws) s .1, ap length (rows-all v D c R ws h), rows-in ws)
+      let s = elements-short 0 (elementsIn ws) (begun D c) (record { fit = (omega arith, tt); short = omega arith }) in
+      omega (arith, settled (length (elementsIn ws) + 0) (allOf D c ws) s .1, ap length (elements-all v D c R ws h), elements-in ws)

@@ -25,8 +25,8 @@ use Rattle.cells.specs.Cells.{Cell, squareOf}
 use Rattle.cells.specs.Segments.{Segment, signOf, classOn, classIn}
 use Rattle.cells.specs.Drawings.{Drawing}
 use Rattle.cells.specs.Streams.{Item, always, items}
-use Rattle.cells.specs.Rows.{Row, segment, entryRows}
-use Rattle.cells.specs.code.Making.{Waiting, nothing, held, Making, making, prune, settle, addTo, onRows, rowSize}
+use Rattle.cells.specs.Elements.{Element, segment, entryElements}
+use Rattle.cells.specs.code.Making.{Waiting, nothing, held, Making, making, prune, settle, addTo, onElements, elementSize}
 use Rattle.stream.specs.declared.Words.{Words}
 use Rattle.stream.specs.Entry as Entries
 use Rattle.stream.specs.Entry.{decode, isSegment, startRange}
@@ -34,9 +34,9 @@ use Rattle.stream.specs.Grammar.{Env, at, after, inRange, isGood, areaMet}
 use Rattle.pruner.specs.declared.Pruner.{Pruner}
 use Rattle.pruner.specs.code.Numbers.{counted, baseOf, skipIn}
 use Rattle.pruner.proofs.Near.{counted-weight, counted-base, counted-skip, counted-depth}
-use Rattle.evaluate.specs.Reading.{rowFor, rowsIn}
+use Rattle.evaluate.specs.Reading.{elementFor, elementsIn}
 use Rattle.evaluate.specs.code.Numbers.{segmentOf}
-use Rattle.evaluate.proofs.Laws.{both, area-below, start-small, row-segment, in-segment}
+use Rattle.evaluate.proofs.Laws.{both, area-below, start-small, element-segment, in-segment}
 use Rattle.ranges.proofs.Groups.{opens, opens-length}
 use Rattle.making.specs.declared.Waiting as Declared
 use Rattle.making.specs.code.Numbers.{leftSign, leftClass, leftRange, waiting, resting, withLeft, waitingN, settledN, prunedN, Room, Inside}
@@ -46,9 +46,9 @@ use Rattle.making.proofs.Follows.{
   stateOf,
   waitingOf,
   waitingFor,
-  rowsFor,
+  elementsFor,
   WaitsIn,
-  row-some,
+  element-some,
   Follows,
   total-most,
   settle-fits,
@@ -72,24 +72,24 @@ use Rattle.making.proofs.Standing.{
 
 -- ---- how large the numbers are
 
-pub before-most : (out : List Row) (b : ℕ) → before rowSize out b ≤ total rowSize out
-before-most out b = omega (arith, total-append rowSize (take b out) (drop b out), ap (total rowSize) (take-append-drop b out))
+pub before-most : (out : List Element) (b : ℕ) → before elementSize out b ≤ total elementSize out
+before-most out b = omega (arith, total-append elementSize (take b out) (drop b out), ap (total elementSize) (take-append-drop b out))
 
-base-most : (x : Pruning.State Row) → baseOf (weighed rowSize x) ≤ total rowSize (outOf x)
+base-most : (x : Pruning.State Element) → baseOf (weighed elementSize x) ≤ total elementSize (outOf x)
 base-most (st out b w fs) = before-most out b
 
--- the length of what is weighed is the weight of the rows
-pub weight-is : (x : Pruning.State Row) → lengthOf (weighed rowSize x) ≡ total rowSize (outOf x)
+-- the length of what is weighed is the weight of the elements
+pub weight-is : (x : Pruning.State Element) → lengthOf (weighed elementSize x) ≡ total elementSize (outOf x)
 weight-is (st out b w fs) = refl
 
 skip-most : (c : Count) → skipIn c ≤ opened c + 1
 skip-most (ct n b going fs) = omega arith
 skip-most (ct n b (shut m) fs) = omega arith
 
-segments-length : (gs : List Segment) → total rowSize (map segment gs) ≤ length gs * 4294967297
-segments-length gs = omega (arith, total-most (map segment gs), length-map {B = Row} gs segment)
+segments-length : (gs : List Segment) → total elementSize (map segment gs) ≤ length gs * 4294967297
+segments-length gs = omega (arith, total-most (map segment gs), length-map {B = Element} gs segment)
 
-waiting-most : (w : Waiting) → waitingFor w .weight ≤ rowsFor w * 4294967297
+waiting-most : (w : Waiting) → waitingFor w .weight ≤ elementsFor w * 4294967297
 waiting-most nothing = omega arith
 waiting-most (held n z gs) = omega (arith, segments-length gs)
 
@@ -113,17 +113,17 @@ module _ (v : Env) (D : Drawing) (c : Cell) (R : Reads v D) (k : ℕ) (p : Prune
         arith,
         counted-weight p,
         ap lengthOf (f .counts),
-        weight-is (stateOf (s .rows)),
-        total-most (outOf (stateOf (s .rows))),
+        weight-is (stateOf (s .elements)),
+        total-most (outOf (stateOf (s .elements))),
         ap (λ (x : Declared.Waiting). x .weight) (f .waits),
-        waiting-most (waitingOf (s .rows)),
+        waiting-most (waitingOf (s .elements)),
         f .short,
       )
 
   pub standing-base : (ws : List Words) → Standing v D c k p a ws whole → p .base ≤ k * 4294967297
   standing-base ws s =
       let f = s .follows in
-      omega (arith, counted-base p, ap baseOf (f .counts), base-most (stateOf (s .rows)), total-most (outOf (stateOf (s .rows))), f .short)
+      omega (arith, counted-base p, ap baseOf (f .counts), base-most (stateOf (s .elements)), total-most (outOf (stateOf (s .elements))), f .short)
 
   pub standing-depth : (ws : List Words) (s : Standing v D c k p a ws whole) → p .depth ≤ length (s .place .groups)
   standing-depth ws s =
@@ -131,7 +131,7 @@ module _ (v : Env) (D : Drawing) (c : Cell) (R : Reads v D) (k : ℕ) (p : Prune
         arith,
         counted-depth p,
         ap frames (s .follows .counts),
-        tracks-length (weighed rowSize (stateOf (s .rows))) (opens (s .place .groups)) (s .tracks),
+        tracks-length (weighed elementSize (stateOf (s .elements))) (opens (s .place .groups)) (s .tracks),
         opens-length (s .place .groups),
       )
 
@@ -141,14 +141,14 @@ module _ (v : Env) (D : Drawing) (c : Cell) (R : Reads v D) (k : ℕ) (p : Prune
         arith,
         counted-skip p,
         ap skipIn (s .follows .counts),
-        skip-most (weighed rowSize (stateOf (s .rows))),
-        tracks-opened (weighed rowSize (stateOf (s .rows))) (opens (s .place .groups)) (s .tracks),
+        skip-most (weighed elementSize (stateOf (s .elements))),
+        tracks-opened (weighed elementSize (stateOf (s .elements))) (opens (s .place .groups)) (s .tracks),
         opens-length (s .place .groups),
         s .few,
       )
 
   pub standing-inside : (ws : List Words) → k ≤ 4096 → v .used .areas * 8 ≤ length (v .areas) → Standing v D c k p a ws whole → Inside (length (v .areas)) a
-  standing-inside ws l r s = go (waitingOf (s .rows)) (s .follows .waits) (s .follows .named-in)
+  standing-inside ws l r s = go (waitingOf (s .elements)) (s .follows .waits) (s .follows .named-in)
     where
       go : (w : Waiting) → a ≡ waitingFor w → WaitsIn (length (D .fields)) k w → Inside (length (v .areas)) a
       go nothing e h = rw e (record { small = omega arith; inside = λ t. clash t })
@@ -183,30 +183,30 @@ module _ (v : Env) (D : Drawing) (c : Cell) (R : Reads v D) (k : ℕ) (p : Prune
 
     -- ---- one entry further
     abbrev pub next : Entries.Entry → Making
-    next e = onRows D c (rowFor e []) (s .rows)
+    next e = onElements D c (elementFor e []) (s .elements)
 
     abbrev Next : Pruner → Declared.Waiting → Entries.Entry → Type 0
     Next p′ a′ e =
         Follows D (k + 1) p′ a′ (next e)
-        × Tracks (weighed rowSize (stateOf (next e))) (opens (after (s .place) e .groups))
+        × Tracks (weighed elementSize (stateOf (next e))) (opens (after (s .place) e .groups))
         × (length (after (s .place) e .groups) ≤ 8)
 
-    fitted : Fit (count (items D) Row entryRows entry-some (settle D c (s .rows)))
-    fitted = settle-fits (v .areas) D c (R .agrees) k p a (s .rows) (s .follows)
+    fitted : Fit (count (items D) Element entryElements entry-some (settle D c (s .elements)))
+    fitted = settle-fits (v .areas) D c (R .agrees) k p a (s .elements) (s .follows)
 
-    tracked : Tracks (weighed rowSize (settle D c (s .rows))) (opens (s .place .groups))
-    tracked = settle-tracks D c (s .rows) (s .place .groups) (s .follows .fit) (s .tracks)
+    tracked : Tracks (weighed elementSize (settle D c (s .elements))) (opens (s .place .groups))
+    tracked = settle-tracks D c (s .elements) (s .place .groups) (s .follows .fit) (s .tracks)
 
     marked : (p′ : Pruner) (e : Entry Item)
-        → length (entryRows e) ≡ 1
-        → counted p′ ≡ countStep (items D) (λ e. total rowSize (entryRows e)) (settledN (v .areas) (counted p) a) e
-        → Follows D (k + 1) p′ resting (making (prune D c (settle D c (s .rows)) e) nothing)
-    marked p′ e l h = mark-follows (v .areas) D c (R .agrees) k p p′ a (s .rows) e l (s .follows) h
+        → length (entryElements e) ≡ 1
+        → counted p′ ≡ countStep (items D) (λ e. total elementSize (entryElements e)) (settledN (v .areas) (counted p) a) e
+        → Follows D (k + 1) p′ resting (making (prune D c (settle D c (s .elements)) e) nothing)
+    marked p′ e l h = mark-follows (v .areas) D c (R .agrees) k p p′ a (s .elements) e l (s .follows) h
 
     sized-is : (k : Count) (e : Entry Item)
-        → countStep sizedItems sizeOf k (asSized rowSize row-some (items D) entryRows entry-some e)
-        ≡ countStep (items D) (λ e. total rowSize (entryRows e)) k e
-    sized-is k e = sym (sized-step rowSize row-some (items D) entryRows entry-some refl refl refl refl k e)
+        → countStep sizedItems sizeOf k (asSized elementSize element-some (items D) entryElements entry-some e)
+        ≡ countStep (items D) (λ e. total elementSize (entryElements e)) k e
+    sized-is k e = sym (sized-step elementSize element-some (items D) entryElements entry-some refl refl refl refl k e)
 
     module _ (p′ : Pruner) (a′ : Declared.Waiting) (hp : counted p′ ≡ prunedN (v .areas) (counted p) a (w .kind))
         (ha : a′ ≡ waitingN a (leftClass (v .xs) (v .ys) (squareOf c) w) (leftSign (v .xs) (v .ys) w) w) where
@@ -218,7 +218,7 @@ module _ (v : Env) (D : Drawing) (c : Cell) (R : Reads v D) (k : ℕ) (p : Prune
           let a₁ : a′ ≡ resting = rw e at ha in
           let p₁ : counted p′ ≡ countStep sizedItems sizeOf settled push = rw e at hp in (
             rw a₁ (marked p′ push refl (p₁ ∙ sized-is settled push)),
-            open-tracks D c (settle D c (s .rows)) (s .place .groups) fitted tracked,
+            open-tracks D c (settle D c (s .elements)) (s .place .groups) fitted tracked,
             omega (arith, ltb-true (length (s .place .groups)) 8 (h .room)),
           )
 
@@ -227,7 +227,7 @@ module _ (v : Env) (D : Drawing) (c : Cell) (R : Reads v D) (k : ℕ) (p : Prune
           let a₁ : a′ ≡ resting = rw e at ha in
           let p₁ : counted p′ ≡ countStep sizedItems sizeOf settled activate = rw e at hp in (
             rw a₁ (marked p′ activate refl (p₁ ∙ sized-is settled activate)),
-            bar-tracks D c (settle D c (s .rows)) (s .place .groups) (h .fit) fitted tracked,
+            bar-tracks D c (settle D c (s .elements)) (s .place .groups) (h .fit) fitted tracked,
             omega (arith, s .few, right-length (s .place .groups)),
           )
 
@@ -236,7 +236,7 @@ module _ (v : Env) (D : Drawing) (c : Cell) (R : Reads v D) (k : ℕ) (p : Prune
           let a₁ : a′ ≡ resting = rw e at ha in
           let p₁ : counted p′ ≡ countStep sizedItems sizeOf settled pop = rw e at hp in (
             rw a₁ (marked p′ pop refl (p₁ ∙ sized-is settled pop)),
-            close-tracks D c (settle D c (s .rows)) (s .place .groups) (h .fit) fitted tracked,
+            close-tracks D c (settle D c (s .elements)) (s .place .groups) (h .fit) fitted tracked,
             omega (arith, s .few, outer-length (s .place .groups)),
           )
 
@@ -245,7 +245,7 @@ module _ (v : Env) (D : Drawing) (c : Cell) (R : Reads v D) (k : ℕ) (p : Prune
           let a₁ : a′ ≡ resting = rw e at ha in
           let p₁ : counted p′ ≡ countStep sizedItems sizeOf settled (item clip (sized Items.passes 1)) = rw e at hp in (
             rw a₁ (marked p′ (item clip always) refl (p₁ ∙ sized-is settled (item clip always))),
-            item-tracks D c (settle D c (s .rows)) (s .place .groups) fitted tracked,
+            item-tracks D c (settle D c (s .elements)) (s .place .groups) fitted tracked,
             s .few,
           )
 
@@ -256,7 +256,7 @@ module _ (v : Env) (D : Drawing) (c : Cell) (R : Reads v D) (k : ℕ) (p : Prune
           let r = both (isGood (areaMet v (w .p))) (startRange (w .q)) (h .range) in
           let n : w .p < length (D .fields) = omega (arith, R .fields, area-below (v .areas) (v .used .areas) (w .p) (r .0)) in (
             rw a₁
-                (area-follows (v .areas) D c (R .agrees) k p p′ a (s .rows) (w .p) (toZ w32 (w .q)) n (start-small (w .q) (r .1) l)
+                (area-follows (v .areas) D c (R .agrees) k p p′ a (s .elements) (w .p) (toZ w32 (w .q)) n (start-small (w .q) (r .1) l)
                 (s .follows) p₁),
             tracked,
             s .few,
@@ -266,14 +266,14 @@ module _ (v : Env) (D : Drawing) (c : Cell) (R : Reads v D) (k : ℕ) (p : Prune
           → natAbs (signOf (D .xs) (D .ys) g) ≤ 1
           → counted p′ ≡ counted p
           → a′ ≡ withLeft a (classIn (D .xs) (D .ys) c g) (signOf (D .xs) (D .ys) g)
-          → Follows D (k + 1) p′ a′ (addTo D c g (s .rows))
-          × Tracks (weighed rowSize (stateOf (addTo D c g (s .rows)))) (opens (s .place .groups))
+          → Follows D (k + 1) p′ a′ (addTo D c g (s .elements))
+          × Tracks (weighed elementSize (stateOf (addTo D c g (s .elements)))) (opens (s .place .groups))
           × (length (s .place .groups) ≤ 8)
-      segment-next g z x y = (segment-follows (v .areas) D c (R .agrees) k p p′ a a′ (s .rows) g z (s .follows) x y, same (s .rows) (s .tracks), s .few)
+      segment-next g z x y = (segment-follows (v .areas) D c (R .agrees) k p p′ a a′ (s .elements) g z (s .follows) x y, same (s .elements) (s .tracks), s .few)
         where
           same : (m : Making)
-              → Tracks (weighed rowSize (stateOf m)) (opens (s .place .groups))
-              → Tracks (weighed rowSize (stateOf (addTo D c g m))) (opens (s .place .groups))
+              → Tracks (weighed elementSize (stateOf m)) (opens (s .place .groups))
+              → Tracks (weighed elementSize (stateOf (addTo D c g m))) (opens (s .place .groups))
           same (making x nothing) t = t
           same (making x (held n z gs)) t = t
 
@@ -283,27 +283,27 @@ module _ (v : Env) (D : Drawing) (c : Cell) (R : Reads v D) (k : ℕ) (p : Prune
           let r = in-segment v w e (h .range) in
           let b : SegmentBelow (v .used .corners) g = range-below (v .xs) (v .ys) (v .used .corners) w r in
           let a₁ : a′ ≡ withLeft a (classOn (v .xs) (v .ys) (squareOf c) g) (signOf (v .xs) (v .ys) g) = rw e at ha in
-          rw (row-segment w [] e, after-segment (s .place) w e)
+          rw (element-segment w [] e, after-segment (s .place) w e)
           (segment-next g (range-sign (v .xs) (v .ys) (v .used .corners) w (D .xs) (D .ys) r) (rw e at hp)
           (rw (sign-same v D R g b, class-same v D R (squareOf c) g b) a₁))
 
-      -- with the rows that it then has
-      pub standing-rows : w .q < 4294967296 → (x : Standing v D c (k + 1) p′ a′ ws whole) × (x .rows ≡ next (decode w))
-      unfolding rowsIn
-      standing-rows l =
+      -- with the elements that it then has
+      pub standing-elements : w .q < 4294967296 → (x : Standing v D c (k + 1) p′ a′ ws whole) × (x .elements ≡ next (decode w))
+      unfolding elementsIn
+      standing-elements l =
           let n = by-kind w (λ e. Passes v (s .place) e ws → Next p′ a′ e) on-open on-bar on-close (on-area l) on-segment on-passes
           (λ h. clash (h .range)) passes in (
             record {
-              rows = next (decode w);
+              elements = next (decode w);
               place = after (s .place) (decode w);
               follows = n .0;
               tracks = n .1;
               few = n .2;
               rest = passes .rest;
-              ahead = one-then D c w (rowsIn ws) (s .rows) ∙ s .ahead;
+              ahead = one-then D c w (elementsIn ws) (s .elements) ∙ s .ahead;
             },
             refl,
           )
 
       pub standing-next : w .q < 4294967296 → Standing v D c (k + 1) p′ a′ ws whole
-      standing-next l = standing-rows l .0
+      standing-next l = standing-elements l .0

@@ -4,14 +4,14 @@ use Rattle.pruning.specs.Sides.{paint, flat}
 use Rattle.cells.specs.Cells.{Cell}
 use Rattle.cells.specs.Drawings.{Drawing}
 use Rattle.cells.specs.Streams.{made}
-use Rattle.cells.specs.Rows.{Row, rowsOf, streamOf, roleIn}
+use Rattle.cells.specs.Elements.{Element, elementsOf, streamOf, roleIn}
 use Rattle.stream.specs.declared.Words.{Words}
-use Rattle.evaluate.specs.Reading.{rowsIn}
+use Rattle.evaluate.specs.Reading.{elementsIn}
 use Rattle.evaluate.specs.Words.{wordsOf}
 
 -- "A child is made from its parent's stream by this rule, orders kept. ... It is then pruned". The areas and corners that entries name are the drawing's.
-unfoldable pub rowsMade : Drawing → Cell → List Words → List Row
-rowsMade D c ws = rowsOf (flat paint (made D c (streamOf (roleIn D) (rowsIn ws))))
+unfoldable pub elementsMade : Drawing → Cell → List Words → List Element
+elementsMade D c ws = elementsOf (flat paint (made D c (streamOf (roleIn D) (elementsIn ws))))
 
 unfoldable pub wordsMade : Drawing → Cell → List Words → List Words
-wordsMade D c ws = map wordsOf (rowsMade D c ws)
+wordsMade D c ws = map wordsOf (elementsMade D c ws)

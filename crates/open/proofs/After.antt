@@ -16,12 +16,12 @@ use Rattle.stream.proofs.Table.{length-written, written-read}
 use Rattle.celltable.specs.Table.{cellAt}
 use Rattle.celltable.specs.Ranges.{powerUpTo, headRange, cellRange}
 use Rattle.celltable.proofs.Table.{length-put-cell, put-cell-same}
-use Rattle.root_stream.specs.Opened.{rowsOpened}
+use Rattle.root_stream.specs.Opened.{elementsOpened}
 use Rattle.root_stream.proofs.Opened.{accepted-opened, opened-passed}
 use Rattle.tables.specs.Tables.{Tree, cellsUsed, entriesUsed, boundsOf}
 use Rattle.open.specs.declared.Answer.the-variants.{Opened}
 use Rattle.open.specs.Open.{rootWords, drawingTables, streamOpened, headOpened, cellsOpened, entriesOpened}
-use Rattle.open.proofs.Rooms.{rows-words}
+use Rattle.open.proofs.Rooms.{elements-words}
 use Rattle.open.proofs.Accepted.{Accepts}
 
 -- cell 0 alone, with n entries in use
@@ -86,8 +86,8 @@ module _ (t : Tree) (n : ℕ) (a : Accepts t n) where
   pub stream-passes : Passed entries′ 0 n (env (t .areas) (t .xs) (t .ys) (boundsOf (t .plan) (rootWords n)))
   stream-passes =
       let b : Bounds = bounds (a .counts .areas) (a .counts .corners) 0 65536 in
-      let m : length (rowsOpened (drawingTables t)) ≡ n = sym (rows-words (drawingTables t)) ∙ sym (a .entries) in
-      let p : Passed entries′ 0 (length (rowsOpened (drawingTables t))) (env (t .areas) (t .xs) (t .ys) b) = opened-passed (drawingTables t)
+      let m : length (elementsOpened (drawingTables t)) ≡ n = sym (elements-words (drawingTables t)) ∙ sym (a .entries) in
+      let p : Passed entries′ 0 (length (elementsOpened (drawingTables t))) (env (t .areas) (t .xs) (t .ys) b) = opened-passed (drawingTables t)
       (a .counts .records) b (accepted-opened (drawingTables t) (a .counts) (a .drawing)) (t .entries)
       (omega (arith, m, a .entries-room)) in
       subst (λ (x : Bounds). Passed entries′ 0 n (env (t .areas) (t .xs) (t .ys) x)) bounds-are

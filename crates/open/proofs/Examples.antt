@@ -8,7 +8,7 @@ use Rattle.read.specs.Words.{joined}
 use Rattle.read.specs.Reading.{holds}
 use Rattle.drawing.specs.Tables.{rebuilt, countsJudged, drawingVerdict}
 use Rattle.stream.proofs.Table.{written-nil}
-use Rattle.root_stream.specs.Opened.{rowsOpened, wordsOpened}
+use Rattle.root_stream.specs.Opened.{elementsOpened, wordsOpened}
 use Rattle.tables.specs.Tables.{Tree, tree}
 use Rattle.open.specs.declared.Answer.the-variants.{Opened, Not}
 use Rattle.open.specs.Open.{openAnswer, headOpened, cellsOpened, entriesOpened}
@@ -21,7 +21,7 @@ abbrev seven : List ℕ
 seven = 7 ∷ 7 ∷ 7 ∷ 7 ∷ 7 ∷ 7 ∷ 7 ∷ []
 
 none-opens : openAnswer (none [] (7 ∷ seven)) ≡ Opened 0
-unfolding drawingVerdict countsJudged rebuilt holds course checked joined rowsOpened wordsOpened
+unfolding drawingVerdict countsJudged rebuilt holds course checked joined elementsOpened wordsOpened
 none-opens = refl
 
 none-head : headOpened (none [] (7 ∷ seven)) (Opened 0) ≡ 1 ∷ 0 ∷ 7 ∷ []
@@ -31,7 +31,7 @@ none-cells : cellsOpened (none [] (7 ∷ 7 ∷ seven)) (Opened 0) ≡ 0 ∷ 0 �
 none-cells = refl
 
 none-entries : entriesOpened (none [] (7 ∷ seven)) (Opened 0) ≡ 7 ∷ []
-unfolding rebuilt joined rowsOpened wordsOpened
+unfolding rebuilt joined elementsOpened wordsOpened
 none-entries = written-nil (7 ∷ []) 0
 
 -- seven words are not a whole cell

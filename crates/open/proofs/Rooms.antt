@@ -15,12 +15,12 @@ use Rattle.stream.specs.Grammar.{bounds}
 use Rattle.evaluate.specs.Words.{wordsOf}
 use Rattle.evaluate.proofs.Laws.{both}
 use Rattle.pruning.specs.code.Weights.{total}
-use Rattle.cells.specs.code.Making.{rowSize}
+use Rattle.cells.specs.code.Making.{elementSize}
 use Rattle.celltable.specs.Ranges.{cellsHeld, entriesHeld}
 use Rattle.tables.specs.Tables.{Tree}
 use Rattle.tables.proofs.Rooms.{cells-room, entries-room}
 use Rattle.root_stream.specs.code.Numbers.{Opened}
-use Rattle.root_stream.specs.Opened.{rowsOpened, wordsOpened}
+use Rattle.root_stream.specs.Opened.{elementsOpened, wordsOpened}
 use Rattle.root_stream.proofs.Opened.{accepted-opened, opened-short, opened-count}
 use Rattle.open.specs.declared.Answer.the-variants as Answers
 use Rattle.open.specs.Open.{roomFor, streamOpened, roomAnswer}
@@ -33,23 +33,23 @@ room-says head cells entries n h =
     (leb-true 2 head (p .0), omega (arith, cells-room 1 cells (q .0) .0), entries-room n entries (q .1) .0)
 
 -- ---- the number of entries
-pub rows-words : (t : Tables) → length (wordsOpened t) ≡ length (rowsOpened t)
+pub elements-words : (t : Tables) → length (wordsOpened t) ≡ length (elementsOpened t)
 unfolding wordsOpened
-rows-words t = length-map {B = Words} (rowsOpened t) wordsOf
+elements-words t = length-map {B = Words} (elementsOpened t) wordsOf
 
 module _ (t : Tables) (k : Counts) (e : drawingVerdict t ≡ Accepted k) where
   abbrev known : Opened t (k .records) (bounds (k .areas) (k .corners) 0 65536)
   known = accepted-opened t k e
 
   pub few-words : length (wordsOpened t) ≤ 4096
-  few-words = omega (arith, rows-words t, opened-short t (k .records) (bounds (k .areas) (k .corners) 0 65536) known)
+  few-words = omega (arith, elements-words t, opened-short t (k .records) (bounds (k .areas) (k .corners) 0 65536) known)
 
-  module _ (size n : ℕ) (s : size ≡ total rowSize (rowsOpened t)) (m : n ≡ size % 65536) where
-    pub count-rows : n ≡ length (rowsOpened t)
-    count-rows = omega (arith, s, m, opened-count t (k .records) (bounds (k .areas) (k .corners) 0 65536) known)
+  module _ (size n : ℕ) (s : size ≡ total elementSize (elementsOpened t)) (m : n ≡ size % 65536) where
+    pub count-elements : n ≡ length (elementsOpened t)
+    count-elements = omega (arith, s, m, opened-count t (k .records) (bounds (k .areas) (k .corners) 0 65536) known)
 
     pub count-words : n ≡ length (wordsOpened t)
-    count-words = omega (arith, count-rows, rows-words t)
+    count-words = omega (arith, count-elements, elements-words t)
 
 -- ---- the answer
 module _ (t : Tree) (n : ℕ) (e : n ≡ length (streamOpened t)) where

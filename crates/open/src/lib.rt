@@ -12,7 +12,7 @@ ghost use Rattle.drawing.specs.Tables.{tables, drawingLent, drawingVerdict};
 ghost use Rattle.stream.specs.Table.{written};
 ghost use Rattle.celltable.specs.Table.{putCellAt};
 ghost use Rattle.root_stream.specs.code.Numbers.{Opened};
-ghost use Rattle.root_stream.specs.Opened.{rowsOpened, wordsOpened};
+ghost use Rattle.root_stream.specs.Opened.{elementsOpened, wordsOpened};
 ghost use Rattle.tables.specs.Tables.{treeLent};
 ghost use Rattle.open.specs.Open.{rootWords, roomFor, roomAnswer, openAnswer, headOpened, cellsOpened, entriesOpened};
 
@@ -69,7 +69,7 @@ fn put_opened(
     n: u32,
 )
     requires { ⌜ Opened (tables (now plan) (now areas) (now xs) (now ys)) records b ⌝ }
-    requires { ⌜ n ≡ length (rowsOpened (tables (now plan) (now areas) (now xs) (now ys))) ⌝ }
+    requires { ⌜ n ≡ length (elementsOpened (tables (now plan) (now areas) (now xs) (now ys))) ⌝ }
     requires { ⌜ n * 4 ≤ length (now entries) ⌝ }
     requires { ⌜ (2 ≤ length (now head)) × (8 ≤ length (now cells)) ⌝ }
     ensures head { λ _. ⌜ now (head .exit) ≡ set (set (now (head .entry)) 0 1) 1 n ⌝ }

@@ -1,4 +1,4 @@
--- Drawings and rows of a few records, computed from the definitions.
+-- Drawings and elements of a few records, computed from the definitions.
 use mathlib.Core.Path.{_≡_, refl}
 use mathlib.Core.List.{List, [], _∷_}
 use native.Mathlib.Omega.{arith}
@@ -16,7 +16,7 @@ use Rattle.pruning.specs.Sides.{end, leaf, group}
 use Rattle.cells.specs.Cells.{at}
 use Rattle.cells.specs.Segments.{drawn}
 use Rattle.cells.specs.Drawings.{winding}
-use Rattle.cells.specs.Rows.{opens, bar, closes, named, segment}
+use Rattle.cells.specs.Elements.{opens, bar, closes, named, segment}
 use Rattle.ranges.specs.code.Valid.{lines, Valid}
 use Rattle.plans.specs.Plans.{drawingFrom}
 use Rattle.plans.specs.code.Source.{sourceOf}

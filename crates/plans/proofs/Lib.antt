@@ -1,4 +1,4 @@
--- An accepted list of records gives a drawing with every number in range; each record gives one row; tables that hold the records hold the drawing.
+-- An accepted list of records gives a drawing with every number in range; each record gives one element; tables that hold the records hold the drawing.
 pub mod Runs
 pub mod Fits
 pub mod Depths

@@ -1,4 +1,4 @@
--- One record gives exactly one row of what cell 0's stream is made from.
+-- One record gives exactly one element of what cell 0's stream is made from.
 use Prim.Native.Nat.{ℕ, suc}
 use mathlib.Core.Path.{_≡_, refl, sym, ap, ap₂, _∙_}
 use mathlib.Core.Bool.{Bool, true, false}
@@ -18,7 +18,7 @@ use Rattle.pruning.proofs.Sides.{flatOver, flat-is-over}
 use Rattle.cells.specs.Segments.{drawn}
 use Rattle.cells.specs.Drawings.{Drawing}
 use Rattle.cells.specs.Streams.{Item, whole, source}
-use Rattle.cells.specs.Rows.{Row, opens, bar, closes, named, segment, rowsOf}
+use Rattle.cells.specs.Elements.{Element, opens, bar, closes, named, segment, elementsOf}
 use Rattle.plans.specs.Plans.{nexts, contoursHere, contoursFrom, entriesFrom, drawingFrom}
 use Rattle.plans.specs.code.Source.{edgeEnd, sourceFrom, sourceOf}
 use Rattle.plans.proofs.Runs.{Runs, start, runs}
@@ -34,24 +34,24 @@ source-length a c first (Open ∷ rs) = ap suc (source-length a c first rs)
 source-length a c first (Bar ∷ rs) = ap suc (source-length a c first rs)
 source-length a c first (Close ∷ rs) = ap suc (source-length a c first rs)
 
--- ---- the rows of lines
+-- ---- the elements of lines
 
-abbrev lineRows : List Line → List Row
-lineRows [] = []
-lineRows (l ∷ ls) = segment (drawn l) ∷ lineRows ls
+abbrev lineElements : List Line → List Element
+lineElements [] = []
+lineElements (l ∷ ls) = segment (drawn l) ∷ lineElements ls
 
-lines-rows : (ls : List Line) → map segment (map drawn ls) ≡ lineRows ls
-lines-rows [] = refl
-lines-rows (l ∷ ls) = ap (λ z. segment (drawn l) ∷ z) (lines-rows ls)
+lines-elements : (ls : List Line) → map segment (map drawn ls) ≡ lineElements ls
+lines-elements [] = refl
+lines-elements (l ∷ ls) = ap (λ z. segment (drawn l) ∷ z) (lines-elements ls)
 
-rows-append : (x y : List Line) → lineRows (x ++ y) ≡ lineRows x ++ lineRows y
-rows-append [] y = refl
-rows-append (l ∷ x) y = ap (λ z. segment (drawn l) ∷ z) (rows-append x y)
+elements-append : (x y : List Line) → lineElements (x ++ y) ≡ lineElements x ++ lineElements y
+elements-append [] y = refl
+elements-append (l ∷ x) y = ap (λ z. segment (drawn l) ∷ z) (elements-append x y)
 
 -- one more corner in front
 edge-more : (rs : List Record) (c first : ℕ)
-    → segment (drawn (line c (edgeEnd rs c first))) ∷ lineRows (linesFrom first (suc c) (nexts rs))
-    ≡ lineRows (linesFrom first c (suc (nexts rs)))
+    → segment (drawn (line c (edgeEnd rs c first))) ∷ lineElements (linesFrom first (suc c) (nexts rs))
+    ≡ lineElements (linesFrom first c (suc (nexts rs)))
 edge-more [] c first = refl
 edge-more (Area f ∷ rs) c first = refl
 edge-more (First x y ∷ rs) c first = refl
@@ -88,49 +88,49 @@ no-corner (Open ∷ rs) p c e g h = refl
 no-corner (Bar ∷ rs) p c e g h = refl
 no-corner (Close ∷ rs) p c e g h = refl
 
--- ---- the rows of entries, with the contours of all areas
+-- ---- the elements of entries, with the contours of all areas
 
 module _ (all : List (List Contour)) where
   abbrev linesAt : ℕ → List Line
   linesAt n = linesOf (getD all n [])
 
-  abbrev written : List (Entry ℕ) → List Row
+  abbrev written : List (Entry ℕ) → List Element
   written [] = []
-  written (item k n ∷ es) = named n (pos 0) ∷ (lineRows (linesAt n) ++ written es)
+  written (item k n ∷ es) = named n (pos 0) ∷ (lineElements (linesAt n) ++ written es)
   written (push ∷ es) = opens ∷ written es
   written (activate ∷ es) = bar ∷ written es
   written (pop ∷ es) = closes ∷ written es
 
   -- the corners that end a contour begun before, at corner `first`; the contours up to the next area or delimiter; the entries
-  abbrev rowsBy : (n : ℕ) → List Contour → (c first : ℕ) → List (Entry ℕ) → List Row
-  rowsBy n cs c first es = lineRows (linesFrom first c n) ++ (lineRows (linesOf cs) ++ written es)
+  abbrev elementsBy : (n : ℕ) → List Contour → (c first : ℕ) → List (Entry ℕ) → List Element
+  elementsBy n cs c first es = lineElements (linesFrom first c n) ++ (lineElements (linesOf cs) ++ written es)
 
   -- behind a delimiter there is neither
   after-mark : (rs : List Record) (p : Progress) (a c first : ℕ) → p .run ≡ 0 → p .held ≡ false → Runs p rs
-      → rowsBy (nexts rs) (contoursHere c rs) c first (entriesFrom a rs) ≡ written (entriesFrom a rs)
-  after-mark rs p a c first e g h = ap₂ (λ n cs. rowsBy n cs c first (entriesFrom a rs)) (no-next rs p e h) (no-corner rs p c e g h)
+      → elementsBy (nexts rs) (contoursHere c rs) c first (entriesFrom a rs) ≡ written (entriesFrom a rs)
+  after-mark rs p a c first e g h = ap₂ (λ n cs. elementsBy n cs c first (entriesFrom a rs)) (no-next rs p e h) (no-corner rs p c e g h)
 
-  first-rows : (rs : List Record) (c : ℕ) (es : List (Entry ℕ))
-      → segment (drawn (line c (edgeEnd rs c c))) ∷ rowsBy (nexts rs) (contoursHere (suc c) rs) (suc c) c es
-      ≡ lineRows (linesOf (contour c (suc (nexts rs)) ∷ contoursHere (suc c) rs)) ++ written es
-  first-rows rs c es =
-      ap (λ z. z ++ (lineRows (linesOf (contoursHere (suc c) rs)) ++ written es)) (edge-more rs c c)
-      ∙ (sym (append-assoc (lineRows (linesFrom c c (suc (nexts rs)))) (lineRows (linesOf (contoursHere (suc c) rs))) (written es))
-      ∙ ap (λ z. z ++ written es) (sym (rows-append (linesFrom c c (suc (nexts rs))) (linesOf (contoursHere (suc c) rs)))))
+  first-elements : (rs : List Record) (c : ℕ) (es : List (Entry ℕ))
+      → segment (drawn (line c (edgeEnd rs c c))) ∷ elementsBy (nexts rs) (contoursHere (suc c) rs) (suc c) c es
+      ≡ lineElements (linesOf (contour c (suc (nexts rs)) ∷ contoursHere (suc c) rs)) ++ written es
+  first-elements rs c es =
+      ap (λ z. z ++ (lineElements (linesOf (contoursHere (suc c) rs)) ++ written es)) (edge-more rs c c)
+      ∙ (sym (append-assoc (lineElements (linesFrom c c (suc (nexts rs)))) (lineElements (linesOf (contoursHere (suc c) rs))) (written es))
+      ∙ ap (λ z. z ++ written es) (sym (elements-append (linesFrom c c (suc (nexts rs))) (linesOf (contoursHere (suc c) rs)))))
 
   source-by : (rs : List Record) (p : Progress) (a c first : ℕ) → Runs p rs → Follows all [] a (contoursFrom c rs)
-      → sourceFrom a c first rs ≡ rowsBy (nexts rs) (contoursHere c rs) c first (entriesFrom a rs)
+      → sourceFrom a c first rs ≡ elementsBy (nexts rs) (contoursHere c rs) c first (entriesFrom a rs)
   source-by [] p a c first h l = refl
   source-by (Area f ∷ rs) p a c first h l =
       ap (λ z. named a (pos 0) ∷ z)
       (source-by rs (after p (Area f)) (suc a) c first (h .1) (follows-rest all [] a (contoursHere c rs) (contoursFrom c rs) l)
-      ∙ ap₂ (λ n cs. rowsBy n cs c first (entriesFrom (suc a) rs)) (no-next rs (after p (Area f)) refl (h .1))
+      ∙ ap₂ (λ n cs. elementsBy n cs c first (entriesFrom (suc a) rs)) (no-next rs (after p (Area f)) refl (h .1))
       (sym (follows-here all [] a (contoursHere c rs) (contoursFrom c rs) l)))
   source-by (First x y ∷ rs) p a c first h l =
-      ap (λ z. segment (drawn (line c (edgeEnd rs c c))) ∷ z) (source-by rs (after p (First x y)) a (suc c) c (h .1) l) ∙ first-rows rs c (entriesFrom a rs)
+      ap (λ z. segment (drawn (line c (edgeEnd rs c c))) ∷ z) (source-by rs (after p (First x y)) a (suc c) c (h .1) l) ∙ first-elements rs c (entriesFrom a rs)
   source-by (Next x y ∷ rs) p a c first h l =
       ap (λ z. segment (drawn (line c (edgeEnd rs c first))) ∷ z) (source-by rs (after p (Next x y)) a (suc c) first (h .1) l)
-      ∙ ap (λ z. z ++ (lineRows (linesOf (contoursHere (suc c) rs)) ++ written (entriesFrom a rs))) (edge-more rs c first)
+      ∙ ap (λ z. z ++ (lineElements (linesOf (contoursHere (suc c) rs)) ++ written (entriesFrom a rs))) (edge-more rs c first)
   source-by (Open ∷ rs) p a c first h l =
       ap (λ z. opens ∷ z) (source-by rs (after p Open) a c first (h .1) l ∙ after-mark rs (after p Open) a c first refl refl (h .1))
   source-by (Bar ∷ rs) p a c first h l =
@@ -138,28 +138,28 @@ module _ (all : List (List Contour)) where
   source-by (Close ∷ rs) p a c first h l =
       ap (λ z. closes ∷ z) (source-by rs (after p Close) a c first (h .1) l ∙ after-mark rs (after p Close) a c first refl refl (h .1))
 
--- ---- the rows of the drawing
+-- ---- the elements of the drawing
 
 module _ (D : Drawing) where
-  side-rows : (k : Kind) (s : Side ℕ) (z : List (Entry ℕ)) (w : List (Entry Item)) → rowsOf w ≡ written (D .contours) z
-      → rowsOf (flatOver k (mapSide (whole D) s) w) ≡ written (D .contours) (flatOver k s z)
-  side-rows k end z w e = e
-  side-rows k (leaf n t) z w e = ap₂ (λ x y. named n (pos 0) ∷ (x ++ y)) (lines-rows (linesAt (D .contours) n)) (side-rows k t z w e)
-  side-rows k (group l r t) z w e =
+  side-elements : (k : Kind) (s : Side ℕ) (z : List (Entry ℕ)) (w : List (Entry Item)) → elementsOf w ≡ written (D .contours) z
+      → elementsOf (flatOver k (mapSide (whole D) s) w) ≡ written (D .contours) (flatOver k s z)
+  side-elements k end z w e = e
+  side-elements k (leaf n t) z w e = ap₂ (λ x y. named n (pos 0) ∷ (x ++ y)) (lines-elements (linesAt (D .contours) n)) (side-elements k t z w e)
+  side-elements k (group l r t) z w e =
       ap (λ x. opens ∷ x)
-      (side-rows clip l (activate ∷ flatOver k r (pop ∷ flatOver k t z))
+      (side-elements clip l (activate ∷ flatOver k r (pop ∷ flatOver k t z))
       (activate ∷ flatOver k (mapSide (whole D) r) (pop ∷ flatOver k (mapSide (whole D) t) w))
       (ap (λ x. bar ∷ x)
-      (side-rows k r (pop ∷ flatOver k t z) (pop ∷ flatOver k (mapSide (whole D) t) w) (ap (λ x. closes ∷ x) (side-rows k t z w e)))))
+      (side-elements k r (pop ∷ flatOver k t z) (pop ∷ flatOver k (mapSide (whole D) t) w) (ap (λ x. closes ∷ x) (side-elements k t z w e)))))
 
-  drawing-rows : rowsOf (flat paint (source D)) ≡ written (D .contours) (flat paint (D .plan))
-  drawing-rows =
-      ap rowsOf (flat-is-over paint (source D))
-      ∙ (side-rows paint (D .plan) [] [] refl ∙ ap (written (D .contours)) (sym (flat-is-over paint (D .plan))))
+  drawing-elements : elementsOf (flat paint (source D)) ≡ written (D .contours) (flat paint (D .plan))
+  drawing-elements =
+      ap elementsOf (flat-is-over paint (source D))
+      ∙ (side-elements paint (D .plan) [] [] refl ∙ ap (written (D .contours)) (sym (flat-is-over paint (D .plan))))
 
-pub source-rows : (rs : List Record) (k : Counts) → Acceptable rs k → rowsOf (flat paint (source (drawingFrom rs))) ≡ sourceOf rs
-source-rows rs k a =
+pub source-elements : (rs : List Record) (k : Counts) → Acceptable rs k → elementsOf (flat paint (source (drawingFrom rs))) ≡ sourceOf rs
+source-elements rs k a =
     let h : Runs start rs = runs rs k (a .fold) in
-    drawing-rows (drawingFrom rs)
+    drawing-elements (drawingFrom rs)
     ∙ (ap (written (contoursFrom 0 rs)) (sym (entries-flat rs h))
     ∙ sym (source-by (contoursFrom 0 rs) rs start 0 0 0 h (follows-all (contoursFrom 0 rs) []) ∙ after-mark (contoursFrom 0 rs) rs start 0 0 0 refl refl h))

@@ -1,3 +1,3 @@
--- The drawing of a list of records, and its rows.
+-- The drawing of a list of records, and the elements of its source.
 pub mod Plans
 pub mod code

@@ -1,1 +1,1 @@
-// The drawing of a list of records, and the rows that cell 0's stream is made from: definitions and theorems.
+// The drawing of a list of records, and the elements that cell 0's stream is made from: definitions and theorems.

@@ -23,13 +23,30 @@ use Rattle.refusals.specs.declared.Refusal.the-variants.{Field}
 use Rattle.drawing.specs.Tables.{fieldsAt, areaRow}
 use Rattle.cells.specs.Cells.{at}
 use Rattle.cells.specs.Segments.{Segment, addsAt}
-use Rattle.cells.specs.Rows.{Row, opens, bar, closes, bare, named, segment, State, state, settled, waits, settle, addTo, onRow, onRows, readRows}
+use Rattle.cells.specs.Elements.{
+  Element,
+  opens,
+  bar,
+  closes,
+  bare,
+  named,
+  segment,
+  State,
+  state,
+  settled,
+  waits,
+  settle,
+  addTo,
+  onElement,
+  onElements,
+  readElements,
+}
 use Rattle.stream.specs.Entry.{Entry, decode}
 use Rattle.stream.specs.Entry as Entry
 use Rattle.stream.specs.Table.{wordsAt, wordsFrom}
 use Rattle.stream.specs.Grammar.{Env, isGood, inRange, Passed}
 use Rattle.stream.proofs.Passed.{in-range}
-use Rattle.evaluate.specs.Reading.{rowFor, rowsIn, roleAt, passAt, opaqueAt, setAt}
+use Rattle.evaluate.specs.Reading.{elementFor, elementsIn, roleAt, passAt, opaqueAt, setAt}
 use Rattle.evaluate.proofs.Laws.{both, area-below}
 
 -- ---- what the fields of an area in range say
@@ -76,7 +93,7 @@ area-fields areas used n h = go (ltb n used) (eqb (getD areas (n * 8 + 7) 0) 0) 
     go true false r h = clash h
     go false b r h = clash h
 
--- ---- the areas that are shown are named by rows
+-- ---- the areas that are shown are named by elements
 
 -- each area of a set is in use and in range
 module _ (areas : List ℕ) (used : ℕ) where
@@ -105,8 +122,8 @@ module _ (areas : List ℕ) (used : ℕ) where
   item-known k p q n (reg SA d s o) h g = h
   item-known k p q n (halted o) h g = h
 
-  -- each area that rows name is in use and in range
-  abbrev pub EachKnown : List Row → Type 0
+  -- each area that elements name is in use and in range
+  abbrev pub EachKnown : List Element → Type 0
   EachKnown [] = Unit {0}
   EachKnown (opens ∷ ws) = EachKnown ws
   EachKnown (bar ∷ ws) = EachKnown ws
@@ -155,33 +172,36 @@ module _ (areas : List ℕ) (used : ℕ) where
     add-known g (state r settled) h = h
     add-known g (state r (waits n z)) h = h
 
-    rows-known : (ws : List Row) (st : State) → EachKnown ws → StateKnown st → StateKnown (onRows role pass opaque adds ws st)
-    rows-known [] st e h = h
-    rows-known (opens ∷ ws) st e h =
-        rows-known ws (onRow role pass opaque adds opens st) e
+    elements-known : (ws : List Element) (st : State) → EachKnown ws → StateKnown st → StateKnown (onElements role pass opaque adds ws st)
+    elements-known [] st e h = h
+    elements-known (opens ∷ ws) st e h =
+        elements-known ws (onElement role pass opaque adds opens st) e
         (subst AllKnown (sym (push-out (settle role pass opaque adds st))) (settle-known st h))
-    rows-known (bar ∷ ws) st e h =
-        rows-known ws (onRow role pass opaque adds bar st) e
+    elements-known (bar ∷ ws) st e h =
+        elements-known ws (onElement role pass opaque adds bar st) e
         (subst AllKnown (sym (activate-out (settle role pass opaque adds st))) (settle-known st h))
-    rows-known (closes ∷ ws) st e h =
-        rows-known ws (onRow role pass opaque adds closes st) e
+    elements-known (closes ∷ ws) st e h =
+        elements-known ws (onElement role pass opaque adds closes st) e
         (subst AllKnown (sym (pop-out (settle role pass opaque adds st))) (settle-known st h))
-    rows-known (bare ∷ ws) st e h =
-        rows-known ws (onRow role pass opaque adds bare st) e
+    elements-known (bare ∷ ws) st e h =
+        elements-known ws (onElement role pass opaque adds bare st) e
         (subst AllKnown (sym (bare-out (settle role pass opaque adds st))) (settle-known st h))
-    rows-known (named n z ∷ ws) st e h = rows-known ws (onRow role pass opaque adds (named n z) st) (e .1) (settle-known st h, e .0)
-    rows-known (segment g ∷ ws) st e h = rows-known ws (onRow role pass opaque adds (segment g) st) e (add-known g st h)
+    elements-known (named n z ∷ ws) st e h = elements-known ws (onElement role pass opaque adds (named n z) st) (e .1) (settle-known st h, e .0)
+    elements-known (segment g ∷ ws) st e h = elements-known ws (onElement role pass opaque adds (segment g) st) e (add-known g st h)
 
     none-known : AllKnown 0
     none-known n e = clash (sym (has-none n) ∙ e)
 
-    read-known : (ws : List Row) → EachKnown ws → AllKnown (readRows role pass opaque adds ws)
-    read-known ws e = settle-known (onRows role pass opaque adds ws (state (reg P 0 0 0) settled)) (rows-known ws (state (reg P 0 0 0) settled) e none-known)
+    read-known : (ws : List Element) → EachKnown ws → AllKnown (readElements role pass opaque adds ws)
+    read-known ws e =
+        settle-known (onElements role pass opaque adds ws (state (reg P 0 0 0) settled))
+        (elements-known ws (state (reg P 0 0 0) settled) e none-known)
 
--- ---- the rows of a stream that passes
+-- ---- the elements of a stream that passes
 
 module _ (v : Env) where
-  one-known : (e : Entry) (ws : List Row) → inRange v e ≡ true → EachKnown (v .areas) (v .used .areas) ws → EachKnown (v .areas) (v .used .areas) (rowFor e ws)
+  one-known : (e : Entry) (ws : List Element) → inRange v e ≡ true → EachKnown (v .areas) (v .used .areas) ws
+      → EachKnown (v .areas) (v .used .areas) (elementFor e ws)
   one-known Entry.opens ws h k = k
   one-known Entry.bar ws h k = k
   one-known Entry.closes ws h k = k
@@ -193,11 +213,11 @@ module _ (v : Env) where
 
   words-known : (t : List ℕ) (i n : ℕ)
       → ((k : ℕ) → k < n → inRange v (decode (wordsAt t (i + k))) ≡ true)
-      → EachKnown (v .areas) (v .used .areas) (rowsIn (wordsFrom t i n))
-  unfolding wordsFrom rowsIn
+      → EachKnown (v .areas) (v .used .areas) (elementsIn (wordsFrom t i n))
+  unfolding wordsFrom elementsIn
   words-known t i zero h = tt
   words-known t i (suc n) h =
-      one-known (decode (wordsAt t i)) (rowsIn (wordsFrom t (i + 1) n))
+      one-known (decode (wordsAt t i)) (elementsIn (wordsFrom t (i + 1) n))
       (subst (λ (j : ℕ). inRange v (decode (wordsAt t j)) ≡ true) (add-zero i) (h 0 (omega arith)))
       (words-known t (i + 1) n (λ k l. subst (λ (j : ℕ). inRange v (decode (wordsAt t j)) ≡ true) (next i k) (h (suc k) (omega arith))))
     where
@@ -218,7 +238,7 @@ set-painted t first count v x y p =
     known : AllKnown (v .areas) (v .used .areas) (setAt (v .areas) (v .xs) (v .ys) x y (wordsFrom t first count))
     known =
         read-known (v .areas) (v .used .areas) (roleAt (v .areas)) (passAt (v .areas)) (opaqueAt (v .areas))
-        (addsAt (v .xs) (v .ys) (at x y)) (rowsIn (wordsFrom t first count))
+        (addsAt (v .xs) (v .ys) (at x y)) (elementsIn (wordsFrom t first count))
         (words-known v t first count (λ k l. in-range v t first count k (p .grammar) l))
 
     painted : (n : ℕ)

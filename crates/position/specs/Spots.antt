@@ -16,8 +16,8 @@ use Rattle.celltable.specs.declared.Found.the-variants.{At, Broken}
 use Rattle.cells.specs.Cells.{at}
 use Rattle.cells.specs.Drawings.{Drawing}
 use Rattle.cells.specs.Streams.{shownIn}
-use Rattle.cells.specs.Rows.{streamOf, roleIn}
-use Rattle.evaluate.specs.Reading.{rowsIn, setAt}
+use Rattle.cells.specs.Elements.{streamOf, roleIn}
+use Rattle.evaluate.specs.Reading.{elementsIn, setAt}
 use Rattle.ranges.specs.Held.{lent}
 use Rattle.tables.specs.Tables.{Tree}
 use Rattle.find_leaf.specs.Leaf.{positionRange, leafBounds, leafStream, leafIn}
@@ -54,7 +54,7 @@ module _ (t : Tree) where
   -- ""Read there" is by "Winding and meaning" over the leaf's stream": `Rattle.position.proofs.Known.leaf-meaning` says that the pass gives this set,
   -- whoever wrote the tables
   abbrev pub setMeant : (x y : ℕ) → Leaf → ℕ
-  setMeant x y l = setOf (shownIn (lentTo l) (at x y) (streamOf (roleIn (lentTo l)) (rowsIn (leafStream t l))))
+  setMeant x y l = setOf (shownIn (lentTo l) (at x y) (streamOf (roleIn (lentTo l)) (elementsIn (leafStream t l))))
 
   module _ (x y : ℕ) where
     unfoldable pub known : Bool

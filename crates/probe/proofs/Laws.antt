@@ -14,7 +14,7 @@ use Rattle.geometry.specs.code.Reach.{PositionIn, SquareIn}
 use Rattle.geometry.specs.declared.class.Square.{Square}
 use Rattle.pruning.specs.code.Weights.{total}
 use Rattle.cells.specs.Cells.{squareOf}
-use Rattle.cells.specs.code.Making.{rowSize}
+use Rattle.cells.specs.code.Making.{elementSize}
 use Rattle.celltable.specs.Ranges.{sideRange, gridRange, squareRange, cellRange, levelUpTo}
 use Rattle.celltable.proofs.Powers.{level-is, level-most}
 use Rattle.stream.specs.declared.Bounds.{Bounds}
@@ -28,7 +28,7 @@ use Rattle.making.proofs.Made.{level-from}
 use Rattle.making.proofs.Lent.{lent-reads}
 use Rattle.making.proofs.Shorter.{made-shorter}
 use Rattle.writing.proofs.Places.{place-is}
-use Rattle.probe.specs.Answers.{positionRange, square, leafOn, squareFits, childRows}
+use Rattle.probe.specs.Answers.{positionRange, square, leafOn, squareFits, childElements}
 
 pub position-in : (x y : ℕ) → positionRange x y ≡ true → PositionIn x y
 position-in x y h =
@@ -106,10 +106,10 @@ check-used t first count used v h = go U (leb count used) (leb first (used - cou
 
 -- the low digits of the count are the entries of the child
 pub made-count : (t : List ℕ) (first count : ℕ) (a x y : List ℕ) (b : Bounds) (s : Square) (r : ℕ) → Passed t first count (env a x y b)
-    → r ≡ total rowSize (childRows t first count (env a x y b) s) → r % 65536 ≡ length (childRows t first count (env a x y b) s)
-made-count t first count a x y b s r P e = ap (λ (n : ℕ). n % 65536) e ∙ place-is (childRows t first count (env a x y b) s) few
+    → r ≡ total elementSize (childElements t first count (env a x y b) s) → r % 65536 ≡ length (childElements t first count (env a x y b) s)
+made-count t first count a x y b s r P e = ap (λ (n : ℕ). n % 65536) e ∙ place-is (childElements t first count (env a x y b) s) few
   where
-    few : length (childRows t first count (env a x y b) s) < 65536
+    few : length (childElements t first count (env a x y b) s) < 65536
     few =
         omega (
           arith,

@@ -5,7 +5,7 @@ use mathlib.Core.List.{List}
 use lib.Dec.{leb}
 use lib.ListN.{length}
 use Rattle.geometry.specs.declared.class.Square.{Square}
-use Rattle.cells.specs.Rows.{Row}
+use Rattle.cells.specs.Elements.{Element}
 use Rattle.celltable.specs.declared.CellWords.{CellWords}
 use Rattle.celltable.specs.Ranges.{squareRange}
 use Rattle.stream.specs.declared.Words.{Words}
@@ -13,7 +13,7 @@ use Rattle.stream.specs.Table.{wordsFrom, written}
 use Rattle.stream.specs.Grammar.{Env, checkStream}
 use Rattle.evaluate.specs.Reading.{setAt}
 use Rattle.ranges.specs.Held.{lent}
-use Rattle.making.specs.Made.{rowsMade, wordsMade}
+use Rattle.making.specs.Made.{elementsMade, wordsMade}
 use Rattle.making.specs.code.Numbers.{cellIn}
 
 -- "Positions are whole x, y from 0 to 65,535."
@@ -39,22 +39,22 @@ unfoldable pub squareFits : Square → Bool
 squareFits s = squareRange (leafOn s)
 
 -- what is made of the stream in the square
-abbrev pub childRows : List ℕ → (first count : ℕ) → Env → Square → List Row
-childRows t first count v s = rowsMade (lent (v .areas) (v .xs) (v .ys) (v .used)) (cellIn s) (wordsFrom t first count)
+abbrev pub childElements : List ℕ → (first count : ℕ) → Env → Square → List Element
+childElements t first count v s = elementsMade (lent (v .areas) (v .xs) (v .ys) (v .used)) (cellIn s) (wordsFrom t first count)
 
 abbrev pub childWords : List ℕ → (first count : ℕ) → Env → Square → List Words
 childWords t first count v s = wordsMade (lent (v .areas) (v .xs) (v .ys) (v .used)) (cellIn s) (wordsFrom t first count)
 
 -- it fits behind the entries in use
 abbrev pub childRoom : List ℕ → (first count used : ℕ) → Env → Square → Bool
-childRoom t first count used v s = leb (used + length (childRows t first count v s)) (length t / 4)
+childRoom t first count used v s = leb (used + length (childElements t first count v s)) (length t / 4)
 
 abbrev pub childFits : List ℕ → (first count used : ℕ) → Env → Square → Bool
 childFits t first count used v s = cond (checkStream t first count used v) (cond (squareFits s) (childRoom t first count used v s) false) false
 
 -- the number of its entries and 1 more, or 0
 abbrev pub answerBy : Bool → List ℕ → (first count : ℕ) → Env → Square → ℕ
-answerBy b t first count v s = cond b (length (childRows t first count v s) + 1) 0
+answerBy b t first count v s = cond b (length (childElements t first count v s) + 1) 0
 
 -- the table with it behind the entries in use, or as it was
 abbrev pub tableBy : Bool → List ℕ → (first count used : ℕ) → Env → Square → List ℕ

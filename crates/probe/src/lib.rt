@@ -9,7 +9,7 @@ ghost use mathlib.Core.Bool.{true, cond};
 ghost use Prim.Native.Nat.{_<_};
 ghost use lib.ListN.{length};
 ghost use Rattle.stream.specs.Grammar.{env, bounds, checkStream, Passed};
-ghost use Rattle.probe.specs.Answers.{readAnswer, square, squareFits, childRows, childRoom, answerBy, tableBy, childFits};
+ghost use Rattle.probe.specs.Answers.{readAnswer, square, squareFits, childElements, childRoom, answerBy, tableBy, childFits};
 
 // The last position, in x and in y.
 const LAST: u32 = celltable::GRID - 1;
@@ -113,7 +113,7 @@ fn entries_made(
 ) -> usize
     requires { ⌜ Passed (now entries) first count (env (now areas) (now xs) (now ys) b) ⌝ }
     requires { ⌜ squareFits s ≡ true ⌝ }
-    ensures answer { λ r. ⌜ r ≡ length (childRows (now (entries .entry)) first count (env (now (areas .entry)) (now (xs .entry)) (now (ys .entry)) b) s) ⌝ }
+    ensures answer { λ r. ⌜ r ≡ length (childElements (now (entries .entry)) first count (env (now (areas .entry)) (now (xs .entry)) (now (ys .entry)) b) s) ⌝ }
     ensures range { λ r. ⌜ r < 65536 ⌝ }
 {
     let k = child_stream::count_child(entries, first, count, areas, xs, ys, b, s);

@@ -29,7 +29,7 @@ use Rattle.pruning.specs.code.Pruner.{
   keepRight,
   endLeft,
   endRight,
-  rows,
+  elements,
 }
 use Rattle.pruning.specs.code.Counters.{
   Count,
@@ -58,33 +58,33 @@ Chain b (frame dead s o ∷ fs) = (b ≡ o) × (s ≡ o) × Chain o fs
 abbrev pub Fit : Count → Type 0
 Fit (ct n b w fs) = (b ≤ n) × Chain b fs
 
-module _ (I : Items) (Row : Type 0) (enc : Entry (I .Item) → List Row) (enc-some : (e : Entry (I .Item)) → 0 < length (enc e)) where
+module _ (I : Items) (Element : Type 0) (enc : Entry (I .Item) → List Element) (enc-some : (e : Entry (I .Item)) → 0 < length (enc e)) where
   open Items I using (Item, class, bare, bare-passes)
 
   abbrev pub wid : Entry Item → ℕ
   wid e = length (enc e)
 
-  abbrev pub count : State Row → Count
+  abbrev pub count : State Element → Count
   count (st out b w fs) = ct (length out) b w fs
 
-  abbrev step′ : State Row → Entry Item → State Row
-  step′ = step I Row enc
+  abbrev step′ : State Element → Entry Item → State Element
+  step′ = step I Element enc
 
   -- one step
-  item-counts : (k : Kind) (c : Class) (a : Item) (out : List Row) (b : ℕ) (fs : List Frame) → b ≤ length out → Chain b fs
-      → (count (addItem I Row enc k c a out b fs) ≡ countItem I wid k c a (length out) b fs) × Fit (countItem I wid k c a (length out) b fs)
+  item-counts : (k : Kind) (c : Class) (a : Item) (out : List Element) (b : ℕ) (fs : List Frame) → b ≤ length out → Chain b fs
+      → (count (addItem I Element enc k c a out b fs) ≡ countItem I wid k c a (length out) b fs) × Fit (countItem I wid k c a (length out) b fs)
   item-counts k fails a out b fs h c = (refl, (h, c))
   item-counts paint passes a out b fs h c = (rw (length-append out (enc (item paint a))), (omega arith, c))
   item-counts clip passes a out b fs h c = (rw (length-append (take b out) (enc (item clip bare)), length-take-le b out h), (omega arith, c))
   item-counts k other a out b fs h c = (rw (length-append out (enc (item k a))), (omega arith, c))
 
-  left-keeps : (t : Bool) (out : List Row) (b s o : ℕ) (fs : List Frame) → b ≤ length out → Chain b (frame left s o ∷ fs)
-      → (count (keepLeft I Row enc t s o out fs) ≡ countKeepLeft I wid t s o (length out) fs) × Fit (countKeepLeft I wid t s o (length out) fs)
+  left-keeps : (t : Bool) (out : List Element) (b s o : ℕ) (fs : List Frame) → b ≤ length out → Chain b (frame left s o ∷ fs)
+      → (count (keepLeft I Element enc t s o out fs) ≡ countKeepLeft I wid t s o (length out) fs) × Fit (countKeepLeft I wid t s o (length out) fs)
   left-keeps true out b s o fs h c = (rw (length-take-le s out (omega arith)), (c .1 .0, (refl, refl, c .1 .1)))
   left-keeps false out b s o fs h c = (rw (length-append out (enc activate)), (omega arith, (omega arith, (c .1 .0, c .1 .1))))
 
-  left-counts : (out : List Row) (b : ℕ) (w : Skip) (fs : List Frame) → b ≤ length out → Chain b fs
-      → (count (endLeft I Row enc out b w fs) ≡ countLeft I wid (length out) b w fs) × Fit (countLeft I wid (length out) b w fs)
+  left-counts : (out : List Element) (b : ℕ) (w : Skip) (fs : List Frame) → b ≤ length out → Chain b fs
+      → (count (endLeft I Element enc out b w fs) ≡ countLeft I wid (length out) b w fs) × Fit (countLeft I wid (length out) b w fs)
   left-counts out b w [] h c = (refl, (h, c))
   left-counts out b going (frame left s o ∷ fs) h c = left-keeps (eqb (length out) b) out b s o fs h c
   left-counts out b (shut m) (frame left s o ∷ fs) h c = (rw (length-take-le s out (omega arith)), (c .1 .0, (refl, refl, c .1 .1)))
@@ -92,20 +92,20 @@ module _ (I : Items) (Row : Type 0) (enc : Entry (I .Item) → List Row) (enc-so
   left-counts out b w (frame through s o ∷ fs) h c = (refl, (h, c))
   left-counts out b w (frame dead s o ∷ fs) h c = (refl, (h, c))
 
-  right-keeps : (t : Bool) (out : List Row) (b s o : ℕ) (fs : List Frame) → b ≤ length out → Chain b (frame right s o ∷ fs)
-      → (count (keepRight I Row enc t s o out fs) ≡ countKeepRight I wid t s o (length out) fs) × Fit (countKeepRight I wid t s o (length out) fs)
+  right-keeps : (t : Bool) (out : List Element) (b s o : ℕ) (fs : List Frame) → b ≤ length out → Chain b (frame right s o ∷ fs)
+      → (count (keepRight I Element enc t s o out fs) ≡ countKeepRight I wid t s o (length out) fs) × Fit (countKeepRight I wid t s o (length out) fs)
   right-keeps true out b s o fs h c = (rw (length-take-le s out (omega arith)), (c .1 .0, c .1 .1))
   right-keeps false out b s o fs h c = (rw (length-append out (enc pop)), (omega arith, c .1 .1))
 
-  right-counts : (out : List Row) (b : ℕ) (w : Skip) (fs : List Frame) → b ≤ length out → Chain b fs
-      → (count (endRight I Row enc out b w fs) ≡ countRight I wid (length out) b w fs) × Fit (countRight I wid (length out) b w fs)
+  right-counts : (out : List Element) (b : ℕ) (w : Skip) (fs : List Frame) → b ≤ length out → Chain b fs
+      → (count (endRight I Element enc out b w fs) ≡ countRight I wid (length out) b w fs) × Fit (countRight I wid (length out) b w fs)
   right-counts out b w [] h c = (refl, (h, c))
   right-counts out b w (frame left s o ∷ fs) h c = (refl, (h, c))
   right-counts out b w (frame right s o ∷ fs) h c = right-keeps (eqb (length out) b) out b s o fs h c
   right-counts out b w (frame through s o ∷ fs) h c = (refl, (h, rw (c .0) (c .2)))
   right-counts out b w (frame dead s o ∷ fs) h c = (refl, (omega arith, c .2))
 
-  pub step-counts : (x : State Row) (e : Entry Item) → Fit (count x) → (count (step′ x e) ≡ countStep I wid (count x) e) × Fit (countStep I wid (count x) e)
+  pub step-counts : (x : State Element) (e : Entry Item) → Fit (count x) → (count (step′ x e) ≡ countStep I wid (count x) e) × Fit (countStep I wid (count x) e)
   step-counts (st out b going fs) (item k a) f = item-counts k (class k a) a out b fs (f .0) (f .1)
   step-counts (st out b going fs) push f = (rw (length-append out (enc push)), (omega arith, (omega arith, (f .0, f .1))))
   step-counts (st out b going fs) activate f = left-counts out b going fs (f .0) (f .1)
@@ -117,16 +117,16 @@ module _ (I : Items) (Row : Type 0) (enc : Entry (I .Item) → List Row) (enc-so
   step-counts (st out b (shut (suc m)) fs) activate f = (refl, f)
   step-counts (st out b (shut (suc m)) fs) pop f = (refl, f)
 
-  pub run-counts : (es : List (Entry Item)) (x : State Row) → Fit (count x) → count (run I Row enc es x) ≡ counts I wid es (count x)
+  pub run-counts : (es : List (Entry Item)) (x : State Element) → Fit (count x) → count (run I Element enc es x) ≡ counts I wid es (count x)
   run-counts [] x f = refl
   run-counts (e ∷ es) x f = let q = step-counts x e f in run-counts es (step′ x e) (rw (q .0) (q .1)) ∙ ap (counts I wid es) (q .0)
 
   -- the first pass gives the length of what the second writes
-  pub count-normal : (x : Side Item) → counts I wid (flat paint x) (ct 0 0 going []) ≡ count (run I Row enc (flat paint x) (st [] 0 going []))
+  pub count-normal : (x : Side Item) → counts I wid (flat paint x) (ct 0 0 going []) ≡ count (run I Element enc (flat paint x) (st [] 0 going []))
   count-normal x = sym (run-counts (flat paint x) (st [] 0 going []) (omega arith))
 
-  pub count-length : (x : Side Item) → lengthOf (counts I wid (flat paint x) (ct 0 0 going [])) ≡ length (rows I Row enc paint (normal I paint x))
-  count-length x = ap lengthOf (count-normal x ∙ ap count (stream-normal I Row enc enc-some x))
+  pub count-length : (x : Side Item) → lengthOf (counts I wid (flat paint x) (ct 0 0 going [])) ≡ length (elements I Element enc paint (normal I paint x))
+  count-length x = ap lengthOf (count-normal x ∙ ap count (stream-normal I Element enc enc-some x))
 
   opened-item : (k : Kind) (c : Class) (a : Item) (n b : ℕ) (fs : List Frame) → opened (countItem I wid k c a n b fs) ≡ length fs + 0
   opened-item k fails a n b fs = refl
@@ -176,7 +176,7 @@ module _ (I : Items) (Row : Type 0) (enc : Entry (I .Item) → List Row) (enc-so
   opened-step (ct n b (shut (suc m)) fs) activate = omega arith
   opened-step (ct n b (shut (suc m)) fs) pop = omega arith
 
-  -- an entry adds at most its own rows, where the bare item has no more rows than another
+  -- an entry adds at most its own elements, where the bare item has no more elements than another
   module _ (bare-short : (a : Item) → wid (item clip bare) ≤ wid (item clip a)) where
     grows-item : (k : Kind) (c : Class) (a : Item) (n b : ℕ) (fs : List Frame) → b ≤ n → lengthOf (countItem I wid k c a n b fs) ≤ n + wid (item k a)
     grows-item k fails a n b fs h = omega arith

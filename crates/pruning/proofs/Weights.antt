@@ -34,16 +34,16 @@ use Rattle.pruning.specs.code.Counters.{Count, ct, countItem, countKeepL
 use Rattle.pruning.specs.code.Weights.{total, before, frameAt, weighed, Sized, sized, sizedItems, sizeOf}
 use Rattle.pruning.proofs.Counters.{Chain, Fit, count}
 
-module _ {Row : Type 0} (weight : Row → ℕ) where
-  pub total-append : (x y : List Row) → total weight (x ++ y) ≡ total weight x + total weight y
+module _ {Element : Type 0} (weight : Element → ℕ) where
+  pub total-append : (x y : List Element) → total weight (x ++ y) ≡ total weight x + total weight y
   total-append [] y = omega arith
   total-append (r ∷ x) y = omega (arith, total-append x y)
 
-  -- places up to b have the same weights before them, where the first b rows are the same
-  before-same : (b p : ℕ) (x y : List Row) → take b x ≡ take b y → p ≤ b → before weight x p ≡ before weight y p
+  -- places up to b have the same weights before them, where the first b elements are the same
+  before-same : (b p : ℕ) (x y : List Element) → take b x ≡ take b y → p ≤ b → before weight x p ≡ before weight y p
   before-same b p x y e h = ap (total weight) (sym (take-take p b x h) ∙ (ap (take p) e ∙ take-take p b y h))
 
-  frames-same : (b : ℕ) (fs : List Frame) (x y : List Row) → Chain b fs → take b x ≡ take b y → map (frameAt weight x) fs ≡ map (frameAt weight y) fs
+  frames-same : (b : ℕ) (fs : List Frame) (x y : List Element) → Chain b fs → take b x ≡ take b y → map (frameAt weight x) fs ≡ map (frameAt weight y) fs
   frames-same b [] x y c e = refl
   frames-same b (frame left s o ∷ fs) x y c e =
       let r = frames-same o fs x y (c .1 .1) (sym (take-take o b x (omega arith)) ∙ (ap (take o) e ∙ take-take o b y (omega arith))) in
@@ -59,32 +59,32 @@ module _ {Row : Type 0} (weight : Row → ℕ) where
       rw (before-same b s x y e (omega arith), before-same b o x y e (omega arith), r)
 
   -- going back to a place and writing there leaves what stands before
-  pub back-keeps : (b p : ℕ) (out r : List Row) → b ≤ p → p ≤ length out → take b (take p out ++ r) ≡ take b out
+  pub back-keeps : (b p : ℕ) (out r : List Element) → b ≤ p → p ≤ length out → take b (take p out ++ r) ≡ take b out
   back-keeps b p out r h l = take-append-le b (take p out) r (omega (arith, length-take-le p out l)) ∙ take-take b p out h
 
-  pub add-keeps : (b : ℕ) (out r : List Row) → b ≤ length out → take b (out ++ r) ≡ take b out
+  pub add-keeps : (b : ℕ) (out r : List Element) → b ≤ length out → take b (out ++ r) ≡ take b out
   add-keeps b out r h = take-append-le b out r h
 
   same-count : {n n′ m m′ : ℕ} {w : Skip} {fs fs′ : List Frame} → n ≡ n′ → m ≡ m′ → fs ≡ fs′ → ct n m w fs ≡ ct n′ m′ w fs′
   same-count p q r = cc
 
-  -- rows were added
-  added : (out r : List Row) (b : ℕ) (w : Skip) (fs : List Frame) → b ≤ length out → Chain b fs
+  -- elements were added
+  added : (out r : List Element) (b : ℕ) (w : Skip) (fs : List Frame) → b ≤ length out → Chain b fs
       → weighed weight (st (out ++ r) b w fs) ≡ ct (total weight out + total weight r) (before weight out b) w (map (frameAt weight out) fs)
   added out r b w fs h c = same-count (total-append out r) (ap (total weight) (add-keeps b out r h)) (frames-same b fs (out ++ r) out c (add-keeps b out r h))
 
   -- the output went back to where it stood at place p, with what began at b before that
-  cut : (out : List Row) (p b : ℕ) (w : Skip) (fs : List Frame) → b ≤ p → Chain b fs
+  cut : (out : List Element) (p b : ℕ) (w : Skip) (fs : List Frame) → b ≤ p → Chain b fs
       → weighed weight (st (take p out) b w fs) ≡ ct (before weight out p) (before weight out b) w (map (frameAt weight out) fs)
   cut out p b w fs h c = same-count refl (ap (total weight) (take-take b p out h)) (frames-same b fs (take p out) out c (take-take b p out h))
 
-  module _ (some : (r : Row) → 0 < weight r) where
-    some-total : (x : List Row) → 0 < length x → 0 < total weight x
+  module _ (some : (r : Element) → 0 < weight r) where
+    some-total : (x : List Element) → 0 < length x → 0 < total weight x
     some-total [] h = absurd (not-suc-le-zero h)
     some-total (r ∷ x) h = omega (arith, some r)
 
     -- whether anything was written since b is seen by the weights too
-    same-test : (out : List Row) (b : ℕ) → b ≤ length out → eqb (total weight out) (before weight out b) ≡ eqb (length out) b
+    same-test : (out : List Element) (b : ℕ) → b ≤ length out → eqb (total weight out) (before weight out b) ≡ eqb (length out) b
     same-test out b h = go (eqb (length out) b) refl
       where
         go : (t : Bool) → eqb (length out) b ≡ t → eqb (total weight out) (before weight out b) ≡ t
@@ -107,14 +107,15 @@ module _ {Row : Type 0} (weight : Row → ℕ) where
             none zero l m u q = omega arith
             none (suc n) l m u q = absurd (omega (arith, some-total (drop b out) (omega arith)))
 
-    module _ (I : Items) (enc : Entry (I .Item) → List Row) (enc-some : (e : Entry (I .Item)) → 0 < length (enc e)) where
+    module _ (I : Items) (enc : Entry (I .Item) → List Element) (enc-some : (e : Entry (I .Item)) → 0 < length (enc e)) where
       open Items I using (Item, class, bare)
 
       abbrev pub weigh : Entry Item → ℕ
       weigh e = total weight (enc e)
 
-      item-weighs : (k : Kind) (c : Class) (a : Item) (out : List Row) (b : ℕ) (fs : List Frame) → b ≤ length out → Chain b fs
-          → weighed weight (addItem I Row enc k c a out b fs) ≡ countItem I weigh k c a (total weight out) (before weight out b) (map (frameAt weight out) fs)
+      item-weighs : (k : Kind) (c : Class) (a : Item) (out : List Element) (b : ℕ) (fs : List Frame) → b ≤ length out → Chain b fs
+          → weighed weight (addItem I Element enc k c a out b fs)
+          ≡ countItem I weigh k c a (total weight out) (before weight out b) (map (frameAt weight out) fs)
       item-weighs k fails a out b fs h c = refl
       item-weighs paint passes a out b fs h c = added out (enc (item paint a)) b (shut 0) fs h c
       item-weighs clip passes a out b fs h c =
@@ -122,18 +123,18 @@ module _ {Row : Type 0} (weight : Row → ℕ) where
           (frames-same b fs (take b out ++ enc (item clip bare)) out c (back-keeps b b out (enc (item clip bare)) (omega arith) h))
       item-weighs k other a out b fs h c = added out (enc (item k a)) b going fs h c
 
-      keep-left-weighs : (t : Bool) (out : List Row) (b s o : ℕ) (fs : List Frame)
+      keep-left-weighs : (t : Bool) (out : List Element) (b s o : ℕ) (fs : List Frame)
           → b ≤ length out
           → Chain b (frame left s o ∷ fs)
-          → weighed weight (keepLeft I Row enc t s o out fs)
+          → weighed weight (keepLeft I Element enc t s o out fs)
           ≡ countKeepLeft I weigh t (before weight out s) (before weight out o) (total weight out) (map (frameAt weight out) fs)
       keep-left-weighs true out b s o fs h c = cut out s o (shut 0) (frame dead o o ∷ fs) (c .1 .0) (refl, refl, c .1 .1)
       keep-left-weighs false out b s o fs h c =
           same-count (total-append out (enc activate)) (ap (total weight) (take-length (out ++ enc activate)) ∙ total-append out (enc activate))
           (frames-same b (frame right s o ∷ fs) (out ++ enc activate) out c (add-keeps b out (enc activate) h))
 
-      left-weighs : (out : List Row) (b : ℕ) (w : Skip) (fs : List Frame) → b ≤ length out → Chain b fs
-          → weighed weight (endLeft I Row enc out b w fs) ≡ countLeft I weigh (total weight out) (before weight out b) w (map (frameAt weight out) fs)
+      left-weighs : (out : List Element) (b : ℕ) (w : Skip) (fs : List Frame) → b ≤ length out → Chain b fs
+          → weighed weight (endLeft I Element enc out b w fs) ≡ countLeft I weigh (total weight out) (before weight out b) w (map (frameAt weight out) fs)
       left-weighs out b w [] h c = refl
       left-weighs out b going (frame left s o ∷ fs) h c = rw (same-test out b h) (keep-left-weighs (eqb (length out) b) out b s o fs h c)
       left-weighs out b (shut m) (frame left s o ∷ fs) h c = cut out s o going (frame through o o ∷ fs) (c .1 .0) (refl, refl, c .1 .1)
@@ -141,16 +142,16 @@ module _ {Row : Type 0} (weight : Row → ℕ) where
       left-weighs out b w (frame through s o ∷ fs) h c = refl
       left-weighs out b w (frame dead s o ∷ fs) h c = refl
 
-      keep-right-weighs : (t : Bool) (out : List Row) (b s o : ℕ) (fs : List Frame)
+      keep-right-weighs : (t : Bool) (out : List Element) (b s o : ℕ) (fs : List Frame)
           → b ≤ length out
           → Chain b (frame right s o ∷ fs)
-          → weighed weight (keepRight I Row enc t s o out fs)
+          → weighed weight (keepRight I Element enc t s o out fs)
           ≡ countKeepRight I weigh t (before weight out s) (before weight out o) (total weight out) (map (frameAt weight out) fs)
       keep-right-weighs true out b s o fs h c = cut out s o going fs (c .1 .0) (c .1 .1)
       keep-right-weighs false out b s o fs h c = added out (enc pop) o going fs (omega arith) (c .1 .1)
 
-      right-weighs : (out : List Row) (b : ℕ) (w : Skip) (fs : List Frame) → b ≤ length out → Chain b fs
-          → weighed weight (endRight I Row enc out b w fs) ≡ countRight I weigh (total weight out) (before weight out b) w (map (frameAt weight out) fs)
+      right-weighs : (out : List Element) (b : ℕ) (w : Skip) (fs : List Frame) → b ≤ length out → Chain b fs
+          → weighed weight (endRight I Element enc out b w fs) ≡ countRight I weigh (total weight out) (before weight out b) w (map (frameAt weight out) fs)
       right-weighs out b w [] h c = refl
       right-weighs out b w (frame left s o ∷ fs) h c = refl
       right-weighs out b w (frame right s o ∷ fs) h c = rw (same-test out b h) (keep-right-weighs (eqb (length out) b) out b s o fs h c)
@@ -158,9 +159,9 @@ module _ {Row : Type 0} (weight : Row → ℕ) where
       right-weighs out b w (frame dead s o ∷ fs) h c = refl
 
       -- one step
-      pub step-weighs : (x : State Row) (e : Entry Item)
-          → Fit (count I Row enc enc-some x)
-          → weighed weight (step I Row enc x e) ≡ countStep I weigh (weighed weight x) e
+      pub step-weighs : (x : State Element) (e : Entry Item)
+          → Fit (count I Element enc enc-some x)
+          → weighed weight (step I Element enc x e) ≡ countStep I weigh (weighed weight x) e
       step-weighs (st out b going fs) (item k a) f = item-weighs k (class k a) a out b fs (f .0) (f .1)
       step-weighs (st out b going fs) push f =
           same-count (total-append out (enc push)) (ap (total weight) (take-length (out ++ enc push)) ∙ total-append out (enc push))
@@ -168,7 +169,7 @@ module _ {Row : Type 0} (weight : Row → ℕ) where
           (add-keeps (length out) out (enc push) (omega arith))
           ∙ whole out b fs)
         where
-          whole : (out : List Row) (b : ℕ) (fs : List Frame)
+          whole : (out : List Element) (b : ℕ) (fs : List Frame)
               → map (frameAt weight out) (frame left (length out) b ∷ fs)
               ≡ frame left (total weight out) (before weight out b) ∷ map (frameAt weight out) fs
           whole out b fs = rw (take-length out)

@@ -16,7 +16,7 @@ use Rattle.stream.specs.Grammar.{env, bounds, accepts}
 use Rattle.cells.specs.Cells.{root}
 use Rattle.cells.specs.Drawings.{Drawing, fieldsOf}
 use Rattle.cells.specs.Streams.{source, made}
-use Rattle.cells.specs.Rows.{rowsOf}
+use Rattle.cells.specs.Elements.{elementsOf}
 use Rattle.evaluate.specs.Words.{wordsOf}
 use Rattle.ranges.specs.code.Valid.{CornersBelow, lines, Valid}
 use Rattle.ranges.specs.Held.{Held}
@@ -108,5 +108,5 @@ clipped-held =
     }
 
 -- so the stream of cell 0 passes the check
-pub clipped-passes : accepts (env areas xs ys inUse) (map wordsOf (rowsOf (flat paint (made clipped root (source clipped))))) ≡ true
+pub clipped-passes : accepts (env areas xs ys inUse) (map wordsOf (elementsOf (flat paint (made clipped root (source clipped))))) ≡ true
 clipped-passes = made-passes clipped clipped-valid areas xs ys inUse clipped-held root refl refl

@@ -19,11 +19,11 @@ use Rattle.cells.specs.Segments.{Segment}
 use Rattle.cells.specs.Drawings.{Drawing, fieldsOf}
 use Rattle.cells.specs.Streams.{Item, always, area, Each, On, items, within, whole, source, made}
 use Rattle.cells.specs.code.Sizes.{Small}
-use Rattle.cells.specs.Rows.{OnSide, roleIn}
+use Rattle.cells.specs.Elements.{OnSide, roleIn}
 use Rattle.cells.proofs.Each.{each-sub, each-mapped}
 use Rattle.cells.proofs.Streams.{made-normal}
 use Rattle.cells.proofs.Bounds.{made-small}
-use Rattle.cells.proofs.Rows.{made-on-side}
+use Rattle.cells.proofs.Elements.{made-on-side}
 use Rattle.ranges.specs.code.Valid.{Valid, lines}
 use Rattle.ranges.specs.Held.{Held}
 use Rattle.ranges.proofs.Segments.{EachIn, lines-kept}

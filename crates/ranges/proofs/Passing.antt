@@ -18,10 +18,10 @@ use Rattle.stream.specs.Entry.{decode, startRange}
 use Rattle.stream.specs.Grammar.{Env, isGood, areaMet, lineRange, shortcutRange, inRange, Place, place, roleFits, fits, inLimit, after, Course, at, met, course}
 use Rattle.cells.specs.Segments.{Segment, drawn, shortcut}
 use Rattle.cells.specs.Streams.{Item, always, area, On}
-use Rattle.cells.specs.Rows.{bar, closes, segment, itemRows, rowsOf}
+use Rattle.cells.specs.Elements.{bar, closes, segment, itemElements, elementsOf}
 use Rattle.evaluate.specs.Words.{words, segmentWords, wordsOf}
 use Rattle.ranges.specs.code.Valid.{depth, weigh}
-use Rattle.ranges.proofs.Weights.{oneArea, segments, rows-append}
+use Rattle.ranges.proofs.Weights.{oneArea, segments, elements-append}
 
 -- ---- items in range
 
@@ -116,18 +116,18 @@ heldAfter (group l r t) h = heldAfter t false
 
 -- the words of the stream of a side
 abbrev pub sideWords : Kind → Side Item → List Words
-sideWords k s = map wordsOf (rowsOf (flat k s))
+sideWords k s = map wordsOf (elementsOf (flat k s))
 
-leaf-words : (k : Kind) (i : Item) (t : Side Item) → sideWords k (leaf i t) ≡ map wordsOf (itemRows i) ++ sideWords k t
-leaf-words k i t = map-append wordsOf (itemRows i) (rowsOf (flat k t))
+leaf-words : (k : Kind) (i : Item) (t : Side Item) → sideWords k (leaf i t) ≡ map wordsOf (itemElements i) ++ sideWords k t
+leaf-words k i t = map-append wordsOf (itemElements i) (elementsOf (flat k t))
 
 group-words : (k : Kind) (l r t : Side Item)
     → sideWords k (group l r t) ≡ words 1 0 0 0 ∷ (sideWords clip l ++ (words 2 0 0 0 ∷ (sideWords k r ++ (words 3 0 0 0 ∷ sideWords k t))))
 group-words k l r t =
-    rw (rows-append (flat clip l) (activate ∷ (flat k r ++ (pop ∷ flat k t))), rows-append (flat k r) (pop ∷ flat k t))
+    rw (elements-append (flat clip l) (activate ∷ (flat k r ++ (pop ∷ flat k t))), elements-append (flat k r) (pop ∷ flat k t))
     (rw (
-      map-append wordsOf (rowsOf (flat clip l)) (bar ∷ (rowsOf (flat k r) ++ (closes ∷ rowsOf (flat k t)))),
-      map-append wordsOf (rowsOf (flat k r)) (closes ∷ rowsOf (flat k t)),
+      map-append wordsOf (elementsOf (flat clip l)) (bar ∷ (elementsOf (flat k r) ++ (closes ∷ elementsOf (flat k t)))),
+      map-append wordsOf (elementsOf (flat k r)) (closes ∷ elementsOf (flat k t)),
     )
     refl)
 
@@ -152,7 +152,7 @@ module _ (v : Env) where
       → ItemPasses v k i
       → a + oneArea i ≤ 64
       → l + segments i ≤ 2048
-      → course v (at (place g h a l)) (map wordsOf (itemRows i)) ≡ at (place g (heldBy i) (a + oneArea i) (l + segments i))
+      → course v (at (place g h a l)) (map wordsOf (itemElements i)) ≡ at (place g (heldBy i) (a + oneArea i) (l + segments i))
   unfolding course
   item-passes paint always g h a l e p m n = absurd p
   item-passes clip always g h a l e p m n =
@@ -171,7 +171,7 @@ module _ (v : Env) where
       let a′ = a + oneArea i in
       let l′ = l + segments i in
       ap (course v (at (place g h a l))) (leaf-words k i t)
-      ∙ (through v (at (place g h a l)) (at (place g (heldBy i) a′ l′)) _ (map wordsOf (itemRows i)) (sideWords k t)
+      ∙ (through v (at (place g h a l)) (at (place g (heldBy i) a′ l′)) _ (map wordsOf (itemElements i)) (sideWords k t)
       (item-passes k i g h a l e (o .0) (omega arith) (omega arith))
       (side-passes k t g (heldBy i) a′ l′ e (o .1) d (omega arith) (omega arith))
       ∙ at-counts g (heldAfter t (heldBy i)) (a′ + weigh oneArea 0 t) (a + weigh oneArea 0 (leaf i t)) (l′ + weigh segments 0 t)

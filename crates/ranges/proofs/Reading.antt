@@ -22,8 +22,26 @@ use Rattle.cells.specs.Cells.{at, Cell, Holds}
 use Rattle.cells.specs.Segments.{Segment, drawn, shortcut, addsAt}
 use Rattle.cells.specs.Drawings.{Drawing, noFields, fieldsOf, kindOf, ruleOf, shownAt}
 use Rattle.cells.specs.Streams.{Item, always, area, Each, On, source, made}
-use Rattle.cells.specs.Rows.{Row, opens, bar, closes, bare, named, segment, rowsOf, settled, waits, State, state, settle, addTo, onRow, onRows, readRows}
-use Rattle.evaluate.specs.Reading.{rowsIn, roleAt, passAt, opaqueAt, setAt}
+use Rattle.cells.specs.Elements.{
+  Element,
+  opens,
+  bar,
+  closes,
+  bare,
+  named,
+  segment,
+  elementsOf,
+  settled,
+  waits,
+  State,
+  state,
+  settle,
+  addTo,
+  onElement,
+  onElements,
+  readElements,
+}
+use Rattle.evaluate.specs.Reading.{elementsIn, roleAt, passAt, opaqueAt, setAt}
 use Rattle.evaluate.specs.Words.{wordsOf, Agrees}
 use Rattle.evaluate.proofs.Words.{cell-words-read}
 use Rattle.ranges.specs.code.Valid.{Valid}
@@ -62,9 +80,9 @@ held-agrees D areas xs ys b H ok =
 
 -- ---- the tables of corners
 
--- rows are read by what their lines and shortcuts add, and by nothing else of them
+-- elements are read by what their lines and shortcuts add, and by nothing else of them
 module _ (role : ℕ → Kind) (pass : ℕ → ℤ → Bool) (opaque : ℕ → Bool) (f g : Segment → ℤ) where
-  abbrev pub SameOn : List Row → Type 0
+  abbrev pub SameOn : List Element → Type 0
   SameOn [] = Unit {0}
   SameOn (opens ∷ ws) = SameOn ws
   SameOn (bar ∷ ws) = SameOn ws
@@ -81,54 +99,57 @@ module _ (role : ℕ → Kind) (pass : ℕ → ℤ → Bool) (opaque : ℕ → B
   add-same s e (state r settled) = refl
   add-same s e (state r (waits n z)) = ap (λ a. state r (waits n (z +ℤ a))) e
 
-  row-same : (w : Row) (ws : List Row) → SameOn (w ∷ ws) → (st : State) → (onRow role pass opaque f w st ≡ onRow role pass opaque g w st) × SameOn ws
-  row-same opens ws h st = (rw (settle-same st), h)
-  row-same bar ws h st = (rw (settle-same st), h)
-  row-same closes ws h st = (rw (settle-same st), h)
-  row-same bare ws h st = (rw (settle-same st), h)
-  row-same (named n z) ws h st = (rw (settle-same st), h)
-  row-same (segment s) ws h st = (add-same s (h .0) st, h .1)
+  element-same : (w : Element) (ws : List Element) → SameOn (w ∷ ws) → (st : State)
+      → (onElement role pass opaque f w st ≡ onElement role pass opaque g w st) × SameOn ws
+  element-same opens ws h st = (rw (settle-same st), h)
+  element-same bar ws h st = (rw (settle-same st), h)
+  element-same closes ws h st = (rw (settle-same st), h)
+  element-same bare ws h st = (rw (settle-same st), h)
+  element-same (named n z) ws h st = (rw (settle-same st), h)
+  element-same (segment s) ws h st = (add-same s (h .0) st, h .1)
 
-  rows-same : (ws : List Row) → SameOn ws → (st : State) → onRows role pass opaque f ws st ≡ onRows role pass opaque g ws st
-  rows-same [] h st = refl
-  rows-same (w ∷ ws) h st = let q = row-same w ws h st in rows-same ws (q .1) (onRow role pass opaque f w st) ∙ ap (onRows role pass opaque g ws) (q .0)
+  elements-same : (ws : List Element) → SameOn ws → (st : State) → onElements role pass opaque f ws st ≡ onElements role pass opaque g ws st
+  elements-same [] h st = refl
+  elements-same (w ∷ ws) h st =
+      let q = element-same w ws h st in elements-same ws (q .1) (onElement role pass opaque f w st) ∙ ap (onElements role pass opaque g ws) (q .0)
 
-  pub read-same : (ws : List Row) → SameOn ws → readRows role pass opaque f ws ≡ readRows role pass opaque g ws
+  pub read-same : (ws : List Element) → SameOn ws → readElements role pass opaque f ws ≡ readElements role pass opaque g ws
   read-same ws h =
       let st = state (reg P 0 0 0) settled in
-      ap (λ x. outOf (settle role pass opaque f x)) (rows-same ws h st) ∙ ap outOf (settle-same (onRows role pass opaque g ws st))
+      ap (λ x. outOf (settle role pass opaque f x)) (elements-same ws h st) ∙ ap outOf (settle-same (onElements role pass opaque g ws st))
 
 module _ (D : Drawing) (areas xs ys : List ℕ) (b : Bounds) (H : Held areas xs ys b D) (c : Cell) (x y : ℕ) where
-  abbrev Same : List Row → Type 0
+  abbrev Same : List Element → Type 0
   Same = SameOn (roleAt areas) (passAt areas) (opaqueAt areas) (addsAt xs ys (at x y)) (addsAt (D .xs) (D .ys) (at x y))
 
   line-same : (l : Line) → LineBelow (length (D .xs)) l → addsAt xs ys (at x y) (drawn l) ≡ addsAt (D .xs) (D .ys) (at x y) (drawn l)
   line-same l h = ap (λ (e : Edge). cond (counts e x y) (sign e) (pos 0)) (edge-same D areas xs ys b H l h)
 
-  segments-same : (gs : List Segment) (ws : List Row)
+  segments-same : (gs : List Segment) (ws : List Element)
       → EachIn (length (D .xs)) c gs
-      → Same (rowsIn (map wordsOf ws))
-      → Same (rowsIn (map wordsOf (map segment gs ++ ws)))
-  unfolding rowsIn
+      → Same (elementsIn (map wordsOf ws))
+      → Same (elementsIn (map wordsOf (map segment gs ++ ws)))
+  unfolding elementsIn
   segments-same [] ws h s = s
   segments-same (drawn (line i j) ∷ gs) ws h s = (line-same (line i j) (h .0), segments-same gs ws (h .1) s)
   segments-same (shortcut z lo hi ∷ gs) ws h s = (refl, segments-same gs ws (h .1) s)
 
-  entries-same : (es : List (Entry Item)) → Each (Numbered D c) es → Same (rowsIn (map wordsOf (rowsOf es)))
-  unfolding rowsIn
+  entries-same : (es : List (Entry Item)) → Each (Numbered D c) es → Same (elementsIn (map wordsOf (elementsOf es)))
+  unfolding elementsIn
   entries-same [] h = tt
   entries-same (item k always ∷ es) h = entries-same es (h .1)
-  entries-same (item k (area n z gs) ∷ es) h = segments-same gs (rowsOf es) (h .0 .1) (entries-same es (h .1))
+  entries-same (item k (area n z gs) ∷ es) h = segments-same gs (elementsOf es) (h .0 .1) (entries-same es (h .1))
   entries-same (push ∷ es) h = entries-same es h
   entries-same (activate ∷ es) h = entries-same es h
   entries-same (pop ∷ es) h = entries-same es h
 
 -- "A stream is read in one pass": the reader's answer in the lent tables is the set that the drawing shows
 pub valid-words-read : (D : Drawing) → Valid D → (areas xs ys : List ℕ) (b : Bounds) → Held areas xs ys b D → (c : Cell) (x y : ℕ) → Holds c (at x y)
-    → setAt areas xs ys x y (map wordsOf (rowsOf (flat paint (made D c (source D))))) ≡ setOf (shownAt D (at x y))
+    → setAt areas xs ys x y (map wordsOf (elementsOf (flat paint (made D c (source D))))) ≡ setOf (shownAt D (at x y))
 unfolding setAt
 valid-words-read D ok areas xs ys b H c x y i =
     let es = flat paint (made D c (source D)) in
-    read-same (roleAt areas) (passAt areas) (opaqueAt areas) (addsAt xs ys (at x y)) (addsAt (D .xs) (D .ys) (at x y)) (rowsIn (map wordsOf (rowsOf es)))
+    read-same (roleAt areas) (passAt areas) (opaqueAt areas) (addsAt xs ys (at x y)) (addsAt (D .xs) (D .ys) (at x y))
+    (elementsIn (map wordsOf (elementsOf es)))
     (entries-same D areas xs ys b H c x y es (made-numbered D c ok))
     ∙ cell-words-read areas D (ok .roles) (held-agrees D areas xs ys b H ok) (ok .few-each) c x y i

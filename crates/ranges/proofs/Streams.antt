@@ -14,7 +14,7 @@ use Rattle.stream.specs.Grammar.{env, isWhole, accepts, usedRange, runRange, ch
 use Rattle.cells.specs.Cells.{Cell, low, side}
 use Rattle.cells.specs.Drawings.{Drawing}
 use Rattle.cells.specs.Streams.{source, made}
-use Rattle.cells.specs.Rows.{rowsOf}
+use Rattle.cells.specs.Elements.{elementsOf}
 use Rattle.evaluate.specs.Words.{wordsOf}
 use Rattle.ranges.specs.code.Valid.{Valid}
 use Rattle.ranges.specs.Held.{Held}
@@ -25,7 +25,7 @@ use Rattle.ranges.proofs.Items.{made-in}
 
 -- every number is in range, the grammar holds, and nothing is over its limit
 pub made-passes : (D : Drawing) → Valid D → (areas xs ys : List ℕ) (b : Bounds) → Held areas xs ys b D → (c : Cell) → b .low ≡ low c → b .side ≡ side c
-    → accepts (env areas xs ys b) (map wordsOf (rowsOf (flat paint (made D c (source D))))) ≡ true
+    → accepts (env areas xs ys b) (map wordsOf (elementsOf (flat paint (made D c (source D))))) ≡ true
 unfolding accepts
 made-passes D ok areas xs ys b H c same-low same-side =
     ap isWhole (side-passes (env areas xs ys b) paint (made D c (source D)) [] false 0 0 refl (made-in D c ok areas xs ys b H same-low same-side)
@@ -65,10 +65,10 @@ words-length t i (suc n) = ap suc (words-length t (i + 1) n)
 
 -- a table that has the words of a cell's stream from entry `first` on, all of them in use
 pub made-checks : (D : Drawing) → Valid D → (areas xs ys : List ℕ) (b : Bounds) → Held areas xs ys b D → (c : Cell) → b .low ≡ low c → b .side ≡ side c
-    → (t : List ℕ) (first count used : ℕ) → wordsFrom t first count ≡ map wordsOf (rowsOf (flat paint (made D c (source D))))
+    → (t : List ℕ) (first count used : ℕ) → wordsFrom t first count ≡ map wordsOf (elementsOf (flat paint (made D c (source D))))
     → first + count ≤ used → used * 4 ≤ length t → used ≤ 65536 → checkStream t first count used (env areas xs ys b) ≡ true
 made-checks D ok areas xs ys b H c same-low same-side t first count used same end room few =
-    let ws = rowsOf (flat paint (made D c (source D))) in
+    let ws = elementsOf (flat paint (made D c (source D))) in
     let many : count ≡ length ws = sym (words-length t first count) ∙ (ap length same ∙ length-map {B = Words} ws wordsOf) in
     both-tests (usedRange (length t) used (length areas) (length xs) (length ys) b) (runRange first count used)
     (accepts (env areas xs ys b) (wordsFrom t first count))

@@ -1,4 +1,4 @@
--- Neither classing in a cell nor pruning adds to a sum over items and delimiters: a made stream has at most the rows,
+-- Neither classing in a cell nor pruning adds to a sum over items and delimiters: a made stream has at most the elements,
 -- areas, lines and shortcuts of the drawing.
 use mathlib.Core.Path.{_≡_, refl, sym, ap, _∙_}
 use mathlib.Core.List.{List, [], _∷_, _++_, append-assoc, map}
@@ -16,7 +16,7 @@ use Rattle.cells.specs.Cells.{Cell}
 use Rattle.cells.specs.Segments.{Segment, drawn, classIn, keptBy, keptIn}
 use Rattle.cells.specs.Drawings.{Drawing}
 use Rattle.cells.specs.Streams.{Item, always, area, items, within, whole, source, made}
-use Rattle.cells.specs.Rows.{Row, bar, closes, segment, itemRows, entryRows, rowsOf}
+use Rattle.cells.specs.Elements.{Element, bar, closes, segment, itemElements, entryElements, elementsOf}
 use Rattle.cells.proofs.Streams.{made-normal}
 use Rattle.ranges.specs.code.Valid.{Valid, weigh, lines}
 
@@ -65,7 +65,7 @@ module _ (I : Items) (v : I .Item → ℕ) (d : ℕ) (least : (a : I .Item) → 
   pub weigh-normal : (k : Kind) (s : Side Item) → weigh v d (normal I k s) ≤ weigh v d s
   weigh-normal k s = omega (arith, total-sub (normal-sub I k s), total-flat k s, total-flat k (normal I k s))
 
--- ---- of items: areas, lines and shortcuts, rows
+-- ---- of items: areas, lines and shortcuts, elements
 
 abbrev pub oneArea : Item → ℕ
 oneArea always = 0
@@ -75,9 +75,9 @@ abbrev pub segments : Item → ℕ
 segments always = 0
 segments (area n z gs) = length gs
 
-abbrev pub rows : Item → ℕ
-rows always = 1
-rows (area n z gs) = suc (length gs)
+abbrev pub elements : Item → ℕ
+elements always = 1
+elements (area n z gs) = suc (length gs)
 
 module _ (D : Drawing) (c : Cell) where
   kept-by : (k : Class) (g : Segment) (gs : List Segment) → length (keptBy (D .xs) (D .ys) k g gs) ≤ suc (length gs)
@@ -98,13 +98,13 @@ module _ (D : Drawing) (c : Cell) where
   segments-within always = omega arith
   segments-within (area n z gs) = kept-length gs
 
-  rows-within : (a : Item) → rows (within D c a) ≤ rows a
-  rows-within always = omega arith
-  rows-within (area n z gs) = omega (arith, kept-length gs)
+  elements-within : (a : Item) → elements (within D c a) ≤ elements a
+  elements-within always = omega arith
+  elements-within (area n z gs) = omega (arith, kept-length gs)
 
-  some-row : (a : Item) → 1 ≤ rows a
-  some-row always = omega arith
-  some-row (area n z gs) = omega arith
+  some-element : (a : Item) → 1 ≤ elements a
+  some-element always = omega arith
+  some-element (area n z gs) = omega arith
 
   lines-length : (n : ℕ) → length (map {B = Segment} drawn (lines D n)) ≡ length (lines D n)
   lines-length n = length-map {B = Segment} (lines D n) drawn
@@ -127,33 +127,33 @@ module _ (D : Drawing) (c : Cell) where
   pub made-segments : weigh segments 0 (made D c (source D)) ≤ weigh (λ n. length (lines D n)) 0 (D .plan)
   made-segments = made-weighs segments (λ n. length (lines D n)) 0 (λ a. omega arith) segments-within (λ n. omega (arith, lines-length n))
 
-  pub made-rows : weigh rows 1 (made D c (source D)) ≤ weigh (λ n. suc (length (lines D n))) 1 (D .plan)
-  made-rows = made-weighs rows (λ n. suc (length (lines D n))) 1 some-row rows-within (λ n. omega (arith, lines-length n))
+  pub made-elements : weigh elements 1 (made D c (source D)) ≤ weigh (λ n. suc (length (lines D n))) 1 (D .plan)
+  made-elements = made-weighs elements (λ n. suc (length (lines D n))) 1 some-element elements-within (λ n. omega (arith, lines-length n))
 
--- ---- a stream as rows
+-- ---- a stream as elements
 
-pub rows-append : (x y : List (Entry Item)) → rowsOf (x ++ y) ≡ rowsOf x ++ rowsOf y
-rows-append [] y = refl
-rows-append (e ∷ x) y = ap (λ z. entryRows e ++ z) (rows-append x y) ∙ sym (append-assoc (entryRows e) (rowsOf x) (rowsOf y))
+pub elements-append : (x y : List (Entry Item)) → elementsOf (x ++ y) ≡ elementsOf x ++ elementsOf y
+elements-append [] y = refl
+elements-append (e ∷ x) y = ap (λ z. entryElements e ++ z) (elements-append x y) ∙ sym (append-assoc (entryElements e) (elementsOf x) (elementsOf y))
 
-item-length : (a : Item) → length (itemRows a) ≡ rows a
+item-length : (a : Item) → length (itemElements a) ≡ elements a
 item-length always = refl
-item-length (area n z gs) = ap suc (length-map {B = Row} gs segment)
+item-length (area n z gs) = ap suc (length-map {B = Element} gs segment)
 
-pub rows-length : (k : Kind) (s : Side Item) → length (rowsOf (flat k s)) ≡ weigh rows 1 s
-rows-length k end = refl
-rows-length k (leaf a t) = omega (arith, length-append (itemRows a) (rowsOf (flat k t)), item-length a, rows-length k t)
-rows-length k (group l r t) =
-    rw (rows-append (flat clip l) (activate ∷ (flat k r ++ (pop ∷ flat k t))), rows-append (flat k r) (pop ∷ flat k t))
+pub elements-length : (k : Kind) (s : Side Item) → length (elementsOf (flat k s)) ≡ weigh elements 1 s
+elements-length k end = refl
+elements-length k (leaf a t) = omega (arith, length-append (itemElements a) (elementsOf (flat k t)), item-length a, elements-length k t)
+elements-length k (group l r t) =
+    rw (elements-append (flat clip l) (activate ∷ (flat k r ++ (pop ∷ flat k t))), elements-append (flat k r) (pop ∷ flat k t))
     (omega (
       arith,
-      length-append (rowsOf (flat clip l)) (bar ∷ (rowsOf (flat k r) ++ (closes ∷ rowsOf (flat k t)))),
-      length-append (rowsOf (flat k r)) (closes ∷ rowsOf (flat k t)),
-      rows-length clip l,
-      rows-length k r,
-      rows-length k t,
+      length-append (elementsOf (flat clip l)) (bar ∷ (elementsOf (flat k r) ++ (closes ∷ elementsOf (flat k t)))),
+      length-append (elementsOf (flat k r)) (closes ∷ elementsOf (flat k t)),
+      elements-length clip l,
+      elements-length k r,
+      elements-length k t,
     ))
 
--- "Limits: 4,096 records": the stream of a cell has no more rows
-pub made-short : (D : Drawing) → Valid D → (c : Cell) → length (rowsOf (flat paint (made D c (source D)))) ≤ 4096
-made-short D v c = omega (arith, rows-length paint (made D c (source D)), made-rows D c, v .few-records)
+-- "Limits: 4,096 records": the stream of a cell has no more elements
+pub made-short : (D : Drawing) → Valid D → (c : Cell) → length (elementsOf (flat paint (made D c (source D)))) ≤ 4096
+made-short D v c = omega (arith, elements-length paint (made D c (source D)), made-elements D c, v .few-records)

@@ -1,4 +1,4 @@
--- The entries of a plan that holds the kinds of records are the words of the rows of those records, one after the other.
+-- The entries of a plan that holds the kinds of records are the words of the elements of those records, one after the other.
 use mathlib.Core.Path.{_≡_, refl, sym, ap, _∙_}
 use mathlib.Core.List.{List, [], _∷_, map}
 use Prim.Native.Nat.{ℕ, zero, suc, _+_, _≤_, _<_}

@@ -15,22 +15,22 @@ use Rattle.drawing.specs.Tables.{Tables, drawnIn}
 use Rattle.drawing.proofs.Has.{has-rest}
 use Rattle.cells.specs.Cells.{root}
 use Rattle.cells.specs.Drawings.{Drawing}
-use Rattle.cells.specs.Rows.{Row}
+use Rattle.cells.specs.Elements.{Element}
 use Rattle.stream.specs.declared.Words.{Words}
 use Rattle.stream.specs.declared.Bounds.{Bounds}
 use Rattle.stream.specs.Grammar.{Env, env, accepts, Ready}
 use Rattle.evaluate.specs.Words.{wordsOf}
 use Rattle.ranges.specs.code.Valid.{Valid}
 use Rattle.ranges.specs.Held.{Held}
-use Rattle.making.specs.Made.{rowsMade}
+use Rattle.making.specs.Made.{elementsMade}
 use Rattle.making.proofs.Standing.{Reads}
 use Rattle.plans.specs.code.Source.{sourceOf}
 use Rattle.plans.proofs.Runs.{counted}
 use Rattle.plans.proofs.Valid.{accepted-valid}
 use Rattle.plans.proofs.Held.{accepted-held}
-use Rattle.plans.proofs.Source.{source-rows}
+use Rattle.plans.proofs.Source.{source-elements}
 use Rattle.root_stream.specs.code.Numbers.{sourceAt, Opened}
-use Rattle.root_stream.specs.Opened.{drawingIn, rowsOpened}
+use Rattle.root_stream.specs.Opened.{drawingIn, elementsOpened}
 use Rattle.root_stream.proofs.Ahead.{Ahead}
 use Rattle.root_stream.proofs.Whole.{held-reads, source-passes, source-made}
 
@@ -65,8 +65,8 @@ module _ (t : Tables) (records : ℕ) (b : Bounds) (o : Opened t records b) wher
 
   passes : accepts (env (t .areas) (t .xs) (t .ys) b) (wordsIn t) ≡ true
   passes =
-      subst (λ (x : List Row). accepts (env (t .areas) (t .xs) (t .ys) b) (map wordsOf x) ≡ true)
-      (source-rows (drawnIn t) (o .used) (o .accepted))
+      subst (λ (x : List Element). accepts (env (t .areas) (t .xs) (t .ys) b) (map wordsOf x) ≡ true)
+      (source-elements (drawnIn t) (o .used) (o .accepted))
       (source-passes (drawingIn t) (t .areas) (t .xs) (t .ys) b held valid (ap (λ (x : Bounds). x .low) (o .bounds-used))
       (ap (λ (x : Bounds). x .side) (o .bounds-used)))
 
@@ -89,6 +89,6 @@ module _ (t : Tables) (records : ℕ) (b : Bounds) (o : Opened t records b) wher
         };
       }
 
-  pub base-made : rowsMade (drawingIn t) root (wordsIn t) ≡ rowsOpened t
-  unfolding rowsOpened
+  pub base-made : elementsMade (drawingIn t) root (wordsIn t) ≡ elementsOpened t
+  unfolding elementsOpened
   base-made = source-made (drawnIn t) (o .used) (o .accepted) valid root

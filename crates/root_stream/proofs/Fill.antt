@@ -20,7 +20,7 @@ use Rattle.stream.proofs.Table.{written-eq}
 use Rattle.pruner.specs.code.Numbers.{counted}
 use Rattle.evaluate.specs.Words.{wordsOf}
 use Rattle.making.specs.declared.Maker.{Maker}
-use Rattle.making.specs.Made.{rowsMade, wordsMade}
+use Rattle.making.specs.Made.{elementsMade, wordsMade}
 use Rattle.making.specs.code.Numbers.{resting, leftSign, leftClass, waitingN, prunedN}
 use Rattle.making.proofs.Made.{made-length}
 use Rattle.making.proofs.Whole.{allOf, standing-start}
@@ -31,7 +31,7 @@ use Rattle.writing.proofs.Turn.{Writing, writing-next}
 use Rattle.writing.proofs.Whole.{written-end}
 use Rattle.root_stream.specs.declared.Source.{Source}
 use Rattle.root_stream.specs.code.Numbers.{sourceAt, entryN, afterN}
-use Rattle.root_stream.specs.Opened.{rowsOpened, wordsOpened}
+use Rattle.root_stream.specs.Opened.{elementsOpened, wordsOpened}
 use Rattle.root_stream.proofs.Ahead.{Ahead, ahead-next, ahead-none}
 use Rattle.root_stream.proofs.Base.{Base}
 use Rattle.root_stream.proofs.Loop.{Looping}
@@ -95,7 +95,7 @@ module _ (v : Env) (D : Drawing) (plan : List ℕ) (records : ℕ) (all : List W
         }
 
     -- where no record is left
-    module _ (h : records ≤ i) (exact : limit ≡ length (rowsMade D root all)) where
+    module _ (h : records ≤ i) (exact : limit ≡ length (elementsMade D root all)) where
       length-made : length (wordsMade D root all) ≡ limit
       length-made = made-length D root all ∙ sym exact
 
@@ -110,7 +110,7 @@ module _ (v : Env) (D : Drawing) (plan : List ℕ) (records : ℕ) (all : List W
           ∙ (ap (λ (n : ℕ). flat (wordsMade D root all) ++ drop (n * 4) t₀) (sym size)
           ∙ sym (written-eq t₀ 0 (wordsMade D root all) (omega (arith, length-made)))))
 
--- the words of the same rows
-pub words-opened : (t : Tables) (D : Drawing) (all : List Words) → rowsMade D root all ≡ rowsOpened t → wordsMade D root all ≡ wordsOpened t
+-- the words of the same elements
+pub words-opened : (t : Tables) (D : Drawing) (all : List Words) → elementsMade D root all ≡ elementsOpened t → wordsMade D root all ≡ wordsOpened t
 unfolding wordsMade wordsOpened
 words-opened t D all e = ap (map wordsOf) e

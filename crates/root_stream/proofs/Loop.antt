@@ -14,12 +14,12 @@ use Rattle.pruning.specs.code.Counters.{ct, lengthOf}
 use Rattle.pruning.specs.code.Weights.{total}
 use Rattle.cells.specs.Cells.{root, squareOf}
 use Rattle.cells.specs.Drawings.{Drawing}
-use Rattle.cells.specs.code.Making.{rowSize}
+use Rattle.cells.specs.code.Making.{elementSize}
 use Rattle.stream.specs.declared.Words.{Words}
 use Rattle.stream.specs.Grammar.{Env}
 use Rattle.pruner.specs.code.Numbers.{counted}
 use Rattle.making.specs.declared.Maker.{Maker}
-use Rattle.making.specs.Made.{rowsMade}
+use Rattle.making.specs.Made.{elementsMade}
 use Rattle.making.specs.code.Numbers.{resting, leftSign, leftClass, leftRange, waitingN, settledN, prunedN, Inside, Asks}
 use Rattle.making.proofs.Standing.{Standing}
 use Rattle.making.proofs.Turn.{standing-weight, standing-base, standing-inside, standing-room, standing-start, standing-left, standing-sign, standing-next}
@@ -125,5 +125,5 @@ module _ (v : Env) (D : Drawing) (plan : List ℕ) (records : ℕ) (all : List W
       omega (arith, standing-base v D root (B .reads) i (m .pruner) (m .waiting) (allOf D root all) [] none, few-end),
     )
 
-    pub end-weight : lengthOf (settledN (v .areas) (counted (m .pruner)) (m .waiting)) ≡ total rowSize (rowsMade D root all)
+    pub end-weight : lengthOf (settledN (v .areas) (counted (m .pruner)) (m .waiting)) ≡ total elementSize (elementsMade D root all)
     end-weight = weight-end v D root (B .reads) all (B .grammar) i (m .pruner) (m .waiting) none

@@ -1,4 +1,5 @@
--- What a caller has where a lent drawing is accepted: the entries of the plan are the rows of the records, and what is written passes as the stream of cell 0.
+-- What a caller has where a lent drawing is accepted: the entries of the plan are the elements of the records, and what is written passes as the stream
+-- of cell 0.
 use mathlib.Core.Path.{_≡_, refl, ap, subst, _∙_}
 use mathlib.Core.Bool.{true}
 use mathlib.Core.List.{List, map}
@@ -11,7 +12,7 @@ use Rattle.drawing.specs.Tables.{Tables, drawnIn, drawingVerdict}
 use Rattle.drawing.proofs.Theorems.{passes-holding}
 use Rattle.pruning.specs.code.Weights.{total}
 use Rattle.cells.specs.Cells.{root}
-use Rattle.cells.specs.code.Making.{rowSize}
+use Rattle.cells.specs.code.Making.{elementSize}
 use Rattle.stream.specs.declared.Words.{Words}
 use Rattle.stream.specs.declared.Bounds.{Bounds}
 use Rattle.stream.specs.Table.{wordsFrom, written}
@@ -23,7 +24,7 @@ use Rattle.ranges.proofs.Streams.{made-passes}
 use Rattle.writing.proofs.Places.{place-is}
 use Rattle.plans.specs.code.Source.{sourceOf}
 use Rattle.root_stream.specs.code.Numbers.{sourceAt, entriesN, Opened}
-use Rattle.root_stream.specs.Opened.{drawingIn, rowsOpened, wordsOpened}
+use Rattle.root_stream.specs.Opened.{drawingIn, elementsOpened, wordsOpened}
 use Rattle.root_stream.proofs.Ahead.{entries-ahead}
 use Rattle.root_stream.proofs.Base.{base, valid, held}
 
@@ -32,34 +33,34 @@ pub accepted-opened : (t : Tables) (k : Counts) → drawingVerdict t ≡ Accepte
 accepted-opened t k e = let p = passes-holding t k e in record { used = k; accepted = p .0; holding = p .1; records-used = refl; bounds-used = refl }
 
 module _ (t : Tables) (records : ℕ) (b : Bounds) (o : Opened t records b) where
-  -- one record gives one entry: entry i is the words of row i
+  -- one record gives one entry: entry i is the words of element i
   pub entries-source : entriesN (t .plan) 0 records (sourceAt 0 0 0) records ≡ map wordsOf (sourceOf (drawnIn t))
   entries-source = entries-ahead (t .plan) records records 0 (sourceAt 0 0 0) (map wordsOf (sourceOf (drawnIn t))) (base t records b o .begin) (omega arith)
 
-  pub opened-short : length (rowsOpened t) ≤ 4096
-  unfolding rowsOpened
+  pub opened-short : length (elementsOpened t) ≤ 4096
+  unfolding elementsOpened
   opened-short = made-short (drawingIn t) (valid t records b o) root
 
   -- the number of entries is the low part of what the counting answers
-  pub opened-count : total rowSize (rowsOpened t) % 65536 ≡ length (rowsOpened t)
-  opened-count = place-is (rowsOpened t) (omega (arith, opened-short))
+  pub opened-count : total elementSize (elementsOpened t) % 65536 ≡ length (elementsOpened t)
+  opened-count = place-is (elementsOpened t) (omega (arith, opened-short))
 
   opened-grammar : accepts (env (t .areas) (t .xs) (t .ys) b) (wordsOpened t) ≡ true
-  unfolding rowsOpened wordsOpened
+  unfolding elementsOpened wordsOpened
   opened-grammar =
       made-passes (drawingIn t) (valid t records b o) (t .areas) (t .xs) (t .ys) b (held t records b o) root
       (ap (λ (x : Bounds). x .low) (o .bounds-used)) (ap (λ (x : Bounds). x .side) (o .bounds-used))
 
-  opened-length : length (wordsOpened t) ≡ length (rowsOpened t)
+  opened-length : length (wordsOpened t) ≡ length (elementsOpened t)
   unfolding wordsOpened
-  opened-length = length-map {B = Words} (rowsOpened t) wordsOf
+  opened-length = length-map {B = Words} (elementsOpened t) wordsOf
 
   -- the table, once written, has a stream that passes
   pub opened-passed : (entries : List ℕ)
-      → length (rowsOpened t) * 4 ≤ length entries
-      → Passed (written entries 0 (wordsOpened t)) 0 (length (rowsOpened t)) (env (t .areas) (t .xs) (t .ys) b)
+      → length (elementsOpened t) * 4 ≤ length entries
+      → Passed (written entries 0 (wordsOpened t)) 0 (length (elementsOpened t)) (env (t .areas) (t .xs) (t .ys) b)
   opened-passed entries h =
-      let same : wordsFrom (written entries 0 (wordsOpened t)) 0 (length (rowsOpened t)) ≡ wordsOpened t = subst
+      let same : wordsFrom (written entries 0 (wordsOpened t)) 0 (length (elementsOpened t)) ≡ wordsOpened t = subst
       (λ (n : ℕ). wordsFrom (written entries 0 (wordsOpened t)) 0 n ≡ wordsOpened t) opened-length
       (written-read entries 0 (wordsOpened t) (omega (arith, opened-length))) in
       record {

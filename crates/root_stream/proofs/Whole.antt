@@ -22,13 +22,13 @@ use Rattle.cells.specs.Cells.{Cell, root}
 use Rattle.cells.specs.Segments.{Segment, drawn}
 use Rattle.cells.specs.Drawings.{Drawing, fieldsOf, kindOf, ruleOf}
 use Rattle.cells.specs.Streams.{Item, On, whole, source, made}
-use Rattle.cells.specs.Rows.{rowsOf, roleIn, OnSide, streamOf}
+use Rattle.cells.specs.Elements.{elementsOf, roleIn, OnSide, streamOf}
 use Rattle.cells.proofs.Each.{each-mapped}
-use Rattle.cells.proofs.Rows as Rows
+use Rattle.cells.proofs.Elements as Elements
 use Rattle.stream.specs.declared.Bounds.{Bounds}
 use Rattle.stream.specs.Grammar.{env, isGood, roleFits, isWhole, accepts}
 use Rattle.evaluate.specs.Words.{wordsOf, EachFits, Agrees}
-use Rattle.evaluate.proofs.Words.{rows-back}
+use Rattle.evaluate.proofs.Words.{elements-back}
 use Rattle.ranges.specs.code.Valid.{Valid, CornersBelow, lines, weigh}
 use Rattle.ranges.specs.Held.{Held}
 use Rattle.ranges.proofs.Segments.{EachIn}
@@ -38,11 +38,11 @@ use Rattle.ranges.proofs.Items.{on-both}
 use Rattle.ranges.proofs.Depth.{depth-map}
 use Rattle.ranges.proofs.Weights.{oneArea, segments, weigh-map}
 use Rattle.ranges.proofs.Reading.{fields-are}
-use Rattle.making.specs.Made.{rowsMade}
+use Rattle.making.specs.Made.{elementsMade}
 use Rattle.making.proofs.Standing.{Reads}
 use Rattle.plans.specs.Plans.{drawingFrom}
 use Rattle.plans.specs.code.Source.{sourceFrom, sourceOf}
-use Rattle.plans.proofs.Source.{source-rows}
+use Rattle.plans.proofs.Source.{source-elements}
 
 -- what holds of each item holds of what it is mapped to
 on-mapped : {A B : Type 0} (Q : Kind → A → Type 0) (P : Kind → B → Type 0) (f : A → B)
@@ -113,7 +113,7 @@ module _ (D : Drawing) (areas xs ys : List ℕ) (b : Bounds) (H : Held areas xs 
         )
 
     -- the words of what cell 0's stream is made from pass the check of streams
-    pub source-passes : accepts (env areas xs ys b) (map wordsOf (rowsOf (flat paint (source D)))) ≡ true
+    pub source-passes : accepts (env areas xs ys b) (map wordsOf (elementsOf (flat paint (source D)))) ≡ true
     unfolding accepts
     source-passes =
         ap isWhole
@@ -131,8 +131,10 @@ source-fits a c f (Open ∷ rs) = (tt, source-fits a c f rs)
 source-fits a c f (Bar ∷ rs) = (tt, source-fits a c f rs)
 source-fits a c f (Close ∷ rs) = (tt, source-fits a c f rs)
 
-source-back : (D : Drawing) → Valid D → streamOf (roleIn D) (rowsOf (flat paint (source D))) ≡ source D
-source-back D ok = Rows.rows-back (roleIn D) (source D) (each-mapped (λ k n. roleIn D n ≡ k) (OnSide (roleIn D)) (whole D) stands paint (D .plan) (ok .roles))
+source-back : (D : Drawing) → Valid D → streamOf (roleIn D) (elementsOf (flat paint (source D))) ≡ source D
+source-back D ok =
+    Elements.elements-back (roleIn D) (source D)
+    (each-mapped (λ k n. roleIn D n ≡ k) (OnSide (roleIn D)) (whole D) stands paint (D .plan) (ok .roles))
   where
     stands : (k : Kind) (n : ℕ) → roleIn D n ≡ k → OnSide (roleIn D) k (whole D n)
     stands paint n e = e
@@ -140,9 +142,9 @@ source-back D ok = Rows.rows-back (roleIn D) (source D) (each-mapped (λ k n. ro
 
 -- what is made of the words of the source is made of the drawing
 pub source-made : (rs : List Record) (k : Counts) → Acceptable rs k → Valid (drawingFrom rs) → (c : Cell)
-    → rowsMade (drawingFrom rs) c (map wordsOf (sourceOf rs)) ≡ rowsOf (flat paint (made (drawingFrom rs) c (source (drawingFrom rs))))
-unfolding rowsMade
+    → elementsMade (drawingFrom rs) c (map wordsOf (sourceOf rs)) ≡ elementsOf (flat paint (made (drawingFrom rs) c (source (drawingFrom rs))))
+unfolding elementsMade
 source-made rs k a ok c =
     let D : Drawing = drawingFrom rs in
-    ap (λ (x : Side Item). rowsOf (flat paint (made D c x)))
-    (ap (streamOf (roleIn D)) (rows-back (sourceOf rs) (source-fits 0 0 0 rs) ∙ sym (source-rows rs k a)) ∙ source-back D ok)
+    ap (λ (x : Side Item). elementsOf (flat paint (made D c x)))
+    (ap (streamOf (roleIn D)) (elements-back (sourceOf rs) (source-fits 0 0 0 rs) ∙ sym (source-elements rs k a)) ∙ source-back D ok)

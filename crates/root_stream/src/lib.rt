@@ -7,13 +7,13 @@ ghost use mathlib.Core.Path.{_≡_};
 ghost use Prim.Native.Nat.{_+_, _*_, _≤_, _<_};
 ghost use lib.ListN.{length};
 ghost use Rattle.cells.specs.Cells.{squareOf, root};
-ghost use Rattle.cells.specs.code.Making.{rowSize};
+ghost use Rattle.cells.specs.code.Making.{elementSize};
 ghost use Rattle.pruning.specs.code.Weights.{total};
 ghost use Rattle.drawing.specs.Tables.{tables, drawingLent};
 ghost use Rattle.stream.specs.Table.{written};
 ghost use Rattle.evaluate.specs.Words.{words};
 ghost use Rattle.root_stream.specs.code.Numbers.{sourceAt, endN, edgeN, markN, entryN, afterN, Opened};
-ghost use Rattle.root_stream.specs.Opened.{rowsOpened, wordsOpened};
+ghost use Rattle.root_stream.specs.Opened.{elementsOpened, wordsOpened};
 
 const NEXT_KIND: usize = read::PLAN_COUNTS + 1;
 
@@ -158,7 +158,7 @@ pub fn count_open(
     b: Bounds,
 ) -> u64
     requires { ⌜ Opened (tables (now plan) (now areas) (now xs) (now ys)) records b ⌝ }
-    ensures answer { λ r. ⌜ r ≡ total rowSize (rowsOpened (drawingLent plan areas xs ys)) ⌝ }
+    ensures answer { λ r. ⌜ r ≡ total elementSize (elementsOpened (drawingLent plan areas xs ys)) ⌝ }
 {
     let s = root_square();
     let mut p = pruner::begun();
@@ -198,7 +198,7 @@ pub fn write_open(
     b: Bounds,
 )
     requires { ⌜ Opened (tables (now plan) (now areas) (now xs) (now ys)) records b ⌝ }
-    requires { ⌜ made ≡ length (rowsOpened (tables (now plan) (now areas) (now xs) (now ys))) ⌝ }
+    requires { ⌜ made ≡ length (elementsOpened (tables (now plan) (now areas) (now xs) (now ys))) ⌝ }
     requires { ⌜ made * 4 ≤ length (now entries) ⌝ }
     ensures entries { λ _. ⌜ now (entries .exit) ≡ written (now (entries .entry)) 0 (wordsOpened (drawingLent plan areas xs ys)) ⌝ }
 {

@@ -23,7 +23,7 @@ use Rattle.four_children.specs.declared.Tally.{Tally}
 use Rattle.four_children.specs.Children.{cellOfChild, wordsOfChild, entriesOfChild, streamsTo}
 use Rattle.four_children.specs.code.Numbers.{noTally, fourTallies, FewEach}
 use Rattle.four_children.proofs.Filled.{length-child, entries-at}
-use Rattle.four_children.proofs.Made.{few-rows}
+use Rattle.four_children.proofs.Made.{few-elements}
 
 pub few-each : (t areas xs ys : List ℕ) (b : Bounds) (first count : ℕ) (c : Cell) (ts : List Tally)
     → Passed t first count (env areas xs ys b)
@@ -35,7 +35,7 @@ few-each t areas xs ys b first count c ts p e =
           omega (
             arith,
             entries-at (lent areas xs ys b) c (wordsFrom t first count) ts n h e,
-            few-rows t areas xs ys b first count (cellOfChild (lent areas xs ys b) c (wordsFrom t first count) n) p,
+            few-elements t areas xs ys b first count (cellOfChild (lent areas xs ys b) c (wordsFrom t first count) n) p,
           );
     }
 

@@ -1,4 +1,4 @@
--- Rows that stand in a table below a limit.
+-- Elements that stand in a table below a limit.
 use mathlib.Core.Path.{_≡_, refl, sym, ap₂, subst, _∙_}
 use mathlib.Core.Bool.{Bool, true, false, cond}
 use mathlib.Core.List.{List, [], _∷_, _++_, map}
@@ -12,7 +12,7 @@ use borrow.Author.Tests.{lt-ltb, ltb-true}
 use Rattle.stream.specs.declared.Words.{Words}
 use Rattle.stream.specs.Table.{wordsAt, wordsFrom, putAt}
 use Rattle.stream.proofs.Table.{put-same, length-put}
-use Rattle.cells.specs.Rows.{Row}
+use Rattle.cells.specs.Elements.{Element}
 use Rattle.evaluate.specs.Words.{wordsOf}
 use Rattle.writing.specs.code.Numbers.{putBelow}
 
@@ -84,33 +84,33 @@ module _ (limit : ℕ) where
           simp drop-set-lt
       go false e = refl
 
-  -- ---- rows from entry `at` on, as far as they stand below the limit
-  abbrev pub Agree : List ℕ → ℕ → List Row → Type 0
+  -- ---- elements from entry `at` on, as far as they stand below the limit
+  abbrev pub Agree : List ℕ → ℕ → List Element → Type 0
   Agree t at [] = Unit {0}
   Agree t at (r ∷ rs) = (at < limit → wordsAt t at ≡ wordsOf r) × Agree t (at + 1) rs
 
-  pub agree-append : (t : List ℕ) (at : ℕ) (x y : List Row) → Agree t at x → Agree t (at + length x) y → Agree t at (x ++ y)
+  pub agree-append : (t : List ℕ) (at : ℕ) (x y : List Element) → Agree t at x → Agree t (at + length x) y → Agree t at (x ++ y)
   agree-append t at [] y a b = subst (λ (n : ℕ). Agree t n y) (add-zero at) b
   agree-append t at (r ∷ x) y a b =
       let e : at + suc (length x) ≡ at + 1 + length x = omega arith in
       (a .0, agree-append t (at + 1) x y (a .1) (subst (λ (n : ℕ). Agree t n y) e b))
 
-  pub agree-take : (t : List ℕ) (at p : ℕ) (x : List Row) → Agree t at x → Agree t at (take p x)
+  pub agree-take : (t : List ℕ) (at p : ℕ) (x : List Element) → Agree t at x → Agree t at (take p x)
   agree-take t at zero x a = tt
   agree-take t at (suc p) [] a = tt
   agree-take t at (suc p) (r ∷ x) a = (a .0, agree-take t (at + 1) p x (a .1))
 
   -- an entry behind them, or before them, leaves them
-  pub agree-behind : (t : List ℕ) (at : ℕ) (x : List Row) (p : ℕ) (w : Words) → at + length x ≤ p → Agree t at x → Agree (putBelow limit t p w) at x
+  pub agree-behind : (t : List ℕ) (at : ℕ) (x : List Element) (p : ℕ) (w : Words) → at + length x ≤ p → Agree t at x → Agree (putBelow limit t p w) at x
   agree-behind t at [] p w h a = tt
   agree-behind t at (r ∷ x) p w h a = (λ l. below-other t at p w (λ e. omega arith) ∙ a .0 l, agree-behind t (at + 1) x p w (omega arith) (a .1))
 
-  pub agree-before : (t : List ℕ) (at : ℕ) (x : List Row) (p : ℕ) (w : Words) → p < at → Agree t at x → Agree (putBelow limit t p w) at x
+  pub agree-before : (t : List ℕ) (at : ℕ) (x : List Element) (p : ℕ) (w : Words) → p < at → Agree t at x → Agree (putBelow limit t p w) at x
   agree-before t at [] p w h a = tt
   agree-before t at (r ∷ x) p w h a = (λ l. below-other t at p w (λ e. omega arith) ∙ a .0 l, agree-before t (at + 1) x p w (omega arith) (a .1))
 
-  -- one row more
-  pub agree-more : (t : List ℕ) (at : ℕ) (x : List Row) (r : Row)
+  -- one element more
+  pub agree-more : (t : List ℕ) (at : ℕ) (x : List Element) (r : Element)
       → limit * 4 ≤ length t
       → Agree t at x
       → Agree (putBelow limit t (at + length x) (wordsOf r)) at (x ++ (r ∷ []))
@@ -118,8 +118,8 @@ module _ (limit : ℕ) where
       agree-append (putBelow limit t (at + length x) (wordsOf r)) at x (r ∷ [])
       (agree-behind t at x (at + length x) (wordsOf r) (omega arith) a) (λ l. below-here t (at + length x) (wordsOf r) h l, tt)
 
-  -- rows up to the limit
-  pub agree-all : (t : List ℕ) (at : ℕ) (x : List Row) → at + length x ≤ limit → Agree t at x → wordsFrom t at (length x) ≡ map wordsOf x
+  -- elements up to the limit
+  pub agree-all : (t : List ℕ) (at : ℕ) (x : List Element) → at + length x ≤ limit → Agree t at x → wordsFrom t at (length x) ≡ map wordsOf x
   unfolding wordsFrom
   agree-all t at [] h a = refl
   agree-all t at (r ∷ x) h a = ap₂ (λ (w : Words) ws. w ∷ ws) (a .0 (omega arith)) (agree-all t (at + 1) x (omega arith) (a .1))

@@ -9,17 +9,17 @@ use lib.Seq.{drop-cons}
 use Rattle.pruning.specs.code.Effects.{outOf}
 use Rattle.cells.specs.Cells.{Cell}
 use Rattle.cells.specs.Drawings.{Drawing}
-use Rattle.cells.specs.Rows.{Row}
+use Rattle.cells.specs.Elements.{Element}
 use Rattle.cells.specs.code.Making.{Making, settle}
 use Rattle.stream.specs.declared.Words.{Words}
 use Rattle.stream.specs.Table.{wordsFrom, flat}
 use Rattle.stream.specs.Grammar.{Env, accepts}
-use Rattle.evaluate.specs.Reading.{rowsIn}
+use Rattle.evaluate.specs.Reading.{elementsIn}
 use Rattle.making.specs.declared.Maker.{Maker}
-use Rattle.making.specs.Made.{rowsMade, wordsMade}
+use Rattle.making.specs.Made.{elementsMade, wordsMade}
 use Rattle.making.proofs.Made.{made-length}
 use Rattle.making.proofs.Standing.{Reads}
-use Rattle.making.proofs.Whole.{allOf, rows-all}
+use Rattle.making.proofs.Whole.{allOf, elements-all}
 use Rattle.writing.specs.code.Numbers.{settledPut}
 use Rattle.writing.proofs.Agree.{Agree, agree-all}
 use Rattle.writing.proofs.Same.{Same, same-then, same-settled}
@@ -66,17 +66,17 @@ table-is t₀ t limit ws h l s e =
 
 -- the end of the table is what was made
 module _ (v : Env) (D : Drawing) (c : Cell) (R : Reads v D) (all : List Words) (accepted : accepts v all ≡ true) (k : ℕ) (mk : Maker)
-    (limit : ℕ) (t₀ t : List ℕ) (l : k ≤ 4096) (room : limit * 4 ≤ length t) (exact : limit ≡ length (rowsMade D c all))
+    (limit : ℕ) (t₀ t : List ℕ) (l : k ≤ 4096) (room : limit * 4 ≤ length t) (exact : limit ≡ length (elementsMade D c all))
     (s : Writing v D c k mk [] (allOf D c all) limit t₀ t) where
-  rows-end : s .standing .rows ≡ allOf D c all
-  unfolding rowsIn
-  rows-end = s .standing .ahead
+  elements-end : s .standing .elements ≡ allOf D c all
+  unfolding elementsIn
+  elements-end = s .standing .ahead
 
-  agrees-end : Agree limit (settledPut limit (v .areas) t mk) 0 (rowsMade D c all)
+  agrees-end : Agree limit (settledPut limit (v .areas) t mk) 0 (elementsMade D c all)
   agrees-end =
-      subst (λ (x : List Row). Agree limit (settledPut limit (v .areas) t mk) 0 x)
-      (ap (λ (m : Making). outOf (settle D c m)) rows-end ∙ rows-all v D c R all accepted)
-      (settle-agrees limit (v .areas) D c (R .agrees) k mk (s .standing .rows) t l room (s .standing .follows) (s .writes))
+      subst (λ (x : List Element). Agree limit (settledPut limit (v .areas) t mk) 0 x)
+      (ap (λ (m : Making). outOf (settle D c m)) elements-end ∙ elements-all v D c R all accepted)
+      (settle-agrees limit (v .areas) D c (R .agrees) k mk (s .standing .elements) t l room (s .standing .follows) (s .writes))
 
   pub written-end : settledPut limit (v .areas) t mk ≡ flat (wordsMade D c all) ++ drop (limit * 4) t₀
   unfolding wordsMade
@@ -85,7 +85,7 @@ module _ (v : Env) (D : Drawing) (c : Cell) (R : Reads v D) (all : List Words) (
       table-is t₀ (settledPut limit (v .areas) t mk) limit (wordsMade D c all)
       (omega (arith, room, same-settled limit (v .areas) t mk .size)) (exact ∙ sym (made-length D c all)) a
       (subst (λ (n : ℕ). wordsFrom (settledPut limit (v .areas) t mk) 0 n ≡ wordsMade D c all) (sym exact)
-      (agree-all limit (settledPut limit (v .areas) t mk) 0 (rowsMade D c all) (omega arith) agrees-end))
+      (agree-all limit (settledPut limit (v .areas) t mk) 0 (elementsMade D c all) (omega arith) agrees-end))
 
   pub size-end : length (settledPut limit (v .areas) t mk) ≡ length t
   size-end = same-settled limit (v .areas) t mk .size

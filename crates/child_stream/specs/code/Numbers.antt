@@ -1,11 +1,11 @@
--- The start numbers as the code holds them, while it counts and in the end. `Rattle.child_stream.proofs` says that they are those of the rows.
+-- The start numbers as the code holds them, while it counts and in the end. `Rattle.child_stream.proofs` says that they are those of the elements.
 use mathlib.Core.Bool.{cond}
 use mathlib.Core.List.{List, [], _∷_}
 use Prim.Native.Nat.{ℕ, zero, suc, _/_}
 use lib.Dec.{ltb}
 use lib.ListN.{length, set}
 use lib.IntN.{ℤ, pos}
-use Rattle.cells.specs.Rows.{Row}
+use Rattle.cells.specs.Elements.{Element}
 use Rattle.pruner.specs.declared.Pruner.{Pruner}
 use Rattle.making.specs.declared.Waiting.{Waiting}
 use Rattle.child_stream.specs.declared.Starts.{Starts}
@@ -39,5 +39,5 @@ filled (suc n) [] = pos 0 ∷ filled n []
 filled (suc n) (z ∷ zs) = z ∷ filled n zs
 
 -- those of a stream: how many, and an array of 64 places, as a drawing has at most 64 areas
-abbrev pub startsIn : List Row → Starts
+abbrev pub startsIn : List Element → Starts
 startsIn rs = record { count = length (startsOf rs); at = filled 64 (startsOf rs) }

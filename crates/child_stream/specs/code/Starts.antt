@@ -1,10 +1,10 @@
 -- Document 01, "Cells": the start numbers of a stream.
 use mathlib.Core.List.{List, [], _∷_}
 use lib.IntN.{ℤ}
-use Rattle.cells.specs.Rows.{Row, opens, bar, closes, bare, named, segment}
+use Rattle.cells.specs.Elements.{Element, opens, bar, closes, bare, named, segment}
 
 -- "each area (with its start number)": the start numbers of the areas, one for each area entry, in the order of the entries
-abbrev pub startsOf : List Row → List ℤ
+abbrev pub startsOf : List Element → List ℤ
 startsOf [] = []
 startsOf (opens ∷ rs) = startsOf rs
 startsOf (bar ∷ rs) = startsOf rs

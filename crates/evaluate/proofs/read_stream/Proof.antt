@@ -5,7 +5,7 @@ use native.Mathlib.Omega.{arith}
 use denote.Ref.{now}
 use borrow.Author.Needs.{needs}
 use Rattle.machine.specs.code.Registers.{meant}
-use Rattle.cells.specs.Rows.{settled, state}
+use Rattle.cells.specs.Elements.{settled, state}
 use Rattle.stream.specs.Table.{wordsFrom}
 use Rattle.stream.specs.Grammar.{env}
 use Rattle.evaluate.specs.Reading.{setAt}

@@ -1,4 +1,4 @@
--- A reading as the numbers that the code holds. `Rattle.evaluate.proofs` says that they go as the rows do (`Rattle.cells.specs.Rows`).
+-- A reading as the numbers that the code holds. `Rattle.evaluate.proofs` says that they go as the elements do (`Rattle.cells.specs.Elements`).
 use mathlib.Core.Path.{_≡_}
 use mathlib.Core.Bool.{Bool, true, cond}
 use mathlib.Core.List.{List, [], _∷_}
@@ -20,9 +20,9 @@ use Rattle.machine.specs.declared.Machine.{Machine}
 use Rattle.machine.specs.code.Registers.{meant}
 use Rattle.cells.specs.Cells.{at}
 use Rattle.cells.specs.Segments.{Segment, drawn, shortcut, addsAt}
-use Rattle.cells.specs.Rows.{settled, State, state, settle, onRows}
+use Rattle.cells.specs.Elements.{settled, State, state, settle, onElements}
 use Rattle.evaluate.specs.declared.Reading.{Reading}
-use Rattle.evaluate.specs.Reading.{roleAt, passAt, opaqueAt, rowsIn}
+use Rattle.evaluate.specs.Reading.{roleAt, passAt, opaqueAt, elementsIn}
 
 -- ---- the lines and shortcuts of an area
 
@@ -71,12 +71,12 @@ pub record Ranged (t : List ℕ) (i end : ℕ) (v : Env) : Type 0 where
   pub range : (k : ℕ) → i ≤ k → k < end → inRange v (decode (wordsAt t k)) ≡ true
 
 module _ (areas xs ys : List ℕ) (x y : ℕ) where
-  -- the set in the end, from a state of the rows on
+  -- the set in the end, from a state of the elements on
   abbrev pub setFrom : State → List Words → ℕ
   setFrom st ws =
       outOf
       (settle (roleAt areas) (passAt areas) (opaqueAt areas) (addsAt xs ys (at x y))
-      (onRows (roleAt areas) (passAt areas) (opaqueAt areas) (addsAt xs ys (at x y)) (rowsIn ws) st))
+      (onElements (roleAt areas) (passAt areas) (opaqueAt areas) (addsAt xs ys (at x y)) (elementsIn ws) st))
 
   -- from entry i the machine m has come to another entry: what is left gives the same set
   pub record Onward (t : List ℕ) (i end : ℕ) (m : Machine) (r : Reading) : Type 0 where

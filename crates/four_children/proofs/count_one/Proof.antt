@@ -5,16 +5,16 @@ use mathlib.Core.Path.{ap, _∙_}
 use denote.Ref.{now}
 use Rattle.pruning.specs.code.Weights.{total}
 use Rattle.cells.specs.Cells.{Cell}
-use Rattle.cells.specs.code.Making.{rowSize}
+use Rattle.cells.specs.code.Making.{elementSize}
 use Rattle.stream.specs.Table.{wordsFrom}
 use Rattle.ranges.specs.Held.{lent}
-use Rattle.making.specs.Made.{rowsMade}
+use Rattle.making.specs.Made.{elementsMade}
 use Rattle.child_stream.specs.code.Numbers.{startsIn}
-use Rattle.four_children.specs.Children.{rowsOfChild}
+use Rattle.four_children.specs.Children.{elementsOfChild}
 use Rattle.celltable.specs.Ranges.{cellOf}
 use Rattle.four_children.proofs.Squares.{kid-square, kid-in, kid-back}
 use Rattle.four_children.proofs.Tallies.{tally-is}
-use Rattle.four_children.proofs.Made.{few-rows}
+use Rattle.four_children.proofs.Made.{few-elements}
 
 quarter-of-requires : tie.Need-quarter-of-requires
 quarter-of-requires c κs = search needs
@@ -44,13 +44,13 @@ returns c =
     let D = lent (now (a .areas)) (now (a .xs)) (now (a .ys)) (a .b) in
     let ws = wordsFrom (now (a .entries)) (a .first) (a .count) in
     c .tally-of .ensures
-    ∙ tally-is (rowsOfChild D (cellOf (a .w)) ws (a .q)) (after-count-child .count-child .result)
-    (few-rows (now (a .entries)) (now (a .areas)) (now (a .xs)) (now (a .ys)) (a .b) (a .first) (a .count) _ (p .0))
+    ∙ tally-is (elementsOfChild D (cellOf (a .w)) ws (a .q)) (after-count-child .count-child .result)
+    (few-elements (now (a .entries)) (now (a .areas)) (now (a .xs)) (now (a .ys)) (a .b) (a .first) (a .count) _ (p .0))
     (after-count-child .count-child .ensures .0
-    ∙ ap (λ (k : Cell). total rowSize (rowsMade D k ws))
+    ∙ ap (λ (k : Cell). total elementSize (elementsMade D k ws))
     (kid-in (a .w) (p .1 .0) (a .q) (after-quarter-of .quarter-of .result) (after-quarter-of .quarter-of .ensures)))
     (after-count-child .count-child .ensures .1
-    ∙ ap (λ (k : Cell). startsIn (rowsMade D k ws))
+    ∙ ap (λ (k : Cell). startsIn (elementsMade D k ws))
     (kid-in (a .w) (p .1 .0) (a .q) (after-quarter-of .quarter-of .result) (after-quarter-of .quarter-of .ensures)))
 
 pub count-one-spec : {M : Type 1} → statement M

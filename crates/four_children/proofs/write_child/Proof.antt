@@ -7,7 +7,7 @@ use lib.ListN.{length}
 use Rattle.cells.specs.Cells.{Cell}
 use Rattle.stream.specs.Table.{wordsFrom, written}
 use Rattle.ranges.specs.Held.{lent}
-use Rattle.making.specs.Made.{rowsMade, wordsMade}
+use Rattle.making.specs.Made.{elementsMade, wordsMade}
 use Rattle.four_children.proofs.Squares.{kid-square, kid-in, kid-back}
 use mathlib.Core.Path.{sym}
 
@@ -33,7 +33,7 @@ write-child-requires c κs =
             p .1 .1 .1 .0,
             (
               p .1 .1 .1 .1 .0,
-              p .1 .1 .1 .1 .1 ∙ ap (λ (k : Cell). length (rowsMade D k ws)) (sym (kid-in (a .w) (p .1 .0) (a .q) s e)),
+              p .1 .1 .1 .1 .1 ∙ ap (λ (k : Cell). length (elementsMade D k ws)) (sym (kid-in (a .w) (p .1 .0) (a .q) s e)),
             ),
           ),
         ),

@@ -5,17 +5,17 @@ use lib.ListN.{length, getD}
 use Rattle.cells.specs.Cells.{Cell, child}
 use Rattle.cells.specs.Segments.{drawn, shortcut}
 use Rattle.cells.specs.Drawings.{Drawing}
-use Rattle.cells.specs.Rows.{Row, opens, bar, closes, bare, named, segment}
+use Rattle.cells.specs.Elements.{Element, opens, bar, closes, bare, named, segment}
 use Rattle.stream.specs.declared.Words.{Words}
 use Rattle.celltable.specs.Table.{putCellAt}
 use Rattle.celltable.specs.Descent.{quarterAt}
 use Rattle.child_stream.specs.declared.Count.{Count}
 use Rattle.child_stream.specs.code.Numbers.{startsIn}
 use Rattle.four_children.specs.declared.Tally.{Tally}
-use Rattle.four_children.specs.Children.{wordsWith, rowsOfChild}
+use Rattle.four_children.specs.Children.{wordsWith, elementsOfChild}
 
--- how many rows are lines
-abbrev pub lineOne : Row → ℕ
+-- how many elements are lines
+abbrev pub lineOne : Element → ℕ
 lineOne opens = 0
 lineOne bar = 0
 lineOne closes = 0
@@ -24,12 +24,12 @@ lineOne (named n z) = 0
 lineOne (segment (drawn l)) = 1
 lineOne (segment (shortcut z lo hi)) = 0
 
-abbrev pub sumOf : (Row → ℕ) → List Row → ℕ
+abbrev pub sumOf : (Element → ℕ) → List Element → ℕ
 sumOf f [] = 0
 sumOf f (r ∷ rs) = f r + sumOf f rs
 
 -- the tally of a stream: its entries, its lines, and the start numbers of its areas
-abbrev pub tally : List Row → Tally
+abbrev pub tally : List Element → Tally
 tally rs = record { entries = length rs; lines = sumOf lineOne rs; starts = startsIn rs }
 
 -- the same from the stream's weight: 1 for each entry, 65,536 more for a line, 4,294,967,296 more for an area
@@ -56,4 +56,5 @@ pub record FewEach (ts : List Tally) : Type 0 where
 
 -- the tallies of the children of cell c with the stream that ws say
 abbrev pub fourTallies : (D : Drawing) (c : Cell) (ws : List Words) → List Tally
-fourTallies D c ws = tally (rowsOfChild D c ws 0) ∷ tally (rowsOfChild D c ws 1) ∷ tally (rowsOfChild D c ws 2) ∷ tally (rowsOfChild D c ws 3) ∷ []
+fourTallies D c ws =
+    tally (elementsOfChild D c ws 0) ∷ tally (elementsOfChild D c ws 1) ∷ tally (elementsOfChild D c ws 2) ∷ tally (elementsOfChild D c ws 3) ∷ []

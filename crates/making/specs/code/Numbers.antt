@@ -1,4 +1,4 @@
--- The making of a stream, one entry at a time, as the numbers that the code holds. `Rattle.making.proofs` says that they go as the rows do
+-- The making of a stream, one entry at a time, as the numbers that the code holds. `Rattle.making.proofs` says that they go as the elements do
 -- (`Rattle.cells.specs.code.Making`).
 use mathlib.Core.Path.{_≡_}
 use mathlib.Core.Bool.{Bool, true, false, cond, not}

@@ -7,7 +7,7 @@ use lib.ListN.{length}
 use Rattle.drawing.specs.Tables.{tables}
 use Rattle.root_stream.proofs.Opened.{accepted-opened}
 use Rattle.tables.specs.Tables.{tree}
-use Rattle.open.proofs.Rooms.{room-says, count-rows, count-words, has-room, no-room}
+use Rattle.open.proofs.Rooms.{room-says, count-elements, count-words, has-room, no-room}
 
 count-open-requires : tie.Need-count-open-requires
 count-open-requires c κs =
@@ -40,7 +40,7 @@ put-opened-requires c κs =
     (sym (after-has-room .has-room .ensures) ∙ at-if1 .if1 .taken) in (
       accepted-opened D (a .k) p,
       (
-        count-rows D (a .k) p (after-count-open .count-open .result) (after-entries-in .entries-in .result)
+        count-elements D (a .k) p (after-count-open .count-open .result) (after-entries-in .entries-in .result)
             (after-count-open .count-open .ensures) (after-entries-in .entries-in .ensures),
         (r .2, (r .0, r .1)),
       ),

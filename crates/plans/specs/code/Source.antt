@@ -1,5 +1,5 @@
--- What cell 0's stream is made from, in the code's order: one row for each record. Document 01's form is `source` (`Rattle.cells.specs.Streams`);
--- `source-rows` says that the rows are the same.
+-- What cell 0's stream is made from, in the code's order: one element for each record. Document 01's form is `source` (`Rattle.cells.specs.Streams`);
+-- `source-elements` says that the elements are the same.
 use mathlib.Core.List.{List, [], _∷_}
 use Prim.Native.Nat.{ℕ, suc}
 use lib.IntN.{pos}
@@ -7,7 +7,7 @@ use Rattle.geometry.specs.Windings.{line}
 use Rattle.records.specs.declared.Record.{Record}
 use Rattle.records.specs.declared.Record.the-variants.{Area, First, Next, Open, Bar, Close}
 use Rattle.cells.specs.Segments.{drawn}
-use Rattle.cells.specs.Rows.{Row, opens, bar, closes, named, segment}
+use Rattle.cells.specs.Elements.{Element, opens, bar, closes, named, segment}
 
 -- "corner to next corner, the closing edge last of its contour": where the edge from corner c ends, with these records behind it and `first` for
 -- the contour's first corner
@@ -20,9 +20,9 @@ edgeEnd (Open ∷ rs) c first = first
 edgeEnd (Bar ∷ rs) c first = first
 edgeEnd (Close ∷ rs) c first = first
 
--- "each area, then its edges, contour by contour": the rows, where the first area among these records is area a, the first corner corner c, and
+-- "each area, then its edges, contour by contour": the elements, where the first area among these records is area a, the first corner corner c, and
 -- `first` is the first corner of the contour before
-abbrev pub sourceFrom : (a c first : ℕ) → List Record → List Row
+abbrev pub sourceFrom : (a c first : ℕ) → List Record → List Element
 sourceFrom a c first [] = []
 sourceFrom a c first (Area f ∷ rs) = named a (pos 0) ∷ sourceFrom (suc a) c first rs
 sourceFrom a c first (First x y ∷ rs) = segment (drawn (line c (edgeEnd rs c c))) ∷ sourceFrom a (suc c) c rs
@@ -31,5 +31,5 @@ sourceFrom a c first (Open ∷ rs) = opens ∷ sourceFrom a c first rs
 sourceFrom a c first (Bar ∷ rs) = bar ∷ sourceFrom a c first rs
 sourceFrom a c first (Close ∷ rs) = closes ∷ sourceFrom a c first rs
 
-abbrev pub sourceOf : List Record → List Row
+abbrev pub sourceOf : List Record → List Element
 sourceOf rs = sourceFrom 0 0 0 rs

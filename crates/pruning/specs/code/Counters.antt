@@ -23,7 +23,7 @@ skipped (shut m) = m
 abbrev pub opened : Count → ℕ
 opened (ct n b w fs) = length fs + skipped w
 
--- `wid` gives how many rows an entry is written as
+-- `wid` gives how many elements an entry is written as
 module _ (I : Items) (wid : Entry (I .Item) → ℕ) where
   open Items I using (Item, class, bare)
 

@@ -1,4 +1,4 @@
--- The pruner by numbers where each row has a weight: what is written weighs so much. With weight 1 for each row it is the length.
+-- The pruner by numbers where each element has a weight: what is written weighs so much. With weight 1 for each element it is the length.
 use mathlib.Core.List.{List, [], _∷_, map}
 use Prim.Native.Nat.{ℕ, _+_}
 use lib.ListN.{take}
@@ -7,20 +7,20 @@ use Rattle.pruning.specs.Items.{Class, passes, Items}
 use Rattle.pruning.specs.code.Pruner.{Frame, frame, State, st}
 use Rattle.pruning.specs.code.Counters.{Count, ct}
 
-module _ {Row : Type 0} (weight : Row → ℕ) where
-  abbrev pub total : List Row → ℕ
+module _ {Element : Type 0} (weight : Element → ℕ) where
+  abbrev pub total : List Element → ℕ
   total [] = 0
   total (r ∷ rs) = weight r + total rs
 
   -- the weight before place p
-  abbrev pub before : List Row → ℕ → ℕ
+  abbrev pub before : List Element → ℕ → ℕ
   before out p = total (take p out)
 
-  abbrev pub frameAt : List Row → Frame → Frame
+  abbrev pub frameAt : List Element → Frame → Frame
   frameAt out (frame m s o) = frame m (before out s) (before out o)
 
   -- a state with weights in the place of places
-  abbrev pub weighed : State Row → Count
+  abbrev pub weighed : State Element → Count
   weighed (st out b w fs) = ct (total out) (before out b) w (map (frameAt out) fs)
 
 -- an item as the counters see it: its class on its side, and what it weighs

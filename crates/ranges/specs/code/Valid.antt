@@ -10,7 +10,7 @@ use Rattle.records.specs.Record.{areaRange, cornerRange}
 use Rattle.pruning.specs.Sides.{paint, Side, end, leaf, group}
 use Rattle.cells.specs.Drawings.{Drawing, fieldsOf}
 use Rattle.cells.specs.Streams.{On}
-use Rattle.cells.specs.Rows.{Fitted}
+use Rattle.cells.specs.Elements.{Fitted}
 
 -- how many groups are open at once
 abbrev pub depth : {A : Type 0} → Side A → ℕ

@@ -7,7 +7,7 @@ use native.Mathlib.Omega.{arith}
 use denote.Ref.{now}
 use borrow.Author.Needs.{needs}
 use Rattle.pruning.specs.code.Weights.{total}
-use Rattle.cells.specs.code.Making.{rowSize}
+use Rattle.cells.specs.code.Making.{elementSize}
 use Rattle.pruner.specs.code.Numbers.{counted}
 use Rattle.drawing.specs.Tables.{tables}
 use Rattle.stream.specs.Grammar.{env}
@@ -234,7 +234,7 @@ returns c =
     c .made-weight .ensures
     ∙ (end-weight v (drawingIn t) (t .plan) (a .records) (wordsIn t) B (at-loop .loop .i) (at-loop .loop .c)
     (maker (at-loop .loop .p) (at-loop .loop .a)) (at-loop .loop .inv) (at-loop-test .loop-test .left)
-    ∙ ap (total rowSize) (base-made t (a .records) (a .b) (at-entry .pre)))
+    ∙ ap (total elementSize) (base-made t (a .records) (a .b) (at-entry .pre)))
 
 pub count-open-spec : {M : Type 1} → statement M
 count-open-spec =

@@ -1,4 +1,4 @@
--- What cell 0's stream is made from, one entry at a time, as the numbers that the code holds. `Rattle.root_stream.proofs` says that they go as the rows do
+-- What cell 0's stream is made from, one entry at a time, as the numbers that the code holds. `Rattle.root_stream.proofs` says that they go as the elements do
 -- (`Rattle.plans.specs.code.Source`). And what the code asks of its caller.
 use mathlib.Core.Path.{_≡_}
 use mathlib.Core.Bool.{cond}

@@ -1,5 +1,5 @@
 -- The words that a making writes, one entry at a time, as the numbers that the code holds; only below a limit, which is the length of what is made.
--- `Rattle.writing.proofs` says that they are the rows (`Rattle.cells.specs.code.Making`).
+-- `Rattle.writing.proofs` says that they are the elements (`Rattle.cells.specs.code.Making`).
 use mathlib.Core.Bool.{cond}
 use mathlib.Core.List.{List}
 use Prim.Native.Nat.{ℕ, _+_, _*_, _%_}

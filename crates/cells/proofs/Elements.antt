@@ -1,4 +1,4 @@
--- Any rows are read, in one pass, for the shown set of what they say; the rows of a stream say that stream.
+-- Any elements are read, in one pass, for the shown set of what they say; the elements of a stream say that stream.
 use mathlib.Core.Path.{_≡_, refl, sym, ap, _∙_, fun-ext}
 use mathlib.Core.Bool.{Bool, true}
 use mathlib.Core.List.{List, [], _∷_, _++_, map}
@@ -19,20 +19,20 @@ use Rattle.cells.specs.Drawings.{Drawing, passesBy, isOpaque, shownAt}
 use Rattle.cells.specs.Streams.{Item, always, area, numberOf, Each, items, passesIn, opaqueIn, within, whole, source, made, shownIn}
 use Rattle.cells.proofs.Each.{each-sub, each-mapped}
 use Rattle.cells.proofs.Streams.{made-normal, made-shown, source-shown}
-use Rattle.cells.specs.Rows.{
-  Row,
+use Rattle.cells.specs.Elements.{
+  Element,
   opens,
   bar,
   closes,
   bare,
   named,
   segment,
-  itemRows,
-  rowsOf,
+  itemElements,
+  elementsOf,
   Decoded,
   dec,
   entriesOf,
-  decodeRow,
+  decodeElement,
   decode,
   streamOf,
   settled,
@@ -41,8 +41,8 @@ use Rattle.cells.specs.Rows.{
   state,
   settle,
   addTo,
-  onRows,
-  readRows,
+  onElements,
+  readElements,
   OnSide,
   roleIn,
   readAt,
@@ -73,8 +73,8 @@ module _ (role : ℕ → Kind) (pass : ℕ → ℤ → Bool) (opaque : ℕ → B
   abbrev end : State → Registers ℕ
   end = settle role pass opaque adds
 
-  abbrev go : List Row → State → State
-  go = onRows role pass opaque adds
+  abbrev go : List Element → State → State
+  go = onElements role pass opaque adds
 
   abbrev mv : List (Entry Item) → Registers ℕ → Registers ℕ
   mv = moves passItem opaqueItem addNumber
@@ -92,66 +92,67 @@ module _ (role : ℕ → Kind) (pass : ℕ → ℤ → Bool) (opaque : ℕ → B
   later-more g (state r settled) gs = refl
   later-more g (state r (waits n z)) gs = ap (λ v. state r (waits n v)) (+ℤ-assoc z (adds g) (total gs))
 
-  abbrev Says : List Row → Decoded → Type 0
+  abbrev Says : List Element → Decoded → Type 0
   Says ws (dec gs es) = (st : State) → end (go ws st) ≡ mv es (end (later st gs))
 
-  row-says : (w : Row) (ws : List Row) (d : Decoded) → Says ws d → Says (w ∷ ws) (decodeRow role w d)
-  row-says opens ws (dec gs es) h = λ st. h (state (onPush (end st)) settled) ∙ ap (λ r. mv es (onPush r)) (sym (later-none st))
-  row-says bar ws (dec gs es) h = λ st. h (state (onActivate (end st)) settled) ∙ ap (λ r. mv es (onActivate r)) (sym (later-none st))
-  row-says closes ws (dec gs es) h = λ st. h (state (onPop (end st)) settled) ∙ ap (λ r. mv es (onPop r)) (sym (later-none st))
-  row-says bare ws (dec gs es) h =
+  element-says : (w : Element) (ws : List Element) (d : Decoded) → Says ws d → Says (w ∷ ws) (decodeElement role w d)
+  element-says opens ws (dec gs es) h = λ st. h (state (onPush (end st)) settled) ∙ ap (λ r. mv es (onPush r)) (sym (later-none st))
+  element-says bar ws (dec gs es) h = λ st. h (state (onActivate (end st)) settled) ∙ ap (λ r. mv es (onActivate r)) (sym (later-none st))
+  element-says closes ws (dec gs es) h = λ st. h (state (onPop (end st)) settled) ∙ ap (λ r. mv es (onPop r)) (sym (later-none st))
+  element-says bare ws (dec gs es) h =
       λ st.
       h (state (onItem clip true true (λ set. set) (end st)) settled)
       ∙ (ap (mv es) (clip-shows true true true (λ set. set) (addNumber always) (end st))
       ∙ ap (λ r. mv es (onItem clip true true (addNumber always) r)) (sym (later-none st)))
-  row-says (named n z) ws (dec gs es) h = λ st. h (state (end st) (waits n z))
+  element-says (named n z) ws (dec gs es) h = λ st. h (state (end st) (waits n z))
       ∙ ap (λ r. mv es (onItem (role n) (pass n (z +ℤ total gs)) (opaque n) (λ set. withArea set n) r)) (sym (later-none st))
-  row-says (segment g) ws (dec gs es) h = λ st. h (addTo role pass opaque adds g st) ∙ ap (λ x. mv es (end x)) (later-more g st gs)
+  element-says (segment g) ws (dec gs es) h = λ st. h (addTo role pass opaque adds g st) ∙ ap (λ x. mv es (end x)) (later-more g st gs)
 
-  rows-say : (ws : List Row) → Says ws (decode role ws)
-  rows-say [] = λ st. sym (later-none st)
-  rows-say (w ∷ ws) = row-says w ws (decode role ws) (rows-say ws)
+  elements-say : (ws : List Element) → Says ws (decode role ws)
+  elements-say [] = λ st. sym (later-none st)
+  elements-say (w ∷ ws) = element-says w ws (decode role ws) (elements-say ws)
 
-  read-by : (ws : List Row) (d : Decoded) → Says ws d → readRows role pass opaque adds ws ≡ outOf (mv (entriesOf d) (reg P 0 0 0))
+  read-by : (ws : List Element) (d : Decoded) → Says ws d → readElements role pass opaque adds ws ≡ outOf (mv (entriesOf d) (reg P 0 0 0))
   read-by ws (dec gs es) h = ap outOf (h (state (reg P 0 0 0) settled))
 
-  -- any rows are read for what they say
-  pub read-says : (ws : List Row) → readRows role pass opaque adds ws ≡ outOf (mv (entriesOf (decode role ws)) (reg P 0 0 0))
-  read-says ws = read-by ws (decode role ws) (rows-say ws)
+  -- any elements are read for what they say
+  pub read-says : (ws : List Element) → readElements role pass opaque adds ws ≡ outOf (mv (entriesOf (decode role ws)) (reg P 0 0 0))
+  read-says ws = read-by ws (decode role ws) (elements-say ws)
 
-  -- so rows whose entries are a side's give the set of what the side shows
-  pub read-side : (ws : List Row) (x : Side Item)
+  -- so elements whose entries are a side's give the set of what the side shows
+  pub read-side : (ws : List Element) (x : Side Item)
       → entriesOf (decode role ws) ≡ flat paint x
-      → readRows role pass opaque adds ws ≡ setOf (map numberOf (shown passItem opaqueItem x))
+      → readElements role pass opaque adds ws ≡ setOf (map numberOf (shown passItem opaqueItem x))
   read-side ws x e =
       read-says ws
       ∙ (ap (λ es. outOf (mv es (reg P 0 0 0))) e
       ∙ (registers passItem opaqueItem addNumber x 0 ∙ gathered-set (shown passItem opaqueItem x) 0))
 
--- ---- the rows of a stream say that stream, where the roles fit the sides
+-- ---- the elements of a stream say that stream, where the roles fit the sides
 
 module _ (role : ℕ → Kind) where
-  decode-segments : (gs : List Segment) (ws : List Row) (es : List (Entry Item)) → decode role ws ≡ dec [] es → decode role (map segment gs ++ ws) ≡ dec gs es
+  decode-segments : (gs : List Segment) (ws : List Element) (es : List (Entry Item)) → decode role ws ≡ dec [] es
+      → decode role (map segment gs ++ ws) ≡ dec gs es
   decode-segments [] ws es e = e
   decode-segments (g ∷ gs) ws es e = rw (decode-segments gs ws es e)
 
-  decode-item : (k : Kind) (a : Item) (ws : List Row) (es : List (Entry Item))
+  decode-item : (k : Kind) (a : Item) (ws : List Element) (es : List (Entry Item))
       → OnSide role k a
       → decode role ws ≡ dec [] es
-      → decode role (itemRows a ++ ws) ≡ dec [] (item k a ∷ es)
+      → decode role (itemElements a ++ ws) ≡ dec [] (item k a ∷ es)
   decode-item paint always ws es h e = absurd h
   decode-item clip always ws es h e = rw e
   decode-item k (area n z gs) ws es h e = rw (decode-segments gs ws es e, h)
 
-  pub decode-rows : (es : List (Entry Item)) → Each (OnSide role) es → decode role (rowsOf es) ≡ dec [] es
-  decode-rows [] h = refl
-  decode-rows (item k a ∷ es) h = decode-item k a (rowsOf es) es (h .0) (decode-rows es (h .1))
-  decode-rows (push ∷ es) h = rw (decode-rows es h)
-  decode-rows (activate ∷ es) h = rw (decode-rows es h)
-  decode-rows (pop ∷ es) h = rw (decode-rows es h)
+  pub decode-elements : (es : List (Entry Item)) → Each (OnSide role) es → decode role (elementsOf es) ≡ dec [] es
+  decode-elements [] h = refl
+  decode-elements (item k a ∷ es) h = decode-item k a (elementsOf es) es (h .0) (decode-elements es (h .1))
+  decode-elements (push ∷ es) h = rw (decode-elements es h)
+  decode-elements (activate ∷ es) h = rw (decode-elements es h)
+  decode-elements (pop ∷ es) h = rw (decode-elements es h)
 
-  pub rows-back : (x : Side Item) → Each (OnSide role) (flat paint x) → streamOf role (rowsOf (flat paint x)) ≡ x
-  rows-back x h = ap (λ d. tree (entriesOf d)) (decode-rows (flat paint x) h) ∙ tree-flat x
+  pub elements-back : (x : Side Item) → Each (OnSide role) (flat paint x) → streamOf role (elementsOf (flat paint x)) ≡ x
+  elements-back x h = ap (λ d. tree (entriesOf d)) (decode-elements (flat paint x) h) ∙ tree-flat x
 
 -- ---- of a drawing
 
@@ -168,16 +169,16 @@ module _ (D : Drawing) where
   opaque-same p always = refl
   opaque-same p (area n z gs) = refl
 
-  -- rows whose entries are those of a stream, read at a position: the set that the stream shows
-  pub side-read : (p : Position) (ws : List Row) (x : Side Item) → entriesOf (decode (roleIn D) ws) ≡ flat paint x → readAt D p ws ≡ setOf (shownIn D p x)
+  -- elements whose entries are those of a stream, read at a position: the set that the stream shows
+  pub side-read : (p : Position) (ws : List Element) (x : Side Item) → entriesOf (decode (roleIn D) ws) ≡ flat paint x → readAt D p ws ≡ setOf (shownIn D p x)
   side-read p ws x h =
       read-side (roleIn D) (passesBy D) (isOpaque D) (addsAt (D .xs) (D .ys) p) ws x h
       ∙ (ap (λ f. setOf (map numberOf (shown f (opaqueItem (roleIn D) (passesBy D) (isOpaque D) (addsAt (D .xs) (D .ys) p)) x))) (fun-ext (pass-same p))
       ∙ ap (λ f. setOf (map numberOf (shown (passesIn D p) f x))) (fun-ext (opaque-same p)))
 
-  -- the rows of a stream whose areas stand on sides of their roles
-  pub rows-read : (p : Position) (x : Side Item) → Each (OnSide (roleIn D)) (flat paint x) → readAt D p (rowsOf (flat paint x)) ≡ setOf (shownIn D p x)
-  rows-read p x h = side-read p (rowsOf (flat paint x)) x (ap entriesOf (decode-rows (roleIn D) (flat paint x) h))
+  -- the elements of a stream whose areas stand on sides of their roles
+  pub elements-read : (p : Position) (x : Side Item) → Each (OnSide (roleIn D)) (flat paint x) → readAt D p (elementsOf (flat paint x)) ≡ setOf (shownIn D p x)
+  elements-read p x h = side-read p (elementsOf (flat paint x)) x (ap entriesOf (decode-elements (roleIn D) (flat paint x) h))
 
   pub made-on-side : Fitted D → (c : Cell) → Each (OnSide (roleIn D)) (flat paint (made D c (source D)))
   made-on-side f c =
@@ -190,6 +191,6 @@ module _ (D : Drawing) where
       stands paint n e = e
       stands clip n e = e
 
-  -- the rows of a cell's stream, read in one pass at any position of the cell, give the set that the drawing shows there
-  pub cell-read : Fitted D → (c : Cell) (p : Position) → Holds c p → readAt D p (rowsOf (flat paint (made D c (source D)))) ≡ setOf (shownAt D p)
-  cell-read f c p i = rows-read p (made D c (source D)) (made-on-side f c) ∙ ap setOf (made-shown D c p i (source D) ∙ source-shown D p)
+  -- the elements of a cell's stream, read in one pass at any position of the cell, give the set that the drawing shows there
+  pub cell-read : Fitted D → (c : Cell) (p : Position) → Holds c p → readAt D p (elementsOf (flat paint (made D c (source D)))) ≡ setOf (shownAt D p)
+  cell-read f c p i = elements-read p (made D c (source D)) (made-on-side f c) ∙ ap setOf (made-shown D c p i (source D) ∙ source-shown D p)

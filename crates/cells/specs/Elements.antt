@@ -1,4 +1,5 @@
--- A stream as rows, one for each entry of a table, what any rows say, and the reading of rows in one pass.
+-- A stream as elements, one for each entry of a table, what any elements say, and the reading of elements in one pass.
+-- The word is document 000's: "elements in the stream".
 use mathlib.Core.Path.{_≡_}
 use mathlib.Core.Bool.{Bool, true}
 use mathlib.Core.List.{List, [], _∷_, _++_, map}
@@ -15,26 +16,26 @@ use Rattle.cells.specs.Streams.{Item, always, area, On}
 
 -- "A stream holds one entry for each delimiter, each area (with its start number), line and shortcut": `(`, `|`, `)`, an area, one of its lines and
 -- shortcuts, and the bare "passes"
-pub data Row : Type 0 where
-  opens bar closes bare : Row
-  named : (number : ℕ) (start : ℤ) → Row
-  segment : Segment → Row
+pub data Element : Type 0 where
+  opens bar closes bare : Element
+  named : (number : ℕ) (start : ℤ) → Element
+  segment : Segment → Element
 
-abbrev pub itemRows : Item → List Row
-itemRows always = bare ∷ []
-itemRows (area n z gs) = named n z ∷ map segment gs
+abbrev pub itemElements : Item → List Element
+itemElements always = bare ∷ []
+itemElements (area n z gs) = named n z ∷ map segment gs
 
-abbrev pub entryRows : Entry Item → List Row
-entryRows (item k a) = itemRows a
-entryRows push = opens ∷ []
-entryRows activate = bar ∷ []
-entryRows pop = closes ∷ []
+abbrev pub entryElements : Entry Item → List Element
+entryElements (item k a) = itemElements a
+entryElements push = opens ∷ []
+entryElements activate = bar ∷ []
+entryElements pop = closes ∷ []
 
-abbrev pub rowsOf : List (Entry Item) → List Row
-rowsOf [] = []
-rowsOf (e ∷ es) = entryRows e ++ rowsOf es
+abbrev pub elementsOf : List (Entry Item) → List Element
+elementsOf [] = []
+elementsOf (e ∷ es) = entryElements e ++ elementsOf es
 
--- rows, read from the back: lines and shortcuts that still want their area, and the entries behind them
+-- elements, read from the back: lines and shortcuts that still want their area, and the entries behind them
 pub data Decoded : Type 0 where
   dec : List Segment → List (Entry Item) → Decoded
 
@@ -43,20 +44,20 @@ entriesOf (dec gs es) = es
 
 -- the side on which an area stands is told by its role
 module _ (role : ℕ → Kind) where
-  abbrev pub decodeRow : Row → Decoded → Decoded
-  decodeRow opens (dec gs es) = dec [] (push ∷ es)
-  decodeRow bar (dec gs es) = dec [] (activate ∷ es)
-  decodeRow closes (dec gs es) = dec [] (pop ∷ es)
-  decodeRow bare (dec gs es) = dec [] (item clip always ∷ es)
-  decodeRow (named n z) (dec gs es) = dec [] (item (role n) (area n z gs) ∷ es)
-  decodeRow (segment g) (dec gs es) = dec (g ∷ gs) es
+  abbrev pub decodeElement : Element → Decoded → Decoded
+  decodeElement opens (dec gs es) = dec [] (push ∷ es)
+  decodeElement bar (dec gs es) = dec [] (activate ∷ es)
+  decodeElement closes (dec gs es) = dec [] (pop ∷ es)
+  decodeElement bare (dec gs es) = dec [] (item clip always ∷ es)
+  decodeElement (named n z) (dec gs es) = dec [] (item (role n) (area n z gs) ∷ es)
+  decodeElement (segment g) (dec gs es) = dec (g ∷ gs) es
 
-  abbrev pub decode : List Row → Decoded
+  abbrev pub decode : List Element → Decoded
   decode [] = dec [] []
-  decode (w ∷ ws) = decodeRow w (decode ws)
+  decode (w ∷ ws) = decodeElement w (decode ws)
 
   -- "Tables that pass 12 but were written by others are read for what they say."
-  abbrev pub streamOf : List Row → Side Item
+  abbrev pub streamOf : List Element → Side Item
   streamOf ws = tree (entriesOf (decode ws))
 
   -- an area stands on a side of its role; "passes" stands where a clip area may
@@ -84,29 +85,29 @@ module _ (role : ℕ → Kind) (pass : ℕ → ℤ → Bool) (opaque : ℕ → B
   addTo g (state r (waits n z)) = state r (waits n (z +ℤ adds g))
 
   -- "the machine's move is decided by state, kind of entry and depth"
-  abbrev pub onRow : Row → State → State
-  onRow opens st = state (onPush (settle st)) settled
-  onRow bar st = state (onActivate (settle st)) settled
-  onRow closes st = state (onPop (settle st)) settled
-  onRow bare st = state (onItem clip true true (λ set. set) (settle st)) settled
-  onRow (named n z) st = state (settle st) (waits n z)
-  onRow (segment g) st = addTo g st
+  abbrev pub onElement : Element → State → State
+  onElement opens st = state (onPush (settle st)) settled
+  onElement bar st = state (onActivate (settle st)) settled
+  onElement closes st = state (onPop (settle st)) settled
+  onElement bare st = state (onItem clip true true (λ set. set) (settle st)) settled
+  onElement (named n z) st = state (settle st) (waits n z)
+  onElement (segment g) st = addTo g st
 
-  abbrev pub onRows : List Row → State → State
-  onRows [] st = st
-  onRows (w ∷ ws) st = onRows ws (onRow w st)
+  abbrev pub onElements : List Element → State → State
+  onElements [] st = st
+  onElements (w ∷ ws) st = onElements ws (onElement w st)
 
   -- the shown set, begun in P with no group open
-  abbrev pub readRows : List Row → ℕ
-  readRows ws = outOf (settle (onRows ws (state (reg P 0 0 0) settled)))
+  abbrev pub readElements : List Element → ℕ
+  readElements ws = outOf (settle (onElements ws (state (reg P 0 0 0) settled)))
 
 module _ (D : Drawing) where
   abbrev pub roleIn : ℕ → Kind
   roleIn n = kindOf (fieldsOf D n .role)
 
-  -- the set that rows show at a position, with the areas and corners of a drawing
-  abbrev pub readAt : Position → List Row → ℕ
-  readAt p = readRows roleIn (passesBy D) (isOpaque D) (addsAt (D .xs) (D .ys) p)
+  -- the set that elements show at a position, with the areas and corners of a drawing
+  abbrev pub readAt : Position → List Element → ℕ
+  readAt p = readElements roleIn (passesBy D) (isOpaque D) (addsAt (D .xs) (D .ys) p)
 
   -- "An area's role fits its side."
   abbrev pub Fitted : Type 0
