@@ -16,30 +16,10 @@ use Rattle.pixel_row.specs.Rows.{Filled, rowFilled}
 use Rattle.zone_log.specs.Logs.{logAnswer}
 use Rattle.answers.specs.Readings.{spotRoom, outSpot}
 use Rattle.demand.specs.History.{Node, begun}
-use Rattle.demand.specs.Stands.{drawingOf, Stands}
-use Rattle.demand.specs.code.Opened.{openedBy}
-use Rattle.demand.specs.Calls.{
-  Call,
-  opens,
-  splits,
-  grows,
-  finds,
-  reads,
-  rows,
-  logs,
-  opening,
-  reading,
-  rowing,
-  logging,
-  refusal,
-  isOpening,
-  answerTo,
-  treeAfter,
-  historyAfter,
-  gives,
-}
-use Rattle.demand.specs.Lists.{Listed, own, other, Allowed, tablesAfter, nodesAfter, AllAllowed, tablesAfterAll, nodesAfterAll}
-use Rattle.demand.specs.Demand.{Right, RightListed, Unmet, Throughout, Demand3}
+use Rattle.demand.specs.Stands.{drawingOf}
+use Rattle.demand.specs.Calls.{opens, splits, grows, finds, reads, rows, logs, opening, reading, rowing, logging, gives}
+use Rattle.demand.specs.Lists.{Listed, own, other, Allowed, tablesAfter, nodesAfter}
+use Rattle.demand.specs.Demand.{RightListed, Unmet, Throughout, Demand3}
 use Rattle.demand.proofs.Sound.{Sound, sound-stands}
 use Rattle.demand.proofs.Opened.{open-sound}
 use Rattle.demand.proofs.Splits.{tables-split}

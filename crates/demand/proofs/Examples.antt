@@ -35,7 +35,7 @@ use Rattle.root_stream.specs.Opened.{elementsOpened}
 use Rattle.tables.specs.Tables.{Tree, tree}
 use Rattle.open.specs.declared.Answer as Opening
 use Rattle.open.specs.declared.Answer.the-variants.{Opened, Not}
-use Rattle.open.specs.Open.{drawingTables, streamOpened, roomFor, drawingAnswer, openAnswer, openTree}
+use Rattle.open.specs.Open.{drawingTables, streamOpened, roomFor, drawingAnswer, openAnswer}
 use Rattle.open.proofs.Rooms.{elements-words, has-room}
 use Rattle.open.proofs.Answers.{passed}
 use Rattle.position.specs.declared.Spot.{Spot}

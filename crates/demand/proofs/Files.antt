@@ -2,7 +2,7 @@
 use mathlib.Core.Path.{_≡_, refl, sym, ap, _∙_}
 use mathlib.Core.Bool.{Bool, true, false, cond, _&&_}
 use mathlib.Core.List.{List, [], _∷_, _++_}
-use Prim.Native.Nat.{ℕ, _+_, _*_, _/_, _%_}
+use Prim.Native.Nat.{ℕ, _+_, _/_, _%_}
 use native.Mathlib.Omega.{arith}
 use lib.Dec.{eqb, ltb, leb}
 use lib.ListN.{length}
@@ -33,8 +33,8 @@ use Rattle.answers.specs.Readings.{spotRoom, spotNumber, outSpot, lowHalf, rowN
 use Rattle.demand.specs.History.{Node, begun}
 use Rattle.demand.specs.NoTree.{spotShown}
 use Rattle.demand.specs.Stands.{drawingOf}
-use Rattle.demand.specs.Shown.{positionShown, positionGiven, fillShown, rowShown, rowGiven, logShown, logAnswerShown, logOutShown, logGiven}
-use Rattle.demand.specs.Calls.{reads, rows, logs, reading, rowing, logging, numberBy, refusal, answerTo, Given, given}
+use Rattle.demand.specs.Shown.{positionGiven, fillShown, rowGiven, logShown, logOutShown, logGiven}
+use Rattle.demand.specs.Calls.{reading, rowing, logging, numberBy, refusal, answerTo, Given, given}
 use Rattle.demand.specs.Lists.{own, Allowed, tablesAfterAll, nodesAfterAll}
 use Rattle.demand.specs.Demand.{Right}
 use Rattle.demand.specs.Files.{

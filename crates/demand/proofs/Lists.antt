@@ -1,11 +1,8 @@
 -- What stands after a list of calls, a list that goes on behind another, and what a refused call leaves.
 use mathlib.Core.Path.{_≡_, refl, sym}
-use mathlib.Core.Bool.{Bool, true, false, cond}
+use mathlib.Core.Bool.{false}
 use mathlib.Core.List.{List, [], _∷_, _++_}
 use Prim.Native.Nat.{ℕ}
-use native.Mathlib.Omega.{arith}
-use lib.Dec.{eqb, leb}
-use lib.ListN.{length}
 use Rattle.laws.proofs.Booleans.{clash}
 use Rattle.cells.specs.Drawings.{Drawing}
 use Rattle.tables.specs.Tables.{Tree}

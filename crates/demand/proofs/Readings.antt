@@ -10,7 +10,7 @@ use borrow.Author.Tests.{ltb-true, eq-eqb}
 use Rattle.laws.proofs.Booleans.{and-left, and-right}
 use Rattle.refusals.specs.declared.Refusal.the-variants as Refusals
 use Rattle.paint.specs.Areas.{paintAt, materialOf}
-use Rattle.paint.specs.Colours.{sumsOf, colourOf}
+use Rattle.paint.specs.Colours.{sumsOf, rounded, colourOf}
 use Rattle.paint.specs.declared.colour.Channels.{Channels}
 use Rattle.paint.specs.Pixels.{rowOffsets, rowOffset, sampleX, sampleY, pixelOf}
 use Rattle.paint.proofs.Pixels.{pixel-agrees}
@@ -21,11 +21,11 @@ use Rattle.tables.specs.Tables.{Tree}
 use Rattle.find_leaf.specs.Leaf.{positionRange}
 use Rattle.find_leaf.proofs.Landing.{on-grid}
 use Rattle.position.specs.declared.Answer.the-variants as Answers
-use Rattle.position.specs.Spots.{isFound, setBy, spotOf, known, setIn, materialIn, colourIn, sumsIn, spotIn, positionAnswer}
+use Rattle.position.specs.Spots.{isFound, setBy, spotOf, known, setIn, materialIn, sumsIn, spotIn, positionAnswer}
 use Rattle.demand.specs.History.{Node, cellIn}
 use Rattle.demand.specs.NoTree.{setShown, materialShown, colourShown, sumsShown, spotShown}
 use Rattle.demand.specs.Stands.{drawingOf}
-use Rattle.demand.proofs.Paints.{material-held, colour-held, sums-held}
+use Rattle.demand.proofs.Paints.{material-held, sums-held}
 use Rattle.demand.proofs.Sound.{Sound, cell-set}
 use Rattle.demand.proofs.Finding.{lands}
 
@@ -48,15 +48,13 @@ module _ (t : Tree) (H : List Node) (s : Sound t H) where
         ap (materialOf (paintAt (t .areas))) set-there
         ∙ material-held (drawingOf t) (s .drawn .valid) (t .areas) (t .xs) (t .ys) _ (s .drawn .held 0 0) (at x y)
 
-    pub colour-there : colourIn t x y ≡ colourShown (drawingOf t) (at x y)
-    colour-there =
-        ap (colourOf (paintAt (t .areas))) set-there
-        ∙ colour-held (drawingOf t) (s .drawn .valid) (t .areas) (t .xs) (t .ys) _ (s .drawn .held 0 0) (at x y)
-
     pub sums-there : sumsIn t x y ≡ sumsShown (drawingOf t) (at x y)
     sums-there =
         ap (sumsOf (paintAt (t .areas))) set-there
         ∙ sums-held (drawingOf t) (s .drawn .valid) (t .areas) (t .xs) (t .ys) _ (s .drawn .held 0 0) (at x y)
+
+    colour-there : colourOf (paintAt (t .areas)) (setIn t x y) ≡ colourShown (drawingOf t) (at x y)
+    colour-there = ap rounded sums-there
 
     spot-there : spotOf (t .areas) (setIn t x y) ≡ spotShown (drawingOf t) (at x y)
     spot-there =

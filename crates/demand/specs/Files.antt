@@ -5,7 +5,6 @@ use mathlib.Core.List.{List}
 use Prim.Native.Nat.{ℕ, _/_}
 use lib.ListN.{length}
 use lib.Seq.{sets}
-use Rattle.records.specs.declared.Record.{Record}
 use Rattle.grammar.specs.declared.Counts.{Counts}
 use Rattle.grammar.specs.declared.Verdict.{Verdict}
 use Rattle.grammar.specs.declared.Verdict.the-variants.{Accepted}

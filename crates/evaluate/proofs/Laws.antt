@@ -110,8 +110,8 @@ module _ (xs ys : List ℕ) (used : ℕ) (w : Words) (h : segmentRange xs ys use
   pub line-below : (used ≤ length xs) × (used ≤ length ys) → LineBelow (length xs) (lineOf w) × LineBelow (length ys) (lineOf w)
   line-below k = let u = line-in-use in ((omega arith, omega arith), (omega arith, omega arith))
 
-  pub edge-in : EdgeIn (edgeOf xs ys (lineOf w))
-  edge-in =
+  pub entry-edge-in : EdgeIn (edgeOf xs ys (lineOf w))
+  entry-edge-in =
       let p = both (cornerMet xs ys used (w .p)) (cornerMet xs ys used (w .q)) in-line in
       let u = met-in xs ys used (w .p) (p .0) in
       let v = met-in xs ys used (w .q) (p .1) in

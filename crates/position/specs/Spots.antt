@@ -6,7 +6,6 @@ use lib.Dec.{eqb}
 use lib.ListN.{length}
 use Rattle.refusals.specs.declared.Refusal.the-variants as Refusals
 use Rattle.paint.specs.declared.colour.Channels.{Channels}
-use Rattle.paint.specs.declared.colour.Colour.{Colour}
 use Rattle.paint.specs.Sets.{setOf}
 use Rattle.paint.specs.Areas.{paintAt, materialOf}
 use Rattle.paint.specs.Colours.{sumsOf, colourOf}
@@ -67,9 +66,6 @@ module _ (t : Tree) where
     -- "The material is the material of the lowest numbered area in that set, or 0 if it is empty."
     abbrev pub materialIn : ℕ
     materialIn = materialOf (paintAt (t .areas)) setIn
-
-    abbrev pub colourIn : Colour
-    colourIn = colourOf (paintAt (t .areas)) setIn
 
     -- the unrounded channel sums, for pixels
     abbrev pub sumsIn : Channels

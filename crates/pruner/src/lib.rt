@@ -3,7 +3,7 @@
 ghost use mathlib.Core.Path.{_≡_};
 ghost use mathlib.Core.List.{[], _∷_};
 ghost use Prim.Native.Nat.{_+_, _^_, _≤_, _<_};
-ghost use lib.ListN.{length, getD};
+ghost use lib.ListN.{getD};
 ghost use Rattle.pruning.specs.Sides.{item, push, activate, pop};
 ghost use Rattle.pruning.specs.code.Pruner.{going};
 ghost use Rattle.pruning.specs.code.Counters.{ct, countStep};

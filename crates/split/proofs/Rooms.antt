@@ -1,12 +1,10 @@
 -- The room that a split asks for.
 use mathlib.Core.Path.{_≡_}
-use mathlib.Core.Bool.{true, false, _&&_}
+use mathlib.Core.Bool.{true, false}
 use mathlib.Core.List.{List}
-use Prim.Native.Nat.{ℕ, _+_, _*_, _/_, _≤_}
+use Prim.Native.Nat.{ℕ, _+_}
 use native.Mathlib.Omega.{arith}
-use lib.Dec.{leb}
 use lib.ListN.{length, getD, length-append}
-use borrow.Author.Tests.{leb-true}
 use Rattle.cells.specs.Cells.{Cell}
 use Rattle.cells.specs.Drawings.{Drawing}
 use Rattle.stream.specs.declared.Bounds.{Bounds}
@@ -14,7 +12,6 @@ use Rattle.stream.specs.declared.Words.{Words}
 use Rattle.stream.specs.Table.{wordsFrom}
 use Rattle.stream.specs.Grammar.{env, Passed}
 use Rattle.ranges.specs.Held.{lent}
-use Rattle.evaluate.proofs.Laws.{both}
 use Rattle.celltable.specs.Ranges.{cellsHeld, entriesHeld}
 use Rattle.refusals.specs.declared.Refusal.the-variants.{Room}
 use Rattle.split.specs.declared.Answer.the-variants.{Split, Not}

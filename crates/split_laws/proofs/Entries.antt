@@ -9,7 +9,7 @@ use Rattle.stream.specs.Table.{wordsFrom}
 use Rattle.four_children.specs.Children.{streamsTo}
 use Rattle.four_children.proofs.Filled.{streams-more}
 use Rattle.split.specs.declared.Answer.the-variants.{Split}
-use Rattle.tables.specs.Tables.{Tree, cellsUsed, entriesUsed}
+use Rattle.tables.specs.Tables.{Tree, entriesUsed}
 use Rattle.split.specs.Split.{words, drawing, stream, splitAnswer}
 use Rattle.split_laws.specs.After.{splitTree}
 use Rattle.split_laws.specs.Entries.{childAfter, NotUsedAgain}

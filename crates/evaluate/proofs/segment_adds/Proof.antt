@@ -1,4 +1,4 @@
-use Rattle.evaluate.proofs.Laws.{line-below, edge-in, shortcut-small}
+use Rattle.evaluate.proofs.Laws.{line-below, entry-edge-in, shortcut-small}
 use Rattle.geometry.proofs.Windings.{adds-abs}
 use Rattle.geometry.specs.Windings.{edgeOf, adds}
 use Rattle.geometry.specs.Edges.{isRow}
@@ -21,7 +21,7 @@ line-adds-requires c κs =
     let p = at-entry .pre in
     let l = sym (after-is-line .is-line .ensures) ∙ c .if1 .taken in (
       line-below (now (a .xs)) (now (a .ys)) (a .corners) (a .w) (p .1 .0) l (p .0),
-      (edge-in (now (a .xs)) (now (a .ys)) (a .corners) (a .w) (p .1 .0) l, p .1 .1),
+      (entry-edge-in (now (a .xs)) (now (a .ys)) (a .corners) (a .w) (p .1 .0) l, p .1 .1),
     )
 
 returns : tie.Need-returns

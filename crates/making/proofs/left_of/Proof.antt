@@ -3,7 +3,7 @@ use Rattle.making.proofs.left_of.Statement.{statement}
 use Rattle.making.proofs.left_of.Tie as tie
 use mathlib.Core.Path.{sym, _∙_}
 use denote.Ref.{now}
-use Rattle.evaluate.proofs.Laws.{line-below, edge-in}
+use Rattle.evaluate.proofs.Laws.{line-below, entry-edge-in}
 
 is-segment-requires : tie.Need-is-segment-requires
 is-segment-requires c κs = search needs
@@ -22,7 +22,7 @@ line-left-requires c κs =
     let s = sym (after-is-segment .is-segment .ensures) ∙ at-if1 .if1 .taken in
     let l = sym (after-is-line .is-line .ensures) ∙ c .if2 .taken in
     let r = rw s at (p .1 .0) in
-    (line-below (now (a .xs)) (now (a .ys)) (a .corners) (a .w) r l (p .0), (edge-in (now (a .xs)) (now (a .ys)) (a .corners) (a .w) r l, p .1 .1))
+    (line-below (now (a .xs)) (now (a .ys)) (a .corners) (a .w) r l (p .0), (entry-edge-in (now (a .xs)) (now (a .ys)) (a .corners) (a .w) r l, p .1 .1))
 
 returns : tie.Need-returns
 returns c =
