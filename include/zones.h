@@ -54,10 +54,10 @@ uint64_t zones_find_leaf(ZONES_DRAWING, ZONES_CONST_TREE, uint32_t x, uint32_t y
  * Result: the material. */
 uint64_t zones_position(ZONES_DRAWING, ZONES_CONST_TREE, uint32_t x, uint32_t y, uint32_t *out, size_t out_len);
 
-/* Fills the pixels of a row (0 to 4,095) from pixel `first` on, three bytes each: red, green, blue. A pixel has sixteen samples, each
- * with a sum for each channel (weight x channel of each shown area, and what is left x 255, the white ground: 0 to 65,025), not rounded. The pixel's
- * channel is the sum of the sixteen, plus 2,040, divided by 4,080 and rounded down. A pixel whose samples all have one colour has that colour. Result: 0. Met by 12 at a pixel, its place is the pixel's index in the call, the pixels before it stand, and the rest is
- * untouched. */
+/* Fills the pixels of a row (0 to 4,095) from pixel `first` on, three bytes each: red, green, blue. A pixel has sixteen samples, each with a sum for
+ * each channel, not rounded: weight x channel of each shown area, and what is left x 255, the white ground; 0 to 65,025. The pixel's channel is the
+ * sum of the sixteen, plus 2,040, divided by 4,080 and rounded down. A pixel whose samples all have one colour has that colour. Result: 0. Met by 12
+ * at a pixel, its place is the pixel's index in the call, the pixels before it stand, and the rest is untouched. */
 uint64_t zones_pixel_row(ZONES_DRAWING, ZONES_CONST_TREE, uint32_t row, uint32_t first, uint8_t *out, size_t out_len);
 
 /* The zone log of the positions (px[i], py[i]): index 0 and each index whose material differs from the one before. Result: how many indices. A
