@@ -1,4 +1,5 @@
-//! The C program of samples/: it compiles with include/zones.h, links the archive, and says what the second implementation says.
+//! The C programs: they compile with include/zones.h and link the archive. That of samples/ says what the second implementation says; that of
+//! tools/, which counts instructions, has every call accepted.
 
 use std::collections::BTreeSet;
 use std::fs;
@@ -54,4 +55,18 @@ fn positions_of_the_pit() {
         printed(&program, &sample("refused.zones"), 1, 1),
         "read refused 5 at 7\n"
     );
+}
+
+#[test]
+fn calls_whose_instructions_are_counted() {
+    let tmp = Path::new(env!("CARGO_TARGET_TMPDIR"));
+    let program = compiled(&top().join("tools/instructions.c"), tmp);
+    let run = |job: &str| {
+        let mut command = Command::new(&program);
+        command.arg(top().join("samples/pit.zones")).arg(job);
+        command.status().expect("the program runs").success()
+    };
+    for job in ["none", "read", "grow", "position", "log", "row"] {
+        assert!(run(job), "{job}");
+    }
 }
