@@ -4,12 +4,14 @@ use mathlib.Core.List.{[], _∷_}
 use Prim.Native.Nat.{ℕ}
 use lib.IntN.{pos}
 use Rattle.laws.specs.Ranges.{all}
-use Rattle.geometry.specs.Edges.{counts, lineCounts, product, sign}
-use Rattle.geometry.specs.Windings.{contour, line}
+use Rattle.curves.specs.Lines.{lineCounts, product}
+use Rattle.curves.specs.Curves.{side, curveCounts}
+use Rattle.geometry.specs.Edges.{counts, sign}
+use Rattle.geometry.specs.Windings.{contour, line, curve, straight, bent, straights}
 use Rattle.geometry.specs.Classes.{edgeClass, classOf, verdict, nowhere, everywhere, cut}
 use Rattle.records.specs.declared.Fields.{Fields}
 use Rattle.pruning.specs.Sides.{Side, end, leaf, group}
-use Rattle.cells.specs.Cells.{Cell, at, cell, child, lowLow}
+use Rattle.cells.specs.Cells.{Cell, at, cell, child, lowLow, highLow, lowHigh}
 use Rattle.cells.specs.Segments.{drawn, shortcut}
 use Rattle.cells.specs.Drawings.{Drawing}
 use Rattle.cells.specs.Streams.{Item, area, source, made, readIn}
@@ -24,7 +26,7 @@ box =
       fields = fields 0 255 ∷ [];
       xs = 0 ∷ 4 ∷ 4 ∷ 0 ∷ [];
       ys = 0 ∷ 0 ∷ 4 ∷ 4 ∷ [];
-      contours = (contour 0 4 ∷ []) ∷ [];
+      contours = (contour 0 (straights 3) ∷ []) ∷ [];
       plan = leaf 0 end;
     }
 
@@ -62,7 +64,7 @@ band =
       fields = fields 0 128 ∷ [];
       xs = 0 ∷ 8 ∷ 8 ∷ 0 ∷ [];
       ys = 1 ∷ 1 ∷ 3 ∷ 3 ∷ [];
-      contours = (contour 0 4 ∷ []) ∷ [];
+      contours = (contour 0 (straights 3) ∷ []) ∷ [];
       plan = leaf 0 end;
     }
 
@@ -87,7 +89,7 @@ clipped =
       fields = fields 1 0 ∷ fields 0 255 ∷ [];
       xs = 0 ∷ 0 ∷ 2 ∷ 2 ∷ 0 ∷ 4 ∷ 4 ∷ 0 ∷ [];
       ys = 0 ∷ 4 ∷ 4 ∷ 0 ∷ 0 ∷ 0 ∷ 4 ∷ 4 ∷ [];
-      contours = (contour 0 4 ∷ []) ∷ (contour 4 4 ∷ []) ∷ [];
+      contours = (contour 0 (straights 3) ∷ []) ∷ (contour 4 (straights 3) ∷ []) ∷ [];
       plan = group (leaf 0 end) (leaf 1 end) end;
     }
 
@@ -113,3 +115,37 @@ clipped-read-left = refl
 clipped-read-right : readIn clipped (at 2 1) (streamOf clipped (cell 0 0 2)) ≡ []
 unfolding edgeClass classOf verdict nowhere everywhere cut all counts lineCounts product sign
 clipped-read-right = refl
+
+-- one area with a curve, from (0, 0) by the control corner (8, 0) to (8, 8); then straight to (0, 8), and the closing edge
+abbrev berm : Drawing
+berm =
+    record {
+      fields = fields 0 255 ∷ [];
+      xs = 0 ∷ 8 ∷ 8 ∷ 0 ∷ [];
+      ys = 0 ∷ 0 ∷ 8 ∷ 8 ∷ [];
+      contours = (contour 0 (bent ∷ straight ∷ []) ∷ []) ∷ [];
+      plan = leaf 0 end;
+    }
+
+-- the curve is kept as one entry
+berm-itself : streamOf berm (cell 0 0 3) ≡ leaf (area 0 (pos 0) (drawn (curve 0) ∷ [])) end
+unfolding edgeClass classOf verdict nowhere everywhere cut all counts lineCounts curveCounts side product sign
+berm-itself = refl
+
+-- it counts everywhere in the upper left quarter, and is classed anew from the whole curve in the lower right one
+berm-left : made berm (child (cell 0 0 3) lowHigh) (streamOf berm (cell 0 0 3)) ≡ leaf (area 0 (pos 1) []) end
+unfolding edgeClass classOf verdict nowhere everywhere cut all counts lineCounts curveCounts side product sign
+berm-left = refl
+
+berm-right : made berm (child (cell 0 0 3) highLow) (streamOf berm (cell 0 0 3)) ≡ leaf (area 0 (pos 0) (drawn (curve 0) ∷ [])) end
+unfolding edgeClass classOf verdict nowhere everywhere cut all counts lineCounts curveCounts side product sign
+berm-right = refl
+
+-- in the row 2 the curve is at x = 6
+berm-read : readIn berm (at 5 2) (streamOf berm (cell 0 0 3)) ≡ 0 ∷ []
+unfolding edgeClass classOf verdict nowhere everywhere cut all counts lineCounts curveCounts side product sign
+berm-read = refl
+
+berm-read-met : readIn berm (at 6 2) (streamOf berm (cell 0 0 3)) ≡ []
+unfolding edgeClass classOf verdict nowhere everywhere cut all counts lineCounts curveCounts side product sign
+berm-read-met = refl

@@ -9,8 +9,8 @@ use Rattle.geometry.specs.Windings.{edgeOf}
 use Rattle.geometry.specs.Classes.{classOf, edgeClass, cut, childOf, says}
 use Rattle.geometry.specs.declared.class.Class.{Class}
 use Rattle.geometry.specs.declared.class.Class.the-variants.{Dropped, Start, Shortcut, Kept}
-use Rattle.geometry.proofs.Segments as Shapes
-use Rattle.geometry.proofs.Lines.{edge-segment}
+use Rattle.curves.proofs.Segments as Shapes
+use Rattle.geometry.proofs.Edges.{edge-segment}
 use Rattle.geometry.proofs.Classes.{class-says, child-class, shortcut-class, rows-segment, cut-cases}
 use Rattle.cells.specs.Cells.{Position, col, row, Cell, left, low, side, Holds, Quarter, child}
 use Rattle.cells.specs.Segments.{

@@ -3,7 +3,8 @@ use mathlib.Core.Bool.{Bool, cond}
 use mathlib.Core.List.{List, [], _∷_}
 use Prim.Native.Nat.{ℕ}
 use lib.IntN.{ℤ, pos, _+ℤ_}
-use Rattle.geometry.specs.Edges.{isRow, counts, firstRow, endRow, sign}
+use Rattle.curves.specs.Lines.{isRow}
+use Rattle.geometry.specs.Edges.{counts, firstRow, endRow, sign}
 use Rattle.geometry.specs.Windings.{Line, edgeOf}
 use Rattle.geometry.specs.Classes.{edgeClass, cut}
 use Rattle.geometry.specs.declared.class.Class.{Class}

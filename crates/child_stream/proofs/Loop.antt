@@ -6,6 +6,8 @@ use Prim.Native.Nat.{ℕ, _+_, _-_, _^_, _≤_, _<_}
 use native.Mathlib.Omega.{arith}
 use lib.ListN.{length}
 use lib.IntN.{ℤ, natAbs}
+use mir.Syntax.{w64}
+use mir.Val.{toZ, ofZ}
 use Rattle.geometry.specs.declared.class.Class.{Class}
 use Rattle.geometry.specs.declared.class.Square.{Square}
 use Rattle.pruning.specs.code.Pruner.{going}
@@ -19,6 +21,7 @@ use Rattle.stream.specs.Table.{wordsAt, wordsFrom}
 use Rattle.stream.specs.Grammar.{Env, Passed}
 use Rattle.stream.proofs.Table.{words-step, words-none}
 use Rattle.pruner.specs.code.Numbers.{counted}
+use Rattle.evaluate.proofs.Laws.{small-back}
 use Rattle.making.specs.declared.Maker.{Maker}
 use Rattle.making.specs.Made.{elementsMade}
 use Rattle.making.specs.code.Numbers.{resting, leftSign, leftClass, leftRange, waitingN, settledN, prunedN, Inside, Asks}
@@ -63,6 +66,13 @@ module _ (v : Env) (D : Drawing) (c : Cell) (R : Reads v D) (t : List ℕ) (firs
     loop-sign =
         standing-sign v D c R (i - first) (m .pruner) (m .waiting) (allOf D c (wordsFrom t first count)) (wordsAt t i)
         (wordsFrom t (i + 1) (first + count - (i + 1))) here
+
+    -- the sign that is left of entry i, and as the code hands it on
+    pub sign-of : (w : Words) → w ≡ wordsAt t i → natAbs (leftSign (v .xs) (v .ys) w) ≤ 1
+    sign-of w e = subst (λ (u : Words). natAbs (leftSign (v .xs) (v .ys) u) ≤ 1) (sym e) loop-sign
+
+    pub sign-read : (w : Words) → w ≡ wordsAt t i → (s : ℤ) → s ≡ leftSign (v .xs) (v .ys) w → toZ w64 (ofZ w64 s) ≡ leftSign (v .xs) (v .ys) w
+    sign-read w e s q = ap (λ (x : ℤ). toZ w64 (ofZ w64 x)) q ∙ small-back (leftSign (v .xs) (v .ys) w) (omega (arith, sign-of w e))
 
     pub loop-asks : Asks (length (v .areas)) (m .pruner) (m .waiting) (wordsAt t i)
     loop-asks =

@@ -89,14 +89,18 @@ pub fn count_child(
     let mut i = first;
     while i < end {
         let w = stream::read_entry(entries, i);
-        let l = making::left_of(xs, ys, b.corners, s, w);
         note(&mut at, p, a);
         if making::prunes(w.kind) {
             let q = making::pruner_after(areas, p, a, w.kind);
             p = q;
+            let n = making::waiting_from(w);
+            a = n;
+        } else {
+            let l = making::left_of(xs, ys, b.corners, s, w);
+            let k = l.class;
+            let n = making::with_left(a, k, l.sign);
+            a = n;
         }
-        let n = making::waiting_after(a, l, w);
-        a = n;
         i += 1;
     }
     note(&mut at, p, a);
@@ -143,15 +147,18 @@ pub fn write_child(
     let mut i = first;
     while i < end {
         let w = stream::read_entry(entries, i);
-        let l = making::left_of(xs, ys, b.corners, s, w);
         if making::prunes(w.kind) {
             let q = writing::write_other(&mut entries[base..], made, areas, p, a, w.kind);
             p = q;
+            let n = making::waiting_from(w);
+            a = n;
         } else {
+            let l = making::left_of(xs, ys, b.corners, s, w);
             writing::put_segment(&mut entries[base..], made, p, a, l, w);
+            let k = l.class;
+            let n = making::with_left(a, k, l.sign);
+            a = n;
         }
-        let n = making::waiting_after(a, l, w);
-        a = n;
         i += 1;
     }
     let last = Maker {

@@ -68,6 +68,7 @@ broken-number Refusals.AlreadySplit f e = omega arith
 broken-number Refusals.Smallest f e = omega arith
 broken-number Refusals.Room f e = omega arith
 broken-number Refusals.Broken f e = f refl
+broken-number Refusals.Curve f e = omega arith
 
 split-by : (t : Tree) (H : List Node) (i : ℕ) → Sound t H → {a : Splitting.Answer} → splitAnswer t i ≡ a → Outcome t H i a → SplitDone t H i a
 split-by t H i s e (accepted n m l k o) = record { sound = o; right = (m, l); unmet = λ z. omega arith }

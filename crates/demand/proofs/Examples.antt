@@ -8,7 +8,8 @@ use native.Mathlib.Omega.{arith}
 use lib.ListN.{length}
 use borrow.Author.Tests.{le-leb}
 use Rattle.laws.proofs.Booleans.{clash}
-use Rattle.geometry.specs.Edges.{product, lineCounts, counts, sign}
+use Rattle.curves.specs.Lines.{product, lineCounts}
+use Rattle.geometry.specs.Edges.{counts, sign}
 use Rattle.geometry.specs.Windings.{adds, sumOf}
 use Rattle.refusals.specs.declared.Refusal.the-variants as Refusals
 use Rattle.records.specs.declared.Record.{Record}

@@ -1,9 +1,10 @@
 -- Small files, computed.
 use mathlib.Core.Path.{_≡_, refl}
 use mathlib.Core.List.{List, [], _∷_}
-use Rattle.refusals.specs.declared.Refusal.the-variants.{Length, Field, Unfit, Short, Limit}
+use Rattle.refusals.specs.declared.Refusal.the-variants.{Length, Field, Unfit, Short, Limit, Curve}
+use Rattle.curves.specs.Curves.{curveFits}
 use Rattle.records.specs.declared.Record.{Record}
-use Rattle.records.specs.declared.Record.the-variants.{Area, First, Next, Open, Bar, Close}
+use Rattle.records.specs.declared.Record.the-variants.{Area, First, Next, Open, Bar, Close, Control}
 use Rattle.records.specs.Record.{areaRange, cornerOf, delimiterOf}
 use Rattle.records.specs.Bytes.{decodedRaw, unnamedZero, named, fieldsOf}
 use Rattle.grammar.specs.declared.Verdict.the-variants.{Accepted, Refused}
@@ -63,3 +64,40 @@ module _ where
   odd : verdictOf (0 ∷ []) ≡ Refused Length 0
   unfolding verdictOf
   odd = refl
+
+  -- a berm: a curve and two straight edges; the control corner is one of the four corners
+  curved : verdictOf (fileOf (paint ∷ First 0 0 ∷ Control 8 0 ∷ Next 8 8 ∷ Next 0 8 ∷ [])) ≡ Accepted (counts 5 1 4)
+  unfolding paint verdictOf decodedFrom course checked joined decodedRaw unnamedZero named fieldsOf areaRange cornerOf delimiterOf curveFits
+  curved = refl
+
+  -- y goes up and down again: 13 at the record of kind 3
+  turning : verdictOf (fileOf (paint ∷ First 0 0 ∷ Control 4 8 ∷ Next 8 0 ∷ [])) ≡ Refused Curve 3
+  unfolding paint verdictOf decodedFrom course checked joined decodedRaw unnamedZero named fieldsOf areaRange cornerOf delimiterOf curveFits
+  turning = refl
+
+  -- a span of 4,096 is allowed, one of 4,097 is not
+  spanning : verdictOf (fileOf (paint ∷ First 0 0 ∷ Control 8 0 ∷ Next 4096 8 ∷ Next 0 8 ∷ [])) ≡ Accepted (counts 5 1 4)
+  unfolding paint verdictOf decodedFrom course checked joined decodedRaw unnamedZero named fieldsOf areaRange cornerOf delimiterOf curveFits
+  spanning = refl
+
+  too-long : verdictOf (fileOf (paint ∷ First 0 0 ∷ Control 8 0 ∷ Next 4097 8 ∷ Next 0 8 ∷ [])) ≡ Refused Curve 3
+  unfolding paint verdictOf decodedFrom course checked joined decodedRaw unnamedZero named fieldsOf areaRange cornerOf delimiterOf curveFits
+  too-long = refl
+
+  -- a control corner does not count toward the three of a contour
+  two-and-control : verdictOf (fileOf (paint ∷ First 0 0 ∷ Control 8 0 ∷ Next 8 8 ∷ [])) ≡ Refused Short 4
+  unfolding paint verdictOf decodedFrom course checked joined decodedRaw unnamedZero named fieldsOf areaRange cornerOf delimiterOf curveFits
+  two-and-control = refl
+
+  after-an-area : verdictOf (fileOf (paint ∷ Control 8 0 ∷ Next 8 8 ∷ [])) ≡ Refused Unfit 1
+  unfolding paint verdictOf decodedFrom course checked joined decodedRaw unnamedZero named fieldsOf areaRange cornerOf delimiterOf curveFits
+  after-an-area = refl
+
+  -- 4 at the record that follows, or at the end
+  two-controls : verdictOf (fileOf (paint ∷ First 0 0 ∷ Control 8 0 ∷ Control 8 0 ∷ [])) ≡ Refused Unfit 3
+  unfolding paint verdictOf decodedFrom course checked joined decodedRaw unnamedZero named fieldsOf areaRange cornerOf delimiterOf curveFits
+  two-controls = refl
+
+  control-last : verdictOf (fileOf (paint ∷ First 0 0 ∷ Control 8 0 ∷ [])) ≡ Refused Unfit 3
+  unfolding paint verdictOf decodedFrom course checked joined decodedRaw unnamedZero named fieldsOf areaRange cornerOf delimiterOf curveFits
+  control-last = refl

@@ -6,7 +6,7 @@ use mathlib.Core.List.{List, [], _∷_, map}
 use native.Mathlib.Omega.{arith}
 use lib.ListN.{length, getD}
 use Rattle.records.specs.declared.Record.{Record}
-use Rattle.records.specs.declared.Record.the-variants.{Area, First, Next, Open, Bar, Close}
+use Rattle.records.specs.declared.Record.the-variants.{Area, First, Next, Open, Bar, Close, Control}
 use Rattle.records.specs.declared.Decoded.{Decoded}
 use Rattle.records.specs.declared.Decoded.the-variants.{Good}
 use Rattle.records.specs.Record.{inRange, kindOf}
@@ -82,6 +82,7 @@ area-long (Next x y) n = omega arith
 area-long Open n = omega arith
 area-long Bar n = omega arith
 area-long Close n = omega arith
+area-long (Control x y) n = omega arith
 
 x-long : (r : Record) (n : ℕ) → n + length (wordsOfX r) ≡ n + cornerOne r
 x-long (Area f) n = refl
@@ -90,6 +91,7 @@ x-long (Next x y) n = refl
 x-long Open n = refl
 x-long Bar n = refl
 x-long Close n = refl
+x-long (Control x y) n = refl
 
 y-long : (r : Record) (n : ℕ) → n + length (wordsOfY r) ≡ n + cornerOne r
 y-long (Area f) n = refl
@@ -98,6 +100,7 @@ y-long (Next x y) n = refl
 y-long Open n = refl
 y-long Bar n = refl
 y-long Close n = refl
+y-long (Control x y) n = refl
 
 -- the four tables hold the words of these records, from record i and the cursor on
 pub record From (t : Tables) (i : ℕ) (c : Cursor) (rs : List Record) : Type 0 where

@@ -13,13 +13,15 @@ use Rattle.records.specs.declared.Fields.{Fields}
 use Rattle.refusals.specs.declared.Refusal.{Refusal}
 use Rattle.refusals.specs.declared.Refusal.the-variants.{Kind, Field}
 use Rattle.records.specs.declared.Record.{Record}
-use Rattle.records.specs.declared.Record.the-variants.{Area, First, Next, Open, Bar, Close}
+use Rattle.records.specs.declared.Record.the-variants.{Area, First, Next, Open, Bar, Close, Control}
+use Rattle.records.specs.declared.Decoded.{Decoded}
 use Rattle.records.specs.declared.Decoded.the-variants.{Good, Bad}
-use Rattle.records.specs.Record.{inRange, ranged, cornerOf, delimiterOf, kindOf}
+use Rattle.records.specs.Record.{inRange, ranged, isCorner, cornerOf, delimiterOf, kindOf, isGood}
 use Rattle.records.specs.Bytes.{rawAt, rawBytes, rawOf, decodedRaw, bytesOf}
 use Rattle.records.proofs.Laws.{kinds, ranged-told, Small, raw-back, raw-again}
 use Rattle.grammar.specs.declared.Counts.{Counts}
 use Rattle.grammar.specs.Lists.{areaOne, cornerOne}
+use Rattle.laws.proofs.Booleans.{clash}
 use Rattle.drawing.specs.declared.Cursor.{Cursor}
 use Rattle.read.specs.Words.{wordsOfFields, wordsOfArea, wordsOfX, wordsOfY, wordsFrom, Has}
 use Rattle.drawing.specs.Tables.{Tables, fieldsAt, areaRow, cornerRow, kindRow, recordAt}
@@ -212,6 +214,7 @@ module _ (t : Tables) (u : Counts) (i : ℕ) (c : Cursor) where
   row-read Open g k a x y p q = rw k
   row-read Bar g k a x y p q = rw k
   row-read Close g k a x y p q = rw k
+  row-read (Control m n) g k a x y p q = rw k (corner-read 7 m n (Control m n) refl g (has-first _ _ m [] x) (has-first _ _ n [] y) (omega arith))
 
 -- ---- and what is read is there
 pub record RowTold (t : Tables) (u : Counts) (k : ℕ) (c : Cursor) (r : Record) : Type 0 where
@@ -260,37 +263,38 @@ module _ (t : Tables) (u : Counts) (c : Cursor) (r : Record) where
           let s = ranged-told (Area f) r e in
           rw (← s .0) (told-row (ltb-true _ _ p) (eqb-true _ _ q) (rw (← s .0) at (s .1)))
 
-  told-first : cornerRow (t .xs) (t .ys) (u .corners) 2 (c .corner) ≡ Good r → RowTold t u 2 c r
-  unfolding cornerRow cornerOf
-  told-first e₀ = go (ltb (c .corner) (u .corners)) refl e₀
+  -- a corner of kind k, which is the record m
+  told-corner : (k : ℕ) (m : Record)
+      → cornerOf k (getD (t .xs) (c .corner) 0) (getD (t .ys) (c .corner) 0) ≡ m
+      → (c .corner < u .corners → inRange m ≡ true → RowTold t u k c m)
+      → cornerRow (t .xs) (t .ys) (u .corners) k (c .corner) ≡ Good r
+      → RowTold t u k c r
+  unfolding cornerRow
+  told-corner k m is told-row e₀ = go (ltb (c .corner) (u .corners)) refl (rw is at e₀)
     where
-      m : Record
-      m = First (getD (t .xs) (c .corner) 0) (getD (t .ys) (c .corner) 0)
-
-      told-row : c .corner < u .corners → inRange m ≡ true → RowTold t u 2 c m
-      told-row l g = record { kind = refl; areas = refl; xs = refl; ys = refl; few = λ h. omega arith; many = λ h. omega arith; range = g }
-
-      go : (a : Bool) → ltb (c .corner) (u .corners) ≡ a → cond a (ranged m) (Bad Field) ≡ Good r → RowTold t u 2 c r
+      go : (a : Bool) → ltb (c .corner) (u .corners) ≡ a → cond a (ranged m) (Bad Field) ≡ Good r → RowTold t u k c r
       go false p e = good-bad Field r e
       go true p e =
           let s = ranged-told m r e in
           rw (← s .0) (told-row (ltb-true _ _ p) (rw (← s .0) at (s .1)))
+
+  told-first : cornerRow (t .xs) (t .ys) (u .corners) 2 (c .corner) ≡ Good r → RowTold t u 2 c r
+  unfolding cornerOf
+  told-first =
+      told-corner 2 (First (getD (t .xs) (c .corner) 0) (getD (t .ys) (c .corner) 0)) refl
+      (λ l g. record { kind = refl; areas = refl; xs = refl; ys = refl; few = λ h. omega arith; many = λ h. omega arith; range = g })
 
   told-next : cornerRow (t .xs) (t .ys) (u .corners) 3 (c .corner) ≡ Good r → RowTold t u 3 c r
-  unfolding cornerRow cornerOf
-  told-next e₀ = go (ltb (c .corner) (u .corners)) refl e₀
-    where
-      m : Record
-      m = Next (getD (t .xs) (c .corner) 0) (getD (t .ys) (c .corner) 0)
+  unfolding cornerOf
+  told-next =
+      told-corner 3 (Next (getD (t .xs) (c .corner) 0) (getD (t .ys) (c .corner) 0)) refl
+      (λ l g. record { kind = refl; areas = refl; xs = refl; ys = refl; few = λ h. omega arith; many = λ h. omega arith; range = g })
 
-      told-row : c .corner < u .corners → inRange m ≡ true → RowTold t u 3 c m
-      told-row l g = record { kind = refl; areas = refl; xs = refl; ys = refl; few = λ h. omega arith; many = λ h. omega arith; range = g }
-
-      go : (a : Bool) → ltb (c .corner) (u .corners) ≡ a → cond a (ranged m) (Bad Field) ≡ Good r → RowTold t u 3 c r
-      go false p e = good-bad Field r e
-      go true p e =
-          let s = ranged-told m r e in
-          rw (← s .0) (told-row (ltb-true _ _ p) (rw (← s .0) at (s .1)))
+  told-control : cornerRow (t .xs) (t .ys) (u .corners) 7 (c .corner) ≡ Good r → RowTold t u 7 c r
+  unfolding cornerOf
+  told-control =
+      told-corner 7 (Control (getD (t .xs) (c .corner) 0) (getD (t .ys) (c .corner) 0)) refl
+      (λ l g. record { kind = refl; areas = refl; xs = refl; ys = refl; few = λ h. omega arith; many = λ h. omega arith; range = g })
 
   told-open : Good Open ≡ Good r → RowTold t u 4 c r
   told-open e =
@@ -307,22 +311,90 @@ module _ (t : Tables) (u : Counts) (c : Cursor) (r : Record) where
       rw (← good-is Close r e)
       (record { kind = refl; areas = refl; xs = refl; ys = refl; few = λ h. omega arith; many = λ h. omega arith; range = refl })
 
-  told-kind : (k : ℕ) → leb 1 k ≡ true → leb k 6 ≡ true → kindRow (t .areas) (t .xs) (t .ys) u k c ≡ Good r → RowTold t u k c r
+  told-kind : (k : ℕ) → leb 1 k ≡ true → leb k 7 ≡ true → kindRow (t .areas) (t .xs) (t .ys) u k c ≡ Good r → RowTold t u k c r
   unfolding kindRow delimiterOf
-  told-kind = kinds (λ k. kindRow (t .areas) (t .xs) (t .ys) u k c ≡ Good r → RowTold t u k c r) told-area told-first told-next told-open told-bar told-close
+  told-kind =
+      kinds (λ k. kindRow (t .areas) (t .xs) (t .ys) u k c ≡ Good r → RowTold t u k c r)
+      told-area
+      told-first
+      told-next
+      told-open
+      told-bar
+      told-close
+      told-control
 
   pub row-told : (i : ℕ) → recordAt t u i c ≡ Good r → RowTold t u (getD (t .plan) (i + 3) 0) c r
   unfolding recordAt
-  row-told i e₀ = go (leb 1 k) (leb k 6) refl refl e₀
+  row-told i e₀ = go (leb 1 k) (leb k 7) refl refl e₀
     where
       k : ℕ
       k = getD (t .plan) (i + 3) 0
 
       go : (a b : Bool)
           → leb 1 k ≡ a
-          → leb k 6 ≡ b
+          → leb k 7 ≡ b
           → cond a (cond b (kindRow (t .areas) (t .xs) (t .ys) u k c) (Bad Kind)) (Bad Kind) ≡ Good r
           → RowTold t u k c r
       go false b p q e = good-bad Kind r e
       go true false p q e = good-bad Kind r e
       go true true p q e = told-kind k p q e
+
+-- ---- a row that is good: its number is in use, and it is what the tables say
+module _ (t : Tables) (u : Counts) (i : ℕ) (c : Cursor) (g : isGood (recordAt t u i c) ≡ true) where
+  abbrev kindAt : ℕ
+  kindAt = getD (t .plan) (i + 3) 0
+
+  kind-good : (recordAt t u i c ≡ kindRow (t .areas) (t .xs) (t .ys) u kindAt c) × (isGood (kindRow (t .areas) (t .xs) (t .ys) u kindAt c) ≡ true)
+  unfolding recordAt
+  kind-good = go (leb 1 kindAt) (leb kindAt 7) g
+    where
+      row : Decoded
+      row = kindRow (t .areas) (t .xs) (t .ys) u kindAt c
+
+      go : (a b : Bool)
+          → isGood (cond a (cond b row (Bad Kind)) (Bad Kind)) ≡ true
+          → (cond a (cond b row (Bad Kind)) (Bad Kind) ≡ row) × (isGood row ≡ true)
+      go false b h = clash h
+      go true false h = clash h
+      go true true h = (refl, h)
+
+  pub area-good : eqb kindAt 1 ≡ true → (c .area < u .areas) × (recordAt t u i c ≡ Good (Area (fieldsAt (t .areas) (c .area))))
+  unfolding kindRow areaRow
+  area-good e =
+      let h : (ltb (c .area) (u .areas) ≡ true) × (areaRow (t .areas) (u .areas) (c .area) ≡ Good (Area f)) =
+      go (ltb (c .area) (u .areas)) (eqb (getD (t .areas) (c .area * 8 + 7) 0) 0) (inRange (Area f)) (rw e at (kind-good .1)) in
+      (ltb-true _ _ (h .0), rw e at (kind-good .0) ∙ h .1)
+    where
+      f : Fields
+      f = fieldsAt (t .areas) (c .area)
+
+      go : (a b d : Bool)
+          → isGood (cond a (cond b (cond d (Good (Area f)) (Bad Field)) (Bad Field)) (Bad Field)) ≡ true
+          → (a ≡ true) × (cond a (cond b (cond d (Good (Area f)) (Bad Field)) (Bad Field)) (Bad Field) ≡ Good (Area f))
+      go false b d h = clash h
+      go true false d h = clash h
+      go true true false h = clash h
+      go true true true h = (refl, refl)
+
+  pub corner-good : eqb kindAt 1 ≡ false
+      → isCorner kindAt ≡ true
+      → (c .corner < u .corners) × (recordAt t u i c ≡ Good (cornerOf kindAt (getD (t .xs) (c .corner) 0) (getD (t .ys) (c .corner) 0)))
+  unfolding kindRow cornerRow
+  corner-good e k =
+      let h : (ltb (c .corner) (u .corners) ≡ true) × (cornerRow (t .xs) (t .ys) (u .corners) kindAt (c .corner) ≡ Good m) =
+      go (ltb (c .corner) (u .corners)) (inRange m) (rw (e, k) at (kind-good .1)) in
+      (ltb-true _ _ (h .0), rw (e, k) at (kind-good .0) ∙ h .1)
+    where
+      m : Record
+      m = cornerOf kindAt (getD (t .xs) (c .corner) 0) (getD (t .ys) (c .corner) 0)
+
+      go : (a d : Bool)
+          → isGood (cond a (cond d (Good m) (Bad Field)) (Bad Field)) ≡ true
+          → (a ≡ true) × (cond a (cond d (Good m) (Bad Field)) (Bad Field) ≡ Good m)
+      go false d h = clash h
+      go true false h = clash h
+      go true true h = (refl, refl)
+
+  pub delimiter-good : eqb kindAt 1 ≡ false → isCorner kindAt ≡ false → recordAt t u i c ≡ Good (delimiterOf kindAt)
+  unfolding kindRow
+  delimiter-good e k = rw (e, k) at (kind-good .0)

@@ -1,36 +1,43 @@
 -- The loops over a drawing's tables, as plain laws.
 use Prim.Native.Nat.{ℕ, zero, suc, _+_, _*_, _-_, _≤_, _<_}
-use mathlib.Core.Path.{_≡_, refl, sym, ap, _∙_, subst}
+use mathlib.Core.Path.{_≡_, refl, sym, ap, ap₂, _∙_, subst}
 use mathlib.Core.Bool.{Bool, true, false, cond}
 use mathlib.Core.List.{List, [], _∷_}
 use native.Mathlib.Omega.{arith}
-use native.Mathlib.Nat.{le-refl}
+use native.Mathlib.Nat.{add-zero, le-refl}
 use lib.ListN.{length}
 use lib.Seq.{sets, length-sets}
 use lib.Dec.{eqb, leb}
 use borrow.Author.Tests.{leb-true, eqb-true}
+use Rattle.laws.proofs.Booleans.{clash, and-left, and-right}
 use Rattle.records.specs.declared.Raw.{Raw}
-use Rattle.refusals.specs.declared.Refusal.the-variants.{Argument, Broken}
+use Rattle.refusals.specs.declared.Refusal.the-variants.{Unfit, Short, Limit, Argument, Broken, Curve}
 use Rattle.records.specs.declared.Record.{Record}
-use Rattle.records.specs.declared.Record.the-variants.{Area, First, Next, Open, Bar, Close}
+use Rattle.records.specs.declared.Record.the-variants.{Area, First, Next, Open, Bar, Close, Control}
 use Rattle.records.specs.declared.Decoded.{Decoded}
 use Rattle.records.specs.declared.Decoded.the-variants.{Good, Bad}
 use Rattle.records.specs.Bytes.{rawOf, rawBytes, putRaw, bytesOf}
 use Rattle.records.proofs.Laws.{put-is}
 use Rattle.grammar.specs.declared.Counts.{Counts}
+use Rattle.grammar.specs.declared.State.{State}
+use Rattle.grammar.specs.declared.Step.{Step}
+use Rattle.grammar.specs.declared.Step.the-variants.{On, Off}
 use Rattle.grammar.specs.declared.Scan.{Scan}
+use Rattle.grammar.specs.declared.Scan.the-variants.{At, Stopped}
 use Rattle.grammar.specs.declared.Verdict.{Verdict}
 use Rattle.grammar.specs.declared.Verdict.the-variants.{Accepted, Refused}
 use Rattle.grammar.specs.Grammar.{checked}
-use Rattle.grammar.specs.code.Machine.{advanceN, startN, scanN, isStopped}
+use Rattle.grammar.specs.code.Machine.{breaksN, fitsN, endsShortN, inLimitN, afterN, settledN, advanceN, startN, scanN, isStopped}
 use Rattle.grammar.specs.Lists.{goodRecords, areaOne, cornerOne}
 use Rattle.grammar.proofs.Laws.{sound, stopped-stays, refused-not}
 use Rattle.drawing.specs.declared.Cursor.{Cursor}
 use Rattle.read.specs.Words.{joined, onGood, fileOf}
-use Rattle.read.specs.Reading.{holds}
-use Rattle.drawing.specs.Tables.{Tables, Ready, cursor, recordAt, pastOf, rebuilt, usedOf, rebuiltIn, agreed, countsJudged, drawingVerdict}
+use Rattle.records.specs.Record.{isGood}
+use Rattle.read.specs.Reading.{holds, allGood}
+use Rattle.drawing.specs.Tables.{Tables, Ready, cursor, recordAt, pastRecord, pastOf, rebuilt, usedOf, rebuiltIn, agreed, countsJudged, drawingVerdict}
+use Rattle.drawing.specs.code.Scanned.{cursorN}
 use Rattle.read.proofs.Writes.{length-on, turn-table}
-use Rattle.read.proofs.Files.{file-length, Holds, held}
+use Rattle.read.proofs.Files.{file-length, Holds, held, all-good}
 
 pub re-step : (t : Tables) (u : Counts) (i e : ℕ) (c : Cursor)
     → i < e
@@ -61,6 +68,7 @@ area-one (Next x y) = omega arith
 area-one Open = omega arith
 area-one Bar = omega arith
 area-one Close = omega arith
+area-one (Control x y) = omega arith
 
 corner-one : (r : Record) → cornerOne r ≤ 1
 corner-one (Area f) = omega arith
@@ -69,6 +77,7 @@ corner-one (Next x y) = omega arith
 corner-one Open = omega arith
 corner-one Bar = omega arith
 corner-one Close = omega arith
+corner-one (Control x y) = omega arith
 
 pub past-area : (i : ℕ) (c c′ : Cursor) (d : Decoded) → c .area ≤ i → c′ ≡ pastOf c d → c′ .area ≤ i + 1
 past-area i c c′ (Good r) h e = rw e (omega (arith, area-one r))
@@ -78,42 +87,81 @@ pub past-corner : (i : ℕ) (c c′ : Cursor) (d : Decoded) → c .corner ≤ i 
 past-corner i c c′ (Good r) h e = rw e (omega (arith, corner-one r))
 past-corner i c c′ (Bad x) h e = rw e (omega arith)
 
--- ---- the check
+-- ---- the check: the cursor is told by the scan
+after-cursor : (s : State) (r : Record) → cursorN (At (afterN s r)) ≡ pastRecord (cursorN (At s)) r
+after-cursor s (Area f) = ap (cursor (s .areas + 1)) (sym (add-zero (s .corners)))
+after-cursor s (First x y) = ap (λ (a : ℕ). cursor a (s .corners + 1)) (sym (add-zero (s .areas)))
+after-cursor s (Next x y) = ap (λ (a : ℕ). cursor a (s .corners + 1)) (sym (add-zero (s .areas)))
+after-cursor s Open = ap₂ cursor (sym (add-zero (s .areas))) (sym (add-zero (s .corners)))
+after-cursor s Bar = ap₂ cursor (sym (add-zero (s .areas))) (sym (add-zero (s .corners)))
+after-cursor s Close = ap₂ cursor (sym (add-zero (s .areas))) (sym (add-zero (s .corners)))
+after-cursor s (Control x y) = ap (λ (a : ℕ). cursor a (s .corners + 1)) (sym (add-zero (s .areas)))
+
+scan-cursor : (s : Scan) (d : Decoded) (i : ℕ) → isStopped (advanceN s d i) ≡ false → cursorN (advanceN s d i) ≡ pastOf (cursorN s) d
+scan-cursor (Stopped x j) d i h = clash (sym h)
+scan-cursor (At s) (Bad x) i h = clash (sym h)
+scan-cursor (At s) (Good r) i h = go (breaksN s r) (fitsN s r) (endsShortN s r) (inLimitN s r) h
+  where
+    step : (w a b d : Bool) → Step
+    step w a b d = cond w (Off Curve) (cond a (cond b (Off Short) (cond d (On (afterN s r)) (Off Limit))) (Off Unfit))
+
+    go : (w a b d : Bool) → isStopped (settledN (step w a b d) i) ≡ false → cursorN (settledN (step w a b d) i) ≡ pastRecord (cursorN (At s)) r
+    go true a b d e = clash (sym e)
+    go false false b d e = clash (sym e)
+    go false true true d e = clash (sym e)
+    go false true false false e = clash (sym e)
+    go false true false true e = after-cursor s r
+
 pub walk-begin : (t : Tables) (u : Counts) (n : ℕ) (s : Scan)
     → s ≡ startN
-    → scanN s 0 (rebuilt t u 0 (cursor 0 0) (n - 0)) ≡ scanN startN 0 (rebuilt t u 0 (cursor 0 0) n)
+    → scanN s 0 (rebuilt t u 0 (cursorN s) (n - 0)) ≡ scanN startN 0 (rebuilt t u 0 (cursor 0 0) n)
 walk-begin t u n s e = rw (e, re-zero t u (cursor 0 0) n)
 
-pub walk-turn : (t : Tables) (u : Counts) (i e : ℕ) (s s′ whole : Scan) (d : Decoded) (c c′ : Cursor)
+walk : (t : Tables) (u : Counts) (i e : ℕ) (s s′ whole : Scan) (d : Decoded) (c : Cursor)
     → i < e
     → d ≡ recordAt t u i c
     → s′ ≡ advanceN s d i
-    → c′ ≡ pastOf c d
-    → scanN s i (rebuilt t u i c (e - i)) ≡ whole
-    → scanN s′ (i + 1) (rebuilt t u (i + 1) c′ (e - (i + 1))) ≡ whole
+    → c ≡ cursorN s
+    → scanN s i (rebuilt t u i (cursorN s) (e - i)) ≡ whole
+    → scanN s′ (i + 1) (rebuilt t u (i + 1) (pastOf c d) (e - (i + 1))) ≡ whole
 unfolding scanN
-walk-turn t u i e s s′ whole d c c′ h p q r inv = rw (q, r, p) (rw (re-step t u i e c h) at inv)
+walk t u i e s s′ whole d c h p q k inv = rw (q, p, k) (rw (re-step t u i e (cursorN s) h) at inv)
+
+pub walk-turn : (t : Tables) (u : Counts) (i e : ℕ) (s s′ whole : Scan) (d : Decoded) (c : Cursor) (b : Bool)
+    → i < e
+    → c ≡ cursorN s
+    → d ≡ recordAt t u i c
+    → s′ ≡ advanceN s d i
+    → b ≡ isStopped s′
+    → b ≡ false
+    → scanN s i (rebuilt t u i (cursorN s) (e - i)) ≡ whole
+    → scanN s′ (i + 1) (rebuilt t u (i + 1) (cursorN s′) (e - (i + 1))) ≡ whole
+walk-turn t u i e s s′ whole d c b h k p q o v inv =
+    let n : cursorN s′ ≡ pastOf c d =
+    ap cursorN q ∙ (scan-cursor s d i (sym (ap isStopped q) ∙ (sym o ∙ v)) ∙ ap (λ (x : Cursor). pastOf x d) (sym k)) in
+    ap (λ (x : Cursor). scanN s′ (i + 1) (rebuilt t u (i + 1) x (e - (i + 1)))) n ∙ walk t u i e s s′ whole d c h p q k inv
 
 pub walk-stops : (t : Tables) (u : Counts) (i e : ℕ) (s s′ whole : Scan) (d : Decoded) (c : Cursor) (b : Bool)
     → i < e
+    → c ≡ cursorN s
     → d ≡ recordAt t u i c
     → s′ ≡ advanceN s d i
     → b ≡ isStopped s′
     → b ≡ true
-    → scanN s i (rebuilt t u i c (e - i)) ≡ whole
+    → scanN s i (rebuilt t u i (cursorN s) (e - i)) ≡ whole
     → s′ ≡ whole
-walk-stops t u i e s s′ whole d c b h p q k v inv =
-    sym (stopped-stays s′ (i + 1) (rebuilt t u (i + 1) (pastOf c d) (e - (i + 1))) (sym k ∙ v))
-    ∙ walk-turn t u i e s s′ whole d c (pastOf c d) h p q refl inv
+walk-stops t u i e s s′ whole d c b h k p q o v inv =
+    sym (stopped-stays s′ (i + 1) (rebuilt t u (i + 1) (pastOf c d) (e - (i + 1))) (sym o ∙ v)) ∙ walk t u i e s s′ whole d c h p q k inv
 
-pub walk-done : (t : Tables) (u : Counts) (i e : ℕ) (s whole : Scan) (c : Cursor) → e ≤ i → scanN s i (rebuilt t u i c (e - i)) ≡ whole → s ≡ whole
+pub walk-done : (t : Tables) (u : Counts) (i e : ℕ) (s whole : Scan) → e ≤ i → scanN s i (rebuilt t u i (cursorN s) (e - i)) ≡ whole → s ≡ whole
 unfolding scanN
-walk-done t u i e s whole c h inv = rw (re-none t u i e c h) at inv
+walk-done t u i e s whole h inv = rw (re-none t u i e (cursorN s) h) at inv
 
 -- ---- the bytes: the buffer is b and was b₀; the records from i to n are to come, and their bytes go to `at`
 pub record Copying (t : Tables) (u : Counts) (n : ℕ) (b₀ b : List ℕ) (i at : ℕ) (c : Cursor) : Type 0 where
   pub size : length b ≡ length b₀
   pub room : at + length (joined bytesOf (goodRecords (rebuilt t u i c (n - i)))) ≤ length b
+  pub good : allGood (rebuilt t u i c (n - i)) ≡ true
   pub rest : sets b at (joined bytesOf (goodRecords (rebuilt t u i c (n - i)))) ≡ sets b₀ 0 (joined bytesOf (goodRecords (rebuilt t u 0 (cursor 0 0) n)))
 
 goods-length : (ds : List Decoded) → length (goodRecords ds) ≤ length ds
@@ -121,12 +169,16 @@ goods-length [] = le-refl _
 goods-length (Good r ∷ ds) = omega (arith, goods-length ds)
 goods-length (Bad x ∷ ds) = omega (arith, goods-length ds)
 
-pub copy-begin : (t : Tables) (u : Counts) (n : ℕ) (b : List ℕ) → n * 16 ≤ length b → Copying t u n b b 0 0 (cursor 0 0)
-copy-begin t u n b h =
+pub copy-begin : (t : Tables) (u : Counts) (n : ℕ) (b : List ℕ)
+    → n * 16 ≤ length b
+    → allGood (rebuilt t u 0 (cursor 0 0) n) ≡ true
+    → Copying t u n b b 0 0 (cursor 0 0)
+copy-begin t u n b h g =
     let ds : List Decoded = rebuilt t u 0 (cursor 0 0) n in
     record {
       size = refl;
       room = rw (re-zero t u (cursor 0 0) n) (omega (arith, file-length (goodRecords ds), goods-length ds, re-length t u 0 (cursor 0 0) n));
+      good = rw (re-zero t u (cursor 0 0) n) g;
       rest = rw (re-zero t u (cursor 0 0) n);
     }
 
@@ -150,6 +202,17 @@ now-rest t u n b₀ b i at c d h p k =
     sets b at (joined bytesOf (goodRecords (x ∷ coming t u n i c x))) ≡ sets b₀ 0 (joined bytesOf (goodRecords (rebuilt t u 0 (cursor 0 0) n))))
     (sym p) (rw (re-step t u i n c h) at (k .rest))
 
+now-good : (t : Tables) (u : Counts) (n : ℕ) (b₀ b : List ℕ) (i at : ℕ) (c : Cursor) (d : Decoded) → i < n → d ≡ recordAt t u i c → Copying t u n b₀ b i at c
+    → allGood (d ∷ coming t u n i c d) ≡ true
+now-good t u n b₀ b i at c d h p k =
+    subst (λ (x : Decoded). allGood (x ∷ coming t u n i c x) ≡ true) (sym p) (rw (re-step t u i n c h) at (k .good))
+
+pub copy-good : (t : Tables) (u : Counts) (n : ℕ) (b₀ b : List ℕ) (i at : ℕ) (c : Cursor)
+    → i < n
+    → Copying t u n b₀ b i at c
+    → isGood (recordAt t u i c) ≡ true
+copy-good t u n b₀ b i at c h k = and-left (isGood (recordAt t u i c)) _ (now-good t u n b₀ b i at c (recordAt t u i c) h refl k)
+
 pub copy-room : (t : Tables) (u : Counts) (n : ℕ) (b₀ b : List ℕ) (i at : ℕ) (c : Cursor) (d : Decoded)
     → i < n
     → d ≡ recordAt t u i c
@@ -172,6 +235,7 @@ copy-turn t u n b₀ b b′ i at at′ c c′ d h p q r s k =
     (record {
       size = l ∙ k .size;
       room = omega (arith, now-room t u n b₀ b i at c d h p k, length-on bytesOf d ds);
+      good = and-right (isGood d) (allGood ds) (now-good t u n b₀ b i at c d h p k);
       rest = turn-table bytesOf b b′ at at′ d ds r q ∙ now-rest t u n b₀ b i at c d h p k;
     })
 
@@ -269,6 +333,12 @@ pub holds-ready : (p a x y : List ℕ) (u : Counts) → u .records ≤ 4096 → 
 holds-ready p a x y u f h e =
     let g = held (length p) (length a) (length x) u h in
     record { records = g .plan; areas = g .areas; xs = g .corners; ys = omega (arith, g .corners); few = f }
+
+-- each of its rows is good
+pub drawn-good : (t : Tables) (k : Counts) → Drawn t k → allGood (rebuilt t k 0 (cursor 0 0) (k .records)) ≡ true
+drawn-good t k d =
+    ap (λ (u : Counts). allGood (rebuilt t u 0 (cursor 0 0) (u .records))) (d .used)
+    ∙ all-good (rebuiltIn t) (sound (rebuiltIn t) k (d .fold) .good)
 
 pub drawn-left : (t : Tables) (k : Counts)
     → drawingVerdict t ≡ Accepted k

@@ -11,7 +11,7 @@ use borrow.Author.Tests.{eq-eqb, le-leb, eqb-true}
 use Rattle.refusals.specs.declared.Refusal.the-variants.{Argument, Room}
 use Rattle.records.specs.declared.Fields.{Fields}
 use Rattle.records.specs.declared.Record.{Record}
-use Rattle.records.specs.declared.Record.the-variants.{Area, First, Next, Open, Bar, Close}
+use Rattle.records.specs.declared.Record.the-variants.{Area, First, Next, Open, Bar, Close, Control}
 use Rattle.records.specs.Bytes.{rawBytes, rawArea, rawCorner, rawDelimiter, bytesOf}
 use Rattle.records.specs.declared.Decoded.the-variants.{Good}
 use Rattle.grammar.specs.declared.Counts.{Counts}
@@ -349,6 +349,7 @@ record-bytes (Next x y) = corner-bytes 3 x y (omega arith)
 record-bytes Open = delimiter-bytes 4 (omega arith)
 record-bytes Bar = delimiter-bytes 5 (omega arith)
 record-bytes Close = delimiter-bytes 6 (omega arith)
+record-bytes (Control x y) = corner-bytes 7 x y (omega arith)
 
 file-bytes : (rs : List Record) → Bytes (fileOf rs)
 unfolding joined

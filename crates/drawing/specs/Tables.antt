@@ -13,7 +13,7 @@ use Rattle.records.specs.declared.Record.{Record}
 use Rattle.records.specs.declared.Record.the-variants.{Area}
 use Rattle.records.specs.declared.Decoded.{Decoded}
 use Rattle.records.specs.declared.Decoded.the-variants.{Good, Bad}
-use Rattle.records.specs.Record.{ranged, cornerOf, delimiterOf}
+use Rattle.records.specs.Record.{ranged, isCorner, cornerOf, delimiterOf}
 use Rattle.grammar.specs.declared.Counts.{Counts}
 use Rattle.grammar.specs.declared.Verdict.{Verdict}
 use Rattle.grammar.specs.declared.Verdict.the-variants.{Accepted, Refused}
@@ -70,13 +70,13 @@ cornerRow xs ys used k i = cond (ltb i used) (ranged (cornerOf k (getD xs i 0) (
 
 unfoldable pub kindRow : List ℕ → List ℕ → List ℕ → Counts → ℕ → Cursor → Decoded
 kindRow areas xs ys u k c =
-    cond (eqb k 1) (areaRow areas (u .areas) (c .area)) (cond (ltb k 4) (cornerRow xs ys (u .corners) k (c .corner)) (Good (delimiterOf k)))
+    cond (eqb k 1) (areaRow areas (u .areas) (c .area)) (cond (isCorner k) (cornerRow xs ys (u .corners) k (c .corner)) (Good (delimiterOf k)))
 
 -- record i, with the areas and the corners before it
 unfoldable pub recordAt : Tables → Counts → ℕ → Cursor → Decoded
 recordAt t u i c =
     cond (leb 1 (getD (t .plan) (i + 3) 0))
-    (cond (leb (getD (t .plan) (i + 3) 0) 6) (kindRow (t .areas) (t .xs) (t .ys) u (getD (t .plan) (i + 3) 0) c) (Bad Kind)) (Bad Kind)
+    (cond (leb (getD (t .plan) (i + 3) 0) 7) (kindRow (t .areas) (t .xs) (t .ys) u (getD (t .plan) (i + 3) 0) c) (Bad Kind)) (Bad Kind)
 
 abbrev pub pastRecord : Cursor → Record → Cursor
 pastRecord c r = cursor (c .area + areaOne r) (c .corner + cornerOne r)

@@ -11,6 +11,7 @@ use records::RECORD_BYTES;
 use records::Record;
 use refusals::Refusal;
 ghost use mathlib.Core.Path.{_≡_};
+ghost use mathlib.Core.Bool.{true};
 ghost use Prim.Native.Nat.{_+_, _*_, _≤_, _<_};
 ghost use lib.ListN.{length};
 ghost use lib.Seq.{sets};
@@ -19,6 +20,9 @@ ghost use Rattle.grammar.specs.code.Machine.{scanN, startN};
 ghost use Rattle.grammar.specs.Lists.{goodRecords, areaOne, cornerOne};
 ghost use Rattle.records.specs.Bytes.{bytesOf};
 ghost use Rattle.read.specs.Words.{fileOf, onGood};
+ghost use Rattle.records.specs.Record.{isGood};
+ghost use Rattle.read.specs.Reading.{allGood};
+ghost use Rattle.drawing.specs.code.Scanned.{cursorN};
 ghost use Rattle.drawing.specs.Tables.{tables, drawingLent, Ready, cursor, fieldsAt, areaRow, cornerRow, kindRow, recordAt, pastRecord, pastOf};
 ghost use Rattle.drawing.specs.Tables.{rebuilt, drawnIn, agreed, countsJudged, drawingVerdict, writtenOf, writeAnswer, outAfter};
 
@@ -83,7 +87,8 @@ fn kind_row(areas: &[u32], xs: &[u32], ys: &[u32], used: Counts, k: u32, c: Curs
     if k == KIND_AREA {
         return area_row(areas, used.areas, c.area);
     }
-    if k < records::KIND_OPEN {
+    let t = records::is_corner(k);
+    if t {
         return corner_row(xs, ys, used.corners, k, c.corner);
     }
     let r = records::delimiter_of(k);
@@ -106,12 +111,42 @@ fn row(
 {
     let k = plan[i + PLAN_COUNTS];
     if KIND_AREA <= k {
-        if k <= records::KIND_CLOSE {
+        if k <= records::KIND_CONTROL {
             return kind_row(areas, xs, ys, used, k, c);
         }
         return Decoded::Bad(Refusal::Kind);
     }
     Decoded::Bad(Refusal::Kind)
+}
+
+// Record i of a drawing that passed: nothing is tried again.
+fn row_accepted(
+    plan: &[u32],
+    areas: &[u32],
+    xs: &[u32],
+    ys: &[u32],
+    used: Counts,
+    i: usize,
+    c: Cursor,
+) -> Decoded
+    requires { ⌜ Ready (now plan) (now areas) (now xs) (now ys) used ⌝ }
+    requires { ⌜ i < used .records ⌝ }
+    requires { ⌜ isGood (recordAt (tables (now plan) (now areas) (now xs) (now ys)) used i c) ≡ true ⌝ }
+    ensures answer { λ d. ⌜ d ≡ recordAt (drawingLent plan areas xs ys) used i c ⌝ }
+{
+    let k = plan[i + PLAN_COUNTS];
+    if k == KIND_AREA {
+        let f = fields_at(areas, c.area);
+        return Decoded::Good(Record::Area(f));
+    }
+    let t = records::is_corner(k);
+    if t {
+        let j = c.corner;
+        let r = records::corner_of(k, xs[j], ys[j]);
+        return Decoded::Good(r);
+    }
+    let r = records::delimiter_of(k);
+    Decoded::Good(r)
 }
 
 fn area_one(r: Record) -> usize
@@ -125,6 +160,7 @@ fn area_one(r: Record) -> usize
         Record::Open => 0,
         Record::Bar => 0,
         Record::Close => 0,
+        Record::Control(_, _) => 0,
     }
 }
 
@@ -139,6 +175,7 @@ fn corner_one(r: Record) -> usize
         Record::Open => 0,
         Record::Bar => 0,
         Record::Close => 0,
+        Record::Control(_, _) => 1,
     }
 }
 
@@ -164,21 +201,33 @@ fn past(c: Cursor, d: Decoded) -> Cursor
     }
 }
 
+// The areas and the corners that a scan has met.
+fn cursor_of(s: Scan) -> Cursor
+    ensures answer { λ c. ⌜ c ≡ cursorN s ⌝ }
+{
+    match s {
+        Scan::At(t) => Cursor {
+            area: t.areas,
+            corner: t.corners,
+        },
+        Scan::Stopped(_, _) => Cursor { area: 0, corner: 0 },
+    }
+}
+
 fn scan_tables(plan: &[u32], areas: &[u32], xs: &[u32], ys: &[u32], used: Counts) -> Scan
     requires { ⌜ Ready (now plan) (now areas) (now xs) (now ys) used ⌝ }
     ensures answer { λ s. ⌜ s ≡ scanN startN 0 (rebuilt (drawingLent plan areas xs ys) used 0 (cursor 0 0) (used .records)) ⌝ }
 {
     let n = used.records;
     let mut s = grammar::start();
-    let mut c = Cursor { area: 0, corner: 0 };
     let mut i = 0;
     while i < n {
+        let c = cursor_of(s);
         let d = row(plan, areas, xs, ys, used, i, c);
         s = grammar::advance(s, d, i);
         if grammar::is_stopped(s) {
             return s;
         }
-        c = past(c, d);
         i += 1;
     }
     s
@@ -262,6 +311,7 @@ fn put_bytes(out: &mut [u8], at: usize, d: Decoded) -> usize
 fn write_all(plan: &[u32], areas: &[u32], xs: &[u32], ys: &[u32], used: Counts, out: &mut [u8])
     requires { ⌜ Ready (now plan) (now areas) (now xs) (now ys) used ⌝ }
     requires { ⌜ used .records * 16 ≤ length (now out) ⌝ }
+    requires { ⌜ allGood (rebuilt (tables (now plan) (now areas) (now xs) (now ys)) used 0 (cursor 0 0) (used .records)) ≡ true ⌝ }
     ensures out { λ _. ⌜ now (out .exit) ≡
         sets (now (out .entry)) 0 (fileOf (goodRecords (rebuilt (drawingLent plan areas xs ys) used 0 (cursor 0 0) (used .records)))) ⌝ }
 {
@@ -270,7 +320,7 @@ fn write_all(plan: &[u32], areas: &[u32], xs: &[u32], ys: &[u32], used: Counts, 
     let mut at = 0;
     let mut i = 0;
     while i < n {
-        let d = row(plan, areas, xs, ys, used, i, c);
+        let d = row_accepted(plan, areas, xs, ys, used, i, c);
         at = put_bytes(out, at, d);
         c = past(c, d);
         i += 1;

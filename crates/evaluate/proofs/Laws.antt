@@ -1,4 +1,4 @@
--- Signs and start numbers as words; an area on a clip side is not shown; lines and shortcuts as elements, and what their ranges say.
+-- Signs and start numbers as words; an area on a clip side is not shown; lines, curves and shortcuts as elements, and what their ranges say.
 use mathlib.Core.Path.{_≡_, refl, sym, ap, ap₂, _∙_}
 use mathlib.Core.Bool.{Bool, true, false, cond, _&&_, _||_, true≢false}
 use mathlib.Core.List.{List, _∷_}
@@ -17,23 +17,24 @@ use Rattle.pruning.specs.Sides.{clip}
 use Rattle.pruning.specs.Registers.{Registers, onItem}
 use Rattle.pruning.proofs.Registers.{clip-shows}
 use Rattle.laws.proofs.Booleans.{clash}
+use Rattle.curves.specs.Curves.{curveFits}
 use Rattle.geometry.specs.code.Reach.{EdgeIn, LineBelow}
-use Rattle.geometry.specs.Windings.{line, edgeOf}
+use Rattle.geometry.specs.Windings.{Line, line, curve, edgeOf}
 use Rattle.cells.specs.Segments.{drawn, shortcut}
 use Rattle.cells.specs.Elements.{Element, segment}
-use Rattle.records.specs.Record.{cornerRange, ranged}
+use Rattle.records.specs.Record.{cornerRange, ranged, isGood}
 use Rattle.records.specs.declared.Record.the-variants.{Area}
 use Rattle.records.specs.declared.Decoded.the-variants.{Bad}
 use Rattle.refusals.specs.declared.Refusal.the-variants.{Field}
 use Rattle.drawing.specs.Tables.{fieldsAt, areaRow}
 use Rattle.stream.specs.declared.Words.{Words}
-use Rattle.stream.specs.Grammar.{Env, isGood, cornerMet, lineRange, inRange}
-use Rattle.stream.specs.Entry.{decode, isLine, isSegment, startRange, signRange}
+use Rattle.stream.specs.Grammar.{Env, cornerMet, inRange}
+use Rattle.stream.specs.Entry.{decode, isCurve, isLine, isSegment, startRange, signRange}
 use Rattle.stream.specs.Entry as Entry
 use Rattle.stream.proofs.Entries.{segmentEntry, decode-segment, segment-range}
 use Rattle.stream.proofs.Signed.{upper}
 use Rattle.evaluate.specs.Reading.{elementFor}
-use Rattle.evaluate.specs.code.Numbers.{lineOf, segmentOf, segmentRange}
+use Rattle.evaluate.specs.code.Numbers.{lineOf, lineMet, segmentOf, segmentRange}
 
 -- a sign that is not 1 is −1
 pub other-sign : (p : ℕ) → signRange p ≡ true → (p ≡ 1 → ⊥) → p ≡ 4294967295
@@ -94,56 +95,85 @@ met-in xs ys used n h = go (ltb n used) refl h
         (ltb-true n used e, leb-true (getD xs n 0) 65536 (p .0), leb-true (getD ys n 0) 65536 (p .1))
     go false e t = clash t
 
-pub line-used : (xs ys : List ℕ) (used a b : ℕ) → lineRange xs ys used a b ≡ true → LineBelow used (line a b)
-line-used xs ys used a b h =
-    let p = both (cornerMet xs ys used a) (cornerMet xs ys used b) h in
-    (met-in xs ys used a (p .0) .0, met-in xs ys used b (p .1) .0)
+-- a line or a curve
+module _ (xs ys : List ℕ) (used : ℕ) where
+  -- the three corners of a curve, and that a drawing may have it
+  curve-parts : (a : ℕ) → lineMet xs ys used (curve a) ≡ true
+      → (cornerMet xs ys used a ≡ true)
+      × (cornerMet xs ys used (a + 2) ≡ true)
+      × (curveFits (getD xs a 0) (getD ys a 0) (getD xs (a + 1) 0) (getD ys (a + 1) 0) (getD xs (a + 2) 0) (getD ys (a + 2) 0) ≡ true)
+  curve-parts a h =
+      let p = both (cornerMet xs ys used a && (cornerMet xs ys used (a + 1) && cornerMet xs ys used (a + 2))) _ h in
+      let q = both (cornerMet xs ys used a) (cornerMet xs ys used (a + 1) && cornerMet xs ys used (a + 2)) (p .0) in
+      (q .0, both (cornerMet xs ys used (a + 1)) (cornerMet xs ys used (a + 2)) (q .1) .1, p .1)
 
--- the line that an entry names
+  pub line-used : (l : Line) → lineMet xs ys used l ≡ true → LineBelow used l
+  line-used (line a b) h =
+      let p = both (cornerMet xs ys used a) (cornerMet xs ys used b) h in
+      (met-in xs ys used a (p .0) .0, met-in xs ys used b (p .1) .0)
+  line-used (curve a) h = met-in xs ys used (a + 2) (curve-parts a h .1) .0
+
+  line-edge : (l : Line) → lineMet xs ys used l ≡ true → EdgeIn (edgeOf xs ys l)
+  line-edge (line a b) h =
+      let p = both (cornerMet xs ys used a) (cornerMet xs ys used b) h in
+      let u = met-in xs ys used a (p .0) in
+      let v = met-in xs ys used b (p .1) in
+      record { ends = record { first-x = omega arith; first-y = omega arith; second-x = omega arith; second-y = omega arith }; fits = λ e. clash e }
+  line-edge (curve a) h =
+      let p = curve-parts a h in
+      let u = met-in xs ys used a (p .0) in
+      let v = met-in xs ys used (a + 2) (p .1) in
+      record { ends = record { first-x = omega arith; first-y = omega arith; second-x = omega arith; second-y = omega arith }; fits = λ _. p .2 }
+
+below-more : (m n : ℕ) (l : Line) → LineBelow m l → m ≤ n → LineBelow n l
+below-more m n (line a b) h k = (omega arith, omega arith)
+below-more m n (curve a) h k = omega arith
+
+-- the line or the curve that an entry names
 module _ (xs ys : List ℕ) (used : ℕ) (w : Words) (h : segmentRange xs ys used w ≡ true) (l : isLine (w .kind) ≡ true) where
-  in-line : lineRange xs ys used (w .p) (w .q) ≡ true
+  in-line : lineMet xs ys used (lineOf w) ≡ true
   in-line = rw l at h
 
-  pub line-in-use : LineBelow used (lineOf w)
-  line-in-use = line-used xs ys used (w .p) (w .q) in-line
-
   pub line-below : (used ≤ length xs) × (used ≤ length ys) → LineBelow (length xs) (lineOf w) × LineBelow (length ys) (lineOf w)
-  line-below k = let u = line-in-use in ((omega arith, omega arith), (omega arith, omega arith))
+  line-below k =
+      let u = line-used xs ys used (lineOf w) in-line in
+      (below-more used (length xs) (lineOf w) u (k .0), below-more used (length ys) (lineOf w) u (k .1))
 
   pub entry-edge-in : EdgeIn (edgeOf xs ys (lineOf w))
-  entry-edge-in =
-      let p = both (cornerMet xs ys used (w .p)) (cornerMet xs ys used (w .q)) in-line in
-      let u = met-in xs ys used (w .p) (p .0) in
-      let v = met-in xs ys used (w .q) (p .1) in
-      record { first-x = omega arith; first-y = omega arith; second-x = omega arith; second-y = omega arith }
+  entry-edge-in = line-edge xs ys used (lineOf w) in-line
 
--- ---- an entry that is a line or a shortcut
+-- ---- an entry that is a line, a curve or a shortcut
 
 -- its element
 pub entry-element : (w : Words) (ws : List Element) → elementFor (segmentEntry w) ws ≡ segment (segmentOf w) ∷ ws
-entry-element w ws = go (isLine (w .kind))
+entry-element w ws = go (isLine (w .kind)) (isCurve (w .kind))
   where
-    go : (l : Bool)
-        → elementFor (cond l (Entry.line (w .p) (w .q)) (Entry.shortcut (w .p) (w .q) (w .r))) ws
-        ≡ segment (cond l (drawn (lineOf w)) (shortcut (toZ w32 (w .p)) (w .q) (w .r))) ∷ ws
-    go true = refl
-    go false = refl
+    go : (l c : Bool)
+        → elementFor (cond l (cond c (Entry.curve (w .p)) (Entry.line (w .p) (w .q))) (Entry.shortcut (w .p) (w .q) (w .r))) ws
+        ≡ segment (cond l (drawn (cond c (curve (w .p)) (line (w .p) (w .q)))) (shortcut (toZ w32 (w .p)) (w .q) (w .r))) ∷ ws
+    go true true = refl
+    go true false = refl
+    go false c = refl
 
 pub element-segment : (w : Words) (ws : List Element) → isSegment (w .kind) ≡ true → elementFor (decode w) ws ≡ segment (segmentOf w) ∷ ws
 element-segment w ws s = ap (λ e. elementFor e ws) (decode-segment w s) ∙ entry-element w ws
 
 -- what its range says
 pub in-segment : (v : Env) (w : Words) → isSegment (w .kind) ≡ true → inRange v (decode w) ≡ true → segmentRange (v .xs) (v .ys) (v .used .corners) w ≡ true
-in-segment v w s h = go (isLine (w .kind)) (sym (segment-range v w) ∙ (ap (inRange v) (sym (decode-segment w s)) ∙ h))
+in-segment v w s h = go (isLine (w .kind)) (isCurve (w .kind)) (sym (segment-range v w) ∙ (ap (inRange v) (sym (decode-segment w s)) ∙ h))
   where
     inside : Bool
     inside = leb (v .used .low) (w .q) && (ltb (w .q) (w .r) && leb (w .r) (v .used .low + v .used .side))
 
-    go : (l : Bool)
-        → cond l (lineRange (v .xs) (v .ys) (v .used .corners) (w .p) (w .q)) (signRange (w .p) && inside) ≡ true
-        → cond l (lineRange (v .xs) (v .ys) (v .used .corners) (w .p) (w .q)) (signRange (w .p)) ≡ true
-    go true e = e
-    go false e = both (signRange (w .p)) inside e .0
+    met : Line → Bool
+    met = lineMet (v .xs) (v .ys) (v .used .corners)
+
+    go : (l c : Bool)
+        → cond l (cond c (met (curve (w .p))) (met (line (w .p) (w .q)))) (signRange (w .p) && inside) ≡ true
+        → cond l (met (cond c (curve (w .p)) (line (w .p) (w .q)))) (signRange (w .p)) ≡ true
+    go true true e = e
+    go true false e = e
+    go false c e = both (signRange (w .p)) inside e .0
 
 -- ---- a shortcut adds at most 1 either way
 

@@ -1,4 +1,4 @@
--- The loops over the lines and shortcuts of an area and over a stream.
+-- The loops over the lines, curves and shortcuts of an area and over a stream.
 use mathlib.Core.Path.{_≡_, sym, ap, ap₂, subst, _∙_}
 use mathlib.Core.Bool.{true, false, cond}
 use mathlib.Core.List.{List}
@@ -15,7 +15,8 @@ use Rattle.machine.specs.code.Registers.{machine, meant}
 use Rattle.cells.specs.Elements.{settled, state}
 use Rattle.stream.specs.Entry.{decode, startRange, isSegment}
 use Rattle.stream.specs.Table.{wordsAt, wordsFrom}
-use Rattle.stream.specs.Grammar.{Env, isGood, areaMet, inRange, Passed}
+use Rattle.records.specs.Record.{isGood}
+use Rattle.stream.specs.Grammar.{Env, areaMet, inRange, Passed}
 use Rattle.stream.specs.code.Machine.{segmentsIn}
 use Rattle.stream.proofs.Table.{words-none}
 use Rattle.stream.proofs.Runs.{words-first, few-segments}
@@ -26,7 +27,7 @@ use Rattle.evaluate.specs.code.Numbers.{segmentAdds, segmentsSum, Segmen
 use Rattle.evaluate.proofs.Laws.{in-segment}
 use Rattle.evaluate.proofs.Steps.{in-name, area-step, idle-step, other-step}
 
--- ---- the lines and shortcuts of an area
+-- ---- the lines, curves and shortcuts of an area
 
 module _ (t xs ys : List ℕ) (x y i e : ℕ) (w : Words) (q : w ≡ wordsAt t i) (l : i < e) where
   pub sum-more : isSegment (w .kind) ≡ true
@@ -65,7 +66,7 @@ passed-ranged t first count i v p a l =
         let e : first + (k - first) ≡ k = omega arith in
         subst (λ (j : ℕ). inRange v (decode (wordsAt t j)) ≡ true) e (in-range v t first count (k - first) (p .grammar) (omega arith))
 
--- the lines and shortcuts behind entry i
+-- the lines, curves and shortcuts behind entry i
 pub ranged-segments : (t : List ℕ) (i e : ℕ) (v : Env) → Ranged t i e v → SegmentsIn t (i + 1) e (v .xs) (v .ys) (v .used)
 ranged-segments t i e v r =
     record {

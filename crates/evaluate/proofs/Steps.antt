@@ -20,7 +20,8 @@ use Rattle.cells.specs.Elements.{Element, settled, waits, State, state, settle,
 use Rattle.stream.specs.declared.Words.{Words}
 use Rattle.stream.specs.Entry.{Entry, decode, startRange, isSegment}
 use Rattle.stream.specs.Table.{wordsAt, wordsFrom}
-use Rattle.stream.specs.Grammar.{Env, isGood, areaMet, inRange}
+use Rattle.records.specs.Record.{isGood}
+use Rattle.stream.specs.Grammar.{Env, areaMet, inRange}
 use Rattle.stream.specs.code.Machine.{segmentsIn}
 use Rattle.stream.proofs.Table.{words-step, words-none}
 use Rattle.stream.proofs.Entries.{byTests, decode-is}
@@ -77,14 +78,14 @@ module _ (areas xs ys : List ℕ) (x y : ℕ) where
   unfolding elementsIn
   named-step w ws g e = rw e
 
-  -- a line or a shortcut is added to the sum of the area that waits
+  -- a line, a curve or a shortcut is added to the sum of the area that waits
   segment-step : (w : Words) (ws : List Words) (g : Registers ℕ) (n : ℕ) (z : ℤ)
       → isSegment (w .kind) ≡ true
       → From (state g (waits n z)) (w ∷ ws) ≡ From (state g (waits n (z +ℤ segmentAdds xs ys x y w))) ws
   unfolding elementsIn
   segment-step w ws g n z s = ap (λ rs. FromElements rs (state g (waits n z))) (element-segment w (elementsIn ws) s)
 
-  -- before an entry that is neither, the area that waits has all its lines and shortcuts
+  -- before an entry that is neither, the area that waits has all its lines, curves and shortcuts
   settle-entry : (v : Env) (a b c d e f : Bool) (w : Words) (ws : List Words) (m : Registers ℕ) (n : ℕ) (z : ℤ)
       → inRange v (byTests a b c d e f w) ≡ true
       → e ≡ false
@@ -105,7 +106,7 @@ module _ (areas xs ys : List ℕ) (x y : ℕ) where
       (settle-entry v (eqb (w .kind) 1) (eqb (w .kind) 2) (eqb (w .kind) 3) (eqb (w .kind) 4) (isSegment (w .kind)) (eqb (w .kind) 7) w ws g n z
       (rw (decode-is w) at h) k)
 
-  -- so an area settles behind its lines and shortcuts
+  -- so an area settles behind its lines, curves and shortcuts
   pub winding-step : (v : Env) (t : List ℕ) (g : Registers ℕ) (m k i : ℕ) (z : ℤ)
       → ((j : ℕ) → i ≤ j → j < i + k → inRange v (decode (wordsAt t j)) ≡ true)
       → From (state (afterArea g m (z +ℤ segmentsSum xs ys x y (wordsFrom t i k))) settled)

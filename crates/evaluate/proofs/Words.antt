@@ -9,7 +9,7 @@ use mir.Val.{SFits}
 use mir.Syntax.{w32}
 use mir.ValLaws.{toZ-ofZ}
 use Rattle.laws.proofs.Differences.{mag-abs}
-use Rattle.geometry.specs.Windings.{line, linesOf}
+use Rattle.geometry.specs.Windings.{line, curve, linesOf}
 use Rattle.paint.specs.Sets.{setOf}
 use Rattle.pruning.specs.Sides.{Kind, paint, Entry, item, push, activate, pop, flat, mapSide}
 use Rattle.pruning.specs.Registers.{P, Registers, reg, outOf, onPush, onActivate, onPop}
@@ -59,6 +59,7 @@ element-back closes ws h = refl
 element-back bare ws h = refl
 element-back (named n z) ws h = rw (toZ-ofZ w32 z h)
 element-back (segment (drawn (line a b))) ws h = refl
+element-back (segment (drawn (curve a))) ws h = refl
 element-back (segment (shortcut z lo hi)) ws h = rw (toZ-ofZ w32 z h)
 
 pub elements-back : (ws : List Element) → EachFits ws → elementsIn (map wordsOf ws) ≡ ws

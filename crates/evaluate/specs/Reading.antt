@@ -1,4 +1,4 @@
--- Document 01, "Cells": a stream in tables, read at a position in one pass.
+-- Document 01, "Cells", and document 02, Item 2: a stream in tables, read at a position in one pass.
 use mathlib.Core.Bool.{Bool}
 use mathlib.Core.List.{List, [], _∷_}
 use Prim.Native.Nat.{ℕ, _+_, _*_}
@@ -11,7 +11,7 @@ use Rattle.geometry.specs.FillRules as FillRules
 use Rattle.geometry.specs.Windings as Windings
 use Rattle.pruning.specs.Sides.{Kind}
 use Rattle.stream.specs.declared.Words.{Words}
-use Rattle.stream.specs.Entry.{Entry, opens, bar, closes, area, line, shortcut, passes, bad, decode}
+use Rattle.stream.specs.Entry.{Entry, opens, bar, closes, area, line, curve, shortcut, passes, bad, decode}
 use Rattle.cells.specs.Cells.{at}
 use Rattle.cells.specs.Segments.{drawn, addsAt}
 use Rattle.cells.specs.Segments as Segments
@@ -26,6 +26,7 @@ elementFor bar ws = Elements.bar ∷ ws
 elementFor closes ws = Elements.closes ∷ ws
 elementFor (area n q) ws = named n (toZ w32 q) ∷ ws
 elementFor (line a b) ws = segment (drawn (Windings.line a b)) ∷ ws
+elementFor (curve a) ws = segment (drawn (Windings.curve a)) ∷ ws
 elementFor (shortcut s a b) ws = segment (Segments.shortcut (toZ w32 s) a b) ∷ ws
 elementFor passes ws = bare ∷ ws
 elementFor bad ws = ws

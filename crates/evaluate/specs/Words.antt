@@ -5,7 +5,7 @@ use Prim.Native.Nat.{ℕ}
 use lib.IntN.{ℤ}
 use mir.Syntax.{w32}
 use mir.Val.{SFits, ofZ}
-use Rattle.geometry.specs.Windings.{line}
+use Rattle.geometry.specs.Windings.{line, curve}
 use Rattle.stream.specs.declared.Words.{Words}
 use Rattle.cells.specs.Segments.{Segment, drawn, shortcut}
 use Rattle.cells.specs.Drawings.{Drawing, passesBy, isOpaque}
@@ -15,10 +15,11 @@ use Rattle.evaluate.specs.Reading.{roleAt, passAt, opaqueAt}
 abbrev pub words : (kind p q r : ℕ) → Words
 words k p q r = record { kind = k; p = p; q = q; r = r }
 
--- kinds: 1 `(`, 2 `|`, 3 `)`, 4 area, 5 line, 6 shortcut, 7 passes; signed numbers in two's complement; words without a name, which document 01 leaves free,
--- are 0
+-- kinds: 1 `(`, 2 `|`, 3 `)`, 4 area, 5 line, 6 shortcut, 7 passes, 8 curve; signed numbers in two's complement; words without a name, which the documents
+-- leave free, are 0. document 02: "a kept curve is one entry"
 abbrev pub segmentWords : Segment → Words
 segmentWords (drawn (line a b)) = words 5 a b 0
+segmentWords (drawn (curve a)) = words 8 a 0 0
 segmentWords (shortcut z lo hi) = words 6 (ofZ w32 z) lo hi
 
 abbrev pub wordsOf : Element → Words

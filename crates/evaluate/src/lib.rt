@@ -14,8 +14,9 @@ ghost use lib.ListN.{length};
 ghost use lib.IntN.{pos, _+ℤ_, natAbs};
 ghost use mir.Syntax.{w32};
 ghost use mir.Val.{toZ};
-ghost use Rattle.geometry.specs.Edges.{isRow};
-ghost use Rattle.geometry.specs.code.Reach.{EdgeIn, LineBelow, PositionIn};
+ghost use Rattle.curves.specs.Lines.{isRow};
+ghost use Rattle.curves.specs.code.Reach.{PositionIn};
+ghost use Rattle.geometry.specs.code.Reach.{EdgeIn, LineBelow};
 ghost use Rattle.geometry.specs.Windings.{edgeOf, adds};
 ghost use Rattle.paint.specs.Sets.{withArea};
 ghost use Rattle.pruning.specs.Registers.{onItem};
@@ -41,15 +42,18 @@ fn shortcut_adds(w: Words, y: u32) -> i64
     0
 }
 
-// The edge of the line that an entry names.
+// The edge of the line or the curve that an entry names.
 pub fn edge_of(xs: &[u32], ys: &[u32], w: Words) -> Edge
     requires { ⌜ LineBelow (length (now xs)) (lineOf w) × LineBelow (length (now ys)) (lineOf w) ⌝ }
     ensures answer { λ r. ⌜ r ≡ edgeOf (now (xs .entry)) (now (ys .entry)) (lineOf w) ⌝ }
 {
+    if stream::is_curve(w.kind) {
+        return winding::curve_from(xs, ys, w.p as usize);
+    }
     winding::edge_between(xs, ys, w.p as usize, w.q as usize)
 }
 
-// What a line adds at (x, y).
+// What a line or a curve adds at (x, y).
 fn line_adds(xs: &[u32], ys: &[u32], w: Words, x: u32, y: u32) -> i64
     requires { ⌜ LineBelow (length (now xs)) (lineOf w) × LineBelow (length (now ys)) (lineOf w) ⌝ }
     requires { ⌜ EdgeIn (edgeOf (now xs) (now ys) (lineOf w)) ⌝ }
@@ -99,8 +103,8 @@ pub fn start_of(w: Words) -> i64
     laws::difference(w.q, stream::MINUS_ONE) + laws::difference(0, 1)
 }
 
-// ---- an area and its lines and shortcuts
-// What a line or a shortcut adds at (x, y).
+// ---- an area and its lines, curves and shortcuts
+// What a line, a curve or a shortcut adds at (x, y).
 fn segment_adds(xs: &[u32], ys: &[u32], corners: usize, w: Words, x: u32, y: u32) -> i64
     requires { ⌜ (corners ≤ length (now xs)) × (corners ≤ length (now ys)) ⌝ }
     requires { ⌜ segmentRange (now xs) (now ys) corners w ≡ true ⌝ }
@@ -113,13 +117,13 @@ fn segment_adds(xs: &[u32], ys: &[u32], corners: usize, w: Words, x: u32, y: u32
     shortcut_adds(w, y)
 }
 
-// The winding of an area, and the entry behind its lines and shortcuts.
+// The winding of an area, and the entry behind its lines, curves and shortcuts.
 pub struct Winding {
     pub sum: i64,
     pub next: usize,
 }
 
-// The winding at (x, y) of an area with this start number, whose lines and shortcuts begin at entry `from`.
+// The winding at (x, y) of an area with this start number, whose lines, curves and shortcuts begin at entry `from`.
 fn winding_from(
     entries: &[u32],
     from: usize,
@@ -159,7 +163,7 @@ pub struct Reading {
     pub next: usize,
 }
 
-// The machine after a delimiter or "passes". A line or a shortcut of an area that is not looked at leaves it as it is.
+// The machine after a delimiter or "passes". A line, a curve or a shortcut of an area that is not looked at leaves it as it is.
 fn moved(m: Machine, kind: u32) -> Machine
     requires { ⌜ m .depth < 4096 ⌝ }
     ensures answer { λ r. ⌜ (meant r ≡ movedBy kind (meant m)) × (r .depth ≤ m .depth + 1) ⌝ }
@@ -211,7 +215,7 @@ fn read_area(
     }
 }
 
-// After entry i and, if it is an area that is looked at, its lines and shortcuts.
+// After entry i and, if it is an area that is looked at, its lines, curves and shortcuts.
 fn read_next(
     entries: &[u32],
     i: usize,

@@ -23,7 +23,7 @@ use Rattle.find_leaf.specs.declared.Answer.the-variants as Answers
 abbrev pub positionRange : (x y : ℕ) → Bool
 positionRange x y = ltb x 65536 && ltb y 65536
 
--- how many entries are lines: a shortcut is no line
+-- how many entries are lines: a shortcut is none; document 02: "a kept curve is one entry that the lister and growing count as a line"
 abbrev pub linesIn : List Words → ℕ
 linesIn [] = 0
 linesIn (w ∷ ws) = cond (isLine (w .kind)) (1 + linesIn ws) (linesIn ws)

@@ -53,7 +53,7 @@ pub fn counts_fit(
     false
 }
 
-// 1 for a line, or 0.
+// 1 for a line or a curve, or 0.
 fn line_of(kind: u32) -> u32
     ensures answer { λ r. ⌜ r ≡ cond (isLine kind) 1 0 ⌝ }
     ensures range { λ r. ⌜ r ≤ 1 ⌝ }
@@ -64,7 +64,7 @@ fn line_of(kind: u32) -> u32
     0
 }
 
-// How many of the count entries from first on are lines.
+// How many of the count entries from first on are lines or curves.
 pub fn lines_in(entries: &[u32], first: usize, count: usize) -> u32
     requires { ⌜ (first + count) * 4 ≤ length (now entries) ⌝ }
     requires { ⌜ count ≤ 4096 ⌝ }

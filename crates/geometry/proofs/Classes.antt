@@ -12,11 +12,12 @@ use native.Mathlib.Decide.{decLe, decLt}
 use lib.Dec.{T, T-not, leb, ltb, eqb, leb→le, ltb→lt}
 use borrow.Author.Tests.{lt-leb, le-leb, lt-ltb, le-ltb, eq-eqb, leb-true, leb-false, eqb-true}
 use Rattle.laws.proofs.Booleans.{T-true, T-false, true-T, false-T, &&-left, &&-right}
-use Rattle.geometry.specs.Edges.{isRow}
+use Rattle.curves.specs.Lines.{isRow}
+use Rattle.curves.proofs.Segments.{Segment}
 use Rattle.geometry.specs.Classes.{nowhere, everywhere, verdict, classOf, cut, childOf, says, Inside, Contains}
 use Rattle.geometry.specs.declared.class.Class.{Class}
 use Rattle.geometry.specs.declared.class.Class.the-variants.{Dropped, Start, Shortcut, Kept}
-use Rattle.geometry.proofs.Segments.{Segment, nowhere-at, nowhere-of, everywhere-at, everywhere-of, nowhere-quick, everywhere-quick}
+use Rattle.geometry.proofs.Squares.{nowhere-at, nowhere-of, everywhere-at, everywhere-of, nowhere-quick, everywhere-quick}
 
 -- ---- rows that are cut
 

@@ -15,9 +15,29 @@ use borrow.Author.Tests.{lt-ltb, le-ltb}
 use Rattle.laws.proofs.Booleans.{&&-left, &&-right}
 use Rattle.laws.proofs.Differences.{abs-add}
 use Rattle.laws.proofs.Signed.{Running, running-end}
-use Rattle.geometry.specs.code.Reach.{EdgeIn, LineBelow, CornersIn}
+use Rattle.geometry.specs.code.Reach.{CurveIn, EdgeIn, LineBelow, CornersIn}
 use Rattle.geometry.specs.Edges.{counts, sign}
-use Rattle.geometry.specs.Windings.{Line, line, edgeOf, linesFrom, linesOf, nextCorner, adds, sumOf, winding, contoursTo, follow}
+use Rattle.geometry.specs.Windings.{
+  Line,
+  line,
+  curve,
+  edgeOf,
+  Piece,
+  straight,
+  bent,
+  Contour,
+  linesFrom,
+  linesOf,
+  nextCorner,
+  adds,
+  sumOf,
+  winding,
+  straights,
+  straightLines,
+  withCorners,
+  contoursTo,
+  follow,
+}
 use Rattle.geometry.specs.declared.edge.Edge.{Edge}
 
 -- ---- how large a sum gets
@@ -39,10 +59,18 @@ sum-abs xs ys (l ∷ ls) x y =
     let e = edgeOf xs ys l in
     omega (arith, abs-add (adds e x y) (sumOf xs ys ls x y), adds-abs e x y, sum-abs xs ys ls x y)
 
-pub length-lines : (first i n : ℕ) → length (linesFrom first i n) ≡ n
-length-lines first i zero = refl
-length-lines first i (suc zero) = refl
-length-lines first i (suc (suc n)) = ap suc (length-lines first (suc i) (suc n))
+pub length-lines : (first c : ℕ) (ps : List Piece) → length (linesFrom first c ps) ≡ suc (length ps)
+length-lines first c [] = refl
+length-lines first c (straight ∷ ps) = ap suc (length-lines first (suc c) ps)
+length-lines first c (bent ∷ ps) = ap suc (length-lines first (suc (suc c)) ps)
+
+length-straights : (n : ℕ) → length (straights n) ≡ n
+length-straights zero = refl
+length-straights (suc n) = ap suc (length-straights n)
+
+length-straight-lines : (first i n : ℕ) → length (straightLines first i n) ≡ n
+length-straight-lines first i zero = refl
+length-straight-lines first i (suc n) = length-lines first i (straights n) ∙ ap suc (length-straights n)
 
 -- ---- edge by edge, contour by contour
 
@@ -57,15 +85,15 @@ module _ (xs ys : List ℕ) (x y : ℕ) where
   -- the edge from corner i, and those behind it
   pub sum-step : (first i end : ℕ)
       → i < end
-      → sumOf xs ys (linesFrom first i (end - i)) x y
-      ≡ adds (edgeOf xs ys (line i (nextCorner first end i))) x y +ℤ sumOf xs ys (linesFrom first (i + 1) (end - (i + 1))) x y
+      → sumOf xs ys (straightLines first i (end - i)) x y
+      ≡ adds (edgeOf xs ys (line i (nextCorner first end i))) x y +ℤ sumOf xs ys (straightLines first (i + 1) (end - (i + 1))) x y
   unfolding sumOf
   sum-step first i end h = go (end - (i + 1)) (omega arith)
     where
       go : (n : ℕ)
           → end ≡ i + 1 + n
-          → sumOf xs ys (linesFrom first i (end - i)) x y
-          ≡ adds (edgeOf xs ys (line i (nextCorner first end i))) x y +ℤ sumOf xs ys (linesFrom first (i + 1) (end - (i + 1))) x y
+          → sumOf xs ys (straightLines first i (end - i)) x y
+          ≡ adds (edgeOf xs ys (line i (nextCorner first end i))) x y +ℤ sumOf xs ys (straightLines first (i + 1) (end - (i + 1))) x y
       go zero e =
           let p : end - i ≡ 1 = omega arith in
           let q : end - (i + 1) ≡ 0 = omega arith in
@@ -76,7 +104,10 @@ module _ (xs ys : List ℕ) (x y : ℕ) where
           rw (p, q, lt-ltb (i + 1) end (omega arith), add-one i)
 
   -- no edge is left
-  pub sum-done : (first i end k bits : ℕ) {whole : ℤ} → end ≤ i → Running k bits (sumOf xs ys (linesFrom first i (end - i)) x y) whole → toZ w64 bits ≡ whole
+  pub sum-done : (first i end k bits : ℕ) {whole : ℤ}
+      → end ≤ i
+      → Running k bits (sumOf xs ys (straightLines first i (end - i)) x y) whole
+      → toZ w64 bits ≡ whole
   unfolding sumOf
   sum-done first i end k bits h s = let e : end - i ≡ 0 = omega arith in running-end (rw e at s)
 
@@ -97,10 +128,16 @@ module _ (ends : List ℕ) (first n k e : ℕ) (h : k < length ends) (is : e ≡
       let r = &&-right (leb first e) (follow e n (drop (k + 1) ends)) u in
       (leb→le first e (&&-left (leb first e) (follow e n (drop (k + 1) ends)) u), follow-end e n (drop (k + 1) ends) r, r)
 
+  lines-with : (n : ℕ) (cs : List Contour) → linesOf (withCorners first n cs) ≡ straightLines first first n ++ linesOf cs
+  lines-with zero cs = refl
+  lines-with (suc n) cs = refl
+
   pub area-step : (xs ys : List ℕ) (x y : ℕ)
       → winding xs ys (contoursTo first (drop k ends)) x y
-      ≡ sumOf xs ys (linesFrom first first (e - first)) x y +ℤ winding xs ys (contoursTo e (drop (k + 1) ends)) x y
-  area-step xs ys x y = rw drop-step (sum-append xs ys x y (linesFrom first first (e - first)) (linesOf (contoursTo e (drop (k + 1) ends))))
+      ≡ sumOf xs ys (straightLines first first (e - first)) x y +ℤ winding xs ys (contoursTo e (drop (k + 1) ends)) x y
+  area-step xs ys x y =
+      let rest = contoursTo e (drop (k + 1) ends) in
+      rw (drop-step, lines-with (e - first) rest) (sum-append xs ys x y (straightLines first first (e - first)) (linesOf rest))
 
 pub area-done : (xs ys : List ℕ) (x y : ℕ) (ends : List ℕ) (first k n bits : ℕ) {whole : ℤ}
     → length ends ≤ k
@@ -109,15 +146,20 @@ pub area-done : (xs ys : List ℕ) (x y : ℕ) (ends : List ℕ) (first k n bits
 unfolding sumOf
 area-done xs ys x y ends first k n bits h s = let e : drop k ends ≡ [] = drop-of-length-le ends h in running-end (rw e at s)
 
-pub contour-abs : (xs ys : List ℕ) (first end x y : ℕ) → natAbs (sumOf xs ys (linesFrom first first (end - first)) x y) ≤ end - first
-contour-abs xs ys first end x y = omega (arith, sum-abs xs ys (linesFrom first first (end - first)) x y, length-lines first first (end - first))
+pub contour-abs : (xs ys : List ℕ) (first end x y : ℕ) → natAbs (sumOf xs ys (straightLines first first (end - first)) x y) ≤ end - first
+contour-abs xs ys first end x y = omega (arith, sum-abs xs ys (straightLines first first (end - first)) x y, length-straight-lines first first (end - first))
 
--- ---- the edge of a line with corners in the tables is in range
+-- ---- the edge of a line with corners in the tables is in range; of a curve, if it is one that a drawing may have
 
-pub edge-in : (xs ys : List ℕ) → CornersIn xs ys → (l : Line) → LineBelow (length xs) l → EdgeIn (edgeOf xs ys l)
-edge-in xs ys h (line p q) i = record {
-  first-x = h .each-x p (i .0);
-  first-y = h .each-y p (i .0);
-  second-x = h .each-x q (i .1);
-  second-y = h .each-y q (i .1);
-}
+pub edge-in : (xs ys : List ℕ) → CornersIn xs ys → (l : Line) → LineBelow (length xs) l → CurveIn (edgeOf xs ys l) → EdgeIn (edgeOf xs ys l)
+edge-in xs ys h (line p q) i f =
+    record {
+      ends = record { first-x = h .each-x p (i .0); first-y = h .each-y p (i .0); second-x = h .each-x q (i .1); second-y = h .each-y q (i .1) };
+      fits = f;
+    }
+edge-in xs ys h (curve p) i f =
+    let l : p < length xs = omega arith in
+    record {
+      ends = record { first-x = h .each-x p l; first-y = h .each-y p l; second-x = h .each-x (p + 2) i; second-y = h .each-y (p + 2) i };
+      fits = f;
+    }

@@ -4,7 +4,8 @@ use mathlib.Core.Bool.{Bool, true, false, not, cond, _&&_, _||_}
 use Prim.Native.Nat.{ℕ, _+_, _≤_, _<_, min, max}
 use lib.Dec.{leb, eqb}
 use Rattle.laws.specs.Ranges.{allIn}
-use Rattle.geometry.specs.Edges.{isRow, counts, firstRow, endRow}
+use Rattle.curves.specs.Lines.{isRow}
+use Rattle.geometry.specs.Edges.{counts, firstRow, endRow}
 use Rattle.geometry.specs.declared.class.Class.{Class}
 use Rattle.geometry.specs.declared.class.Class.the-variants.{Dropped, Start, Shortcut, Kept}
 use Rattle.geometry.specs.declared.class.Square.{Square}

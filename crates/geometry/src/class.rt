@@ -4,7 +4,8 @@ use crate::edge::Edge;
 ghost use mathlib.Core.Path.{_≡_};
 ghost use mathlib.Core.Bool.{not, _&&_};
 ghost use Prim.Native.Nat.{min, max};
-ghost use Rattle.geometry.specs.code.Reach.{EdgeIn, PositionIn, SquareIn};
+ghost use Rattle.curves.specs.code.Reach.{PositionIn};
+ghost use Rattle.geometry.specs.code.Reach.{EdgeIn, SquareIn};
 ghost use Rattle.geometry.specs.Edges.{counts};
 ghost use Rattle.geometry.specs.Classes.{edgeClass, cut};
 

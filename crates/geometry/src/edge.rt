@@ -1,14 +1,20 @@
 // A drawn edge: where it counts, its sign and its rows.
 ghost use mathlib.Core.Path.{_≡_};
-ghost use Rattle.geometry.specs.code.Reach.{EndsIn, EdgeIn, PositionIn};
-ghost use Rattle.geometry.specs.Edges.{product, lineCounts, counts, sign, firstRow, endRow};
+ghost use mathlib.Core.Bool.{true};
+ghost use Rattle.curves.specs.Curves.{curveFits};
+ghost use Rattle.curves.specs.code.Reach.{EndsIn, PositionIn};
+ghost use Rattle.geometry.specs.code.Reach.{EdgeIn};
+ghost use Rattle.geometry.specs.Edges.{bentCounts, counts, sign, firstRow, endRow};
 
-// An edge drawn from (x0, y0) to (x1, y1).
+// An edge drawn from (x0, y0) to (x1, y1): a curve with the control corner (cx, cy) where it is bent, else straight, and cx and cy are 0.
 pub struct Edge {
     pub x0: u32,
     pub y0: u32,
     pub x1: u32,
     pub y1: u32,
+    pub bent: bool,
+    pub cx: u32,
+    pub cy: u32,
 }
 
 // The rows of an edge: the first, and the one past the last. None where they are equal.
@@ -17,29 +23,19 @@ pub struct Rows {
     pub end: u32,
 }
 
-// The signed product P at (x, y), of the line with lower end (a, b) and upper end (c, d).
-fn signed_product(a: u32, b: u32, c: u32, d: u32, x: u32, y: u32) -> i64
-    requires { ⌜ EndsIn a b c d ⌝ }
+// Whether the curve drawn from (x0, y0) by the control corner (cx, cy) to (x1, y1) counts at (x, y).
+pub fn bent_counts(x0: u32, y0: u32, cx: u32, cy: u32, x1: u32, y1: u32, x: u32, y: u32) -> bool
+    requires { ⌜ EndsIn x0 y0 x1 y1 ⌝ }
+    requires { ⌜ curveFits x0 y0 cx cy x1 y1 ≡ true ⌝ }
     requires { ⌜ PositionIn x y ⌝ }
-    ensures answer { λ r. ⌜ r ≡ product a b c d x y ⌝ }
+    ensures answer { λ r. ⌜ r ≡ bentCounts x0 y0 cx cy x1 y1 x y ⌝ }
 {
-    laws::difference(a, x) * laws::difference(d, b)
-        + laws::difference(y, b) * laws::difference(c, a)
-}
-
-// Whether the line with lower end (a, b) and upper end (c, d) counts at (x, y).
-fn line_counts(a: u32, b: u32, c: u32, d: u32, x: u32, y: u32) -> bool
-    requires { ⌜ EndsIn a b c d ⌝ }
-    requires { ⌜ PositionIn x y ⌝ }
-    ensures answer { λ r. ⌜ r ≡ lineCounts a b c d x y ⌝ }
-{
-    if y < b {
-        return false;
+    let upward = y0 <= y1;
+    if upward {
+        curves::curve::curve_counts(x0, y0, cx, cy, x1, y1, x, y)
+    } else {
+        curves::curve::curve_counts(x1, y1, cx, cy, x0, y0, x, y)
     }
-    if d <= y {
-        return false;
-    }
-    signed_product(a, b, c, d, x, y) > 0
 }
 
 // Whether an edge counts at (x, y).
@@ -48,10 +44,13 @@ pub fn edge_counts(e: Edge, x: u32, y: u32) -> bool
     requires { ⌜ PositionIn x y ⌝ }
     ensures answer { λ r. ⌜ r ≡ counts e x y ⌝ }
 {
+    if e.bent {
+        return bent_counts(e.x0, e.y0, e.cx, e.cy, e.x1, e.y1, x, y);
+    }
     if e.y0 <= e.y1 {
-        line_counts(e.x0, e.y0, e.x1, e.y1, x, y)
+        curves::line::line_counts(e.x0, e.y0, e.x1, e.y1, x, y)
     } else {
-        line_counts(e.x1, e.y1, e.x0, e.y0, x, y)
+        curves::line::line_counts(e.x1, e.y1, e.x0, e.y0, x, y)
     }
 }
 

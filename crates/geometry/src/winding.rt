@@ -2,11 +2,13 @@
 use crate::edge;
 use crate::edge::Edge;
 ghost use mathlib.Core.Path.{_≡_};
+ghost use mathlib.Core.Bool.{true};
 ghost use lib.Dec.{T};
 ghost use lib.ListN.{length};
-ghost use Prim.Native.Nat.{_-_, _≤_, _<_};
-ghost use Rattle.geometry.specs.code.Reach.{EdgeIn, PositionIn, CornersIn};
-ghost use Rattle.geometry.specs.Windings.{line, edgeOf, nextCorner, linesFrom, adds, sumOf, winding, contoursTo, follow};
+ghost use Prim.Native.Nat.{_+_, _-_, _≤_, _<_};
+ghost use Rattle.curves.specs.code.Reach.{PositionIn};
+ghost use Rattle.geometry.specs.code.Reach.{EdgeIn, CornersIn};
+ghost use Rattle.geometry.specs.Windings.{line, curve, edgeOf, nextCorner, straightLines, adds, sumOf, winding, contoursTo, follow};
 
 // The edge drawn from corner p to corner q.
 pub fn edge_between(xs: &[u32], ys: &[u32], p: usize, q: usize) -> Edge
@@ -21,15 +23,51 @@ pub fn edge_between(xs: &[u32], ys: &[u32], p: usize, q: usize) -> Edge
         y0: ys[p],
         x1: xs[q],
         y1: ys[q],
+        bent: false,
+        cx: 0,
+        cy: 0,
     }
 }
 
-// What an edge adds to the winding at (x, y).
+// The curve whose first corner is corner p.
+pub fn curve_from(xs: &[u32], ys: &[u32], p: usize) -> Edge
+    requires { ⌜ p + 2 < length (now xs) ⌝ }
+    requires { ⌜ p + 2 < length (now ys) ⌝ }
+    ensures answer { λ r. ⌜ r ≡ edgeOf (now (xs .entry)) (now (ys .entry)) (curve p) ⌝ }
+{
+    Edge {
+        x0: xs[p],
+        y0: ys[p],
+        x1: xs[p + 2],
+        y1: ys[p + 2],
+        bent: true,
+        cx: xs[p + 1],
+        cy: ys[p + 1],
+    }
+}
+
+// What a curve adds to the winding at (x, y).
+fn bent_adds(e: Edge, x: u32, y: u32) -> i64
+    requires { ⌜ EdgeIn e ⌝ }
+    requires { ⌜ e .bent ≡ true ⌝ }
+    requires { ⌜ PositionIn x y ⌝ }
+    ensures answer { λ r. ⌜ r ≡ adds e x y ⌝ }
+{
+    if edge::bent_counts(e.x0, e.y0, e.cx, e.cy, e.x1, e.y1, x, y) {
+        return edge::edge_sign(e);
+    }
+    0
+}
+
+// What an edge adds to the winding at (x, y). A curve goes its own way, so that a straight edge's stays short.
 pub fn edge_adds(e: Edge, x: u32, y: u32) -> i64
     requires { ⌜ EdgeIn e ⌝ }
     requires { ⌜ PositionIn x y ⌝ }
     ensures answer { λ r. ⌜ r ≡ adds e x y ⌝ }
 {
+    if e.bent {
+        return bent_adds(e, x, y);
+    }
     if edge::edge_counts(e, x, y) {
         edge::edge_sign(e)
     } else {
@@ -67,7 +105,7 @@ fn contour_winding(xs: &[u32], ys: &[u32], first: usize, end: usize, x: u32, y: 
     requires { ⌜ first ≤ end ⌝ }
     requires { ⌜ end ≤ length (now xs) ⌝ }
     requires { ⌜ PositionIn x y ⌝ }
-    ensures answer { λ r. ⌜ r ≡ sumOf (now (xs .entry)) (now (ys .entry)) (linesFrom first first (end - first)) x y ⌝ }
+    ensures answer { λ r. ⌜ r ≡ sumOf (now (xs .entry)) (now (ys .entry)) (straightLines first first (end - first)) x y ⌝ }
 {
     let mut sum: i64 = 0;
     let mut i = first;

@@ -7,11 +7,11 @@ use native.Mathlib.Omega.{arith}
 use lib.ListN.{length}
 use borrow.Author.Tests.{ltb-true}
 use Rattle.refusals.specs.declared.Refusal.{Refusal}
-use Rattle.refusals.specs.declared.Refusal.the-variants.{Unfit, Short, Limit}
+use Rattle.refusals.specs.declared.Refusal.the-variants.{Unfit, Short, Limit, Curve}
 use Rattle.laws.proofs.Booleans.{clash}
 use Rattle.groups.specs.Sides.{isEmpty}
 use Rattle.records.specs.declared.Record.{Record}
-use Rattle.records.specs.declared.Record.the-variants.{Area, First, Next, Open, Bar, Close}
+use Rattle.records.specs.declared.Record.the-variants.{Area, First, Next, Open, Bar, Close, Control}
 use Rattle.records.specs.declared.Decoded.{Decoded}
 use Rattle.records.specs.declared.Decoded.the-variants.{Good, Bad}
 use Rattle.grammar.specs.declared.Counts.{Counts}
@@ -19,6 +19,7 @@ use Rattle.grammar.specs.declared.Verdict.the-variants.{Accepted, Refuse
 use Rattle.grammar.specs.Grammar.{
   Progress,
   progress,
+  breaks,
   fits,
   isShort,
   endsShort,
@@ -72,17 +73,21 @@ moved p (Next x y) h = record { areas = omega arith; corners = refl; few = λ l.
 moved p Open h = record { areas = omega arith; corners = omega arith; few = λ l. l; many = λ l. l }
 moved p Bar h = record { areas = omega arith; corners = omega arith; few = λ l. l; many = λ l. l }
 moved p Close h = record { areas = omega arith; corners = omega arith; few = λ l. l; many = λ l. l }
+moved p (Control x y) h = record { areas = omega arith; corners = refl; few = λ l. l; many = λ l. omega (arith, ltb-true (p .corners) 2048 h) }
 
 -- a step that goes on
 went : (p p′ : Progress) (r : Record) (i : ℕ) → next p r i ≡ at p′ → Moved p p′ r
-went p p′ r i = go (fits p r) (endsShort p r) (inLimit p r) refl
+went p p′ r i = go (breaks p r) (fits p r) (endsShort p r) (inLimit p r) refl
   where
-    go : (a b d : Bool) → inLimit p r ≡ d
-        → cond a (cond b (stopped Short i) (cond d (at (after p r)) (stopped Limit i))) (stopped Unfit i) ≡ at p′ → Moved p p′ r
-    go false b d h e = halted Unfit i p′ e
-    go true true d h e = halted Short i p′ e
-    go true false false h e = halted Limit i p′ e
-    go true false true h e = rw (← same-progress (after p r) p′ e) (moved p r h)
+    go : (w a b d : Bool)
+        → inLimit p r ≡ d
+        → cond w (stopped Curve i) (cond a (cond b (stopped Short i) (cond d (at (after p r)) (stopped Limit i))) (stopped Unfit i)) ≡ at p′
+        → Moved p p′ r
+    go true a b d h e = halted Curve i p′ e
+    go false false b d h e = halted Unfit i p′ e
+    go false true true d h e = halted Short i p′ e
+    go false true false false h e = halted Limit i p′ e
+    go false true false true h e = rw (← same-progress (after p r) p′ e) (moved p r h)
 
 more : (p p′ q : Progress) (r : Record) (ds : List Decoded) → Moved p p′ r → Ran p′ q ds → Ran p q (Good r ∷ ds)
 more p p′ q r ds m n =
@@ -124,16 +129,19 @@ same-counts j k e = cc
 
 ended : (c : Course) (ds : List Decoded) (k : Counts) → course begin 0 ds ≡ c → final c (length ds) ≡ Accepted k → Sound ds k
 ended (stopped x i) ds k h e = refused-not x i k e
-ended (at q) ds k h f = go (isEmpty (q .groups)) (isShort (q .run)) f
+ended (at q) ds k h f = go (q .bends) (isEmpty (q .groups)) (isShort (q .run)) f
   where
     n : ℕ
     n = length ds
 
-    go : (a b : Bool) → cond a (cond b (Refused Short n) (Accepted (counts n (q .areas) (q .corners)))) (Refused Unfit n) ≡ Accepted k → Sound ds k
-    go false b e = refused-not Unfit n k e
-    go true true e = refused-not Short n k e
-    go true false e =
-        let m = ran (progress [] false 0 0 0) q 0 ds h in
+    go : (w a b : Bool)
+        → cond w (Refused Unfit n) (cond a (cond b (Refused Short n) (Accepted (counts n (q .areas) (q .corners)))) (Refused Unfit n)) ≡ Accepted k
+        → Sound ds k
+    go true a b e = refused-not Unfit n k e
+    go false false b e = refused-not Unfit n k e
+    go false true true e = refused-not Short n k e
+    go false true false e =
+        let m = ran (progress [] false 0 0) q 0 ds h in
         rw (← same-counts (counts n (q .areas) (q .corners)) k e)
         (record {
           good = m .good;
@@ -163,13 +171,15 @@ placeOf (at p) = 0
 placeOf (stopped x i) = i
 
 next-place : (p : Progress) (r : Record) (i : ℕ) → placeOf (next p r i) ≤ i
-next-place p r i = go (fits p r) (endsShort p r) (inLimit p r)
+next-place p r i = go (breaks p r) (fits p r) (endsShort p r) (inLimit p r)
   where
-    go : (a b d : Bool) → placeOf (cond a (cond b (stopped Short i) (cond d (at (after p r)) (stopped Limit i))) (stopped Unfit i)) ≤ i
-    go false b d = omega arith
-    go true true d = omega arith
-    go true false false = omega arith
-    go true false true = omega arith
+    go : (w a b d : Bool)
+        → placeOf (cond w (stopped Curve i) (cond a (cond b (stopped Short i) (cond d (at (after p r)) (stopped Limit i))) (stopped Unfit i))) ≤ i
+    go true a b d = omega arith
+    go false false b d = omega arith
+    go false true true d = omega arith
+    go false true false false = omega arith
+    go false true false true = omega arith
 
 met-place : (c : Course) (d : Decoded) (i : ℕ) → placeOf (met c d i) ≤ max (placeOf c) i
 met-place (at p) (Good r) i = omega (arith, next-place p r i)
@@ -182,12 +192,15 @@ course-place c i [] = omega arith
 course-place c i (d ∷ ds) = omega (arith, course-place (met c d i) (i + 1) ds, met-place c d i)
 
 final-place : (c : Course) (n : ℕ) → Verdict·place (final c n) ≤ max (placeOf c) n
-final-place (at p) n = go (isEmpty (p .groups)) (isShort (p .run))
+final-place (at p) n = go (p .bends) (isEmpty (p .groups)) (isShort (p .run))
   where
-    go : (a b : Bool) → Verdict·place (cond a (cond b (Refused Short n) (Accepted (counts n (p .areas) (p .corners)))) (Refused Unfit n)) ≤ max 0 n
-    go false b = omega arith
-    go true true = omega arith
-    go true false = omega arith
+    go : (w a b : Bool)
+        → Verdict·place (cond w (Refused Unfit n) (cond a (cond b (Refused Short n) (Accepted (counts n (p .areas) (p .corners)))) (Refused Unfit n)))
+        ≤ max 0 n
+    go true a b = omega arith
+    go false false b = omega arith
+    go false true true = omega arith
+    go false true false = omega arith
 final-place (stopped x i) n = omega arith
 
 pub place-below : (ds : List Decoded) → Verdict·place (checked ds) ≤ length ds

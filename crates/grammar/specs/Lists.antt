@@ -2,7 +2,7 @@
 use Prim.Native.Nat.{ℕ, _+_}
 use mathlib.Core.List.{List, [], _∷_}
 use Rattle.records.specs.declared.Record.{Record}
-use Rattle.records.specs.declared.Record.the-variants.{Area, First, Next, Open, Bar, Close}
+use Rattle.records.specs.declared.Record.the-variants.{Area, First, Next, Open, Bar, Close, Control}
 use Rattle.records.specs.declared.Decoded.{Decoded}
 use Rattle.records.specs.declared.Decoded.the-variants.{Good, Bad}
 
@@ -19,6 +19,7 @@ areaOne (Next x y) = 0
 areaOne Open = 0
 areaOne Bar = 0
 areaOne Close = 0
+areaOne (Control x y) = 0
 
 abbrev pub cornerOne : Record → ℕ
 cornerOne (Area f) = 0
@@ -27,6 +28,7 @@ cornerOne (Next x y) = 1
 cornerOne Open = 0
 cornerOne Bar = 0
 cornerOne Close = 0
+cornerOne (Control x y) = 1
 
 abbrev pub areasIn : List Record → ℕ
 areasIn [] = 0

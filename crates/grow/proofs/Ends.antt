@@ -10,7 +10,21 @@ use borrow.Author.Tests.{eqb-true}
 use Rattle.laws.proofs.Booleans.{clash}
 use Rattle.refusals.specs.Refusals.{numberOf}
 use Rattle.refusals.specs.declared.Refusal.{Refusal}
-use Rattle.refusals.specs.declared.Refusal.the-variants.{Length, Kind, Field, Unfit, Short, Limit, Argument, NoCell, AlreadySplit, Smallest, Room, Broken}
+use Rattle.refusals.specs.declared.Refusal.the-variants.{
+  Length,
+  Kind,
+  Field,
+  Unfit,
+  Short,
+  Limit,
+  Argument,
+  NoCell,
+  AlreadySplit,
+  Smallest,
+  Room,
+  Broken,
+  Curve,
+}
 use Rattle.split.specs.declared.Answer as Splitting
 use Rattle.split.specs.declared.Answer.the-variants.{Split, Not}
 use Rattle.tables.specs.Tables.{Tree, cellsUsed, countsIn}
@@ -200,6 +214,7 @@ eleven AlreadySplit e = absurd (omega arith)
 eleven Smallest e = absurd (omega arith)
 eleven Room e = refl
 eleven Broken e = absurd (omega arith)
+eleven Curve e = absurd (omega arith)
 
 abbrev isAt : Lowest → Bool
 isAt none = false

@@ -207,7 +207,7 @@ module _ (areas : List ℕ) (D : Drawing) (c : Cell) (agrees : (n : ℕ) → n <
         named-in = (i, omega arith);
       }
 
-  -- ---- a line or a shortcut
+  -- ---- a line, a curve or a shortcut
 
   abbrev weights : List Segment → ℕ
   weights gs = total elementSize (map segment gs)

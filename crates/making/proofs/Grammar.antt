@@ -14,7 +14,7 @@ use Rattle.groups.specs.Sides.{isPaint, onLeft, onRight}
 use Rattle.records.specs.declared.Record.the-variants.{Area}
 use Rattle.records.specs.declared.Decoded.the-variants.{Good, Bad}
 use Rattle.refusals.specs.declared.Refusal.the-variants.{Field}
-use Rattle.records.specs.Record.{inRange}
+use Rattle.records.specs.Record.{inRange, isGood}
 use Rattle.drawing.specs.Tables.{fieldsAt, areaRow}
 use Rattle.pruning.specs.Sides.{Kind, paint, clip, flat}
 use Rattle.pruning.specs.Grammar as Sides
@@ -24,7 +24,7 @@ use Rattle.stream.specs.declared.Words.{Words}
 use Rattle.stream.specs.Entry as Entries
 use Rattle.stream.specs.Entry.{startRange}
 use Rattle.stream.specs.Grammar as Stream
-use Rattle.stream.specs.Grammar.{Env, Place, at, isGood, off, areaMet, recordFits, roleFits, fits, inLimit, after, course, isWhole, accepts}
+use Rattle.stream.specs.Grammar.{Env, Place, at, off, areaMet, recordFits, roleFits, fits, inLimit, after, course, isWhole, accepts}
 use Rattle.stream.proofs.Passed.{off-stays}
 use Rattle.cells.specs.Streams.{Item}
 use Rattle.cells.specs.Segments.{Segment}

@@ -1,4 +1,4 @@
--- The kinds of entries, with lines and shortcuts as one case; what the range of an entry says of its line or shortcut.
+-- The kinds of entries, with lines, curves and shortcuts as one case; what the range of an entry says of its line, curve or shortcut.
 use mathlib.Core.Path.{_≡_, refl, sym, ap, subst, _∙_}
 use mathlib.Core.Bool.{Bool, true, false, cond}
 use mathlib.Core.List.{List}
@@ -15,10 +15,10 @@ use Rattle.cells.specs.Segments.{Segment, drawn, shortcut, signOf}
 use Rattle.cells.proofs.Bounds.{sign-abs}
 use Rattle.stream.specs.declared.Words.{Words}
 use Rattle.stream.specs.Entry as Entries
-use Rattle.stream.specs.Entry.{decode, isLine, isSegment, signRange}
-use Rattle.stream.specs.Grammar.{Place, place, after, lineRange}
+use Rattle.stream.specs.Entry.{decode, isCurve, isLine, isSegment, signRange}
+use Rattle.stream.specs.Grammar.{Place, place, after}
 use Rattle.stream.proofs.Entries.{segmentEntry, decode-is, decode-segment}
-use Rattle.evaluate.specs.code.Numbers.{lineOf, segmentOf, segmentRange}
+use Rattle.evaluate.specs.code.Numbers.{lineOf, lineMet, segmentOf, segmentRange}
 use Rattle.evaluate.proofs.Laws.{shortcut-small, line-used}
 use Rattle.making.specs.code.Numbers.{leftSign, leftRange}
 
@@ -48,13 +48,16 @@ by-kind w P p₁ p₂ p₃ p₄ pₛ p₇ p₈ = subst P (sym (decode-is w)) (te
         go true s = subst P (decode-segment w s) (pₛ s)
         go false s = g
 
--- the place behind a line or a shortcut
+-- the place behind a line, a curve or a shortcut
 pub after-segment : (p : Place) (w : Words) → isSegment (w .kind) ≡ true → after p (decode w) ≡ place (p .groups) true (p .areas) (p .lines + 1)
-after-segment p w s = ap (after p) (decode-segment w s) ∙ go (isLine (w .kind))
+after-segment p w s = ap (after p) (decode-segment w s) ∙ go (isLine (w .kind)) (isCurve (w .kind))
   where
-    go : (l : Bool) → after p (cond l (Entries.line (w .p) (w .q)) (Entries.shortcut (w .p) (w .q) (w .r))) ≡ place (p .groups) true (p .areas) (p .lines + 1)
-    go true = refl
-    go false = refl
+    go : (l c : Bool)
+        → after p (cond l (cond c (Entries.curve (w .p)) (Entries.line (w .p) (w .q))) (Entries.shortcut (w .p) (w .q) (w .r)))
+        ≡ place (p .groups) true (p .areas) (p .lines + 1)
+    go true true = refl
+    go true false = refl
+    go false c = refl
 
 -- ---- ranges
 
@@ -68,16 +71,16 @@ module _ (xs ys : List ℕ) (corners : ℕ) (w : Words) where
   range-below = go (isLine (w .kind))
     where
       go : (b : Bool)
-          → cond b (lineRange xs ys corners (w .p) (w .q)) (signRange (w .p)) ≡ true
+          → cond b (lineMet xs ys corners (lineOf w)) (signRange (w .p)) ≡ true
           → SegmentBelow corners (cond b (drawn (lineOf w)) (shortcut (toZ w32 (w .p)) (w .q) (w .r)))
-      go true h = line-used xs ys corners (w .p) (w .q) h
+      go true h = line-used xs ys corners (lineOf w) h
       go false h = tt
 
   pub range-sign : (xs′ ys′ : List ℕ) → segmentRange xs ys corners w ≡ true → natAbs (signOf xs′ ys′ (segmentOf w)) ≤ 1
   range-sign xs′ ys′ = go (isLine (w .kind))
     where
       go : (b : Bool)
-          → cond b (lineRange xs ys corners (w .p) (w .q)) (signRange (w .p)) ≡ true
+          → cond b (lineMet xs ys corners (lineOf w)) (signRange (w .p)) ≡ true
           → natAbs (signOf xs′ ys′ (cond b (drawn (lineOf w)) (shortcut (toZ w32 (w .p)) (w .q) (w .r)))) ≤ 1
       go true h = sign-abs (edgeOf xs′ ys′ (lineOf w))
       go false h = shortcut-small (w .p) true h

@@ -8,7 +8,7 @@ use lib.Dec.{eqb}
 use lib.ListN.{length, take}
 use lib.Seq.{getD-take}
 use Rattle.geometry.specs.FillRules as FillRules
-use Rattle.geometry.specs.Windings.{Line, line, edgeOf}
+use Rattle.geometry.specs.Windings.{Line, edgeOf}
 use Rattle.geometry.specs.code.Reach.{LineBelow}
 use Rattle.records.specs.declared.Fields.{Fields}
 use Rattle.drawing.specs.Tables.{fieldsAt}
@@ -17,6 +17,7 @@ use Rattle.stream.specs.declared.Bounds.{Bounds}
 use Rattle.stream.specs.Grammar.{env}
 use Rattle.evaluate.specs.Words.{Agrees}
 use Rattle.ranges.specs.Held.{fieldsFrom, lent}
+use Rattle.ranges.proofs.Numbers.{edges-agree}
 use Rattle.ranges.proofs.Reading.{fields-at}
 use Rattle.making.proofs.Standing.{Reads}
 
@@ -38,13 +39,9 @@ module _ (areas xs ys : List ℕ) (b : Bounds) where
       }
 
   lent-edges : (l : Line) → LineBelow (b .corners) l → edgeOf (take (b .corners) xs) (take (b .corners) ys) l ≡ edgeOf xs ys l
-  lent-edges (line p q) h =
-      rw (
-        getD-take (b .corners) xs p 0 (h .0),
-        getD-take (b .corners) ys p 0 (h .0),
-        getD-take (b .corners) xs q 0 (h .1),
-        getD-take (b .corners) ys q 0 (h .1),
-      )
+  lent-edges =
+      edges-agree (b .corners) (take (b .corners) xs) (take (b .corners) ys) xs ys (λ k. getD-take (b .corners) xs k 0)
+      (λ k. getD-take (b .corners) ys k 0)
 
   pub lent-reads : Reads (env areas xs ys b) (lent areas xs ys b)
   lent-reads = record { fields = fields-length areas 0 (b .areas); agrees = lent-agrees; edges = lent-edges }

@@ -21,7 +21,8 @@ use Rattle.stream.specs.declared.Bounds.{Bounds}
 use Rattle.stream.specs.Entry as Entries
 use Rattle.stream.specs.Entry.{startRange}
 use Rattle.stream.specs.Grammar as Stream
-use Rattle.stream.specs.Grammar.{Env, env, Place, at, isGood, areaMet, after, course, isWhole, accepts}
+use Rattle.records.specs.Record.{isGood}
+use Rattle.stream.specs.Grammar.{Env, env, Place, at, areaMet, after, course, isWhole, accepts}
 use Rattle.evaluate.specs.Reading.{elementFor, elementsIn, roleAt, passAt, opaqueAt, setAt}
 use Rattle.evaluate.specs.Words.{EachAgrees}
 use Rattle.evaluate.specs.code.Numbers.{segmentOf}
@@ -35,7 +36,7 @@ use Rattle.making.proofs.Standing.{Reads}
 use Rattle.making.proofs.Lent.{lent-reads}
 
 module _ (v : Env) (D : Drawing) (R : Reads v D) (x y : ℕ) where
-  -- the tables and the drawing agree on the areas, lines and shortcuts of elements
+  -- the tables and the drawing agree on the areas, lines, curves and shortcuts of elements
   abbrev Same : List Element → Type 0
   Same ws =
       EachAgrees (v .areas) D ws

@@ -62,7 +62,7 @@ module _ (v : Env) (D : Drawing) (c : Cell) (R : Reads v D) where
         short = omega (arith, q .1, step-short (v .areas) D c (R .agrees) (settle D c m) e (q .0), l);
       }
 
-  -- a line or a shortcut leaves one segment at most
+  -- a line, a curve or a shortcut leaves one segment at most
   kept-short : (gs : List Segment) (g : Segment) (f : Classes.Class) → length (gs ++ keptBy (D .xs) (D .ys) f g []) ≤ length gs + 1
   kept-short gs g Dropped = rw (append-nil gs) (omega arith)
   kept-short gs g Start = rw (append-nil gs) (omega arith)

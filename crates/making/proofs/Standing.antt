@@ -45,7 +45,7 @@ pub record Reads (v : Env) (D : Drawing) : Type 0 where
   pub agrees : (n : ℕ) → n < length (D .fields) → Agrees (v .areas) D n
   pub edges : (l : Line) → LineBelow (v .used .corners) l → edgeOf (D .xs) (D .ys) l ≡ edgeOf (v .xs) (v .ys) l
 
--- a line or a shortcut has the same sign and class by both
+-- a line, a curve or a shortcut has the same sign and class by both
 module _ (v : Env) (D : Drawing) (R : Reads v D) where
   pub sign-same : (g : Segment) → SegmentBelow (v .used .corners) g → signOf (D .xs) (D .ys) g ≡ signOf (v .xs) (v .ys) g
   sign-same (drawn l) h = ap sign (R .edges l h)

@@ -30,7 +30,8 @@ use Rattle.cells.specs.code.Making.{Waiting, nothing, held, Making, making, pru
 use Rattle.stream.specs.declared.Words.{Words}
 use Rattle.stream.specs.Entry as Entries
 use Rattle.stream.specs.Entry.{decode, isSegment, startRange}
-use Rattle.stream.specs.Grammar.{Env, at, after, inRange, isGood, areaMet}
+use Rattle.records.specs.Record.{isGood}
+use Rattle.stream.specs.Grammar.{Env, at, after, inRange, areaMet}
 use Rattle.pruner.specs.declared.Pruner.{Pruner}
 use Rattle.pruner.specs.code.Numbers.{counted, baseOf, skipIn}
 use Rattle.pruner.proofs.Near.{counted-weight, counted-base, counted-skip, counted-depth}

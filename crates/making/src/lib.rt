@@ -1,4 +1,4 @@
-// A stream made from another in a cell, one entry at a time, counted: what is left of its lines and shortcuts, and the pruner.
+// A stream made from another in a cell, one entry at a time, counted: what is left of its lines, curves and shortcuts, and the pruner.
 use geometry::class;
 use geometry::class::Class;
 use geometry::class::Square;
@@ -20,10 +20,11 @@ ghost use Rattle.stream.specs.Entry.{startRange, signRange};
 ghost use Rattle.evaluate.specs.code.Numbers.{lineOf};
 ghost use Rattle.pruning.specs.code.Counters.{lengthOf};
 ghost use Rattle.pruner.specs.code.Numbers.{counted};
-ghost use Rattle.making.specs.code.Numbers.{leftSign, leftClass, leftRange, waiting, resting, withLeft, waitingN, classN, settledN, movedN, prunesN};
+ghost use Rattle.making.specs.code.Numbers.{leftSign, leftClass, leftRange, waiting, resting, withLeft, waitingFrom, waitingN};
+ghost use Rattle.making.specs.code.Numbers.{classN, settledN, movedN, prunesN};
 ghost use Rattle.making.specs.code.Numbers.{prunedN, Room, Inside};
 
-// ---- what is left of a line or a shortcut in a square
+// ---- what is left of a line, a curve or a shortcut in a square
 pub struct Left {
     pub sign: i64,
     pub class: Class,
@@ -54,7 +55,7 @@ fn shortcut_left(s: Square, w: Words) -> Left
     Left { sign: -1, class: k }
 }
 
-// Of an entry that is neither: nothing.
+// Of an entry of another kind: nothing.
 pub fn left_of(xs: &[u32], ys: &[u32], corners: usize, s: Square, w: Words) -> Left
     requires { ⌜ (corners ≤ length (now xs)) × (corners ≤ length (now ys)) ⌝ }
     requires { ⌜ leftRange (now xs) (now ys) corners w ≡ true ⌝ }
@@ -74,8 +75,8 @@ pub fn left_of(xs: &[u32], ys: &[u32], corners: usize, s: Square, w: Words) -> L
 }
 
 // ---- the area that waits
-// Whether an area waits for its lines and shortcuts, its number, its start number, and its weight: 4,294,967,297 for the area, 65,537 for each
-// line, 1 for each shortcut.
+// Whether an area waits for its lines, curves and shortcuts, its number, its start number, and its weight: 4,294,967,297 for the area, 65,537 for
+// each line and curve, 1 for each shortcut.
 pub struct Waiting {
     pub waits: bool,
     pub number: u32,
@@ -121,8 +122,8 @@ fn grown(a: Waiting, weight: u64) -> Waiting
     }
 }
 
-// A line or a shortcut with this sign and class, of the area that waits.
-fn with_left(a: Waiting, k: Class, sign: i64) -> Waiting
+// A line, a curve or a shortcut with this sign and class, of the area that waits.
+pub fn with_left(a: Waiting, k: Class, sign: i64) -> Waiting
     requires { ⌜ (natAbs (a .start) ≤ 8192) × (natAbs sign ≤ 1) × (a .weight < 2 ^ 60) ⌝ }
     ensures answer { λ r. ⌜ r ≡ withLeft a k sign ⌝ }
 {
@@ -150,6 +151,17 @@ fn with_left(a: Waiting, k: Class, sign: i64) -> Waiting
     a
 }
 
+// After an entry that is no line, curve or shortcut.
+pub fn waiting_from(w: Words) -> Waiting
+    requires { ⌜ (w .kind ≡ 4 → startRange (w .q) ≡ true) ⌝ }
+    ensures answer { λ r. ⌜ r ≡ waitingFrom w ⌝ }
+{
+    if w.kind == stream::ENTRY_AREA {
+        return named(w);
+    }
+    rest()
+}
+
 // After an entry, of which l is left.
 pub fn waiting_after(a: Waiting, l: Left, w: Words) -> Waiting
     requires { ⌜ (natAbs (a .start) ≤ 8192) × (natAbs (l .sign) ≤ 1) × (a .weight < 2 ^ 60) ⌝ }
@@ -160,10 +172,7 @@ pub fn waiting_after(a: Waiting, l: Left, w: Words) -> Waiting
         let k = l.class;
         return with_left(a, k, l.sign);
     }
-    if w.kind == stream::ENTRY_AREA {
-        return named(w);
-    }
-    rest()
+    waiting_from(w)
 }
 
 // ---- the pruner
@@ -219,7 +228,7 @@ fn moved(p: Pruner, kind: u32) -> Pruner
     }
 }
 
-// Whether an entry of this kind is for the pruner: a line and a shortcut leave it as it is.
+// Whether an entry of this kind is for the pruner: a line, a curve and a shortcut leave it as it is.
 pub fn prunes(kind: u32) -> bool
     ensures answer { λ r. ⌜ r ≡ prunesN kind ⌝ }
 {

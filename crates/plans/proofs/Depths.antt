@@ -7,7 +7,7 @@ use lib.ListN.{length}
 use borrow.Author.Tests.{ltb-true}
 use Rattle.groups.specs.Sides.{Frame, paintLeft, paintRight, clipLeft, clipRight, toRight, toOuter}
 use Rattle.records.specs.declared.Record.{Record}
-use Rattle.records.specs.declared.Record.the-variants.{Area, First, Next, Open, Bar, Close}
+use Rattle.records.specs.declared.Record.the-variants.{Area, First, Next, Control, Open, Bar, Close}
 use Rattle.grammar.specs.Grammar.{Progress, after}
 use Rattle.pruning.specs.Sides.{Kind, paint, clip, Side, end, leaf, group, Entry, item, push, activate, pop}
 use Rattle.pruning.proofs.Sides.{flatOver, flat-is-over}
@@ -41,6 +41,7 @@ eight-run [] p a h = tt
 eight-run (Area f ∷ rs) p a h = eight-run rs (after p (Area f)) (suc a) (h .1)
 eight-run (First x y ∷ rs) p a h = eight-run rs (after p (First x y)) a (h .1)
 eight-run (Next x y ∷ rs) p a h = eight-run rs (after p (Next x y)) a (h .1)
+eight-run (Control x y ∷ rs) p a h = eight-run rs (after p (Control x y)) a (h .1)
 eight-run (Open ∷ rs) p a h = (ltb-true (length (p .groups)) 8 (h .0 .room), eight-run rs (after p Open) a (h .1))
 eight-run (Bar ∷ rs) p a h = subst (λ d. Eight d (entriesFrom a rs)) (right-length (p .groups)) (eight-run rs (after p Bar) a (h .1))
 eight-run (Close ∷ rs) p a h = subst (λ d. Eight d (entriesFrom a rs)) (outer-length (p .groups)) (eight-run rs (after p Close) a (h .1))

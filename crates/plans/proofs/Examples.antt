@@ -3,11 +3,13 @@ use mathlib.Core.Path.{_≡_, refl}
 use mathlib.Core.List.{List, [], _∷_}
 use native.Mathlib.Omega.{arith}
 use lib.IntN.{pos}
-use Rattle.geometry.specs.Edges.{counts, lineCounts, product, sign}
-use Rattle.geometry.specs.Windings.{contour, line, adds, sumOf}
+use Rattle.curves.specs.Lines.{lineCounts, product}
+use Rattle.curves.specs.Curves.{curveFits, side, curveCounts}
+use Rattle.geometry.specs.Edges.{counts, sign}
+use Rattle.geometry.specs.Windings.{straight, bent, contour, line, curve, adds, sumOf}
 use Rattle.records.specs.declared.Fields.{Fields}
 use Rattle.records.specs.declared.Record.{Record}
-use Rattle.records.specs.declared.Record.the-variants.{Area, First, Next, Open, Bar, Close}
+use Rattle.records.specs.declared.Record.the-variants.{Area, First, Next, Control, Open, Bar, Close}
 use Rattle.records.specs.Record.{areaRange}
 use Rattle.grammar.specs.Grammar as Grammar
 use Rattle.read.specs.Words.{joined}
@@ -40,7 +42,13 @@ abbrev triangle : List Record
 triangle = Area black ∷ First 0 0 ∷ Next 10 0 ∷ Next 10 10 ∷ []
 
 triangle-drawing : drawingFrom triangle
-    ≡ record { fields = black ∷ []; xs = 0 ∷ 10 ∷ 10 ∷ []; ys = 0 ∷ 0 ∷ 10 ∷ []; contours = (contour 0 3 ∷ []) ∷ []; plan = leaf 0 end }
+    ≡ record {
+      fields = black ∷ [];
+      xs = 0 ∷ 10 ∷ 10 ∷ [];
+      ys = 0 ∷ 0 ∷ 10 ∷ [];
+      contours = (contour 0 (straight ∷ straight ∷ []) ∷ []) ∷ [];
+      plan = leaf 0 end;
+    }
 unfolding joined
 triangle-drawing = refl
 
@@ -67,6 +75,44 @@ triangle-accepted = record { range = refl; below = omega arith; fold = refl }
 triangle-valid : Valid (drawingFrom triangle)
 triangle-valid = accepted-valid triangle (Grammar.counts 4 1 3) triangle-accepted
 
+-- ---- one area with a curved side: from (0, 0) by the control corner (8, 0) to (8, 8)
+
+abbrev berm : List Record
+berm = Area black ∷ First 0 0 ∷ Control 8 0 ∷ Next 8 8 ∷ Next 0 8 ∷ []
+
+berm-drawing : drawingFrom berm
+    ≡ record {
+      fields = black ∷ [];
+      xs = 0 ∷ 8 ∷ 8 ∷ 0 ∷ [];
+      ys = 0 ∷ 0 ∷ 8 ∷ 8 ∷ [];
+      contours = (contour 0 (bent ∷ straight ∷ []) ∷ []) ∷ [];
+      plan = leaf 0 end;
+    }
+unfolding joined
+berm-drawing = refl
+
+berm-lines : lines (drawingFrom berm) 0 ≡ curve 0 ∷ line 2 3 ∷ line 3 0 ∷ []
+berm-lines = refl
+
+berm-source : sourceOf berm ≡ named 0 (pos 0) ∷ segment (drawn (curve 0)) ∷ segment (drawn (line 2 3)) ∷ segment (drawn (line 3 0)) ∷ []
+berm-source = refl
+
+-- left of the curve, and on it
+berm-inside : winding (drawingFrom berm) 0 (at 5 2) ≡ pos 1
+unfolding joined sumOf adds counts lineCounts curveCounts side product sign
+berm-inside = refl
+
+berm-on : winding (drawingFrom berm) 0 (at 6 2) ≡ pos 0
+unfolding joined sumOf adds counts lineCounts curveCounts side product sign
+berm-on = refl
+
+berm-accepted : Acceptable berm (Grammar.counts 5 1 4)
+unfolding areaRange curveFits Grammar.checked Grammar.course
+berm-accepted = record { range = refl; below = omega arith; fold = refl }
+
+berm-valid : Valid (drawingFrom berm)
+berm-valid = accepted-valid berm (Grammar.counts 5 1 4) berm-accepted
+
 -- ---- a group: on its left a clip area of two contours, on its right an area with no contour, and the triangle behind it
 
 abbrev clipped : List Record
@@ -89,7 +135,10 @@ clipped =
     ∷ Next 10 10
     ∷ []
 
-clipped-contours : drawingFrom clipped .contours ≡ (contour 0 3 ∷ contour 3 4 ∷ []) ∷ [] ∷ (contour 7 3 ∷ []) ∷ []
+clipped-contours : drawingFrom clipped .contours ≡ (contour 0 (straight ∷ straight ∷ []) ∷ contour 3 (straight ∷ straight ∷ straight ∷ []) ∷ [])
+    ∷ []
+    ∷ (contour 7 (straight ∷ straight ∷ []) ∷ [])
+    ∷ []
 clipped-contours = refl
 
 clipped-plan : drawingFrom clipped .plan ≡ group (leaf 0 end) (leaf 1 end) (leaf 2 end)

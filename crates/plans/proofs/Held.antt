@@ -8,7 +8,7 @@ use lib.ListN.{length, getD, take}
 use Rattle.laws.proofs.Booleans.{and-left, and-right}
 use Rattle.records.specs.declared.Fields.{Fields}
 use Rattle.records.specs.declared.Record.{Record}
-use Rattle.records.specs.declared.Record.the-variants.{Area, First, Next, Open, Bar, Close}
+use Rattle.records.specs.declared.Record.the-variants.{Area, First, Next, Control, Open, Bar, Close}
 use Rattle.records.specs.declared.Decoded.the-variants.{Good}
 use Rattle.records.specs.Record.{inRange}
 use Rattle.grammar.specs.declared.Counts.{Counts}
@@ -44,6 +44,7 @@ fields-held t (Area f ∷ rs) i n e h =
     ap (fieldsFrom t i) s ∙ (λ d. row-fields t i f (area-here t f rs i h .same) d ∷ fields-held t rs (i + 1) (areasIn rs) refl (area-rest t f rs i h) d)
 fields-held t (First x y ∷ rs) i n e h = fields-held t rs i n (omega arith) h
 fields-held t (Next x y ∷ rs) i n e h = fields-held t rs i n (omega arith) h
+fields-held t (Control x y ∷ rs) i n e h = fields-held t rs i n (omega arith) h
 fields-held t (Open ∷ rs) i n e h = fields-held t rs i n (omega arith) h
 fields-held t (Bar ∷ rs) i n e h = fields-held t rs i n (omega arith) h
 fields-held t (Close ∷ rs) i n e h = fields-held t rs i n (omega arith) h
@@ -68,6 +69,7 @@ module _ (t : Tables) (u : Counts) where
       (rows-held rs (i + 1) n (and-right (inRange (Area f)) (allRange rs) g) (area-rest (t .areas) f rs i h) (omega arith) (omega arith))
   rows-held (First x y ∷ rs) i n g h l m = rows-held rs i n (and-right (inRange (First x y)) (allRange rs) g) h (omega arith) (omega arith)
   rows-held (Next x y ∷ rs) i n g h l m = rows-held rs i n (and-right (inRange (Next x y)) (allRange rs) g) h (omega arith) (omega arith)
+  rows-held (Control x y ∷ rs) i n g h l m = rows-held rs i n (and-right (inRange (Control x y)) (allRange rs) g) h (omega arith) (omega arith)
   rows-held (Open ∷ rs) i n g h l m = rows-held rs i n g h (omega arith) (omega arith)
   rows-held (Bar ∷ rs) i n g h l m = rows-held rs i n g h (omega arith) (omega arith)
   rows-held (Close ∷ rs) i n g h l m = rows-held rs i n g h (omega arith) (omega arith)

@@ -1,16 +1,16 @@
 -- The numbers of a drawing made from records: its areas, their roles and fields, and its corners.
 use Prim.Native.Nat.{ℕ, zero, suc, _+_, _≤_, _<_}
 use mathlib.Core.Path.{_≡_, refl, sym, ap, _∙_, subst}
-use mathlib.Core.Bool.{true}
+use mathlib.Core.Bool.{Bool, true, false}
 use mathlib.Core.List.{List, [], _∷_, _++_}
 use native.Mathlib.Omega.{arith}
 use native.Mathlib.Nat.{add-suc, suc-add, add-zero, zero-add}
 use lib.ListN.{length, getD}
 use Rattle.laws.proofs.Booleans.{and-left, and-right}
-use Rattle.geometry.specs.Windings.{Line, linesFrom, linesOf}
+use Rattle.geometry.specs.Windings.{Line, Piece, straight, bent, linesFrom, linesOf}
 use Rattle.records.specs.declared.Fields.{Fields}
 use Rattle.records.specs.declared.Record.{Record}
-use Rattle.records.specs.declared.Record.the-variants.{Area, First, Next, Open, Bar, Close}
+use Rattle.records.specs.declared.Record.the-variants.{Area, First, Next, Control, Open, Bar, Close}
 use Rattle.records.specs.Record.{areaRange, cornerRange, inRange}
 use Rattle.grammar.specs.Lists.{areasIn, cornersIn}
 use Rattle.read.specs.Words.{joined, xWords, yWords, allRange}
@@ -18,7 +18,7 @@ use Rattle.pruning.specs.Sides.{Kind, paint, clip, Side, end, leaf, group, Entr
 use Rattle.cells.specs.Drawings.{noFields, kindOf}
 use Rattle.cells.specs.Streams.{Each, On}
 use Rattle.ranges.specs.code.Valid.{CornersBelow}
-use Rattle.plans.specs.Plans.{fieldsIn, nexts, contoursHere, contoursFrom, entriesFrom}
+use Rattle.plans.specs.Plans.{fieldsIn, pieces, contoursHere, contoursFrom, entriesFrom}
 
 -- ---- the areas' fields
 
@@ -27,6 +27,7 @@ fields-length [] = refl
 fields-length (Area f ∷ rs) = omega (arith, fields-length rs)
 fields-length (First x y ∷ rs) = omega (arith, fields-length rs)
 fields-length (Next x y ∷ rs) = omega (arith, fields-length rs)
+fields-length (Control x y ∷ rs) = omega (arith, fields-length rs)
 fields-length (Open ∷ rs) = omega (arith, fields-length rs)
 fields-length (Bar ∷ rs) = omega (arith, fields-length rs)
 fields-length (Close ∷ rs) = omega (arith, fields-length rs)
@@ -43,6 +44,7 @@ fields-range (Area f ∷ rs) h zero l = range-here (Area f) rs h
 fields-range (Area f ∷ rs) h (suc n) l = fields-range rs (range-rest (Area f) rs h) n (omega arith)
 fields-range (First x y ∷ rs) h n l = fields-range rs (range-rest (First x y) rs h) n l
 fields-range (Next x y ∷ rs) h n l = fields-range rs (range-rest (Next x y) rs h) n l
+fields-range (Control x y ∷ rs) h n l = fields-range rs (range-rest (Control x y) rs h) n l
 fields-range (Open ∷ rs) h n l = fields-range rs (range-rest Open rs h) n l
 fields-range (Bar ∷ rs) h n l = fields-range rs (range-rest Bar rs h) n l
 fields-range (Close ∷ rs) h n l = fields-range rs (range-rest Close rs h) n l
@@ -61,6 +63,8 @@ corners-range (First x y ∷ rs) h zero l = range-here (First x y) rs h
 corners-range (First x y ∷ rs) h (suc n) l = corners-range rs (range-rest (First x y) rs h) n (omega arith)
 corners-range (Next x y ∷ rs) h zero l = range-here (Next x y) rs h
 corners-range (Next x y ∷ rs) h (suc n) l = corners-range rs (range-rest (Next x y) rs h) n (omega arith)
+corners-range (Control x y ∷ rs) h zero l = range-here (Control x y) rs h
+corners-range (Control x y ∷ rs) h (suc n) l = corners-range rs (range-rest (Control x y) rs h) n (omega arith)
 corners-range (Open ∷ rs) h n l = corners-range rs (range-rest Open rs h) n l
 corners-range (Bar ∷ rs) h n l = corners-range rs (range-rest Bar rs h) n l
 corners-range (Close ∷ rs) h n l = corners-range rs (range-rest Close rs h) n l
@@ -92,6 +96,7 @@ module _ (all : List Fields) where
   )
   roles-from (First x y ∷ rs) a h = roles-from rs a h
   roles-from (Next x y ∷ rs) a h = roles-from rs a h
+  roles-from (Control x y ∷ rs) a h = roles-from rs a h
   roles-from (Open ∷ rs) a h = roles-from rs a h
   roles-from (Bar ∷ rs) a h = roles-from rs a h
   roles-from (Close ∷ rs) a h = roles-from rs a h
@@ -104,6 +109,7 @@ numbers-from m [] a h = tt
 numbers-from m (Area f ∷ rs) a h = (omega arith, numbers-from m rs (suc a) (omega arith))
 numbers-from m (First x y ∷ rs) a h = numbers-from m rs a (omega arith)
 numbers-from m (Next x y ∷ rs) a h = numbers-from m rs a (omega arith)
+numbers-from m (Control x y ∷ rs) a h = numbers-from m rs a (omega arith)
 numbers-from m (Open ∷ rs) a h = numbers-from m rs a (omega arith)
 numbers-from m (Bar ∷ rs) a h = numbers-from m rs a (omega arith)
 numbers-from m (Close ∷ rs) a h = numbers-from m rs a (omega arith)
@@ -135,19 +141,37 @@ module _ (rs : List Record) (s : Side ℕ) (e : entriesFrom 0 rs ≡ flat paint 
 
 -- ---- the corners of the lines
 
-pub nexts-few : (rs : List Record) → nexts rs ≤ cornersIn rs
-nexts-few [] = omega arith
-nexts-few (Area f ∷ rs) = omega arith
-nexts-few (First x y ∷ rs) = omega arith
-nexts-few (Next x y ∷ rs) = omega (arith, nexts-few rs)
-nexts-few (Open ∷ rs) = omega arith
-nexts-few (Bar ∷ rs) = omega arith
-nexts-few (Close ∷ rs) = omega arith
+-- the corners of a contour that has these pieces, control corners among them
+abbrev span : List Piece → ℕ
+span [] = 1
+span (straight ∷ ps) = 1 + span ps
+span (bent ∷ ps) = 2 + span ps
 
-below-from : (m first i n : ℕ) → first < m → i + n ≤ m → CornersBelow m (linesFrom first i n)
-below-from m first i zero h g = tt
-below-from m first i (suc zero) h g = ((omega arith, h), tt)
-below-from m first i (suc (suc n)) h g = ((omega arith, omega arith), below-from m first (suc i) (suc n) h (omega arith))
+span-some : (ps : List Piece) → 1 ≤ span ps
+span-some [] = omega arith
+span-some (straight ∷ ps) = omega arith
+span-some (bent ∷ ps) = omega (arith, span-some ps)
+
+-- one corner more where a control corner stands before these records
+abbrev extra : Bool → ℕ
+extra true = 1
+extra false = 0
+
+span-few : (rs : List Record) (b : Bool) → span (pieces b rs) ≤ 1 + extra b + cornersIn rs
+span-few [] b = omega arith
+span-few (Area f ∷ rs) b = omega arith
+span-few (First x y ∷ rs) b = omega arith
+span-few (Next x y ∷ rs) true = omega (arith, span-few rs false)
+span-few (Next x y ∷ rs) false = omega (arith, span-few rs false)
+span-few (Control x y ∷ rs) b = omega (arith, span-few rs true)
+span-few (Open ∷ rs) b = omega arith
+span-few (Bar ∷ rs) b = omega arith
+span-few (Close ∷ rs) b = omega arith
+
+below-from : (m first c : ℕ) (ps : List Piece) → first < m → c + span ps ≤ m → CornersBelow m (linesFrom first c ps)
+below-from m first c [] h g = ((omega arith, h), tt)
+below-from m first c (straight ∷ ps) h g = ((omega arith, omega (arith, span-some ps)), below-from m first (suc c) ps h (omega arith))
+below-from m first c (bent ∷ ps) h g = (omega (arith, span-some ps), below-from m first (suc (suc c)) ps h (omega arith))
 
 below-append : (m : ℕ) (x y : List Line) → CornersBelow m x → CornersBelow m y → CornersBelow m (x ++ y)
 below-append m [] y h g = g
@@ -157,9 +181,10 @@ below-here : (m : ℕ) (rs : List Record) (c : ℕ) → c + cornersIn rs ≤ m �
 below-here m [] c h = tt
 below-here m (Area f ∷ rs) c h = tt
 below-here m (First x y ∷ rs) c h =
-    below-append m (linesFrom c c (suc (nexts rs))) (linesOf (contoursHere (suc c) rs))
-    (below-from m c c (suc (nexts rs)) (omega arith) (omega (arith, nexts-few rs))) (below-here m rs (suc c) (omega arith))
+    below-append m (linesFrom c c (pieces false rs)) (linesOf (contoursHere (suc c) rs))
+    (below-from m c c (pieces false rs) (omega arith) (omega (arith, span-few rs false))) (below-here m rs (suc c) (omega arith))
 below-here m (Next x y ∷ rs) c h = below-here m rs (suc c) (omega arith)
+below-here m (Control x y ∷ rs) c h = below-here m rs (suc c) (omega arith)
 below-here m (Open ∷ rs) c h = tt
 below-here m (Bar ∷ rs) c h = tt
 below-here m (Close ∷ rs) c h = tt
@@ -171,6 +196,7 @@ below-each m (Area f ∷ rs) c h zero = below-here m rs c (omega arith)
 below-each m (Area f ∷ rs) c h (suc n) = below-each m rs c (omega arith) n
 below-each m (First x y ∷ rs) c h n = below-each m rs (suc c) (omega arith) n
 below-each m (Next x y ∷ rs) c h n = below-each m rs (suc c) (omega arith) n
+below-each m (Control x y ∷ rs) c h n = below-each m rs (suc c) (omega arith) n
 below-each m (Open ∷ rs) c h n = below-each m rs c (omega arith) n
 below-each m (Bar ∷ rs) c h n = below-each m rs c (omega arith) n
 below-each m (Close ∷ rs) c h n = below-each m rs c (omega arith) n

@@ -5,7 +5,7 @@ use native.Mathlib.Omega.{arith}
 use lib.ListN.{length}
 use Rattle.records.specs.declared.Record.{Record}
 use Rattle.grammar.specs.declared.Counts.{Counts}
-use Rattle.read.specs.Words.{xWords}
+use Rattle.read.specs.Words.{xWords, yWords}
 use Rattle.read.proofs.Files.{xs-length, ys-length}
 use Rattle.drawing.specs.code.Held.{Acceptable}
 use Rattle.pruning.specs.Sides.{paint, flat}
@@ -13,9 +13,11 @@ use Rattle.pruning.specs.Grammar.{tree}
 use Rattle.ranges.specs.code.Valid.{Valid}
 use Rattle.plans.specs.Plans.{entriesFrom, drawingFrom}
 use Rattle.plans.proofs.Runs.{Runs, start, runs, counted}
+use Rattle.plans.proofs.Bent.{neither, bent-start}
 use Rattle.plans.proofs.Fits.{entries-flat}
 use Rattle.plans.proofs.Depths.{plan-depth}
-use Rattle.plans.proofs.Numbers.{fields-length, fields-range, corners-range, plan-roles, plan-numbers, below-each}
+use Rattle.plans.proofs.Numbers.{fields-length, fields-range, corners-range, follows-all, plan-roles, plan-numbers, below-each}
+use Rattle.plans.proofs.Curves.{each-curves}
 use Rattle.plans.proofs.Weights.{each-few, plan-records, plan-areas, plan-lines}
 
 pub accepted-valid : (rs : List Record) (k : Counts) → Acceptable rs k → Valid (drawingFrom rs)
@@ -30,6 +32,9 @@ accepted-valid rs k a =
       pairs = xs-length rs ∙ sym (ys-length rs);
       coordinates = corners-range rs (a .range);
       corners = below-each (length (xWords rs)) rs 0 (omega (arith, xs-length rs));
+      curves =
+          each-curves (xWords rs) (yWords rs) rs start neither 0 h (bent-start rs h)
+          (follows-all (xWords rs) 0, follows-all (yWords rs) 0);
       few-records = omega (arith, plan-records rs (tree (entriesFrom 0 rs)) e, a .below);
       few-areas = omega (arith, plan-areas rs (tree (entriesFrom 0 rs)) e, n .few-areas);
       few-fields = omega (arith, fields-length rs, n .few-areas);

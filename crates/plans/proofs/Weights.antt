@@ -1,18 +1,19 @@
 -- The plan of a list of records has no more entries, areas and lines than the list has records, areas and corners.
 use Prim.Native.Nat.{ℕ, zero, suc, _+_, _≤_}
 use mathlib.Core.Path.{_≡_, refl, sym, ap, _∙_}
+use mathlib.Core.Bool.{Bool, true, false}
 use mathlib.Core.List.{List, [], _∷_}
 use native.Mathlib.Omega.{arith}
 use lib.ListN.{length, getD, length-append}
-use Rattle.geometry.specs.Windings.{Contour, contour, linesFrom, linesOf}
+use Rattle.geometry.specs.Windings.{Piece, Contour, contour, linesFrom, linesOf}
 use Rattle.geometry.proofs.Windings.{length-lines}
 use Rattle.records.specs.declared.Record.{Record}
-use Rattle.records.specs.declared.Record.the-variants.{Area, First, Next, Open, Bar, Close}
+use Rattle.records.specs.declared.Record.the-variants.{Area, First, Next, Control, Open, Bar, Close}
 use Rattle.grammar.specs.Lists.{areasIn, cornersIn}
 use Rattle.pruning.specs.Sides.{Kind, paint, clip, Side, end, leaf, group, Entry, item, push, activate, pop, flat}
 use Rattle.pruning.proofs.Sides.{flatOver, flat-is-over}
 use Rattle.ranges.specs.code.Valid.{weigh}
-use Rattle.plans.specs.Plans.{nexts, contoursHere, contoursFrom, entriesFrom}
+use Rattle.plans.specs.Plans.{pieces, contoursHere, contoursFrom, entriesFrom}
 use Rattle.plans.proofs.Numbers.{Follows, follows-here, follows-rest, follows-all}
 
 -- the sum over the items of a stream, with d for each delimiter
@@ -36,26 +37,28 @@ weigh-tally v d es s e =
 
 -- ---- lines
 
-lines-first : (c n : ℕ) (cs : List Contour) → length (linesOf (contour c n ∷ cs)) ≡ n + length (linesOf cs)
-lines-first c n cs = omega (arith, length-append (linesFrom c c n) (linesOf cs), length-lines c c n)
+lines-first : (c : ℕ) (ps : List Piece) (cs : List Contour) → length (linesOf (contour c ps ∷ cs)) ≡ suc (length ps) + length (linesOf cs)
+lines-first c ps cs = omega (arith, length-append (linesFrom c c ps) (linesOf cs), length-lines c c ps)
 
-here-few : (rs : List Record) (c : ℕ) → nexts rs + length (linesOf (contoursHere c rs)) ≤ cornersIn rs
-here-few [] c = omega arith
-here-few (Area f ∷ rs) c = omega arith
-here-few (First x y ∷ rs) c = omega (arith, here-few rs (suc c), lines-first c (suc (nexts rs)) (contoursHere (suc c) rs))
-here-few (Next x y ∷ rs) c = omega (arith, here-few rs (suc c))
-here-few (Open ∷ rs) c = omega arith
-here-few (Bar ∷ rs) c = omega arith
-here-few (Close ∷ rs) c = omega arith
+here-few : (rs : List Record) (t : Bool) (c : ℕ) → length (pieces t rs) + length (linesOf (contoursHere c rs)) ≤ cornersIn rs
+here-few [] t c = omega arith
+here-few (Area f ∷ rs) t c = omega arith
+here-few (First x y ∷ rs) t c = omega (arith, here-few rs false (suc c), lines-first c (pieces false rs) (contoursHere (suc c) rs))
+here-few (Next x y ∷ rs) t c = omega (arith, here-few rs false (suc c))
+here-few (Control x y ∷ rs) t c = omega (arith, here-few rs true (suc c))
+here-few (Open ∷ rs) t c = omega arith
+here-few (Bar ∷ rs) t c = omega arith
+here-few (Close ∷ rs) t c = omega arith
 
 -- of one area
 pub each-few : (rs : List Record) (c n : ℕ) → length (linesOf (getD (contoursFrom c rs) n [])) ≤ cornersIn rs
 each-few [] c zero = omega arith
 each-few [] c (suc n) = omega arith
-each-few (Area f ∷ rs) c zero = omega (arith, here-few rs c)
+each-few (Area f ∷ rs) c zero = omega (arith, here-few rs false c)
 each-few (Area f ∷ rs) c (suc n) = omega (arith, each-few rs c n)
 each-few (First x y ∷ rs) c n = omega (arith, each-few rs (suc c) n)
 each-few (Next x y ∷ rs) c n = omega (arith, each-few rs (suc c) n)
+each-few (Control x y ∷ rs) c n = omega (arith, each-few rs (suc c) n)
 each-few (Open ∷ rs) c n = omega (arith, each-few rs c n)
 each-few (Bar ∷ rs) c n = omega (arith, each-few rs c n)
 each-few (Close ∷ rs) c n = omega (arith, each-few rs c n)
@@ -67,6 +70,7 @@ areas-from [] a = refl
 areas-from (Area f ∷ rs) a = omega (arith, areas-from rs (suc a))
 areas-from (First x y ∷ rs) a = omega (arith, areas-from rs a)
 areas-from (Next x y ∷ rs) a = omega (arith, areas-from rs a)
+areas-from (Control x y ∷ rs) a = omega (arith, areas-from rs a)
 areas-from (Open ∷ rs) a = omega (arith, areas-from rs a)
 areas-from (Bar ∷ rs) a = omega (arith, areas-from rs a)
 areas-from (Close ∷ rs) a = omega (arith, areas-from rs a)
@@ -78,35 +82,37 @@ module _ (all : List (List Contour)) where
   here-is : (a : ℕ) (cs : List Contour) (l : List (List Contour)) → Follows all [] a (cs ∷ l) → linesAt a ≡ length (linesOf cs)
   here-is a cs l h = ap (λ (x : List Contour). length (linesOf x)) (follows-here all [] a cs l h)
 
-  lines-from : (rs : List Record) (a c : ℕ) → Follows all [] a (contoursFrom c rs)
-      → nexts rs + (length (linesOf (contoursHere c rs)) + tally linesAt 0 (entriesFrom a rs)) ≤ cornersIn rs
-  lines-from [] a c h = omega arith
-  lines-from (Area f ∷ rs) a c h =
+  lines-from : (rs : List Record) (t : Bool) (a c : ℕ) → Follows all [] a (contoursFrom c rs)
+      → length (pieces t rs) + (length (linesOf (contoursHere c rs)) + tally linesAt 0 (entriesFrom a rs)) ≤ cornersIn rs
+  lines-from [] t a c h = omega arith
+  lines-from (Area f ∷ rs) t a c h =
       omega (
         arith,
         here-is a (contoursHere c rs) (contoursFrom c rs) h,
-        lines-from rs (suc a) c (follows-rest all [] a (contoursHere c rs) (contoursFrom c rs) h),
+        lines-from rs false (suc a) c (follows-rest all [] a (contoursHere c rs) (contoursFrom c rs) h),
       )
-  lines-from (First x y ∷ rs) a c h = omega (arith, lines-from rs a (suc c) h, lines-first c (suc (nexts rs)) (contoursHere (suc c) rs))
-  lines-from (Next x y ∷ rs) a c h = omega (arith, lines-from rs a (suc c) h)
-  lines-from (Open ∷ rs) a c h = omega (arith, lines-from rs a c h)
-  lines-from (Bar ∷ rs) a c h = omega (arith, lines-from rs a c h)
-  lines-from (Close ∷ rs) a c h = omega (arith, lines-from rs a c h)
+  lines-from (First x y ∷ rs) t a c h = omega (arith, lines-from rs false a (suc c) h, lines-first c (pieces false rs) (contoursHere (suc c) rs))
+  lines-from (Next x y ∷ rs) t a c h = omega (arith, lines-from rs false a (suc c) h)
+  lines-from (Control x y ∷ rs) t a c h = omega (arith, lines-from rs true a (suc c) h)
+  lines-from (Open ∷ rs) t a c h = omega (arith, lines-from rs false a c h)
+  lines-from (Bar ∷ rs) t a c h = omega (arith, lines-from rs false a c h)
+  lines-from (Close ∷ rs) t a c h = omega (arith, lines-from rs false a c h)
 
-  records-from : (rs : List Record) (a c : ℕ) → Follows all [] a (contoursFrom c rs)
-      → nexts rs + (length (linesOf (contoursHere c rs)) + tally (λ n. suc (linesAt n)) 1 (entriesFrom a rs)) ≤ length rs
-  records-from [] a c h = omega arith
-  records-from (Area f ∷ rs) a c h =
+  records-from : (rs : List Record) (t : Bool) (a c : ℕ) → Follows all [] a (contoursFrom c rs)
+      → length (pieces t rs) + (length (linesOf (contoursHere c rs)) + tally (λ n. suc (linesAt n)) 1 (entriesFrom a rs)) ≤ length rs
+  records-from [] t a c h = omega arith
+  records-from (Area f ∷ rs) t a c h =
       omega (
         arith,
         here-is a (contoursHere c rs) (contoursFrom c rs) h,
-        records-from rs (suc a) c (follows-rest all [] a (contoursHere c rs) (contoursFrom c rs) h),
+        records-from rs false (suc a) c (follows-rest all [] a (contoursHere c rs) (contoursFrom c rs) h),
       )
-  records-from (First x y ∷ rs) a c h = omega (arith, records-from rs a (suc c) h, lines-first c (suc (nexts rs)) (contoursHere (suc c) rs))
-  records-from (Next x y ∷ rs) a c h = omega (arith, records-from rs a (suc c) h)
-  records-from (Open ∷ rs) a c h = omega (arith, records-from rs a c h)
-  records-from (Bar ∷ rs) a c h = omega (arith, records-from rs a c h)
-  records-from (Close ∷ rs) a c h = omega (arith, records-from rs a c h)
+  records-from (First x y ∷ rs) t a c h = omega (arith, records-from rs false a (suc c) h, lines-first c (pieces false rs) (contoursHere (suc c) rs))
+  records-from (Next x y ∷ rs) t a c h = omega (arith, records-from rs false a (suc c) h)
+  records-from (Control x y ∷ rs) t a c h = omega (arith, records-from rs true a (suc c) h)
+  records-from (Open ∷ rs) t a c h = omega (arith, records-from rs false a c h)
+  records-from (Bar ∷ rs) t a c h = omega (arith, records-from rs false a c h)
+  records-from (Close ∷ rs) t a c h = omega (arith, records-from rs false a c h)
 
 module _ (rs : List Record) (s : Side ℕ) (e : entriesFrom 0 rs ≡ flat paint s) where
   abbrev pub count : ℕ → ℕ
@@ -117,11 +123,16 @@ module _ (rs : List Record) (s : Side ℕ) (e : entriesFrom 0 rs ≡ flat paint 
       omega (
         arith,
         weigh-tally (λ n. suc (count n)) 1 (entriesFrom 0 rs) s e,
-        records-from (contoursFrom 0 rs) rs 0 0 (follows-all (contoursFrom 0 rs) []),
+        records-from (contoursFrom 0 rs) rs false 0 0 (follows-all (contoursFrom 0 rs) []),
       )
 
   pub plan-areas : weigh (λ n. 1) 0 s ≤ areasIn rs
   plan-areas = omega (arith, weigh-tally (λ n. 1) 0 (entriesFrom 0 rs) s e, areas-from rs 0)
 
   pub plan-lines : weigh (λ n. count n) 0 s ≤ cornersIn rs
-  plan-lines = omega (arith, weigh-tally (λ n. count n) 0 (entriesFrom 0 rs) s e, lines-from (contoursFrom 0 rs) rs 0 0 (follows-all (contoursFrom 0 rs) []))
+  plan-lines =
+      omega (
+        arith,
+        weigh-tally (λ n. count n) 0 (entriesFrom 0 rs) s e,
+        lines-from (contoursFrom 0 rs) rs false 0 0 (follows-all (contoursFrom 0 rs) []),
+      )

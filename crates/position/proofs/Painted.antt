@@ -18,7 +18,7 @@ use Rattle.pruning.specs.Registers.{P, S, SA, Registers, reg, halted, outOf, on
 use Rattle.records.specs.declared.Fields.{Fields}
 use Rattle.records.specs.declared.Record.the-variants.{Area}
 use Rattle.records.specs.declared.Decoded.the-variants.{Good, Bad}
-use Rattle.records.specs.Record.{areaRange, paintRange, clipRange}
+use Rattle.records.specs.Record.{areaRange, paintRange, clipRange, isGood}
 use Rattle.refusals.specs.declared.Refusal.the-variants.{Field}
 use Rattle.drawing.specs.Tables.{fieldsAt, areaRow}
 use Rattle.cells.specs.Cells.{at}
@@ -44,7 +44,7 @@ use Rattle.cells.specs.Elements.{
 use Rattle.stream.specs.Entry.{Entry, decode}
 use Rattle.stream.specs.Entry as Entry
 use Rattle.stream.specs.Table.{wordsAt, wordsFrom}
-use Rattle.stream.specs.Grammar.{Env, isGood, inRange, Passed}
+use Rattle.stream.specs.Grammar.{Env, inRange, Passed}
 use Rattle.stream.proofs.Passed.{in-range}
 use Rattle.evaluate.specs.Reading.{elementFor, elementsIn, roleAt, passAt, opaqueAt, setAt}
 use Rattle.evaluate.proofs.Laws.{both, area-below}
@@ -207,6 +207,7 @@ module _ (v : Env) where
   one-known Entry.closes ws h k = k
   one-known (Entry.area n q) ws h k = (both (isGood (areaRow (v .areas) (v .used .areas) n)) (Entry.startRange q) h .0, k)
   one-known (Entry.line a b) ws h k = k
+  one-known (Entry.curve a) ws h k = k
   one-known (Entry.shortcut s a b) ws h k = k
   one-known Entry.passes ws h k = k
   one-known Entry.bad ws h k = k

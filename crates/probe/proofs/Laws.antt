@@ -10,7 +10,8 @@ use lib.Dec.{eqb, leb, ltb}
 use lib.ListN.{length}
 use borrow.Author.Tests.{leb-true, ltb-true, le-leb, lt-leb}
 use Rattle.laws.proofs.Booleans.{clash, and-left, and-right, and-true}
-use Rattle.geometry.specs.code.Reach.{PositionIn, SquareIn}
+use Rattle.curves.specs.code.Reach.{PositionIn}
+use Rattle.geometry.specs.code.Reach.{SquareIn}
 use Rattle.geometry.specs.declared.class.Square.{Square}
 use Rattle.pruning.specs.code.Weights.{total}
 use Rattle.cells.specs.Cells.{squareOf}

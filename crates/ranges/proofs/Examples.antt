@@ -5,7 +5,9 @@ use mathlib.Core.List.{List, [], _∷_, map}
 use Prim.Native.Nat.{ℕ, zero, suc, _≤_, _<_}
 use native.Mathlib.Omega.{arith}
 use lib.ListN.{length, getD}
-use Rattle.geometry.specs.Windings.{contour}
+use Rattle.laws.proofs.Booleans.{clash}
+use Rattle.curves.specs.Curves.{curveFits}
+use Rattle.geometry.specs.Windings.{contour, straight, bent}
 use Rattle.records.specs.declared.Record.the-variants.{Area}
 use Rattle.records.specs.declared.Decoded.the-variants.{Good}
 use Rattle.records.specs.Record.{areaRange, cornerRange}
@@ -18,20 +20,20 @@ use Rattle.cells.specs.Drawings.{Drawing, fieldsOf}
 use Rattle.cells.specs.Streams.{source, made}
 use Rattle.cells.specs.Elements.{elementsOf}
 use Rattle.evaluate.specs.Words.{wordsOf}
-use Rattle.ranges.specs.code.Valid.{CornersBelow, lines, Valid}
+use Rattle.ranges.specs.code.Valid.{CornersBelow, CurvesIn, lines, Valid}
 use Rattle.ranges.specs.Held.{Held}
 use Rattle.ranges.proofs.Streams.{made-passes}
 
--- two triangles, the second shown where the first passes: (clip | paint)
+-- two triangles, the second with a curve and shown where the first passes: (clip | paint)
 abbrev clipped : Drawing
 clipped =
     record {
       fields = record { role = 1; rule = 0; alpha = 0; red = 0; green = 0; blue = 0; material = 0 }
           ∷ record { role = 0; rule = 1; alpha = 255; red = 9; green = 8; blue = 7; material = 3 }
           ∷ [];
-      xs = 0 ∷ 8 ∷ 0 ∷ 65536 ∷ [];
-      ys = 0 ∷ 0 ∷ 8 ∷ 65536 ∷ [];
-      contours = (contour 0 3 ∷ []) ∷ (contour 1 3 ∷ []) ∷ [];
+      xs = 0 ∷ 8 ∷ 0 ∷ 65536 ∷ 65536 ∷ 65530 ∷ 9 ∷ [];
+      ys = 0 ∷ 0 ∷ 8 ∷ 0 ∷ 4 ∷ 8 ∷ 65536 ∷ [];
+      contours = (contour 0 (straight ∷ straight ∷ []) ∷ []) ∷ (contour 3 (bent ∷ straight ∷ []) ∷ []) ∷ [];
       plan = group (leaf 0 end) (leaf 1 end) end;
     }
 
@@ -41,17 +43,26 @@ fields-in zero l = refl
 fields-in (suc zero) l = refl
 fields-in (suc (suc n)) l = absurd (omega arith)
 
-coordinates-in : (n : ℕ) → n < 4 → cornerRange (getD (clipped .xs) n 0) (getD (clipped .ys) n 0) ≡ true
+coordinates-in : (n : ℕ) → n < 7 → cornerRange (getD (clipped .xs) n 0) (getD (clipped .ys) n 0) ≡ true
 coordinates-in zero l = refl
 coordinates-in (suc zero) l = refl
 coordinates-in (suc (suc zero)) l = refl
 coordinates-in (suc (suc (suc zero))) l = refl
-coordinates-in (suc (suc (suc (suc n)))) l = absurd (omega arith)
+coordinates-in (suc (suc (suc (suc zero)))) l = refl
+coordinates-in (suc (suc (suc (suc (suc zero))))) l = refl
+coordinates-in (suc (suc (suc (suc (suc (suc zero)))))) l = refl
+coordinates-in (suc (suc (suc (suc (suc (suc (suc n))))))) l = absurd (omega arith)
 
-corners-in : (n : ℕ) → CornersBelow 4 (lines clipped n)
+corners-in : (n : ℕ) → CornersBelow 7 (lines clipped n)
 corners-in zero = ((omega arith, omega arith), ((omega arith, omega arith), ((omega arith, omega arith), tt)))
-corners-in (suc zero) = ((omega arith, omega arith), ((omega arith, omega arith), ((omega arith, omega arith), tt)))
+corners-in (suc zero) = (omega arith, ((omega arith, omega arith), ((omega arith, omega arith), tt)))
 corners-in (suc (suc n)) = tt
+
+curves-in : (n : ℕ) → CurvesIn (clipped .xs) (clipped .ys) (lines clipped n)
+unfolding curveFits
+curves-in zero = (λ e. clash e, (λ e. clash e, (λ e. clash e, tt)))
+curves-in (suc zero) = (λ _. refl, (λ e. clash e, (λ e. clash e, tt)))
+curves-in (suc (suc n)) = tt
 
 few-in : (n : ℕ) → length (lines clipped n) ≤ 2048
 few-in zero = omega arith
@@ -67,6 +78,7 @@ clipped-valid =
       pairs = refl;
       coordinates = coordinates-in;
       corners = corners-in;
+      curves = curves-in;
       few-records = omega arith;
       few-areas = omega arith;
       few-fields = omega arith;
@@ -81,13 +93,13 @@ abbrev areas : List ℕ
 areas = 1 ∷ 0 ∷ 0 ∷ 0 ∷ 0 ∷ 0 ∷ 0 ∷ 0 ∷ 0 ∷ 1 ∷ 255 ∷ 9 ∷ 8 ∷ 7 ∷ 3 ∷ 0 ∷ 5 ∷ []
 
 abbrev xs : List ℕ
-xs = 0 ∷ 8 ∷ 0 ∷ 65536 ∷ 7 ∷ []
+xs = 0 ∷ 8 ∷ 0 ∷ 65536 ∷ 65536 ∷ 65530 ∷ 9 ∷ 7 ∷ []
 
 abbrev ys : List ℕ
-ys = 0 ∷ 0 ∷ 8 ∷ 65536 ∷ 7 ∷ []
+ys = 0 ∷ 0 ∷ 8 ∷ 0 ∷ 4 ∷ 8 ∷ 65536 ∷ 7 ∷ []
 
 abbrev inUse : Bounds
-inUse = bounds 2 4 0 65536
+inUse = bounds 2 7 0 65536
 
 rows-in : (n : ℕ) → n < 2 → areaRow areas 2 n ≡ Good (Area (fieldsOf clipped n))
 unfolding areaRow areaRange

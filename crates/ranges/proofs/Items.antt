@@ -1,4 +1,4 @@
--- Every item of a cell's stream is in range: its area's number, role and start number, and its lines and shortcuts.
+-- Every item of a cell's stream is in range: its area's number, role and start number, and its lines, curves and shortcuts.
 use mathlib.Core.Path.{_≡_, ap, _∙_}
 use mathlib.Core.Bool.{true}
 use mathlib.Core.List.{List, [], _∷_, _++_}
@@ -13,7 +13,8 @@ use Rattle.pruning.specs.Sides.{Kind, paint, clip, Side, end, leaf, group, Entr
 use Rattle.pruning.proofs.Sides.{map-map}
 use Rattle.pruning.proofs.Survivors.{normal-sub}
 use Rattle.stream.specs.declared.Bounds.{Bounds}
-use Rattle.stream.specs.Grammar.{env, isGood, roleFits}
+use Rattle.records.specs.Record.{isGood}
+use Rattle.stream.specs.Grammar.{env, roleFits}
 use Rattle.cells.specs.Cells.{Cell, low, side}
 use Rattle.cells.specs.Segments.{Segment}
 use Rattle.cells.specs.Drawings.{Drawing, fieldsOf}
@@ -65,10 +66,10 @@ on-both P Q R f k (leaf a t) p q = (f k a (p .0) (q .0), on-both P Q R f k t (p 
 on-both P Q R f k (group l r t) p q = (on-both P Q R f clip l (p .0) (q .0), on-both P Q R f k r (p .1) (q .1), on-both P Q R f k t (p .2) (q .2))
 
 module _ (D : Drawing) (c : Cell) where
-  -- its area is in use, and its lines and shortcuts are in range
+  -- its area is in use, and its lines, curves and shortcuts are in range
   abbrev pub Numbered : Kind → Item → Type 0
   Numbered k always = Unit {0}
-  Numbered k (area n z gs) = (n < length (D .fields)) × EachIn (length (D .xs)) c gs
+  Numbered k (area n z gs) = (n < length (D .fields)) × EachIn (D .xs) (D .ys) c gs
 
   pub made-numbered : Valid D → Each Numbered (flat paint (made D c (source D)))
   made-numbered ok =
@@ -76,7 +77,7 @@ module _ (D : Drawing) (c : Cell) where
       (each-sub (items D) Numbered tt (normal-sub (items D) paint (mapSide (within D c) (source D)))
       (rw (map-map (whole D) (within D c) (D .plan))
       (each-mapped (λ k n. n < length (D .fields)) Numbered (λ n. within D c (whole D n))
-      (λ k n l. (l, lines-kept (length (D .xs)) c (D .xs) (D .ys) (lines D n) (ok .corners n))) paint (D .plan) (ok .numbers))))
+      (λ k n l. (l, lines-kept (D .xs) (D .ys) c (lines D n) (ok .corners n) (ok .curves n))) paint (D .plan) (ok .numbers))))
 
   -- its role is that of its side, and its start number is small
   abbrev pub Placed : Kind → Item → Type 0
@@ -100,7 +101,7 @@ module _ (D : Drawing) (c : Cell) where
         → roleIn D n ≡ k
         → natAbs z + length gs ≤ 2048
         → n < length (D .fields)
-        → EachIn (length (D .xs)) c gs
+        → EachIn (D .xs) (D .ys) c gs
         → AreaPasses (env areas xs ys b) k n z gs
     area-in k n z gs e m l h = (ap isGood (row n l), role k n l e, start-word z (omega arith), each-passes D areas xs ys b H c same-low same-side ok gs h)
 

@@ -1,6 +1,6 @@
 -- The numbers of an accepted drawing, as words in tables that hold it, are in the ranges of the check of streams.
 use mathlib.Core.Path.{_≡_, refl, sym, ap, ap₂, _∙_}
-use mathlib.Core.Bool.{Bool, true, false, cond}
+use mathlib.Core.Bool.{Bool, true, false, cond, _&&_}
 use mathlib.Core.List.{List, [], _∷_}
 use Prim.Native.Nat.{ℕ, suc, _+_, _-_, _≤_, _<_}
 use native.Mathlib.Omega.{arith}
@@ -12,8 +12,10 @@ use borrow.Author.Tests.{lt-ltb, le-leb, lt-leb, eq-eqb}
 use mir.Syntax.{w32}
 use mir.Val.{ofZ}
 use Rattle.laws.proofs.Booleans.{clash, and-both}
-use Rattle.geometry.specs.Windings.{Line, line, edgeOf}
-use Rattle.geometry.specs.code.Reach.{LineBelow}
+use Rattle.curves.specs.Curves.{curveFits}
+use Rattle.geometry.specs.Windings.{Line, line, curve, edgeOf}
+use Rattle.geometry.specs.code.Reach.{CurveIn, LineBelow}
+use Rattle.geometry.specs.declared.edge.Edge.{Edge}
 use Rattle.records.specs.declared.Fields.{Fields}
 use Rattle.records.specs.declared.Record.the-variants.{Area}
 use Rattle.records.specs.Record.{areaRange, paintRange, clipRange, cornerRange}
@@ -55,6 +57,15 @@ role-fits clip f h e = go (leb (f .rule) 1) (eqb (f .role) 0) (eqb (f .role) 1) 
     go true false true p c h e = refl
     go true false false p c h e = clash h
 
+-- tables whose first n corners are the same
+pub edges-agree : (n : ℕ) (xs ys us vs : List ℕ) → ((k : ℕ) → k < n → getD xs k 0 ≡ getD us k 0) → ((k : ℕ) → k < n → getD ys k 0 ≡ getD vs k 0)
+    → (l : Line) → LineBelow n l → edgeOf xs ys l ≡ edgeOf us vs l
+edges-agree n xs ys us vs x y (line i j) h = rw (x i (h .0), x j (h .1), y i (h .0), y j (h .1))
+edges-agree n xs ys us vs x y (curve i) h =
+    let first : i < n = omega arith in
+    let control : i + 1 < n = omega arith in
+    rw (x i first, y i first, x (i + 1) control, y (i + 1) control, x (i + 2) h, y (i + 2) h)
+
 module _ (D : Drawing) (areas xs ys : List ℕ) (b : Bounds) (H : Held areas xs ys b D) where
   -- corners in use are the drawing's
   pub same-x : (n : ℕ) → n < length (D .xs) → getD xs n 0 ≡ getD (D .xs) n 0
@@ -64,14 +75,20 @@ module _ (D : Drawing) (areas xs ys : List ℕ) (b : Bounds) (H : Held areas xs 
   same-y n l = sym (getD-take (b .corners) ys n 0 (omega (arith, H .corners-used))) ∙ ap (λ t. getD t n 0) (H .ys-same)
 
   pub edge-same : (l : Line) → LineBelow (length (D .xs)) l → edgeOf xs ys l ≡ edgeOf (D .xs) (D .ys) l
-  edge-same (line i j) h = rw (same-x i (h .0), same-x j (h .1), same-y i (h .0), same-y j (h .1))
+  edge-same = edges-agree (length (D .xs)) xs ys (D .xs) (D .ys) same-x same-y
 
   corner-met : Valid D → (n : ℕ) → n < length (D .xs) → cornerMet xs ys (b .corners) n ≡ true
   corner-met ok n l = rw (lt-ltb n (b .corners) (omega (arith, H .corners-used))) (ap₂ cornerRange (same-x n l) (same-y n l) ∙ ok .coordinates n l)
 
-  line-met : Valid D → (l : Line) → LineBelow (length (D .xs)) l → LinePasses (env areas xs ys b) l
-  line-met ok (line i j) h =
+  line-met : Valid D → (l : Line) → LineBelow (length (D .xs)) l → CurveIn (edgeOf (D .xs) (D .ys) l) → LinePasses (env areas xs ys b) l
+  line-met ok (line i j) h f =
       and-both (cornerMet xs ys (b .corners) i) (cornerMet xs ys (b .corners) j) (corner-met ok i (h .0)) (corner-met ok j (h .1))
+  line-met ok (curve i) h f =
+      let met = cornerMet xs ys (b .corners) in
+      and-both (met i && (met (i + 1) && met (i + 2))) _
+      (and-both (met i) (met (i + 1) && met (i + 2)) (corner-met ok i (omega arith))
+      (and-both (met (i + 1)) (met (i + 2)) (corner-met ok (i + 1) (omega arith)) (corner-met ok (i + 2) h)))
+      (ap (λ (e : Edge). curveFits (e .x0) (e .y0) (e .cx) (e .cy) (e .x1) (e .y1)) (edge-same (curve i) h) ∙ f refl)
 
   -- in a cell whose low row and side are those that the stream is read against
   module _ (c : Cell) (same-low : b .low ≡ low c) (same-side : b .side ≡ side c) where
@@ -79,10 +96,10 @@ module _ (D : Drawing) (areas xs ys : List ℕ) (b : Bounds) (H : Held areas xs 
     shortcut-in z lo hi s l m u =
         rw (sign-word z s, le-leb (b .low) lo (omega (arith, same-low)), lt-ltb lo hi m) (le-leb hi (b .low + b .side) (omega (arith, same-low, same-side)))
 
-    segment-in : Valid D → (g : Segment) → SegmentIn (length (D .xs)) c g → SegmentPasses (env areas xs ys b) g
-    segment-in ok (drawn l) h = line-met ok l h
+    segment-in : Valid D → (g : Segment) → SegmentIn (D .xs) (D .ys) c g → SegmentPasses (env areas xs ys b) g
+    segment-in ok (drawn l) h = line-met ok l (h .0) (h .1)
     segment-in ok (shortcut z lo hi) h = shortcut-in z lo hi (h .0) (h .1) (h .2) (h .3)
 
-    pub each-passes : Valid D → (gs : List Segment) → EachIn (length (D .xs)) c gs → EachPasses (env areas xs ys b) gs
+    pub each-passes : Valid D → (gs : List Segment) → EachIn (D .xs) (D .ys) c gs → EachPasses (env areas xs ys b) gs
     each-passes ok [] h = tt
     each-passes ok (g ∷ gs) h = (segment-in ok g (h .0), each-passes ok gs (h .1))

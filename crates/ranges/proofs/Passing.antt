@@ -1,4 +1,4 @@
--- The words of a side whose items are in range pass the check of streams, where there is room for its groups, its areas, and its lines and shortcuts.
+-- The words of a side whose items are in range pass the check of streams, where there is room for its groups, its areas, and its lines, curves and shortcuts.
 use mathlib.Core.Path.{_≡_, refl, ap, ap₂, _∙_}
 use mathlib.Core.Bool.{Bool, true, false, cond, not}
 use mathlib.Core.List.{List, [], _∷_, _++_, map}
@@ -9,16 +9,18 @@ use lib.IntN.{ℤ}
 use borrow.Author.Tests.{lt-ltb}
 use mir.Syntax.{w32}
 use mir.Val.{ofZ}
-use Rattle.geometry.specs.Windings.{Line, line}
+use Rattle.geometry.specs.Windings.{Line, line, curve}
 use Rattle.groups.specs.Sides.{Frame, paintLeft, clipLeft, isPaint, onLeft, onRight, opening, toRight, toOuter}
 use Rattle.pruning.specs.Sides.{Kind, paint, clip, Side, end, leaf, group, activate, pop, flat}
 use Rattle.pruning.proofs.Sides.{map-append}
 use Rattle.stream.specs.declared.Words.{Words}
 use Rattle.stream.specs.Entry.{decode, startRange}
-use Rattle.stream.specs.Grammar.{Env, isGood, areaMet, lineRange, shortcutRange, inRange, Place, place, roleFits, fits, inLimit, after, Course, at, met, course}
+use Rattle.records.specs.Record.{isGood}
+use Rattle.stream.specs.Grammar.{Env, areaMet, shortcutRange, inRange, Place, place, roleFits, fits, inLimit, after, Course, at, met, course}
 use Rattle.cells.specs.Segments.{Segment, drawn, shortcut}
 use Rattle.cells.specs.Streams.{Item, always, area, On}
 use Rattle.cells.specs.Elements.{bar, closes, segment, itemElements, elementsOf}
+use Rattle.evaluate.specs.code.Numbers.{lineMet}
 use Rattle.evaluate.specs.Words.{words, segmentWords, wordsOf}
 use Rattle.ranges.specs.code.Valid.{depth, weigh}
 use Rattle.ranges.proofs.Weights.{oneArea, segments, elements-append}
@@ -31,7 +33,7 @@ isPaintSide clip = false
 
 module _ (v : Env) where
   abbrev pub LinePasses : Line → Type 0
-  LinePasses (line a b) = lineRange (v .xs) (v .ys) (v .used .corners) a b ≡ true
+  LinePasses l = lineMet (v .xs) (v .ys) (v .used .corners) l ≡ true
 
   abbrev pub SegmentPasses : Segment → Type 0
   SegmentPasses (drawn l) = LinePasses l
@@ -104,7 +106,7 @@ step v p w ws r f l = ap (λ c. course v c ws) (rw (r, f, l))
 at-counts : (g : List Frame) (h : Bool) (a b l m : ℕ) → a ≡ b → l ≡ m → at (place g h a l) ≡ at (place g h b m)
 at-counts g h a b l m p q = ap₂ (λ x y. at (place g h x y)) p q
 
--- whether a line or shortcut may follow
+-- whether a line, curve or shortcut may follow
 abbrev pub heldBy : Item → Bool
 heldBy always = false
 heldBy (area n z gs) = true
@@ -137,6 +139,7 @@ module _ (v : Env) where
       → l < 2048
       → course v (at (place g true a l)) (segmentWords s ∷ ws) ≡ course v (at (place g true a (l + 1))) ws
   segment-passes g a l (drawn (line i j)) ws h m = step v (place g true a l) (words 5 i j 0) ws h refl (lt-ltb l 2048 m)
+  segment-passes g a l (drawn (curve i)) ws h m = step v (place g true a l) (words 8 i 0 0) ws h refl (lt-ltb l 2048 m)
   segment-passes g a l (shortcut z lo hi) ws h m = step v (place g true a l) (words 6 (ofZ w32 z) lo hi) ws h refl (lt-ltb l 2048 m)
 
   segments-pass : (g : List Frame) (a l : ℕ) (gs : List Segment) → EachPasses v gs → l + length gs ≤ 2048

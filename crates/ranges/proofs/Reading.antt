@@ -9,7 +9,7 @@ use lib.ListN.{length, getD}
 use lib.IntN.{ℤ, pos, _+ℤ_}
 use Rattle.geometry.specs.FillRules as FillRules
 use Rattle.geometry.specs.Edges.{counts, sign}
-use Rattle.geometry.specs.Windings.{Line, line}
+use Rattle.geometry.specs.Windings.{Line, line, curve}
 use Rattle.geometry.specs.code.Reach.{LineBelow}
 use Rattle.geometry.specs.declared.edge.Edge.{Edge}
 use Rattle.drawing.specs.Tables.{fieldsAt}
@@ -80,7 +80,7 @@ held-agrees D areas xs ys b H ok =
 
 -- ---- the tables of corners
 
--- elements are read by what their lines and shortcuts add, and by nothing else of them
+-- elements are read by what their lines, curves and shortcuts add, and by nothing else of them
 module _ (role : ℕ → Kind) (pass : ℕ → ℤ → Bool) (opaque : ℕ → Bool) (f g : Segment → ℤ) where
   abbrev pub SameOn : List Element → Type 0
   SameOn [] = Unit {0}
@@ -126,12 +126,13 @@ module _ (D : Drawing) (areas xs ys : List ℕ) (b : Bounds) (H : Held areas xs 
   line-same l h = ap (λ (e : Edge). cond (counts e x y) (sign e) (pos 0)) (edge-same D areas xs ys b H l h)
 
   segments-same : (gs : List Segment) (ws : List Element)
-      → EachIn (length (D .xs)) c gs
+      → EachIn (D .xs) (D .ys) c gs
       → Same (elementsIn (map wordsOf ws))
       → Same (elementsIn (map wordsOf (map segment gs ++ ws)))
   unfolding elementsIn
   segments-same [] ws h s = s
-  segments-same (drawn (line i j) ∷ gs) ws h s = (line-same (line i j) (h .0), segments-same gs ws (h .1) s)
+  segments-same (drawn (line i j) ∷ gs) ws h s = (line-same (line i j) (h .0 .0), segments-same gs ws (h .1) s)
+  segments-same (drawn (curve i) ∷ gs) ws h s = (line-same (curve i) (h .0 .0), segments-same gs ws (h .1) s)
   segments-same (shortcut z lo hi ∷ gs) ws h s = (refl, segments-same gs ws (h .1) s)
 
   entries-same : (es : List (Entry Item)) → Each (Numbered D c) es → Same (elementsIn (map wordsOf (elementsOf es)))

@@ -1,5 +1,5 @@
 -- Neither classing in a cell nor pruning adds to a sum over items and delimiters: a made stream has at most the elements,
--- areas, lines and shortcuts of the drawing.
+-- areas, lines, curves and shortcuts of the drawing.
 use mathlib.Core.Path.{_≡_, refl, sym, ap, _∙_}
 use mathlib.Core.List.{List, [], _∷_, _++_, append-assoc, map}
 use Prim.Native.Nat.{ℕ, suc, _+_, _≤_}
@@ -65,7 +65,7 @@ module _ (I : Items) (v : I .Item → ℕ) (d : ℕ) (least : (a : I .Item) → 
   pub weigh-normal : (k : Kind) (s : Side Item) → weigh v d (normal I k s) ≤ weigh v d s
   weigh-normal k s = omega (arith, total-sub (normal-sub I k s), total-flat k s, total-flat k (normal I k s))
 
--- ---- of items: areas, lines and shortcuts, elements
+-- ---- of items: areas, lines, curves and shortcuts, elements
 
 abbrev pub oneArea : Item → ℕ
 oneArea always = 0

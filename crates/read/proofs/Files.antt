@@ -10,7 +10,7 @@ use lib.Dec.{eqb, leb}
 use borrow.Author.Tests.{leb-true, eqb-true}
 use Rattle.refusals.specs.declared.Refusal.the-variants.{Length}
 use Rattle.records.specs.declared.Record.{Record}
-use Rattle.records.specs.declared.Record.the-variants.{Area, First, Next, Open, Bar, Close}
+use Rattle.records.specs.declared.Record.the-variants.{Area, First, Next, Open, Bar, Close, Control}
 use Rattle.records.specs.declared.Decoded.{Decoded}
 use Rattle.records.specs.declared.Decoded.the-variants.{Good}
 use Rattle.records.specs.Bytes.{bytesOf}
@@ -21,7 +21,7 @@ use Rattle.grammar.specs.Grammar.{checked}
 use Rattle.grammar.specs.Lists.{goodRecords, areasIn, cornersIn}
 use Rattle.grammar.proofs.Laws.{sound, refused-not}
 use Rattle.read.specs.Words.{wordsOfKind, wordsOfArea, wordsOfX, wordsOfY, wordsOf, joined, planWords}
-use Rattle.read.specs.Reading.{decodedFrom, decodedIn, recordsIn, verdictOf, holds, Filed}
+use Rattle.read.specs.Reading.{decodedFrom, decodedIn, recordsIn, verdictOf, holds, allGood, Filed}
 
 pub length-from : (b : List ℕ) (i n : ℕ) → length (decodedFrom b i n) ≡ n
 unfolding decodedFrom
@@ -30,6 +30,13 @@ length-from b i (suc n) = ap suc (length-from b (i + 1) n)
 
 pub length-good : (ds : List Decoded) → ds ≡ map Good (goodRecords ds) → length ds ≡ length (goodRecords ds)
 length-good ds e = ap length e ∙ length-map (goodRecords ds) Good
+
+good-map : (rs : List Record) → allGood (map Good rs) ≡ true
+good-map [] = refl
+good-map (r ∷ rs) = good-map rs
+
+pub all-good : (ds : List Decoded) → ds ≡ map Good (goodRecords ds) → allGood ds ≡ true
+all-good ds e = ap allGood e ∙ good-map (goodRecords ds)
 
 pub filed-checked : (b : List ℕ) (k : Counts) → verdictOf b ≡ Accepted k → checked (decodedIn b) ≡ Accepted k
 unfolding verdictOf
@@ -57,6 +64,7 @@ filed b k = go (eqb (length b % 16) 0) (leb (length b / 16) 4096) refl refl
         record {
           whole = omega (arith, eqb-true (length b % 16) 0 p);
           parts = n;
+          good = all-good (decodedIn b) (s .good);
           records = s .records ∙ length-good (decodedIn b) (s .good);
           areas = s .areas;
           corners = s .corners;
@@ -64,6 +72,10 @@ filed b k = go (eqb (length b % 16) 0) (leb (length b / 16) 4096) refl refl
           few = s .few;
           many = s .many;
         }
+
+-- a whole file's records are those from record 0
+pub good-from : (b : List ℕ) (k : Counts) → Filed b k → allGood (decodedFrom b 0 (k .records)) ≡ true
+good-from b k f = ap (λ (n : ℕ). allGood (decodedFrom b 0 n)) (f .parts) ∙ f .good
 
 -- ---- how many words
 pub kinds-length : (rs : List Record) → length (joined wordsOfKind rs) ≡ length rs
@@ -80,6 +92,7 @@ areas-length (Next x y ∷ rs) = omega (arith, areas-length rs)
 areas-length (Open ∷ rs) = omega (arith, areas-length rs)
 areas-length (Bar ∷ rs) = omega (arith, areas-length rs)
 areas-length (Close ∷ rs) = omega (arith, areas-length rs)
+areas-length (Control x y ∷ rs) = omega (arith, areas-length rs)
 
 pub xs-length : (rs : List Record) → length (joined wordsOfX rs) ≡ cornersIn rs
 unfolding joined
@@ -90,6 +103,7 @@ xs-length (Next x y ∷ rs) = omega (arith, xs-length rs)
 xs-length (Open ∷ rs) = omega (arith, xs-length rs)
 xs-length (Bar ∷ rs) = omega (arith, xs-length rs)
 xs-length (Close ∷ rs) = omega (arith, xs-length rs)
+xs-length (Control x y ∷ rs) = omega (arith, xs-length rs)
 
 pub ys-length : (rs : List Record) → length (joined wordsOfY rs) ≡ cornersIn rs
 unfolding joined
@@ -100,6 +114,7 @@ ys-length (Next x y ∷ rs) = omega (arith, ys-length rs)
 ys-length (Open ∷ rs) = omega (arith, ys-length rs)
 ys-length (Bar ∷ rs) = omega (arith, ys-length rs)
 ys-length (Close ∷ rs) = omega (arith, ys-length rs)
+ys-length (Control x y ∷ rs) = omega (arith, ys-length rs)
 
 pub file-length : (rs : List Record) → length (joined bytesOf rs) ≡ length rs * 16
 unfolding joined

@@ -1,20 +1,25 @@
 -- The loops over a file, as plain laws: where a loop begins, a turn, where it ends.
-use Prim.Native.Nat.{ℕ, suc, _+_, _-_, _≤_, _<_}
-use mathlib.Core.Path.{_≡_, refl, sym, ap, _∙_}
+use Prim.Native.Nat.{ℕ, zero, suc, _+_, _-_, _≤_, _<_}
+use mathlib.Core.Path.{_≡_, refl, sym, ap, _∙_, subst}
 use mathlib.Core.Bool.{Bool, true}
 use mathlib.Core.List.{List, [], _∷_}
 use native.Mathlib.Omega.{arith}
 use lib.ListN.{length}
 use lib.Seq.{sets, length-sets}
+use Rattle.laws.proofs.Booleans.{clash, and-left, and-right}
+use Rattle.records.specs.declared.Raw.{Raw}
 use Rattle.records.specs.declared.Record.{Record}
 use Rattle.records.specs.declared.Decoded.{Decoded}
-use Rattle.records.specs.Bytes.{rawAt, decodedRaw}
+use Rattle.records.specs.declared.Decoded.the-variants.{Good, Bad}
+use Rattle.records.specs.Bytes.{rawAt, named, decodedRaw}
+use Rattle.records.proofs.Laws.{told}
 use Rattle.grammar.specs.declared.Scan.{Scan}
 use Rattle.grammar.specs.code.Machine.{advanceN, startN, scanN, isStopped}
 use Rattle.grammar.proofs.Laws.{stopped-stays}
 use Rattle.grammar.specs.Lists.{goodRecords}
 use Rattle.read.specs.Words.{joined, onGood}
-use Rattle.read.specs.Reading.{decodedFrom}
+use Rattle.records.specs.Record.{isGood}
+use Rattle.read.specs.Reading.{decodedFrom, allGood}
 use Rattle.read.proofs.Writes.{length-on, turn-table}
 
 pub from-step : (b : List ℕ) (i e : ℕ) → i < e → decodedFrom b i (e - i) ≡ decodedRaw (rawAt b i) ∷ decodedFrom b (i + 1) (e - (i + 1))
@@ -56,6 +61,26 @@ scan-stops b i e s s′ whole d t h p q u v inv =
 pub scan-done : (b : List ℕ) (i e : ℕ) (s whole : Scan) → e ≤ i → scanN s i (decodedFrom b i (e - i)) ≡ whole → s ≡ whole
 unfolding scanN
 scan-done b i e s whole h inv = rw (from-none b i e h) at inv
+
+-- ---- where every record was good
+good-at : (b : List ℕ) (i j n : ℕ) → allGood (decodedFrom b i n) ≡ true → j < n → isGood (decodedRaw (rawAt b (i + j))) ≡ true
+unfolding decodedFrom
+good-at b i j zero h l = absurd (omega arith)
+good-at b i zero (suc n) h l = subst (λ (k : ℕ). isGood (decodedRaw (rawAt b k)) ≡ true) (omega arith) (and-left (isGood (decodedRaw (rawAt b i))) _ h)
+good-at b i (suc j) (suc n) h l =
+    subst (λ (k : ℕ). isGood (decodedRaw (rawAt b k)) ≡ true) (omega arith)
+    (good-at b (i + 1) j n (and-right (isGood (decodedRaw (rawAt b i))) _ h) (omega arith))
+
+pub fill-good : (b : List ℕ) (n i : ℕ) → i < n → allGood (decodedFrom b 0 n) ≡ true → isGood (decodedRaw (rawAt b i)) ≡ true
+fill-good b n i l h = subst (λ (k : ℕ). isGood (decodedRaw (rawAt b k)) ≡ true) (omega arith) (good-at b 0 i n h l)
+
+-- a good record is what its named bytes say
+pub named-good : (r : Raw) → isGood (decodedRaw r) ≡ true → decodedRaw r ≡ Good (named r)
+named-good r = go (decodedRaw r) refl
+  where
+    go : (d : Decoded) → decodedRaw r ≡ d → isGood d ≡ true → decodedRaw r ≡ Good (named r)
+    go (Good t) e h = e ∙ ap Good (sym (told r t e .is))
+    go (Bad x) e h = clash h
 
 -- ---- a table's words: the table is t and was t₀; the records from i to n are to come, and their words go to `at`
 pub record Filling (f : Record → List ℕ) (b : List ℕ) (n : ℕ) (t₀ : List ℕ) (first : ℕ) (t : List ℕ) (i at : ℕ) : Type 0 where

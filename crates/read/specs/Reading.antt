@@ -1,7 +1,7 @@
 -- Document 01, "From the input": what reading a file answers and leaves.
 use Prim.Native.Nat.{ℕ, zero, suc, _+_, _*_, _-_, _/_, _%_, _≤_}
 use mathlib.Core.Path.{_≡_}
-use mathlib.Core.Bool.{Bool, false, cond, _&&_}
+use mathlib.Core.Bool.{Bool, true, false, cond, _&&_}
 use mathlib.Core.List.{List, [], _∷_}
 use lib.ListN.{length}
 use lib.Seq.{sets}
@@ -11,6 +11,7 @@ use denote.Ref.{RefT, now}
 use Rattle.refusals.specs.declared.Refusal.the-variants.{Length, Argument, Room}
 use Rattle.records.specs.declared.Record.{Record}
 use Rattle.records.specs.declared.Decoded.{Decoded}
+use Rattle.records.specs.Record.{isGood}
 use Rattle.records.specs.Bytes.{rawAt, decodedRaw}
 use Rattle.grammar.specs.declared.Counts.{Counts}
 use Rattle.grammar.specs.declared.Verdict.{Verdict}
@@ -61,10 +62,16 @@ abbrev pub leftBy : Verdict → List ℕ → List ℕ → List ℕ
 leftBy (Accepted k) t ws = sets t 0 ws
 leftBy (Refused r i) t ws = t
 
+-- each is a record, and no refusal
+abbrev pub allGood : List Decoded → Bool
+allGood [] = true
+allGood (d ∷ ds) = isGood d && allGood ds
+
 -- what is known of a file that was accepted
 pub record Filed (b : List ℕ) (k : Counts) : Type 0 where
   pub whole : k .records * 16 ≡ length b
   pub parts : k .records ≡ length b / 16
+  pub good : allGood (decodedIn b) ≡ true
   pub records : k .records ≡ length (recordsIn b)
   pub areas : k .areas ≡ areasIn (recordsIn b)
   pub corners : k .corners ≡ cornersIn (recordsIn b)

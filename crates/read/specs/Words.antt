@@ -7,7 +7,7 @@ use lib.ListN.{length, getD}
 use lib.Dec.{eqb}
 use Rattle.records.specs.declared.Fields.{Fields}
 use Rattle.records.specs.declared.Record.{Record}
-use Rattle.records.specs.declared.Record.the-variants.{Area, First, Next, Open, Bar, Close}
+use Rattle.records.specs.declared.Record.the-variants.{Area, First, Next, Open, Bar, Close, Control}
 use Rattle.records.specs.declared.Decoded.{Decoded}
 use Rattle.records.specs.declared.Decoded.the-variants.{Good, Bad}
 use Rattle.records.specs.Record.{kindOf, inRange}
@@ -29,6 +29,7 @@ wordsOfArea (Next x y) = []
 wordsOfArea Open = []
 wordsOfArea Bar = []
 wordsOfArea Close = []
+wordsOfArea (Control x y) = []
 
 -- "corner coordinates lie in lent 32-bit tables": a word a corner
 abbrev pub wordsOfX : Record → List ℕ
@@ -38,6 +39,7 @@ wordsOfX (Next x y) = x ∷ []
 wordsOfX Open = []
 wordsOfX Bar = []
 wordsOfX Close = []
+wordsOfX (Control x y) = x ∷ []
 
 abbrev pub wordsOfY : Record → List ℕ
 wordsOfY (Area f) = []
@@ -46,6 +48,7 @@ wordsOfY (Next x y) = y ∷ []
 wordsOfY Open = []
 wordsOfY Bar = []
 wordsOfY Close = []
+wordsOfY (Control x y) = y ∷ []
 
 -- a record's words in a table: 0 the plan's kinds, 1 the areas, 2 the xs, 3 the ys
 unfoldable pub wordsOf : ℕ → Record → List ℕ

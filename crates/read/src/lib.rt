@@ -9,16 +9,17 @@ use records::RECORD_BYTES;
 use records::Record;
 use refusals::Refusal;
 ghost use mathlib.Core.Path.{_≡_};
+ghost use mathlib.Core.Bool.{true};
 ghost use Prim.Native.Nat.{_+_, _*_, _≤_};
 ghost use lib.ListN.{length, set};
 ghost use lib.Seq.{sets};
 ghost use Rattle.grammar.specs.declared.Verdict.the-variants.{Accepted};
 ghost use Rattle.grammar.specs.code.Machine.{scanN, startN};
 ghost use Rattle.grammar.specs.Lists.{goodRecords};
-ghost use Rattle.records.specs.Record.{kindOf};
+ghost use Rattle.records.specs.Record.{kindOf, isGood};
 ghost use Rattle.records.specs.Bytes.{rawAt, decodedRaw};
 ghost use Rattle.read.specs.Words.{wordsOfKind, wordsOfArea, wordsOfX, wordsOfY, wordsOf, joined, planWords, areaWords, xWords, yWords, onGood};
-ghost use Rattle.read.specs.Reading.{decodedFrom, recordsLent, verdictOf, holds, ifRoom, readLent, leftBy, Filed};
+ghost use Rattle.read.specs.Reading.{decodedFrom, allGood, recordsLent, verdictOf, holds, ifRoom, readLent, leftBy, Filed};
 
 // The plan: its first words, the counts in use; the kinds of the records follow.
 pub const RECORDS: usize = 0;
@@ -45,6 +46,17 @@ fn read_record(records: &[u8], i: usize) -> Decoded
 {
     let r = records::read_raw(records, i);
     records::decoded_raw(r)
+}
+
+// Record i of a file that was accepted: nothing is tried again.
+fn read_accepted(records: &[u8], i: usize) -> Decoded
+    requires { ⌜ i * 16 + 16 ≤ length (now records) ⌝ }
+    requires { ⌜ isGood (decodedRaw (rawAt (now records) i)) ≡ true ⌝ }
+    ensures answer { λ d. ⌜ d ≡ decodedRaw (rawAt (now (records .entry)) i) ⌝ }
+{
+    let r = records::read_raw(records, i);
+    let t = records::named_of(r);
+    Decoded::Good(t)
 }
 
 fn scan_records(records: &[u8], n: usize) -> Scan
@@ -90,6 +102,7 @@ fn kind_of(r: Record) -> u32
         Record::Open => records::KIND_OPEN,
         Record::Bar => records::KIND_BAR,
         Record::Close => records::KIND_CLOSE,
+        Record::Control(_, _) => records::KIND_CONTROL,
     }
 }
 
@@ -141,6 +154,7 @@ fn put_area(table: &mut [u32], at: usize, r: Record) -> usize
         Record::Open => at,
         Record::Bar => at,
         Record::Close => at,
+        Record::Control(_, _) => at,
     }
 }
 
@@ -156,6 +170,7 @@ fn put_x(table: &mut [u32], at: usize, r: Record) -> usize
         Record::Open => at,
         Record::Bar => at,
         Record::Close => at,
+        Record::Control(x, _) => put_word(table, at, x),
     }
 }
 
@@ -171,6 +186,7 @@ fn put_y(table: &mut [u32], at: usize, r: Record) -> usize
         Record::Open => at,
         Record::Bar => at,
         Record::Close => at,
+        Record::Control(_, y) => put_word(table, at, y),
     }
 }
 
@@ -212,6 +228,7 @@ fn fill(
     ys: &mut [u32],
 )
     requires { ⌜ n * 16 ≤ length (now records) ⌝ }
+    requires { ⌜ allGood (decodedFrom (now records) 0 n) ≡ true ⌝ }
     requires { ⌜ 3 + length (joined (wordsOf 0) (goodRecords (decodedFrom (now records) 0 n))) ≤ length (now plan) ⌝ }
     requires { ⌜ 0 + length (joined (wordsOf 1) (goodRecords (decodedFrom (now records) 0 n))) ≤ length (now areas) ⌝ }
     requires { ⌜ 0 + length (joined (wordsOf 2) (goodRecords (decodedFrom (now records) 0 n))) ≤ length (now xs) ⌝ }
@@ -227,7 +244,7 @@ fn fill(
     let mut y = 0;
     let mut i = 0;
     while i < n {
-        let d = read_record(records, i);
+        let d = read_accepted(records, i);
         kind = put_decoded(plan, kind, TO_PLAN, d);
         area = put_decoded(areas, area, TO_AREAS, d);
         x = put_decoded(xs, x, TO_XS, d);

@@ -13,7 +13,7 @@ use Rattle.records.specs.declared.Fields.{Fields}
 use Rattle.refusals.specs.declared.Refusal.{Refusal}
 use Rattle.refusals.specs.declared.Refusal.the-variants.{Kind, Field}
 use Rattle.records.specs.declared.Record.{Record}
-use Rattle.records.specs.declared.Record.the-variants.{Area, First, Next, Open, Bar, Close}
+use Rattle.records.specs.declared.Record.the-variants.{Area, First, Next, Open, Bar, Close, Control}
 use Rattle.records.specs.declared.Decoded.the-variants.{Good, Bad}
 use Rattle.records.specs.Record.{allZero, paintRange, clipRange, areaRange, cornerRange, inRange, ranged, cornerOf, delimiterOf}
 use Rattle.records.specs.Bytes.{putRaw, rawBytes, number4, unnamedZero, fieldsOf, named, decodedRaw, rawArea, rawCorner, rawDelimiter, rawOf}
@@ -26,16 +26,18 @@ zeros : (b : ℕ) (cs : List ℕ) → allZero b cs ≡ true → Zeros b cs
 zeros b [] h = eqb-true _ _ h
 zeros b (c ∷ cs) h = (eqb-true _ _ (and-left (eqb b 0) (allZero c cs) h), zeros c cs (and-right (eqb b 0) (allZero c cs) h))
 
--- a kind is one of six
-pub kinds : (P : ℕ → Type 0) → P 1 → P 2 → P 3 → P 4 → P 5 → P 6 → (k : ℕ) → leb 1 k ≡ true → leb k 6 ≡ true → P k
-kinds P a b d e f g zero l h = clash l
-kinds P a b d e f g (suc zero) l h = a
-kinds P a b d e f g (suc (suc zero)) l h = b
-kinds P a b d e f g (suc (suc (suc zero))) l h = d
-kinds P a b d e f g (suc (suc (suc (suc zero)))) l h = e
-kinds P a b d e f g (suc (suc (suc (suc (suc zero))))) l h = f
-kinds P a b d e f g (suc (suc (suc (suc (suc (suc zero)))))) l h = g
-kinds P a b d e f g (suc (suc (suc (suc (suc (suc (suc k))))))) l h = absurd (omega (arith, leb-true (suc (suc (suc (suc (suc (suc (suc k))))))) 6 h))
+-- a kind is one of seven
+pub kinds : (P : ℕ → Type 0) → P 1 → P 2 → P 3 → P 4 → P 5 → P 6 → P 7 → (k : ℕ) → leb 1 k ≡ true → leb k 7 ≡ true → P k
+kinds P a b d e f g j zero l h = clash l
+kinds P a b d e f g j (suc zero) l h = a
+kinds P a b d e f g j (suc (suc zero)) l h = b
+kinds P a b d e f g j (suc (suc (suc zero))) l h = d
+kinds P a b d e f g j (suc (suc (suc (suc zero)))) l h = e
+kinds P a b d e f g j (suc (suc (suc (suc (suc zero))))) l h = f
+kinds P a b d e f g j (suc (suc (suc (suc (suc (suc zero)))))) l h = g
+kinds P a b d e f g j (suc (suc (suc (suc (suc (suc (suc zero))))))) l h = j
+kinds P a b d e f g j (suc (suc (suc (suc (suc (suc (suc (suc k)))))))) l h =
+    absurd (omega (arith, leb-true (suc (suc (suc (suc (suc (suc (suc (suc k)))))))) 7 h))
 
 -- ---- what a range says
 pub record AreaFacts (f : Fields) : Type 0 where
@@ -129,11 +131,12 @@ raw-again (Next x y) h = rw (four x (corner-x x y h), four y (corner-y x y h), h
 raw-again Open h = refl
 raw-again Bar h = refl
 raw-again Close h = refl
+raw-again (Control x y) h = rw (four x (corner-x x y h), four y (corner-y x y h), h)
 
 -- ---- what was read can be written back
 pub record Told (r : Raw) (t : Record) : Type 0 where
   pub low : leb 1 (r .b0) ≡ true
-  pub high : leb (r .b0) 6 ≡ true
+  pub high : leb (r .b0) 7 ≡ true
   pub zero : unnamedZero r ≡ true
   pub is : named r ≡ t
   pub range : inRange t ≡ true
@@ -154,11 +157,11 @@ ranged-told r t = go (inRange r) refl
 
 pub told : (r : Raw) (t : Record) → decodedRaw r ≡ Good t → Told r t
 unfolding decodedRaw
-told r t = go (leb 1 (r .b0)) (leb (r .b0) 6) (unnamedZero r) refl refl refl
+told r t = go (leb 1 (r .b0)) (leb (r .b0) 7) (unnamedZero r) refl refl refl
   where
     go : (a b d : Bool)
         → leb 1 (r .b0) ≡ a
-        → leb (r .b0) 6 ≡ b
+        → leb (r .b0) 7 ≡ b
         → unnamedZero r ≡ d
         → cond a (cond b (cond d (ranged (named r)) (Bad Field)) (Bad Kind)) (Bad Kind) ≡ Good t
         → Told r t
@@ -309,7 +312,7 @@ module _ (a1 a2 a3 a4 a5 a6 a7 a8 a9 a10 a11 a12 a13 a14 a15 : ℕ) where
         b15 = sym (z .1 .1 .1 .1 .1 .1 .1 .1 .1 .1 .1 .1 .1 .1) d;
       }
 
-  back : (k : ℕ) → leb 1 k ≡ true → leb k 6 ≡ true → Small (here k) → unnamedZero (here k) ≡ true → rawOf (named (here k)) ≡ here k
+  back : (k : ℕ) → leb 1 k ≡ true → leb k 7 ≡ true → Small (here k) → unnamedZero (here k) ≡ true → rawOf (named (here k)) ≡ here k
   unfolding unnamedZero named cornerOf delimiterOf
   back =
       kinds (λ k. Small (here k) → unnamedZero (here k) ≡ true → rawOf (named (here k)) ≡ here k)
@@ -319,6 +322,7 @@ module _ (a1 a2 a3 a4 a5 a6 a7 a8 a9 a10 a11 a12 a13 a14 a15 : ℕ) where
       (λ s. back-delimiter 4)
       (λ s. back-delimiter 5)
       (λ s. back-delimiter 6)
+      (back-corner 7)
 
 pub raw-back : (r : Raw) (t : Record) → Small r → decodedRaw r ≡ Good t → rawOf t ≡ r
 raw-back r t s e =

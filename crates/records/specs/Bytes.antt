@@ -1,17 +1,17 @@
--- Document 01, "Drawing": a record as sixteen bytes.
+-- Document 01, "Drawing", and document 02, Item 2: a record as sixteen bytes.
 use Prim.Native.Nat.{ℕ, _+_, _*_, _/_, _%_}
 use mathlib.Core.Bool.{Bool, cond}
 use mathlib.Core.List.{List, [], _∷_}
 use lib.ListN.{getD, set}
-use lib.Dec.{eqb, ltb, leb}
+use lib.Dec.{eqb, leb}
 use Rattle.records.specs.declared.Raw.{Raw}
 use Rattle.records.specs.declared.Fields.{Fields}
 use Rattle.refusals.specs.declared.Refusal.the-variants.{Kind, Field}
 use Rattle.records.specs.declared.Record.{Record}
-use Rattle.records.specs.declared.Record.the-variants.{Area, First, Next, Open, Bar, Close}
+use Rattle.records.specs.declared.Record.the-variants.{Area, First, Next, Open, Bar, Close, Control}
 use Rattle.records.specs.declared.Decoded.{Decoded}
 use Rattle.records.specs.declared.Decoded.the-variants.{Bad}
-use Rattle.records.specs.Record.{allZero, ranged, cornerOf, delimiterOf}
+use Rattle.records.specs.Record.{allZero, ranged, isCorner, cornerOf, delimiterOf}
 
 -- "A file of 16-byte records, no header": the bytes of record i
 abbrev pub rawAt : List ℕ → ℕ → Raw
@@ -66,7 +66,7 @@ delimiterUnnamed r =
     allZero (r .b1) (r .b2 ∷ r .b3 ∷ r .b4 ∷ r .b5 ∷ r .b6 ∷ r .b7 ∷ r .b8 ∷ r .b9 ∷ r .b10 ∷ r .b11 ∷ r .b12 ∷ r .b13 ∷ r .b14 ∷ r .b15 ∷ [])
 
 unfoldable pub unnamedZero : Raw → Bool
-unnamedZero r = cond (eqb (r .b0) 1) (areaUnnamed r) (cond (ltb (r .b0) 4) (cornerUnnamed r) (delimiterUnnamed r))
+unnamedZero r = cond (eqb (r .b0) 1) (areaUnnamed r) (cond (isCorner (r .b0)) (cornerUnnamed r) (delimiterUnnamed r))
 
 -- ---- the named bytes
 unfoldable pub fieldsOf : Raw → Fields
@@ -75,12 +75,12 @@ fieldsOf r = record { role = r .b1; rule = r .b2; alpha = r .b3; red = r .b4; gr
 unfoldable pub named : Raw → Record
 named r =
     cond (eqb (r .b0) 1) (Area (fieldsOf r))
-    (cond (ltb (r .b0) 4) (cornerOf (r .b0) (number4 (r .b4) (r .b5) (r .b6) (r .b7)) (number4 (r .b8) (r .b9) (r .b10) (r .b11)))
+    (cond (isCorner (r .b0)) (cornerOf (r .b0) (number4 (r .b4) (r .b5) (r .b6) (r .b7)) (number4 (r .b8) (r .b9) (r .b10) (r .b11)))
     (delimiterOf (r .b0)))
 
 -- a record; or 2, "unknown kind"; or 3, "field out of range or unnamed byte not zero"
 unfoldable pub decodedRaw : Raw → Decoded
-decodedRaw r = cond (leb 1 (r .b0)) (cond (leb (r .b0) 6) (cond (unnamedZero r) (ranged (named r)) (Bad Field)) (Bad Kind)) (Bad Kind)
+decodedRaw r = cond (leb 1 (r .b0)) (cond (leb (r .b0) 7) (cond (unnamedZero r) (ranged (named r)) (Bad Field)) (Bad Kind)) (Bad Kind)
 
 -- ---- the bytes of a record, for writing out
 abbrev pub rawArea : Fields → Raw
@@ -136,6 +136,7 @@ rawOf (Next x y) = rawCorner 3 x y
 rawOf Open = rawDelimiter 4
 rawOf Bar = rawDelimiter 5
 rawOf Close = rawDelimiter 6
+rawOf (Control x y) = rawCorner 7 x y
 
 abbrev pub bytesOf : Record → List ℕ
 bytesOf r = rawBytes (rawOf r)

@@ -1,12 +1,12 @@
--- Document 01, "Drawing": a record, and the ranges of its fields.
+-- Document 01, "Drawing", and document 02, Item 2: a record, and the ranges of its fields.
 use Prim.Native.Nat.{ℕ}
-use mathlib.Core.Bool.{Bool, true, false, cond, _&&_}
+use mathlib.Core.Bool.{Bool, true, false, cond, _&&_, _||_}
 use mathlib.Core.List.{List, [], _∷_}
-use lib.Dec.{eqb, leb}
+use lib.Dec.{eqb, ltb, leb}
 use Rattle.records.specs.declared.Fields.{Fields}
 use Rattle.refusals.specs.declared.Refusal.the-variants.{Field}
 use Rattle.records.specs.declared.Record.{Record}
-use Rattle.records.specs.declared.Record.the-variants.{Area, First, Next, Open, Bar, Close}
+use Rattle.records.specs.declared.Record.the-variants.{Area, First, Next, Open, Bar, Close, Control}
 use Rattle.records.specs.declared.Decoded.{Decoded}
 use Rattle.records.specs.declared.Decoded.the-variants.{Good, Bad}
 
@@ -38,15 +38,25 @@ inRange (Next x y) = cornerRange x y
 inRange Open = true
 inRange Bar = true
 inRange Close = true
+inRange (Control x y) = cornerRange x y
 
 -- 3, "field out of range"
 abbrev pub ranged : Record → Decoded
 ranged r = cond (inRange r) (Good r) (Bad Field)
 
--- ---- kinds: 1 area; 2 first corner of a contour; 3 next corner; 4 `(`, 5 `|`, 6 `)`
+-- a record, and no refusal
+abbrev pub isGood : Decoded → Bool
+isGood (Good r) = true
+isGood (Bad x) = false
+
+-- ---- kinds: 1 area; 2 first corner of a contour; 3 next corner; 4 `(`, 5 `|`, 6 `)`; 7 control corner
+
+-- of the kinds from 2 on, the corners: document 02: "Record kind 7 is a control corner, laid out as kind 3"
+abbrev pub isCorner : ℕ → Bool
+isCorner k = ltb k 4 || eqb k 7
 
 unfoldable pub cornerOf : ℕ → ℕ → ℕ → Record
-cornerOf k x y = cond (eqb k 2) (First x y) (Next x y)
+cornerOf k x y = cond (eqb k 2) (First x y) (cond (eqb k 3) (Next x y) (Control x y))
 
 unfoldable pub delimiterOf : ℕ → Record
 delimiterOf k = cond (eqb k 4) Open (cond (eqb k 5) Bar Close)
@@ -58,3 +68,4 @@ kindOf (Next x y) = 3
 kindOf Open = 4
 kindOf Bar = 5
 kindOf Close = 6
+kindOf (Control x y) = 7

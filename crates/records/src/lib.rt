@@ -3,7 +3,7 @@ use refusals::Refusal;
 ghost use mathlib.Core.Path.{_≡_};
 ghost use Prim.Native.Nat.{_+_, _*_, _≤_, _<_};
 ghost use lib.ListN.{length};
-ghost use Rattle.records.specs.Record.{paintRange, clipRange, areaRange, cornerRange, inRange, ranged, cornerOf, delimiterOf};
+ghost use Rattle.records.specs.Record.{paintRange, clipRange, areaRange, cornerRange, inRange, ranged, isCorner, cornerOf, delimiterOf};
 ghost use Rattle.records.specs.Bytes.{rawAt, putRaw, number2, number4, areaUnnamed, cornerUnnamed, delimiterUnnamed, unnamedZero, fieldsOf, named};
 ghost use Rattle.records.specs.Bytes.{decodedRaw, rawArea, rawCorner, rawDelimiter, rawOf};
 
@@ -14,7 +14,7 @@ pub const MOST_AREAS: usize = 64;
 
 pub const MOST_CORNERS: usize = 2048;
 
-// How many bytes a record has, and its kinds, as numbers and as byte 0. 2 and 3, the kinds below `(` but for the area's, are corners.
+// How many bytes a record has, and its kinds, as numbers and as byte 0.
 pub const RECORD_BYTES: usize = 16;
 
 pub const KIND_AREA: u32 = 1;
@@ -29,6 +29,8 @@ pub const KIND_BAR: u32 = 5;
 
 pub const KIND_CLOSE: u32 = 6;
 
+pub const KIND_CONTROL: u32 = 7;
+
 const BYTE_AREA: u8 = KIND_AREA as u8;
 
 const BYTE_FIRST: u8 = KIND_FIRST as u8;
@@ -40,6 +42,8 @@ const BYTE_OPEN: u8 = KIND_OPEN as u8;
 const BYTE_BAR: u8 = KIND_BAR as u8;
 
 const BYTE_CLOSE: u8 = KIND_CLOSE as u8;
+
+const BYTE_CONTROL: u8 = KIND_CONTROL as u8;
 
 // The roles, the fill rules, the largest alpha and channel, and the range of a material.
 pub const PAINT: u32 = 0;
@@ -96,6 +100,7 @@ pub enum Record {
     Open,
     Bar,
     Close,
+    Control(u32, u32),
 }
 
 // A record, or why there is none: Kind or Field.
@@ -240,6 +245,7 @@ fn in_range(r: Record) -> bool
         Record::Open => true,
         Record::Bar => true,
         Record::Close => true,
+        Record::Control(x, y) => corner_range(x, y),
     }
 }
 
@@ -255,13 +261,23 @@ pub fn ranged_of(r: Record) -> Decoded
 }
 
 // ---- from bytes
+// A kind from 2 on that is a corner's.
+pub fn is_corner(k: u32) -> bool
+    ensures answer { λ r. ⌜ r ≡ isCorner k ⌝ }
+{
+    (k < KIND_OPEN) | (k == KIND_CONTROL)
+}
+
 pub fn corner_of(k: u32, x: u32, y: u32) -> Record
     ensures answer { λ r. ⌜ r ≡ cornerOf k x y ⌝ }
 {
     if k == KIND_FIRST {
         return Record::First(x, y);
     }
-    Record::Next(x, y)
+    if k == KIND_NEXT {
+        return Record::Next(x, y);
+    }
+    Record::Control(x, y)
 }
 
 pub fn delimiter_of(k: u32) -> Record
@@ -317,7 +333,9 @@ fn unnamed_zero(r: Raw) -> bool
     if r.b0 == BYTE_AREA {
         return area_unnamed(r);
     }
-    if r.b0 < BYTE_OPEN {
+    let k = wide(r.b0);
+    let t = is_corner(k);
+    if t {
         return corner_unnamed(r);
     }
     delimiter_unnamed(r)
@@ -338,20 +356,21 @@ fn fields_of(r: Raw) -> Fields
     }
 }
 
-fn named_of(r: Raw) -> Record
+// The record that the named bytes say.
+pub fn named_of(r: Raw) -> Record
     ensures answer { λ t. ⌜ t ≡ named r ⌝ }
 {
     if r.b0 == BYTE_AREA {
         let f = fields_of(r);
         return Record::Area(f);
     }
-    if r.b0 < BYTE_OPEN {
+    let k = wide(r.b0);
+    let t = is_corner(k);
+    if t {
         let x = four_bytes(r.b4, r.b5, r.b6, r.b7);
         let y = four_bytes(r.b8, r.b9, r.b10, r.b11);
-        let k = wide(r.b0);
         return corner_of(k, x, y);
     }
-    let k = wide(r.b0);
     delimiter_of(k)
 }
 
@@ -360,7 +379,7 @@ pub fn decoded_raw(r: Raw) -> Decoded
     ensures answer { λ d. ⌜ d ≡ decodedRaw r ⌝ }
 {
     if BYTE_AREA <= r.b0 {
-        if r.b0 <= BYTE_CLOSE {
+        if r.b0 <= BYTE_CONTROL {
             let z = unnamed_zero(r);
             if z {
                 let t = named_of(r);
@@ -454,5 +473,6 @@ pub fn raw_of(r: Record) -> Raw
         Record::Open => raw_delimiter(BYTE_OPEN),
         Record::Bar => raw_delimiter(BYTE_BAR),
         Record::Close => raw_delimiter(BYTE_CLOSE),
+        Record::Control(x, y) => raw_corner(BYTE_CONTROL, x, y),
     }
 }

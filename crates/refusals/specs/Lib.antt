@@ -1,2 +1,2 @@
--- Document 01's numbers of refusals.
+-- The numbers of refusals.
 pub mod Refusals

@@ -1,7 +1,21 @@
--- Document 01, "From the input" and "From the state": the number of each refusal.
+-- Document 01, "From the input" and "From the state", and document 02: the number of each refusal.
 use Prim.Native.Nat.{ℕ}
 use Rattle.refusals.specs.declared.Refusal.{Refusal}
-use Rattle.refusals.specs.declared.Refusal.the-variants.{Length, Kind, Field, Unfit, Short, Limit, Argument, NoCell, AlreadySplit, Smallest, Room, Broken}
+use Rattle.refusals.specs.declared.Refusal.the-variants.{
+  Length,
+  Kind,
+  Field,
+  Unfit,
+  Short,
+  Limit,
+  Argument,
+  NoCell,
+  AlreadySplit,
+  Smallest,
+  Room,
+  Broken,
+  Curve,
+}
 
 abbrev pub numberOf : Refusal → ℕ
 -- "length no multiple of 16, or over 4,096 records"
@@ -28,3 +42,5 @@ numberOf Smallest = 10
 numberOf Room = 11
 -- "a number met in the tables used ... is outside its range, or that drawing or stream breaks the grammar"
 numberOf Broken = 12
+-- document 02, Item 2: "13 for a curve that breaks the order or span"
+numberOf Curve = 13

@@ -1,4 +1,4 @@
-// Document 01's refusals.
+// The refusals of document 01, and document 02's.
 ghost use mathlib.Core.Path.{_≡_};
 ghost use Rattle.refusals.specs.Refusals.{numberOf};
 
@@ -16,9 +16,10 @@ pub enum Refusal {
     Smallest,
     Room,
     Broken,
+    Curve,
 }
 
-// Document 01's number of a refusal.
+// The number of a refusal.
 pub fn number(r: Refusal) -> u32
     ensures answer { λ n. ⌜ n ≡ numberOf r ⌝ }
 {
@@ -35,5 +36,6 @@ pub fn number(r: Refusal) -> u32
         Refusal::Smallest => 10,
         Refusal::Room => 11,
         Refusal::Broken => 12,
+        Refusal::Curve => 13,
     }
 }

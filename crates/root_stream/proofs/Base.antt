@@ -25,7 +25,8 @@ use Rattle.ranges.specs.Held.{Held}
 use Rattle.making.specs.Made.{elementsMade}
 use Rattle.making.proofs.Standing.{Reads}
 use Rattle.plans.specs.code.Source.{sourceOf}
-use Rattle.plans.proofs.Runs.{counted}
+use Rattle.plans.proofs.Runs.{runs, counted}
+use Rattle.plans.proofs.Bent.{bent-start}
 use Rattle.plans.proofs.Valid.{accepted-valid}
 use Rattle.plans.proofs.Held.{accepted-held}
 use Rattle.plans.proofs.Source.{source-elements}
@@ -85,6 +86,7 @@ module _ (t : Tables) (records : ℕ) (b : Bounds) (o : Opened t records b) wher
           whole = omega (arith, records-are);
           few-areas = omega (arith, c .few-areas);
           few-corners = omega (arith, c .few-corners);
+          bends = bent-start (drawnIn t) (runs (drawnIn t) (o .used) (o .accepted .fold));
           words = refl;
         };
       }

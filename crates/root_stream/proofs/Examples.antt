@@ -24,7 +24,7 @@ triangle = Area (record { role = 0; rule = 0; alpha = 255; red = 0; green = 0; b
 abbrev lent : Tables
 lent = tables (4 ∷ 1 ∷ 3 ∷ 1 ∷ 2 ∷ 3 ∷ 3 ∷ []) (0 ∷ 0 ∷ 255 ∷ 0 ∷ 0 ∷ 0 ∷ 1 ∷ 0 ∷ []) (0 ∷ 10 ∷ 10 ∷ []) (0 ∷ 0 ∷ 10 ∷ [])
 
-triangle-entries : entriesN (lent .plan) 0 4 (sourceAt 0 0 0) 4 ≡ words 4 0 0 0 ∷ words 5 0 1 0 ∷ words 5 1 2 0 ∷ words 5 2 0 0 ∷ []
+triangle-entries : entriesN (lent .plan) 4 0 (sourceAt 0 0 0) 4 ≡ words 4 0 0 0 ∷ words 5 0 1 0 ∷ words 5 1 2 0 ∷ words 5 2 0 0 ∷ []
 triangle-entries = refl
 
 triangle-accepted : Acceptable triangle (counts 4 1 3)
@@ -59,7 +59,7 @@ triangle-opened =
 abbrev clipped : List ℕ
 clipped = 11 ∷ 2 ∷ 6 ∷ 4 ∷ 1 ∷ 2 ∷ 3 ∷ 3 ∷ 2 ∷ 3 ∷ 3 ∷ 5 ∷ 1 ∷ 6 ∷ 3 ∷ []
 
-clipped-entries : entriesN clipped 0 11 (sourceAt 0 0 0) 11
+clipped-entries : entriesN clipped 11 0 (sourceAt 0 0 0) 11
     ≡ words 1 0 0 0
     ∷ words 4 0 0 0
     ∷ words 5 0 1 0
@@ -75,5 +75,5 @@ clipped-entries : entriesN clipped 0 11 (sourceAt 0 0 0) 11
 clipped-entries = refl
 
 -- the last edge closes its contour, whatever stands behind the last record
-last-closes : entriesN (4 ∷ 1 ∷ 3 ∷ 1 ∷ 2 ∷ 3 ∷ 3 ∷ 3 ∷ []) 3 4 (sourceAt 1 2 0) 1 ≡ words 5 2 0 0 ∷ []
+last-closes : entriesN (4 ∷ 1 ∷ 3 ∷ 1 ∷ 2 ∷ 3 ∷ 3 ∷ 3 ∷ []) 4 3 (sourceAt 1 2 0) 1 ≡ words 5 2 0 0 ∷ []
 last-closes = refl

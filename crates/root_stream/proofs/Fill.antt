@@ -30,9 +30,9 @@ use Rattle.writing.proofs.Written.{Writes}
 use Rattle.writing.proofs.Turn.{Writing, writing-next}
 use Rattle.writing.proofs.Whole.{written-end}
 use Rattle.root_stream.specs.declared.Source.{Source}
-use Rattle.root_stream.specs.code.Numbers.{sourceAt, entryN, afterN}
+use Rattle.root_stream.specs.code.Numbers.{sourceAt, kindN, strideN, entryN, afterN}
 use Rattle.root_stream.specs.Opened.{elementsOpened, wordsOpened}
-use Rattle.root_stream.proofs.Ahead.{Ahead, ahead-next, ahead-none}
+use Rattle.root_stream.proofs.Ahead.{stride-some, Ahead, ahead-next, ahead-none}
 use Rattle.root_stream.proofs.Base.{Base}
 use Rattle.root_stream.proofs.Loop.{Looping}
 
@@ -41,7 +41,9 @@ pub record Filling (v : Env) (D : Drawing) (plan : List ℕ) (records : ℕ) (al
     (m : Maker) (t : List ℕ) : Type 0 where
   pub ws : List Words
   pub ahead : Ahead plan records i s ws
-  pub writing : Writing v D root i m ws (allOf D root all) limit t₀ t
+  pub done : ℕ
+  pub early : done ≤ i
+  pub writing : Writing v D root done m ws (allOf D root all) limit t₀ t
 
 module _ (v : Env) (D : Drawing) (plan : List ℕ) (records : ℕ) (all : List Words) (B : Base v D plan records all) (limit : ℕ) (t₀ : List ℕ)
     (room : limit * 4 ≤ length t₀) where
@@ -56,23 +58,25 @@ module _ (v : Env) (D : Drawing) (plan : List ℕ) (records : ℕ) (all : List W
       record {
         ws = all;
         ahead = rw y (B .begin);
+        done = 0;
+        early = omega arith;
         writing = record { standing = x .0; writes = subst (λ (z : Making). Writes limit t₀ z) (sym (x .1)) none; same = same-refl limit t₀ };
       }
 
   -- where the table is t
   module _ (i : ℕ) (s : Source) (m : Maker) (t : List ℕ) (f : Filling v D plan records all limit t₀ i s m t) where
     pub looping : Looping v D plan records all i s m
-    looping = record { ws = f .ws; ahead = f .ahead; standing = f .writing .standing }
+    looping = record { ws = f .ws; ahead = f .ahead; done = f .done; early = f .early; standing = f .writing .standing }
 
     pub room-now : limit * 4 ≤ length t
     room-now = omega (arith, f .writing .same .size)
 
-    few : i ≤ 4096
-    few = omega (arith, B .few, f .ahead .whole)
+    few : f .done ≤ 4096
+    few = omega (arith, B .few, f .early, f .ahead .whole)
 
     pub fill-turn : i < records
-        → (n : Maker) (w : Words) (q : Square) (g : Class) (z : ℤ) (s′ : Source) (u : List ℕ)
-        → w ≡ entryN plan i records s
+        → (n : Maker) (w : Words) (q : Square) (g : Class) (z : ℤ) (s′ : Source) (j : ℕ) (u : List ℕ)
+        → w ≡ entryN s (kindN plan records i) (kindN plan records (i + 1))
         → w .q < 4294967296
         → q ≡ squareOf root
         → g ≡ leftClass (v .xs) (v .ys) q w
@@ -80,17 +84,21 @@ module _ (v : Env) (D : Drawing) (plan : List ℕ) (records : ℕ) (all : List W
         → counted (n .pruner) ≡ prunedN (v .areas) (counted (m .pruner)) (m .waiting) (w .kind)
         → n .waiting ≡ waitingN (m .waiting) g z w
         → u ≡ onePut limit (v .areas) t m g z w (n .pruner .weight)
-        → s′ ≡ afterN s (getD plan (i + 3) 0)
-        → Filling v D plan records all limit t₀ (i + 1) s′ n u
-    fill-turn h n w q g z s′ u e b r x y hp ha hu hs =
+        → s′ ≡ afterN s (kindN plan records i) (kindN plan records (i + 1))
+        → j ≡ i + strideN (kindN plan records (i + 1))
+        → Filling v D plan records all limit t₀ j s′ n u
+    fill-turn h n w q g z s′ j u e b r x y hp ha hu hs hj =
         let next = ahead-next plan records i s (f .ws) (f .ahead) h in
-        let now : Writing v D root i m (w ∷ next .0) (allOf D root all) limit t₀ t =
-        subst (λ (ws : List Words). Writing v D root i m ws (allOf D root all) limit t₀ t) (next .1 ∙ ap (λ (k : Words). k ∷ next .0) (sym e)) (f .writing) in
+        let now : Writing v D root (f .done) m (w ∷ next .0) (allOf D root all) limit t₀ t =
+        subst (λ (ws : List Words). Writing v D root (f .done) m ws (allOf D root all) limit t₀ t)
+        (next .1 ∙ ap (λ (k : Words). k ∷ next .0) (sym e)) (f .writing) in
         record {
           ws = next .0;
-          ahead = rw hs (next .2);
+          ahead = rw (hs, hj) (next .2);
+          done = f .done + 1;
+          early = omega (arith, f .early, stride-some (kindN plan records (i + 1)), hj);
           writing =
-              writing-next v D root (B .reads) i m (allOf D root all) limit t₀ t few room-now w (next .0) now u (n .pruner .weight) g z
+              writing-next v D root (B .reads) (f .done) m (allOf D root all) limit t₀ t few room-now w (next .0) now u (n .pruner .weight) g z
               (x ∙ ap (λ (a : Square). leftClass (v .xs) (v .ys) a w) r) y hu n refl b hp ha;
         }
 
@@ -101,12 +109,12 @@ module _ (v : Env) (D : Drawing) (plan : List ℕ) (records : ℕ) (all : List W
 
       pub fill-end : (u : List ℕ) → u ≡ settledPut limit (v .areas) t m → u ≡ written t₀ 0 (wordsMade D root all)
       fill-end u hu =
-          let last : Writing v D root i m [] (allOf D root all) limit t₀ t = subst
-          (λ (ws : List Words). Writing v D root i m ws (allOf D root all) limit t₀ t) (ahead-none plan records i s (f .ws) (f .ahead) h)
+          let last : Writing v D root (f .done) m [] (allOf D root all) limit t₀ t = subst
+          (λ (ws : List Words). Writing v D root (f .done) m ws (allOf D root all) limit t₀ t) (ahead-none plan records i s (f .ws) (f .ahead) h)
           (f .writing) in
           let size : 0 + length (wordsMade D root all) ≡ limit = omega (arith, length-made) in
           hu
-          ∙ (written-end v D root (B .reads) all (B .grammar) i m limit t₀ t few room-now exact last
+          ∙ (written-end v D root (B .reads) all (B .grammar) (f .done) m limit t₀ t few room-now exact last
           ∙ (ap (λ (n : ℕ). flat (wordsMade D root all) ++ drop (n * 4) t₀) (sym size)
           ∙ sym (written-eq t₀ 0 (wordsMade D root all) (omega (arith, length-made)))))
 

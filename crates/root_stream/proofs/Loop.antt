@@ -25,8 +25,8 @@ use Rattle.making.proofs.Standing.{Standing}
 use Rattle.making.proofs.Turn.{standing-weight, standing-base, standing-inside, standing-room, standing-start, standing-left, standing-sign, standing-next}
 use Rattle.making.proofs.Whole.{allOf, standing-begin, weight-end}
 use Rattle.root_stream.specs.declared.Source.{Source}
-use Rattle.root_stream.specs.code.Numbers.{sourceAt, entryN, afterN}
-use Rattle.root_stream.proofs.Ahead.{Ahead, ahead-next, ahead-none}
+use Rattle.root_stream.specs.code.Numbers.{sourceAt, kindN, strideN, entryN, afterN}
+use Rattle.root_stream.proofs.Ahead.{stride-some, Ahead, Goes, ahead-next, ahead-none}
 use Rattle.root_stream.proofs.Base.{Base}
 
 -- the square of side 65,536 at (0, 0)
@@ -37,7 +37,10 @@ root-in = record { some-side = omega arith; right = omega arith; top = omega ari
 pub record Looping (v : Env) (D : Drawing) (plan : List ℕ) (records : ℕ) (all : List Words) (i : ℕ) (s : Source) (m : Maker) : Type 0 where
   pub ws : List Words
   pub ahead : Ahead plan records i s ws
-  pub standing : Standing v D root i (m .pruner) (m .waiting) ws (allOf D root all)
+  -- how many entries came before: at most one for each record
+  pub done : ℕ
+  pub early : done ≤ i
+  pub standing : Standing v D root done (m .pruner) (m .waiting) ws (allOf D root all)
 
 -- no area or corner is over its limit
 pub source-few : (plan : List ℕ) (records i : ℕ) (s : Source) (ws : List Words) → Ahead plan records i s ws → (s .area ≤ 64) × (s .corner ≤ 2048)
@@ -53,52 +56,63 @@ module _ (v : Env) (D : Drawing) (plan : List ℕ) (records : ℕ) (all : List W
       record {
         ws = all;
         ahead = rw x (B .begin);
+        done = 0;
+        early = omega arith;
         standing = standing-begin v D root (B .reads) all (B .grammar) (m .pruner) (m .waiting) e f;
       }
 
   -- where record i is to come
   module _ (i : ℕ) (s : Source) (m : Maker) (l : Looping v D plan records all i s m) (h : i < records) where
-    next : (ws′ : List Words) × (l .ws ≡ entryN plan i records s ∷ ws′) × Ahead plan records (i + 1) (afterN s (getD plan (i + 3) 0)) ws′
+    abbrev kind : ℕ
+    kind = kindN plan records i
+
+    abbrev behind : ℕ
+    behind = kindN plan records (i + 1)
+
+    next : Goes plan records i s (l .ws)
     next = ahead-next plan records i s (l .ws) (l .ahead) h
 
-    here : Standing v D root i (m .pruner) (m .waiting) (entryN plan i records s ∷ next .0) (allOf D root all)
-    here = subst (λ (ws : List Words). Standing v D root i (m .pruner) (m .waiting) ws (allOf D root all)) (next .1) (l .standing)
+    here : Standing v D root (l .done) (m .pruner) (m .waiting) (entryN s kind behind ∷ next .0) (allOf D root all)
+    here = subst (λ (ws : List Words). Standing v D root (l .done) (m .pruner) (m .waiting) ws (allOf D root all)) (next .1) (l .standing)
 
-    few : i ≤ 4096
-    few = omega (arith, B .few)
+    few : l .done ≤ 4096
+    few = omega (arith, B .few, l .early)
 
-    pub loop-left : leftRange (v .xs) (v .ys) (v .used .corners) (entryN plan i records s) ≡ true
-    loop-left = standing-left v D root (B .reads) i (m .pruner) (m .waiting) (allOf D root all) (entryN plan i records s) (next .0) here
+    pub loop-left : leftRange (v .xs) (v .ys) (v .used .corners) (entryN s kind behind) ≡ true
+    loop-left = standing-left v D root (B .reads) (l .done) (m .pruner) (m .waiting) (allOf D root all) (entryN s kind behind) (next .0) here
 
-    pub loop-sign : natAbs (leftSign (v .xs) (v .ys) (entryN plan i records s)) ≤ 1
-    loop-sign = standing-sign v D root (B .reads) i (m .pruner) (m .waiting) (allOf D root all) (entryN plan i records s) (next .0) here
+    pub loop-sign : natAbs (leftSign (v .xs) (v .ys) (entryN s kind behind)) ≤ 1
+    loop-sign = standing-sign v D root (B .reads) (l .done) (m .pruner) (m .waiting) (allOf D root all) (entryN s kind behind) (next .0) here
 
-    pub loop-asks : Asks (length (v .areas)) (m .pruner) (m .waiting) (entryN plan i records s)
+    pub loop-asks : Asks (length (v .areas)) (m .pruner) (m .waiting) (entryN s kind behind)
     loop-asks =
         record {
-          inside = standing-inside v D root (B .reads) i (m .pruner) (m .waiting) (allOf D root all) (entryN plan i records s ∷ next .0) few
+          inside = standing-inside v D root (B .reads) (l .done) (m .pruner) (m .waiting) (allOf D root all) (entryN s kind behind ∷ next .0) few
               (B .ready .areas) here;
-          room = standing-room v D root (B .reads) i (m .pruner) (m .waiting) (allOf D root all) (entryN plan i records s) (next .0) here
+          room = standing-room v D root (B .reads) (l .done) (m .pruner) (m .waiting) (allOf D root all) (entryN s kind behind) (next .0) here
               few;
-          start = standing-start v D root (B .reads) i (m .pruner) (m .waiting) (allOf D root all) (entryN plan i records s) (next .0) here;
+          start = standing-start v D root (B .reads) (l .done) (m .pruner) (m .waiting) (allOf D root all) (entryN s kind behind) (next .0) here;
         }
 
-    pub loop-turn : (n : Maker) (w : Words) (q : Square) (f : Class) (z : ℤ) (s′ : Source)
-        → w ≡ entryN plan i records s
+    pub loop-turn : (n : Maker) (w : Words) (q : Square) (f : Class) (z : ℤ) (s′ : Source) (j : ℕ)
+        → w ≡ entryN s kind behind
         → w .q < 4294967296
         → q ≡ squareOf root
         → f ≡ leftClass (v .xs) (v .ys) q w
         → z ≡ leftSign (v .xs) (v .ys) w
         → counted (n .pruner) ≡ prunedN (v .areas) (counted (m .pruner)) (m .waiting) (w .kind)
         → n .waiting ≡ waitingN (m .waiting) f z w
-        → s′ ≡ afterN s (getD plan (i + 3) 0)
-        → Looping v D plan records all (i + 1) s′ n
-    loop-turn n w q f z s′ e b g x y hp ha hs =
-        let now : Standing v D root i (m .pruner) (m .waiting) (w ∷ next .0) (allOf D root all) = rw e here in
+        → s′ ≡ afterN s kind behind
+        → j ≡ i + strideN behind
+        → Looping v D plan records all j s′ n
+    loop-turn n w q f z s′ j e b g x y hp ha hs hj =
+        let now : Standing v D root (l .done) (m .pruner) (m .waiting) (w ∷ next .0) (allOf D root all) = rw e here in
         record {
           ws = next .0;
-          ahead = rw hs (next .2);
-          standing = standing-next v D root (B .reads) i (m .pruner) (m .waiting) (allOf D root all) w (next .0) now (n .pruner)
+          ahead = rw (hs, hj) (next .2);
+          done = l .done + 1;
+          early = omega (arith, l .early, stride-some behind, hj);
+          standing = standing-next v D root (B .reads) (l .done) (m .pruner) (m .waiting) (allOf D root all) w (next .0) now (n .pruner)
               (n .waiting) hp
               (ha
               ∙ (ap (λ (d : Class). waitingN (m .waiting) d z w) (x ∙ ap (λ (r : Square). leftClass (v .xs) (v .ys) r w) g)
@@ -108,22 +122,22 @@ module _ (v : Env) (D : Drawing) (plan : List ℕ) (records : ℕ) (all : List W
 
   -- where none is left
   module _ (i : ℕ) (s : Source) (m : Maker) (l : Looping v D plan records all i s m) (h : records ≤ i) where
-    none : Standing v D root i (m .pruner) (m .waiting) [] (allOf D root all)
+    none : Standing v D root (l .done) (m .pruner) (m .waiting) [] (allOf D root all)
     none =
-        subst (λ (ws : List Words). Standing v D root i (m .pruner) (m .waiting) ws (allOf D root all))
+        subst (λ (ws : List Words). Standing v D root (l .done) (m .pruner) (m .waiting) ws (allOf D root all))
         (ahead-none plan records i s (l .ws) (l .ahead) h) (l .standing)
 
-    few-end : i ≤ 4096
-    few-end = omega (arith, B .few, l .ahead .whole)
+    few-end : l .done ≤ 4096
+    few-end = omega (arith, B .few, l .early, l .ahead .whole)
 
     pub end-inside : Inside (length (v .areas)) (m .waiting)
-    end-inside = standing-inside v D root (B .reads) i (m .pruner) (m .waiting) (allOf D root all) [] few-end (B .ready .areas) none
+    end-inside = standing-inside v D root (B .reads) (l .done) (m .pruner) (m .waiting) (allOf D root all) [] few-end (B .ready .areas) none
 
     pub end-room : (m .pruner .weight + m .waiting .weight < 2 ^ 60) × (m .pruner .base < 2 ^ 60)
     end-room = (
-      omega (arith, standing-weight v D root (B .reads) i (m .pruner) (m .waiting) (allOf D root all) [] none, few-end),
-      omega (arith, standing-base v D root (B .reads) i (m .pruner) (m .waiting) (allOf D root all) [] none, few-end),
+      omega (arith, standing-weight v D root (B .reads) (l .done) (m .pruner) (m .waiting) (allOf D root all) [] none, few-end),
+      omega (arith, standing-base v D root (B .reads) (l .done) (m .pruner) (m .waiting) (allOf D root all) [] none, few-end),
     )
 
     pub end-weight : lengthOf (settledN (v .areas) (counted (m .pruner)) (m .waiting)) ≡ total elementSize (elementsMade D root all)
-    end-weight = weight-end v D root (B .reads) all (B .grammar) i (m .pruner) (m .waiting) none
+    end-weight = weight-end v D root (B .reads) all (B .grammar) (l .done) (m .pruner) (m .waiting) none

@@ -33,8 +33,8 @@ pub accepted-opened : (t : Tables) (k : Counts) → drawingVerdict t ≡ Accepte
 accepted-opened t k e = let p = passes-holding t k e in record { used = k; accepted = p .0; holding = p .1; records-used = refl; bounds-used = refl }
 
 module _ (t : Tables) (records : ℕ) (b : Bounds) (o : Opened t records b) where
-  -- one record gives one entry: entry i is the words of element i
-  pub entries-source : entriesN (t .plan) 0 records (sourceAt 0 0 0) records ≡ map wordsOf (sourceOf (drawnIn t))
+  -- the entries of the plan are the words of the elements
+  pub entries-source : entriesN (t .plan) records 0 (sourceAt 0 0 0) records ≡ map wordsOf (sourceOf (drawnIn t))
   entries-source = entries-ahead (t .plan) records records 0 (sourceAt 0 0 0) (map wordsOf (sourceOf (drawnIn t))) (base t records b o .begin) (omega arith)
 
   pub opened-short : length (elementsOpened t) ≤ 4096

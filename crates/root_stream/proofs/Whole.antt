@@ -12,7 +12,7 @@ use Rattle.geometry.specs.Windings.{Line, edgeOf}
 use Rattle.geometry.specs.code.Reach.{LineBelow}
 use Rattle.records.specs.declared.Fields.{Fields}
 use Rattle.records.specs.declared.Record.{Record}
-use Rattle.records.specs.declared.Record.the-variants.{Area, First, Next, Open, Bar, Close}
+use Rattle.records.specs.declared.Record.the-variants.{Area, First, Next, Control, Open, Bar, Close}
 use Rattle.records.specs.declared.Decoded.the-variants.{Good}
 use Rattle.grammar.specs.declared.Counts.{Counts}
 use Rattle.drawing.specs.Tables.{areaRow}
@@ -26,12 +26,13 @@ use Rattle.cells.specs.Elements.{elementsOf, roleIn, OnSide, streamOf}
 use Rattle.cells.proofs.Each.{each-mapped}
 use Rattle.cells.proofs.Elements as Elements
 use Rattle.stream.specs.declared.Bounds.{Bounds}
-use Rattle.stream.specs.Grammar.{env, isGood, roleFits, isWhole, accepts}
+use Rattle.records.specs.Record.{isGood}
+use Rattle.stream.specs.Grammar.{env, roleFits, isWhole, accepts}
 use Rattle.evaluate.specs.Words.{wordsOf, EachFits, Agrees}
 use Rattle.evaluate.proofs.Words.{elements-back}
-use Rattle.ranges.specs.code.Valid.{Valid, CornersBelow, lines, weigh}
+use Rattle.ranges.specs.code.Valid.{Valid, lines, weigh}
 use Rattle.ranges.specs.Held.{Held}
-use Rattle.ranges.proofs.Segments.{EachIn}
+use Rattle.ranges.proofs.Segments.{lines-in}
 use Rattle.ranges.proofs.Passing.{isPaintSide, ItemPasses, AreaPasses, side-passes}
 use Rattle.ranges.proofs.Numbers.{start-word, role-fits, edge-same, each-passes}
 use Rattle.ranges.proofs.Items.{on-both}
@@ -53,11 +54,6 @@ on-mapped : {A B : Type 0} (Q : Kind → A → Type 0) (P : Kind → B → Type 
 on-mapped Q P f h k end o = tt
 on-mapped Q P f h k (leaf a t) o = (h k a (o .0), on-mapped Q P f h k t (o .1))
 on-mapped Q P f h k (group l r t) o = (on-mapped Q P f h clip l (o .0), on-mapped Q P f h k r (o .1), on-mapped Q P f h k t (o .2))
-
--- the lines of an area whose corners are in use
-lines-in : (n : ℕ) (c : Cell) (ls : List Line) → CornersBelow n ls → EachIn n c (map drawn ls)
-lines-in n c [] h = tt
-lines-in n c (l ∷ ls) h = (h .0, lines-in n c ls (h .1))
 
 module _ (D : Drawing) (areas xs ys : List ℕ) (b : Bounds) (H : Held areas xs ys b D) where
   held-agrees : (n : ℕ) → n < length (D .fields) → Agrees areas D n
@@ -88,7 +84,8 @@ module _ (D : Drawing) (areas xs ys : List ℕ) (b : Bounds) (H : Held areas xs 
       ap isGood (row n (p .0)),
       ap (λ r. roleFits r (isPaintSide k)) (row n (p .0)) ∙ role-fits k (fieldsOf D n) (ok .fields n (p .0)) (p .1),
       start-word (pos 0) (omega arith),
-      each-passes D areas xs ys b H root same-low same-side ok (map drawn (lines D n)) (lines-in (length (D .xs)) root (lines D n) (ok .corners n)),
+      each-passes D areas xs ys b H root same-low same-side ok (map drawn (lines D n))
+          (lines-in (D .xs) (D .ys) root (lines D n) (ok .corners n) (ok .curves n)),
     )
 
     item-in : (k : Kind) (n : ℕ) → Placed k n → ItemPasses (env areas xs ys b) k (whole D n)
@@ -127,6 +124,7 @@ source-fits a c f [] = tt
 source-fits a c f (Area g ∷ rs) = (record { sfits = omega arith }, source-fits (suc a) c f rs)
 source-fits a c f (First x y ∷ rs) = (tt, source-fits a (suc c) c rs)
 source-fits a c f (Next x y ∷ rs) = (tt, source-fits a (suc c) f rs)
+source-fits a c f (Control x y ∷ rs) = source-fits a (suc c) f rs
 source-fits a c f (Open ∷ rs) = (tt, source-fits a c f rs)
 source-fits a c f (Bar ∷ rs) = (tt, source-fits a c f rs)
 source-fits a c f (Close ∷ rs) = (tt, source-fits a c f rs)

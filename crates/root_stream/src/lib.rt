@@ -12,10 +12,8 @@ ghost use Rattle.pruning.specs.code.Weights.{total};
 ghost use Rattle.drawing.specs.Tables.{tables, drawingLent};
 ghost use Rattle.stream.specs.Table.{written};
 ghost use Rattle.evaluate.specs.Words.{words};
-ghost use Rattle.root_stream.specs.code.Numbers.{sourceAt, endN, edgeN, markN, entryN, afterN, Opened};
+ghost use Rattle.root_stream.specs.code.Numbers.{sourceAt, kindN, strideN, edgeN, markN, entryN, afterN, Opened};
 ghost use Rattle.root_stream.specs.Opened.{elementsOpened, wordsOpened};
-
-const NEXT_KIND: usize = read::PLAN_COUNTS + 1;
 
 // The areas and the corners before a record, and the first corner of the contour in progress.
 pub struct Source {
@@ -35,29 +33,54 @@ fn source_begin() -> Source
     }
 }
 
-// Where the edge from the corner of record i ends: at the next corner where record i + 1 is one, or at the first corner of the contour.
-fn edge_end(plan: &[u32], i: usize, records: usize, corner: u32, first: u32) -> u32
-    requires { ⌜ (records + 3 ≤ length (now plan)) × (i < records) × (corner ≤ 2048) ⌝ }
-    ensures answer { λ r. ⌜ r ≡ endN (now (plan .entry)) i records corner first ⌝ }
+// The kind of record i, or 0 where there is none.
+fn kind_at(plan: &[u32], i: usize, records: usize) -> u32
+    requires { ⌜ records + 3 ≤ length (now plan) ⌝ }
+    ensures answer { λ r. ⌜ r ≡ kindN (now (plan .entry)) records i ⌝ }
 {
-    if i + 1 < records {
-        if plan[i + NEXT_KIND] == records::KIND_NEXT {
-            return corner + 1;
-        }
-        return first;
+    if i < records {
+        return plan[i + read::PLAN_COUNTS];
     }
-    first
+    0
 }
 
-fn edge_from(plan: &[u32], i: usize, records: usize, corner: u32, first: u32) -> Words
-    requires { ⌜ (records + 3 ≤ length (now plan)) × (i < records) × (corner ≤ 2048) ⌝ }
-    ensures answer { λ r. ⌜ r ≡ edgeN (now (plan .entry)) i records corner first ⌝ }
+// How many records and corners an edge from a corner takes up to where it ends, where a record of kind `behind` stands straight behind the corner.
+fn stride(behind: u32) -> u32
+    ensures answer { λ r. ⌜ r ≡ strideN behind ⌝ }
+    ensures range { λ r. ⌜ (0 < r) × (r ≤ 2) ⌝ }
 {
-    let end = edge_end(plan, i, records, corner, first);
+    if behind == records::KIND_CONTROL {
+        return 2;
+    }
+    1
+}
+
+// The edge from a corner: to the next corner where it stands straight behind, the curve by a control corner that stands there, or to the first
+// corner of the contour.
+fn edge_from(behind: u32, corner: u32, first: u32) -> Words
+    requires { ⌜ corner ≤ 2048 ⌝ }
+    ensures answer { λ r. ⌜ r ≡ edgeN behind corner first ⌝ }
+{
+    if behind == records::KIND_NEXT {
+        return Words {
+            kind: stream::ENTRY_LINE,
+            p: corner,
+            q: corner + 1,
+            r: 0,
+        };
+    }
+    if behind == records::KIND_CONTROL {
+        return Words {
+            kind: stream::ENTRY_CURVE,
+            p: corner,
+            q: 0,
+            r: 0,
+        };
+    }
     Words {
         kind: stream::ENTRY_LINE,
         p: corner,
-        q: end,
+        q: first,
         r: 0,
     }
 }
@@ -85,12 +108,11 @@ fn delimiter(kind: u32) -> Words
     mark(stream::ENTRY_CLOSE)
 }
 
-// The entry of record i: the area, the edge from its corner, or the delimiter.
-fn source_entry(plan: &[u32], i: usize, records: usize, c: Source) -> Words
-    requires { ⌜ (records + 3 ≤ length (now plan)) × (i < records) × (c .corner ≤ 2048) ⌝ }
-    ensures answer { λ r. ⌜ r ≡ entryN (now (plan .entry)) i records c ⌝ }
+// The entry of a record, with one of kind `behind` straight behind it: the area, the edge from its corner, or the delimiter.
+fn source_entry(c: Source, kind: u32, behind: u32) -> Words
+    requires { ⌜ c .corner ≤ 2048 ⌝ }
+    ensures answer { λ r. ⌜ r ≡ entryN c kind behind ⌝ }
 {
-    let kind = plan[i + read::PLAN_COUNTS];
     if kind == records::KIND_AREA {
         return Words {
             kind: stream::ENTRY_AREA,
@@ -100,18 +122,18 @@ fn source_entry(plan: &[u32], i: usize, records: usize, c: Source) -> Words
         };
     }
     if kind == records::KIND_FIRST {
-        return edge_from(plan, i, records, c.corner, c.corner);
+        return edge_from(behind, c.corner, c.corner);
     }
     if kind == records::KIND_NEXT {
-        return edge_from(plan, i, records, c.corner, c.first);
+        return edge_from(behind, c.corner, c.first);
     }
     delimiter(kind)
 }
 
-// Behind a record of this kind.
-fn source_after(c: Source, kind: u32) -> Source
+// Behind that entry.
+fn source_after(c: Source, kind: u32, behind: u32) -> Source
     requires { ⌜ (c .area ≤ 64) × (c .corner ≤ 2048) ⌝ }
-    ensures answer { λ r. ⌜ r ≡ afterN c kind ⌝ }
+    ensures answer { λ r. ⌜ r ≡ afterN c kind behind ⌝ }
 {
     if kind == records::KIND_AREA {
         return Source {
@@ -120,17 +142,18 @@ fn source_after(c: Source, kind: u32) -> Source
             first: c.first,
         };
     }
+    let n = stride(behind);
     if kind == records::KIND_FIRST {
         return Source {
             area: c.area,
-            corner: c.corner + 1,
+            corner: c.corner + n,
             first: c.corner,
         };
     }
     if kind == records::KIND_NEXT {
         return Source {
             area: c.area,
-            corner: c.corner + 1,
+            corner: c.corner + n,
             first: c.first,
         };
     }
@@ -166,16 +189,19 @@ pub fn count_open(
     let mut c = source_begin();
     let mut i = 0;
     while i < records {
-        let w = source_entry(plan, i, records, c);
+        let kind = kind_at(plan, i, records);
+        let behind = kind_at(plan, i + 1, records);
+        let w = source_entry(c, kind, behind);
         let l = making::left_of(xs, ys, b.corners, s, w);
         if making::prunes(w.kind) {
             let q = making::pruner_after(areas, p, a, w.kind);
             p = q;
         }
-        let n = making::waiting_after(a, l, w);
-        a = n;
-        c = source_after(c, plan[i + read::PLAN_COUNTS]);
-        i += 1;
+        let t = making::waiting_after(a, l, w);
+        a = t;
+        c = source_after(c, kind, behind);
+        let n = stride(behind);
+        i += n as usize;
     }
     making::made_weight(
         areas,
@@ -208,7 +234,9 @@ pub fn write_open(
     let mut c = source_begin();
     let mut i = 0;
     while i < records {
-        let w = source_entry(plan, i, records, c);
+        let kind = kind_at(plan, i, records);
+        let behind = kind_at(plan, i + 1, records);
+        let w = source_entry(c, kind, behind);
         let l = making::left_of(xs, ys, b.corners, s, w);
         if making::prunes(w.kind) {
             let q = writing::write_other(entries, made, areas, p, a, w.kind);
@@ -216,10 +244,11 @@ pub fn write_open(
         } else {
             writing::put_segment(entries, made, p, a, l, w);
         }
-        let n = making::waiting_after(a, l, w);
-        a = n;
-        c = source_after(c, plan[i + read::PLAN_COUNTS]);
-        i += 1;
+        let t = making::waiting_after(a, l, w);
+        a = t;
+        c = source_after(c, kind, behind);
+        let n = stride(behind);
+        i += n as usize;
     }
     let last = Maker {
         pruner: p,

@@ -1,6 +1,7 @@
 -- Every starred spot of the table is right: one test, computed from the definitions.
 use lib.Dec.{T}
-use Rattle.geometry.specs.Edges.{product, lineCounts, counts, sign}
+use Rattle.curves.specs.Lines.{product, lineCounts}
+use Rattle.geometry.specs.Edges.{counts, sign}
 use Rattle.geometry.specs.Windings.{adds, sumOf}
 use Rattle.geometry.specs.Keys.{spread, keyOf}
 use Rattle.paint.specs.Sets.{each}

@@ -7,7 +7,8 @@ use lib.Dec.{T, leb, leb→le}
 use lib.ListN.{length, getD}
 use Rattle.laws.specs.Tables.{allEntries}
 use Rattle.laws.proofs.Tables.{entry-at}
-use Rattle.geometry.specs.code.Reach.{reach, CornersIn}
+use Rattle.curves.specs.code.Reach.{reach}
+use Rattle.geometry.specs.code.Reach.{CornersIn}
 use Rattle.paint.specs.Areas.{Painted}
 use Rattle.paint.proofs.Sets.{has-below}
 

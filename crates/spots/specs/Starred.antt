@@ -6,7 +6,7 @@ use Prim.Native.Nat.{ℕ}
 use lib.Dec.{eqb}
 use lib.IntN.{ℤ, pos}
 use Rattle.laws.specs.Integers.{eqZ}
-use Rattle.geometry.specs.Windings.{contour, winding}
+use Rattle.geometry.specs.Windings.{contour, straights, winding}
 use Rattle.geometry.specs.Keys.{keyOf}
 use Rattle.paint.specs.Areas.{paintAt, materialOf}
 use Rattle.paint.specs.Colours.{mixOf, colourOf}
@@ -45,7 +45,7 @@ threeAreas =
       fields = translucent ∷ translucent ∷ translucent ∷ [];
       xs = triangleX;
       ys = triangleY;
-      contours = (contour 0 3 ∷ []) ∷ (contour 0 3 ∷ []) ∷ (contour 0 3 ∷ []) ∷ [];
+      contours = (contour 0 (straights 2) ∷ []) ∷ (contour 0 (straights 2) ∷ []) ∷ (contour 0 (straights 2) ∷ []) ∷ [];
       plan = leaf 0 (leaf 1 (leaf 2 end));
     }
 
@@ -75,7 +75,7 @@ isList (a ∷ x) [] = false
 isList (a ∷ x) (b ∷ y) = eqb a b && isList x y
 
 abbrev pub right : Spot → Bool
-right (triangle x y w) = eqZ (winding triangleX triangleY (contour 0 3 ∷ []) x y) w
+right (triangle x y w) = eqZ (winding triangleX triangleY (contour 0 (straights 2) ∷ []) x y) w
 right (shows areas set m r g b) = eqb (materialOf (paintAt areas) set) m && isColour (colourOf (paintAt areas) set) r g b
 right (leaves areas set l) = eqb (mixOf (paintAt areas) set .left) l
 right (shown D x y l) = isList (shownAt D (at x y)) l

@@ -3,8 +3,11 @@ use geometry::class::Class;
 use geometry::class::Square;
 use geometry::edge::Edge;
 use geometry::fill::FillRule;
+ghost use mathlib.Core.Path.{_≡_};
+ghost use mathlib.Core.Bool.{false};
 ghost use Prim.Native.Nat.{_<_};
-ghost use Rattle.geometry.specs.code.Reach.{PositionIn, EndsIn, EdgeIn, SquareIn};
+ghost use Rattle.curves.specs.code.Reach.{PositionIn, EndsIn};
+ghost use Rattle.geometry.specs.code.Reach.{SquareIn};
 ghost use Rattle.paint.specs.Areas.{Painted};
 
 // A space and a number.
@@ -45,12 +48,21 @@ fn write_passes(rule: FillRule, winding: i64) {
     }
 }
 
-// The class of an edge in a square.
-fn write_class(e: Edge, s: Square)
-    requires { ⌜ EdgeIn e ⌝ }
+// The class of a straight edge in a square.
+fn straight_class(e: Edge, s: Square) -> Class
+    requires { ⌜ EndsIn (e .x0) (e .y0) (e .x1) (e .y1) ⌝ }
+    requires { ⌜ e .bent ≡ false ⌝ }
     requires { ⌜ SquareIn s ⌝ }
 {
-    let c = geometry::class::classify(e, s);
+    geometry::class::classify(e, s)
+}
+
+fn write_class(e: Edge, s: Square)
+    requires { ⌜ EndsIn (e .x0) (e .y0) (e .x1) (e .y1) ⌝ }
+    requires { ⌜ e .bent ≡ false ⌝ }
+    requires { ⌜ SquareIn s ⌝ }
+{
+    let c = straight_class(e, s);
     match c {
         Class::Dropped => {
             io::write_all(1, b"dropped\n");
@@ -144,6 +156,9 @@ fn classes() {
         y0: 2,
         x1: 10,
         y1: 20,
+        bent: false,
+        cx: 0,
+        cy: 0,
     };
     write_class(
         upright,
@@ -191,6 +206,9 @@ fn classes() {
             y0: 0,
             x1: 10,
             y1: 10,
+            bent: false,
+            cx: 0,
+            cy: 0,
         },
         Square {
             x: 0,

@@ -3,6 +3,7 @@ use Prim.Native.Nat.{ℕ}
 use mathlib.Core.Path.{_≡_, refl}
 use mathlib.Core.Bool.{Bool, true, false}
 use mathlib.Core.List.{List, [], _∷_}
+use Rattle.curves.specs.Curves.{curveFits}
 use Rattle.records.specs.Record.{areaRange}
 use Rattle.drawing.specs.Tables.{areaRow}
 use Rattle.stream.specs.Table.{wordsFrom}
@@ -38,6 +39,9 @@ area n start t = 4 ∷ n ∷ start ∷ 0 ∷ t
 
 abbrev line : ℕ → ℕ → List ℕ → List ℕ
 line a b t = 5 ∷ a ∷ b ∷ 0 ∷ t
+
+abbrev curve : ℕ → List ℕ → List ℕ
+curve a t = 8 ∷ a ∷ 0 ∷ 0 ∷ t
 
 abbrev shortcut : ℕ → ℕ → ℕ → List ℕ → List ℕ
 shortcut sign first end t = 6 ∷ sign ∷ first ∷ end ∷ t
@@ -108,6 +112,32 @@ no-such-corner = refl
 corner-out-of-range : passing 2 (area 0 0 (line 3 0 [])) ≡ false
 unfolding areaRange areaRow wordsFrom course accepts usedRange
 corner-out-of-range = refl
+
+-- curves: from corner 0 one that rises, from corner 2 one of 4,096 units that falls, from corner 4 one whose y are out of order, from corner 6 one of 4,097
+abbrev curving : ℕ → List ℕ → Bool
+curving n t =
+    checkStream t 0 n n
+    (env areas (0 ∷ 8 ∷ 8 ∷ 100 ∷ 4104 ∷ 4105 ∷ 4106 ∷ 4106 ∷ 8203 ∷ []) (0 ∷ 0 ∷ 8 ∷ 8 ∷ 0 ∷ 7 ∷ 5 ∷ 9 ∷ 9 ∷ []) (bounds 2 9 64 16))
+
+curves-in-order : curving 5 (area 0 0 (curve 0 (line 0 1 (curve 2 (shortcut 1 70 80 []))))) ≡ true
+unfolding areaRange areaRow wordsFrom course accepts usedRange curveFits
+curves-in-order = refl
+
+curve-first : curving 1 (curve 0 []) ≡ false
+unfolding areaRange areaRow wordsFrom course accepts usedRange curveFits
+curve-first = refl
+
+curve-out-of-order : curving 2 (area 0 0 (curve 4 [])) ≡ false
+unfolding areaRange areaRow wordsFrom course accepts usedRange curveFits
+curve-out-of-order = refl
+
+curve-too-wide : curving 2 (area 0 0 (curve 6 [])) ≡ false
+unfolding areaRange areaRow wordsFrom course accepts usedRange curveFits
+curve-too-wide = refl
+
+curve-past-the-corners : curving 2 (area 0 0 (curve 7 [])) ≡ false
+unfolding areaRange areaRow wordsFrom course accepts usedRange curveFits
+curve-past-the-corners = refl
 
 -- "start −2,048 to 2,048"
 start-low : passing 1 (area 0 4294965248 []) ≡ true
@@ -182,7 +212,7 @@ no-bar : passing 3 (opened (passed (closed []))) ≡ false
 unfolding areaRange areaRow wordsFrom course accepts usedRange
 no-bar = refl
 
-unknown-kind : passing 1 (8 ∷ 0 ∷ 0 ∷ 0 ∷ []) ≡ false
+unknown-kind : passing 1 (9 ∷ 0 ∷ 0 ∷ 0 ∷ []) ≡ false
 unfolding areaRange areaRow wordsFrom course accepts usedRange
 unknown-kind = refl
 

@@ -1,6 +1,6 @@
 -- The state that the code holds says what the grammar of streams says.
 use Prim.Native.Nat.{_+_}
-use mathlib.Core.Path.{_≡_, refl}
+use mathlib.Core.Path.{_≡_, refl, sym, ap, _∙_}
 use mathlib.Core.Bool.{Bool, true, false, cond, not, _&&_}
 use mathlib.Core.List.{List, [], _∷_}
 use native.Mathlib.Omega.{arith}
@@ -14,8 +14,9 @@ use Rattle.records.specs.declared.Decoded.{Decoded}
 use Rattle.records.specs.declared.Decoded.the-variants.{Good, Bad}
 use Rattle.stream.specs.declared.Words.{Words}
 use Rattle.stream.specs.declared.Scan.{Scan}
-use Rattle.stream.specs.Entry.{Entry, opens, bar, closes, area, line, shortcut, passes, decode, isLine, isSegment, startRange}
-use Rattle.stream.specs.Grammar.{Env, isGood, areaMet, roleFits, inRange, Place, place, Course, at, off, next, met, course, begin, isWhole, accepts}
+use Rattle.stream.specs.Entry.{Entry, opens, bar, closes, area, line, curve, shortcut, passes, decode, isCurve, isLine, isSegment, startRange}
+use Rattle.records.specs.Record.{isGood}
+use Rattle.stream.specs.Grammar.{Env, areaMet, roleFits, inRange, Place, place, Course, at, off, next, met, course, begin, isWhole, accepts}
 use Rattle.stream.specs.code.Machine.{
   mk,
   offN,
@@ -32,7 +33,7 @@ use Rattle.stream.specs.code.Machine.{
   stepN,
   scanN,
 }
-use Rattle.stream.proofs.Entries.{segmentEntry, decode-is}
+use Rattle.stream.proofs.Entries.{segmentEntry, decode-is, segment-range}
 
 abbrev enc : Course → Scan
 enc (at p) = mk (num (p .groups)) (p .held) (p .areas) (p .lines)
@@ -108,13 +109,14 @@ module _ (v : Env) (p : Place) where
       go false h l = refl
 
   segment-is : (w : Words) → withLineN (enc (at p)) (segmentFits (v .xs) (v .ys) (v .used) w) ≡ enc (next v p (segmentEntry w))
-  segment-is w = go (isLine (w .kind))
+  segment-is w = ap (withLineN (enc (at p))) (sym (segment-range v w)) ∙ go (isLine (w .kind)) (isCurve (w .kind))
     where
-      go : (l : Bool)
-          → withLineN (enc (at p)) (cond l (inRange v (line (w .p) (w .q))) (inRange v (shortcut (w .p) (w .q) (w .r))))
-          ≡ enc (next v p (cond l (line (w .p) (w .q)) (shortcut (w .p) (w .q) (w .r))))
-      go true = line-is (inRange v (line (w .p) (w .q)))
-      go false = line-is (inRange v (shortcut (w .p) (w .q) (w .r)))
+      go : (l c : Bool)
+          → withLineN (enc (at p)) (inRange v (cond l (cond c (curve (w .p)) (line (w .p) (w .q))) (shortcut (w .p) (w .q) (w .r))))
+          ≡ enc (next v p (cond l (cond c (curve (w .p)) (line (w .p) (w .q))) (shortcut (w .p) (w .q) (w .r))))
+      go true true = line-is (inRange v (curve (w .p)))
+      go true false = line-is (inRange v (line (w .p) (w .q)))
+      go false c = line-is (inRange v (shortcut (w .p) (w .q) (w .r)))
 
   at-is : (w : Words) → stepN v (enc (at p)) w ≡ enc (next v p (decode w))
   at-is w =

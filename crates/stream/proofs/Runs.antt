@@ -1,12 +1,12 @@
--- Lines and shortcuts in a row: how many there are, and that a scan of the run is a scan of its entries.
+-- Lines, curves and shortcuts in a row: how many there are, and that a scan of the run is a scan of its entries.
 use mathlib.Core.Path.{_≡_, refl, sym, ap, ap₂, _∙_}
 use mathlib.Core.Bool.{Bool, true, false, cond, _&&_}
 use mathlib.Core.List.{List, [], _∷_}
 use Prim.Native.Nat.{ℕ, zero, suc, _+_, _-_, _≤_, _<_}
 use native.Mathlib.Omega.{arith}
-use lib.Dec.{ltb}
-use borrow.Author.Tests.{ne-eqb, ltb-true}
-use Rattle.laws.proofs.Booleans.{and-left, and-right}
+use lib.Dec.{eqb, ltb}
+use borrow.Author.Tests.{eq-eqb, ne-eqb, ltb-true}
+use Rattle.laws.proofs.Booleans.{clash, and-left, and-right}
 use Rattle.stream.specs.declared.Words.{Words}
 use Rattle.stream.specs.declared.Bounds.{Bounds}
 use Rattle.stream.specs.declared.Scan.{Scan}
@@ -14,7 +14,8 @@ use Rattle.stream.specs.declared.Scanned.{Scanned}
 use Rattle.stream.specs.Table.{wordsAt, wordsFrom}
 use Rattle.stream.specs.Grammar.{Env}
 use Rattle.stream.specs.Entry.{isSegment}
-use Rattle.stream.specs.code.Machine.{mk, offN, stepN, scanN, segmentFits, segmentsIn, runFits, afterRunN, Onward}
+use Rattle.stream.specs.code.Machine.{mk, offN, afterOpenN, afterBarN, afterCloseN, withAreaN, areaFitsN, stepN, scanN, segmentFits}
+use Rattle.stream.specs.code.Machine.{segmentsIn, runFits, afterRunN, otherN, withLineN, afterPassesN, Apart, Onward}
 use Rattle.stream.proofs.Entries.{segment-ne}
 use Rattle.stream.proofs.Table.{words-step, words-none}
 
@@ -101,7 +102,7 @@ scan-off v [] = refl
 scan-off v (w ∷ ws) = scan-off v ws
 
 module _ (v : Env) (t : List ℕ) (n a : ℕ) (some : n ≡ 0 → ⊥) where
-  -- a line or a shortcut, with l before it
+  -- a line, a curve or a shortcut, with l before it
   segment-step : (l : ℕ) (w : Words)
       → isSegment (w .kind) ≡ true
       → stepN v (mk n true a l) w ≡ cond (segmentFits (v .xs) (v .ys) (v .used) w && ltb l 2048) (mk n true a (l + 1)) offN
@@ -161,17 +162,59 @@ module _ (v : Env) (t : List ℕ) (n a : ℕ) (some : n ≡ 0 → ⊥) where
 
 -- ---- one entry, with the run behind it
 
-module _ (v : Env) (t : List ℕ) (i e : ℕ) (s : Scan) (w : Words) (q : w ≡ wordsAt t i) (l : i < e) where
+-- a line, a curve or a shortcut that nothing holds does not fit
+other-step : (v : Env) (s : Scan) (w : Words)
+    → ((s .stack ≡ 0 → ⊥) → s .held ≡ true → isSegment (w .kind) ≡ false)
+    → otherN (v .areas) (v .used .areas) s w ≡ stepN v s w
+other-step v s w apart = go (eqb (s .stack) 0) refl
+  where
+    fit : Bool
+    fit = segmentFits (v .xs) (v .ys) (v .used) w
+
+    -- the cases of other kinds in front of x
+    front : Bool → Scan → Scan
+    front b x =
+        cond b s
+        (cond (eqb (w .kind) 1) (afterOpenN s)
+        (cond (eqb (w .kind) 2) (afterBarN s)
+        (cond (eqb (w .kind) 3) (afterCloseN s)
+        (cond (eqb (w .kind) 4) (withAreaN s (areaFitsN (v .areas) (v .used .areas) (s .stack) w)) x))))
+
+    unheld : (f h : Bool) → s .held ≡ h → (h ≡ true → isSegment (w .kind) ≡ false) → isSegment (w .kind) ≡ true → offN ≡ withLineN s f
+    unheld f true e n k = clash (sym (n refl) ∙ k)
+    unheld true false e n k = rw e
+    unheld false false e n k = refl
+
+    last : (c : Bool) → isSegment (w .kind) ≡ c → (s .held ≡ true → isSegment (w .kind) ≡ false)
+        → cond (eqb (w .kind) 7) (afterPassesN s) offN ≡ cond c (withLineN s fit) (cond (eqb (w .kind) 7) (afterPassesN s) offN)
+    last true k n = rw (segment-ne (w .kind) 7 k refl) (unheld fit (s .held) refl n k)
+    last false k n = refl
+
+    go : (b : Bool) → eqb (s .stack) 0 ≡ b
+        → front b (cond (eqb (w .kind) 7) (afterPassesN s) offN)
+        ≡ front b (cond (isSegment (w .kind)) (withLineN s fit) (cond (eqb (w .kind) 7) (afterPassesN s) offN))
+    go true e = refl
+    go false e = ap (front false) (last (isSegment (w .kind)) refl (apart (λ z. clash (sym e ∙ eq-eqb (s .stack) 0 z))))
+
+module _ (v : Env) (t : List ℕ) (i e : ℕ) (s : Scan) (w : Words) (q : w ≡ wordsAt t i) (l : i < e) (alone : Apart t i e s) where
+  stepped : otherN (v .areas) (v .used .areas) s w ≡ stepN v s w
+  stepped = other-step v s w (λ some held. ap (λ (u : Words). isSegment (u .kind)) q ∙ alone l some held)
+
   scan-step : scanN v (stepN v s w) (wordsFrom t (i + 1) (e - (i + 1))) ≡ scanN v s (wordsFrom t i (e - i))
   unfolding scanN
   scan-step = sym (ap (scanN v s) (words-first t i e w q l))
 
-  pub one-onward : (r : Scanned) → r .scan ≡ stepN v s w → r .next ≡ i + 1 → Onward v t i e s r
-  one-onward r g n =
-      record { later = omega (arith, n); inside = omega (arith, n, l); same = ap₂ (λ (u : Scan) j. scanN v u (wordsFrom t j (e - j))) g n ∙ scan-step }
+  pub one-onward : (r : Scanned) → r .scan ≡ otherN (v .areas) (v .used .areas) s w → r .next ≡ i + 1 → Apart t (r .next) e (r .scan) → Onward v t i e s r
+  one-onward r g n h =
+      record {
+        later = omega (arith, n);
+        inside = omega (arith, n, l);
+        apart = h;
+        same = ap₂ (λ (u : Scan) j. scanN v u (wordsFrom t j (e - j))) (g ∙ stepped) n ∙ scan-step;
+      }
 
   pub run-onward : (n : Scan)
-      → n ≡ stepN v s w
+      → n ≡ otherN (v .areas) (v .used .areas) s w
       → (n .stack ≡ 0 → ⊥)
       → n .held ≡ true
       → (r : Scanned) (fits : Bool) (lines : ℕ)
@@ -179,13 +222,15 @@ module _ (v : Env) (t : List ℕ) (i e : ℕ) (s : Scan) (w : Words) (q : w ≡ 
       → lines ≡ n .lines + segmentsIn (wordsFrom t (i + 1) (e - (i + 1)))
       → r .scan ≡ afterRunN n fits lines
       → r .next ≡ i + 1 + segmentsIn (wordsFrom t (i + 1) (e - (i + 1)))
+      → (r .next < e → isSegment (wordsAt t (r .next) .kind) ≡ false)
       → Onward v t i e s r
-  run-onward n g some held r fits lines f m h k =
+  run-onward n g some held r fits lines f m h k o =
       let ws = wordsFrom t (i + 1) (e - (i + 1)) in
       let z : e - (i + 1 + segmentsIn ws) ≡ e - (i + 1) - segmentsIn ws = omega arith in
       record {
         later = omega (arith, k);
         inside = omega (arith, k, few-segments t (e - (i + 1)) (i + 1), l);
+        apart = λ p _ _. o p;
         same = ap₂ (λ (u : Scan) j. scanN v u (wordsFrom t j (e - j))) (h ∙ ap₂ (λ b j. cond b (mk (n .stack) true (n .areas) j) offN) f m)
             k
             ∙ (ap
@@ -194,5 +239,5 @@ module _ (v : Env) (t : List ℕ) (i e : ℕ) (s : Scan) (w : Words) (q : w ≡ 
             (wordsFrom t (i + 1 + segmentsIn ws) j))
             z
             ∙ (run-step v t (n .stack) (n .areas) some (e - (i + 1)) (i + 1) (n .lines)
-            ∙ (ap (λ b. scanN v (mk (n .stack) b (n .areas) (n .lines)) ws) (sym held) ∙ (ap (λ (u : Scan). scanN v u ws) g ∙ scan-step))));
+            ∙ (ap (λ b. scanN v (mk (n .stack) b (n .areas) (n .lines)) ws) (sym held) ∙ (ap (λ (u : Scan). scanN v u ws) (g ∙ stepped) ∙ scan-step))));
       }

@@ -1,10 +1,11 @@
--- Document 01, "Cells": an entry of a stream, and what the four words say that hold it.
+-- Document 01, "Cells", and document 02, Item 2: an entry of a stream, and what the four words say that hold it.
 use Prim.Native.Nat.{ℕ}
 use mathlib.Core.Bool.{Bool, cond, _||_}
 use lib.Dec.{eqb, leb}
 use Rattle.stream.specs.declared.Words.{Words}
 
 -- "A stream holds one entry for each delimiter, each area (with its start number), line and shortcut." "C1 becomes a bare entry "passes", with no area number".
+-- document 02: "a kept curve is one entry".
 pub data Entry : Type 0 where
   -- `(`, `|` and `)`
   opens : Entry
@@ -14,30 +15,37 @@ pub data Entry : Type 0 where
   area : ℕ → ℕ → Entry
   -- the numbers of the corners from which and to which it is drawn
   line : ℕ → ℕ → Entry
+  -- the number of its first corner; its control corner and its end are the next two
+  curve : ℕ → Entry
   -- the word of its sign, its first row, and the row after its last
   shortcut : ℕ → ℕ → ℕ → Entry
   passes : Entry
   -- a kind that is none of these
   bad : Entry
 
--- four words an entry: kind, p, q, r. Kinds: 1 `(`, 2 `|`, 3 `)`, 4 area (p, q), 5 line (p, q), 6 shortcut (p, q, r), 7 passes; the other words
--- of an entry, which document 01 leaves free, are not looked at
+-- the kind of a curve; document 02: "a kept curve is one entry that the lister and growing count as a line": the kind of a line or of a curve; the kind of a
+-- line, a curve or a shortcut
+abbrev pub isCurve : (kind : ℕ) → Bool
+isCurve k = eqb k 8
+
+abbrev pub isLine : (kind : ℕ) → Bool
+isLine k = eqb k 5 || isCurve k
+
+abbrev pub isSegment : (kind : ℕ) → Bool
+isSegment k = isLine k || eqb k 6
+
+-- four words an entry: kind, p, q, r. Kinds: 1 `(`, 2 `|`, 3 `)`, 4 area (p, q), 5 line (p, q), 6 shortcut (p, q, r), 7 passes, 8 curve (p); the
+-- other words of an entry, which the documents leave free, are not looked at
 abbrev pub decode : Words → Entry
 decode w =
     cond (eqb (w .kind) 1) opens
     (cond (eqb (w .kind) 2) bar
     (cond (eqb (w .kind) 3) closes
     (cond (eqb (w .kind) 4) (area (w .p) (w .q))
+    (cond (isCurve (w .kind)) (curve (w .p))
     (cond (eqb (w .kind) 5) (line (w .p) (w .q))
     (cond (eqb (w .kind) 6) (shortcut (w .p) (w .q) (w .r))
-    (cond (eqb (w .kind) 7) passes bad))))))
-
--- the kind of a line; the kind of a line or of a shortcut
-abbrev pub isLine : (kind : ℕ) → Bool
-isLine k = eqb k 5
-
-abbrev pub isSegment : (kind : ℕ) → Bool
-isSegment k = isLine k || eqb k 6
+    (cond (eqb (w .kind) 7) passes bad)))))))
 
 -- signed numbers are words in two's complement; `Rattle.stream.proofs.Signed` says the two ranges of the signed numbers
 

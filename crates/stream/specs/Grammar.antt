@@ -1,20 +1,21 @@
--- Document 01, "From the state", 12: when the entries of a stream are in range and in the grammar.
+-- Document 01, "From the state", 12, and document 02, Item 2: when the entries of a stream are in range and in the grammar.
 use Prim.Native.Nat.{ℕ, _+_, _*_, _-_, _/_, _≤_}
 use mathlib.Core.Path.{_≡_}
 use mathlib.Core.Bool.{Bool, true, false, cond, not, _&&_}
 use mathlib.Core.List.{List, [], _∷_}
 use lib.ListN.{length, getD}
 use lib.Dec.{eqb, ltb, leb}
+use Rattle.curves.specs.Curves.{curveFits}
 use Rattle.groups.specs.Sides.{Frame, isPaint, onLeft, onRight, opening, toRight, toOuter, isEmpty}
 use Rattle.records.specs.declared.Record.{Record}
-use Rattle.records.specs.declared.Record.the-variants.{Area, First, Next, Open, Bar, Close}
+use Rattle.records.specs.declared.Record.the-variants.{Area, First, Next, Open, Bar, Close, Control}
 use Rattle.records.specs.declared.Decoded.{Decoded}
 use Rattle.records.specs.declared.Decoded.the-variants.{Good, Bad}
-use Rattle.records.specs.Record.{cornerRange}
+use Rattle.records.specs.Record.{cornerRange, isGood}
 use Rattle.drawing.specs.Tables.{areaRow}
 use Rattle.stream.specs.declared.Words.{Words}
 use Rattle.stream.specs.declared.Bounds.{Bounds}
-use Rattle.stream.specs.Entry.{Entry, opens, bar, closes, area, line, shortcut, passes, bad, decode, startRange, signRange}
+use Rattle.stream.specs.Entry.{Entry, opens, bar, closes, area, line, curve, shortcut, passes, bad, decode, startRange, signRange}
 use Rattle.stream.specs.Table.{wordsFrom}
 
 -- what a stream is read against: the areas and the corners of the drawing, how many of each are in use, and the cell's low row and its side
@@ -32,10 +33,6 @@ bounds a c low side = record { areas = a; corners = c; low = low; side = side }
 
 -- ---- "a number met in the tables used ... is outside its range"
 
-abbrev pub isGood : Decoded → Bool
-isGood (Good r) = true
-isGood (Bad x) = false
-
 -- "area, corner, child and entry numbers below what is in use": the area of this number, where it is in use and all its fields are in range
 abbrev pub areaMet : Env → ℕ → Decoded
 areaMet v n = areaRow (v .areas) (v .used .areas) n
@@ -46,6 +43,12 @@ cornerMet xs ys used n = cond (ltb n used) (cornerRange (getD xs n 0) (getD ys n
 
 abbrev pub lineRange : List ℕ → List ℕ → ℕ → ℕ → ℕ → Bool
 lineRange xs ys used a b = cornerMet xs ys used a && cornerMet xs ys used b
+
+-- document 02: "Checks: 13 for a curve that breaks the order or span, ...; met in the tables, 12.": its first corner, its control corner and its end
+abbrev pub curveRange : List ℕ → List ℕ → ℕ → ℕ → Bool
+curveRange xs ys used p =
+    (cornerMet xs ys used p && (cornerMet xs ys used (p + 1) && cornerMet xs ys used (p + 2)))
+    && curveFits (getD xs p 0) (getD ys p 0) (getD xs (p + 1) 0) (getD ys (p + 1) 0) (getD xs (p + 2) 0) (getD ys (p + 2) 0)
 
 -- "sign 1 or −1; rows inside the cell": its rows are first to end − 1, at least one, and the cell's are low to low + side − 1
 abbrev pub shortcutRange : ℕ → ℕ → ℕ → ℕ → ℕ → Bool
@@ -58,14 +61,15 @@ inRange v bar = true
 inRange v closes = true
 inRange v (area n q) = isGood (areaMet v n) && startRange q
 inRange v (line a b) = lineRange (v .xs) (v .ys) (v .used .corners) a b
+inRange v (curve a) = curveRange (v .xs) (v .ys) (v .used .corners) a
 inRange v (shortcut s a b) = shortcutRange (v .used .low) (v .used .side) s a b
 inRange v passes = true
 inRange v bad = false
 
 -- ---- "or that drawing or stream breaks the grammar"
 
--- where a reader stands: the open groups, the innermost first; whether an area, a line or a shortcut stands straight before; how many
--- areas, and how many lines and shortcuts, so far
+-- where a reader stands: the open groups, the innermost first; whether an area, a line, a curve or a shortcut stands straight before; how
+-- many areas, and how many lines, curves and shortcuts, so far
 pub record Place : Type 0 where
   pub groups : List Frame
   pub held : Bool
@@ -83,24 +87,27 @@ recordFits (Next x y) paint = false
 recordFits Open paint = false
 recordFits Bar paint = false
 recordFits Close paint = false
+recordFits (Control x y) paint = false
 
 abbrev pub roleFits : Decoded → Bool → Bool
 roleFits (Good r) paint = recordFits r paint
 roleFits (Bad x) paint = false
 
 -- "`|` fits on the left side of the innermost open group, `)` on its right." "In a stream, "passes" stands where a clip area may, and a line
--- or shortcut stands straight after an area, line or shortcut."
+-- or shortcut stands straight after an area, line or shortcut." document 02: "In cells, streams, their grammar and pruning a curve goes as an
+-- edge or line does".
 abbrev pub fits : Env → Place → Entry → Bool
 fits v p opens = true
 fits v p bar = onLeft (p .groups)
 fits v p closes = onRight (p .groups)
 fits v p (area n q) = roleFits (areaMet v n) (isPaint (p .groups))
 fits v p (line a b) = p .held
+fits v p (curve a) = p .held
 fits v p (shortcut s a b) = p .held
 fits v p passes = not (isPaint (p .groups))
 fits v p bad = false
 
--- the limits of a drawing are those of a stream, in which lines and shortcuts stand for corners: "Limits: 4,096 records, 64 areas, 2,048
+-- the limits of a drawing are those of a stream, in which lines, curves and shortcuts stand for corners: "Limits: 4,096 records, 64 areas, 2,048
 -- corners, 8 open groups."
 abbrev pub inLimit : Place → Entry → Bool
 inLimit p opens = ltb (length (p .groups)) 8
@@ -108,6 +115,7 @@ inLimit p bar = true
 inLimit p closes = true
 inLimit p (area n q) = ltb (p .areas) 64
 inLimit p (line a b) = ltb (p .lines) 2048
+inLimit p (curve a) = ltb (p .lines) 2048
 inLimit p (shortcut s a b) = ltb (p .lines) 2048
 inLimit p passes = true
 inLimit p bad = false
@@ -118,6 +126,7 @@ after p bar = place (toRight (p .groups)) false (p .areas) (p .lines)
 after p closes = place (toOuter (p .groups)) false (p .areas) (p .lines)
 after p (area n q) = place (p .groups) true (p .areas + 1) (p .lines)
 after p (line a b) = place (p .groups) true (p .areas) (p .lines + 1)
+after p (curve a) = place (p .groups) true (p .areas) (p .lines + 1)
 after p (shortcut s a b) = place (p .groups) true (p .areas) (p .lines + 1)
 after p passes = place (p .groups) false (p .areas) (p .lines)
 after p bad = p

@@ -2,14 +2,14 @@
 use records::Decoded;
 use records::Record;
 ghost use mathlib.Core.Path.{_≡_};
-ghost use mathlib.Core.Bool.{true};
+ghost use mathlib.Core.Bool.{true, false};
 ghost use Prim.Native.Nat.{_+_, _*_, _-_, _≤_, _<_};
 ghost use lib.ListN.{length};
 ghost use Rattle.stream.specs.Table.{wordsAt, wordsFrom, putAt};
-ghost use Rattle.stream.specs.Grammar.{env, cornerMet, lineRange, shortcutRange, recordFits, roleFits, usedRange, Ready, checkStream};
-ghost use Rattle.stream.specs.Entry.{isLine, isSegment};
-ghost use Rattle.stream.specs.code.Machine.{offN, startN, inGroups, afterOpenN, afterBarN, afterCloseN, afterPassesN, withAreaN, areaFitsN};
-ghost use Rattle.stream.specs.code.Machine.{withLineN, stepN, scanN, segmentFits, segmentsIn, runFits, afterRunN, Onward};
+ghost use Rattle.stream.specs.Grammar.{env, cornerMet, lineRange, curveRange, shortcutRange, recordFits, roleFits, usedRange, Ready, checkStream};
+ghost use Rattle.stream.specs.Entry.{isCurve, isLine, isSegment};
+ghost use Rattle.stream.specs.code.Machine.{offN, startN, inGroups, afterOpenN, afterBarN, afterCloseN, afterPassesN, withAreaN, areaFitsN, otherN};
+ghost use Rattle.stream.specs.code.Machine.{scanN, lineFits, segmentFits, segmentsIn, runFits, afterRunN, Apart, Onward};
 
 // How many words an entry has, and the kinds, its first word.
 pub const ENTRY_WORDS: usize = 4;
@@ -28,6 +28,8 @@ pub const ENTRY_SHORTCUT: u32 = 6;
 
 pub const ENTRY_PASSES: u32 = 7;
 
+pub const ENTRY_CURVE: u32 = 8;
+
 // Signed words: the start numbers 2,048 and -2,048, which all others lie between, and the signs 1 and -1.
 pub const MOST_START: u32 = 2048;
 
@@ -42,10 +44,8 @@ pub const MOST_ENTRIES: usize = 65536;
 
 pub const MOST_IN_STREAM: usize = records::MOST_RECORDS;
 
-// Areas in a stream; its lines and shortcuts, at most one for each corner.
+// Areas in a stream.
 const MOST_AREAS: u32 = records::MOST_AREAS as u32;
-
-const MOST_LINES: u32 = records::MOST_CORNERS as u32;
 
 // The open groups of a reader that an entry has stopped.
 const OFF: u32 = 0;
@@ -67,7 +67,7 @@ pub struct Bounds {
 }
 
 // Where a reader of a stream stands. `stack`: the open groups (crate `groups`), or 0 where an entry was out of range or did not fit. `held`: an
-// area, a line or a shortcut stands straight before. `areas`, `lines`: how many areas, and how many lines and shortcuts, so far.
+// area, a line, a curve or a shortcut stands straight before. `areas`, `lines`: how many areas, and how many lines, curves and shortcuts, so far.
 pub struct Scan {
     pub stack: u32,
     pub held: bool,
@@ -102,14 +102,22 @@ pub fn put_entry(table: &mut [u32], i: usize, w: Words)
 }
 
 // ---- the kind of an entry
-// Whether an entry of this kind is a line.
+// Whether an entry of this kind is a curve.
+pub fn is_curve(kind: u32) -> bool
+    ensures answer { λ r. ⌜ r ≡ isCurve kind ⌝ }
+{
+    kind == ENTRY_CURVE
+}
+
+// Whether an entry of this kind is a line or a curve.
 pub fn is_line(kind: u32) -> bool
     ensures answer { λ r. ⌜ r ≡ isLine kind ⌝ }
 {
-    kind == ENTRY_LINE
+    let curve = is_curve(kind);
+    (kind == ENTRY_LINE) | curve
 }
 
-// Whether an entry of this kind is a line or a shortcut.
+// Whether an entry of this kind is a line, a curve or a shortcut.
 pub fn is_segment(kind: u32) -> bool
     ensures answer { λ r. ⌜ r ≡ isSegment kind ⌝ }
 {
@@ -146,6 +154,7 @@ fn record_fits(r: Record, paint: bool) -> bool
         Record::Open => false,
         Record::Bar => false,
         Record::Close => false,
+        Record::Control(_, _) => false,
     }
 }
 
@@ -179,6 +188,35 @@ fn line_range(xs: &[u32], ys: &[u32], used: usize, w: Words) -> bool
     a & b
 }
 
+// Whether the three corners of a curve are in use and in range, and in order and span.
+fn curve_range(xs: &[u32], ys: &[u32], used: usize, w: Words) -> bool
+    requires { ⌜ (used ≤ length (now xs)) × (used ≤ length (now ys)) ⌝ }
+    ensures answer { λ r. ⌜ r ≡ curveRange (now (xs .entry)) (now (ys .entry)) used (w .p) ⌝ }
+{
+    let p = w.p as usize;
+    let control = p + 1;
+    let end = p + 2;
+    if end < used {
+        let a = corner_met(xs, ys, used, p);
+        let b = corner_met(xs, ys, used, control);
+        let c = corner_met(xs, ys, used, end);
+        let fits = curves::curve_fits(xs[p], ys[p], xs[control], ys[control], xs[end], ys[end]);
+        return (a & (b & c)) & fits;
+    }
+    false
+}
+
+// Whether the numbers of a line or a curve are in range.
+fn line_fits(xs: &[u32], ys: &[u32], used: usize, w: Words) -> bool
+    requires { ⌜ (used ≤ length (now xs)) × (used ≤ length (now ys)) ⌝ }
+    ensures answer { λ r. ⌜ r ≡ lineFits (now (xs .entry)) (now (ys .entry)) used w ⌝ }
+{
+    if is_curve(w.kind) {
+        return curve_range(xs, ys, used, w);
+    }
+    line_range(xs, ys, used, w)
+}
+
 // Whether a shortcut has the sign 1 or -1, and rows, all of them inside the cell.
 fn shortcut_range(low: u32, side: u32, w: Words) -> bool
     ensures answer { λ r. ⌜ r ≡ shortcutRange low side (w .p) (w .q) (w .r) ⌝ }
@@ -188,13 +226,13 @@ fn shortcut_range(low: u32, side: u32, w: Words) -> bool
         & ((low <= w.q) & ((w.q < w.r) & ((w.r as u64) <= beyond)))
 }
 
-// Whether the numbers of a line or a shortcut are in range.
+// Whether the numbers of a line, a curve or a shortcut are in range.
 fn segment_fits(xs: &[u32], ys: &[u32], b: Bounds, w: Words) -> bool
     requires { ⌜ (b .corners ≤ length (now xs)) × (b .corners ≤ length (now ys)) ⌝ }
     ensures answer { λ r. ⌜ r ≡ segmentFits (now (xs .entry)) (now (ys .entry)) b w ⌝ }
 {
     if is_line(w.kind) {
-        return line_range(xs, ys, b.corners, w);
+        return line_fits(xs, ys, b.corners, w);
     }
     shortcut_range(b.low, b.side, w)
 }
@@ -281,31 +319,10 @@ fn with_area(s: Scan, ok: bool) -> Scan
     off()
 }
 
-// A line or a shortcut whose numbers are in range: straight after an area, a line or a shortcut, and at most 2,048.
-fn with_line(s: Scan, ok: bool) -> Scan
-    ensures answer { λ r. ⌜ r ≡ withLineN s ok ⌝ }
-{
-    if ok {
-        if s.held {
-            if s.lines < MOST_LINES {
-                return Scan {
-                    stack: s.stack,
-                    held: true,
-                    areas: s.areas,
-                    lines: s.lines + 1,
-                };
-            }
-            return off();
-        }
-        return off();
-    }
-    off()
-}
-
-// One entry more.
-fn step(areas: &[u32], xs: &[u32], ys: &[u32], b: Bounds, s: Scan, w: Words) -> Scan
-    requires { ⌜ Ready (now areas) (now xs) (now ys) b ⌝ }
-    ensures answer { λ r. ⌜ r ≡ stepN (env (now (areas .entry)) (now (xs .entry)) (now (ys .entry)) b) s w ⌝ }
+// One entry more, where a line, a curve or a shortcut does not fit: `scan_run` takes those that do.
+fn step(areas: &[u32], used: usize, s: Scan, w: Words) -> Scan
+    requires { ⌜ used * 8 ≤ length (now areas) ⌝ }
+    ensures answer { λ r. ⌜ r ≡ otherN (now (areas .entry)) used s w ⌝ }
 {
     if s.stack == OFF {
         return s;
@@ -316,21 +333,15 @@ fn step(areas: &[u32], xs: &[u32], ys: &[u32], b: Bounds, s: Scan, w: Words) -> 
         ENTRY_BAR => after_bar(s),
         ENTRY_CLOSE => after_close(s),
         ENTRY_AREA => {
-            let ok = area_fits(areas, b.areas, s.stack, w);
+            let ok = area_fits(areas, used, s.stack, w);
             with_area(s, ok)
         }
         ENTRY_PASSES => after_passes(s),
-        _ => {
-            if is_segment(k) {
-                let ok = segment_fits(xs, ys, b, w);
-                return with_line(s, ok);
-            }
-            off()
-        }
+        _ => off(),
     }
 }
 
-// ---- lines and shortcuts in a row
+// ---- lines, curves and shortcuts in a row
 // Whether they are in range and at most 2,048; how many there are with those before; and the entry behind them.
 pub struct Run {
     pub fits: bool,
@@ -338,7 +349,7 @@ pub struct Run {
     pub next: usize,
 }
 
-// The lines and shortcuts from entry `from` on, where `lines` stand before.
+// The lines, curves and shortcuts from entry `from` on, where `lines` stand before.
 fn scan_run(
     entries: &[u32],
     from: usize,
@@ -354,6 +365,7 @@ fn scan_run(
     ensures fits { λ r. ⌜ r .fits ≡ runFits (now (xs .entry)) (now (ys .entry)) b lines (wordsFrom (now (entries .entry)) from (end - from)) ⌝ }
     ensures lines { λ r. ⌜ r .lines ≡ lines + segmentsIn (wordsFrom (now (entries .entry)) from (end - from)) ⌝ }
     ensures next { λ r. ⌜ r .next ≡ from + segmentsIn (wordsFrom (now (entries .entry)) from (end - from)) ⌝ }
+    ensures behind { λ r. ⌜ (r .next < end → isSegment (wordsAt (now (entries .entry)) (r .next) .kind) ≡ false) ⌝ }
 {
     let mut fits = true;
     let mut n = lines;
@@ -380,7 +392,7 @@ fn scan_run(
     }
 }
 
-// After a run of lines and shortcuts that stands straight after an area, a line or a shortcut.
+// After a run of lines, curves and shortcuts that stands straight after an area or another of them.
 fn after_run(s: Scan, r: Run) -> Scan
     requires { ⌜ (r .fits ≡ true → r .lines < 4294967296) ⌝ }
     ensures answer { λ t. ⌜ t ≡ afterRunN s (r .fits) (r .lines) ⌝ }
@@ -403,7 +415,7 @@ pub struct Scanned {
     pub next: usize,
 }
 
-// Entry i, and the lines and shortcuts that stand behind it.
+// Entry i, and the lines, curves and shortcuts that stand behind it.
 fn scan_next(
     entries: &[u32],
     i: usize,
@@ -416,10 +428,11 @@ fn scan_next(
 ) -> Scanned
     requires { ⌜ (i < end) × (end ≤ i + 4096) × (end * 4 ≤ length (now entries)) ⌝ }
     requires { ⌜ Ready (now areas) (now xs) (now ys) b ⌝ }
+    requires { ⌜ Apart (now entries) i end s ⌝ }
     ensures onward { λ r. ⌜ Onward (env (now (areas .entry)) (now (xs .entry)) (now (ys .entry)) b) (now (entries .entry)) i end s r ⌝ }
 {
     let w = read_entry(entries, i);
-    let n = step(areas, xs, ys, b, s, w);
+    let n = step(areas, b.areas, s, w);
     if n.stack == OFF {
         return Scanned {
             scan: n,

@@ -1,32 +1,24 @@
--- What is written for a line or a shortcut, and for another entry.
-use mathlib.Core.Path.{_≡_, refl, sym}
-use mathlib.Core.Bool.{Bool, true, false, cond, not}
+-- What is written for a line, a curve or a shortcut, and for another entry.
+use mathlib.Core.Path.{_≡_}
+use mathlib.Core.Bool.{true, false}
 use mathlib.Core.List.{List}
 use Prim.Native.Nat.{ℕ}
 use lib.IntN.{ℤ}
-use Rattle.laws.proofs.Booleans.{clash}
 use Rattle.geometry.specs.declared.class.Class.{Class}
 use Rattle.pruner.specs.code.Numbers.{counted}
 use Rattle.stream.specs.declared.Words.{Words}
 use Rattle.stream.specs.Entry.{isSegment}
 use Rattle.making.specs.declared.Maker.{Maker}
 use Rattle.making.specs.code.Numbers.{settledN, prunesN}
+use Rattle.making.proofs.Stays.{taken, other}
 use Rattle.writing.specs.code.Numbers.{segmentPut, settledPut, markOn, onePut}
-
-choice : (b : Bool) (s o : List ℕ) → false ≡ not b → s ≡ cond b s o
-choice true s o h = refl
-choice false s o h = clash h
-
-other : (b : Bool) (s o : List ℕ) → true ≡ not b → o ≡ cond b s o
-other true s o h = clash (sym h)
-other false s o h = refl
 
 module _ (limit : ℕ) (areas t : List ℕ) (m : Maker) (f : Class) (z : ℤ) (w : Words) (n : ℕ) where
   abbrev here : List ℕ
   here = markOn limit (settledPut limit areas t m) (settledN areas (counted (m .pruner)) (m .waiting)) n (w .kind)
 
   pub segment-put : false ≡ prunesN (w .kind) → segmentPut limit t m f z w ≡ onePut limit areas t m f z w n
-  segment-put = choice (isSegment (w .kind)) (segmentPut limit t m f z w) here
+  segment-put = taken (isSegment (w .kind)) (segmentPut limit t m f z w) here
 
   pub other-put : true ≡ prunesN (w .kind) → here ≡ onePut limit areas t m f z w n
   other-put = other (isSegment (w .kind)) (segmentPut limit t m f z w) here

@@ -151,7 +151,7 @@ module _ (v : Env) (D : Drawing) (c : Cell) (R : Reads v D) (k : ℕ) (mk : Make
           behind = λ q. tt;
         }
 
-    -- a line or a shortcut
+    -- a line, a curve or a shortcut
     on-segment : isSegment (w .kind) ≡ true → Passes v (s .standing .place) (decode w) ws → Writes limit u (next (decode w))
     on-segment e h =
         let g = segmentOf w in

@@ -53,7 +53,7 @@ abbrev pub segmentsOf : Waiting → List Segment
 segmentsOf nothing = []
 segmentsOf (held n z gs) = gs
 
--- the output stands from entry 0 on; behind it, with an entry left for the area that waits, what is left of its lines and shortcuts
+-- the output stands from entry 0 on; behind it, with an entry left for the area that waits, what is left of its lines, curves and shortcuts
 pub record Writes (limit : ℕ) (t : List ℕ) (m : Making) : Type 0 where
   pub done : Agree limit t 0 (outOf (stateOf m))
   pub behind : isGoing (stateOf m) ≡ true → Agree limit t (length (outOf (stateOf m)) + 1) (map segment (segmentsOf (waitingOf m)))
@@ -171,7 +171,7 @@ module _ (limit : ℕ) where
         (class-agrees t out b fs n z gs h (f .fit .0) (w .done) (w .behind refl) (eqb (classN areas (waitingFor (held n z gs))) 0)
         (eqb (classN areas (waitingFor (held n z gs))) 1) (eqb (getD areas (n * 8) 0) 0))
 
-    -- ---- a line or a shortcut
+    -- ---- a line, a curve or a shortcut
     segments-more : (gs : List Segment) (g : Segment) → map segment (gs ++ (g ∷ [])) ≡ map segment gs ++ (segment g ∷ [])
     segments-more [] g = refl
     segments-more (h ∷ gs) g = ap (λ (rs : List Element). segment h ∷ rs) (segments-more gs g)

@@ -13,6 +13,9 @@ ghost use lib.IntN.{natAbs};
 ghost use mir.Syntax.{w32};
 ghost use mir.Val.{ofZ};
 ghost use Rattle.pruner.specs.code.Numbers.{counted};
+ghost use Rattle.cells.specs.Segments.{drawn};
+ghost use Rattle.evaluate.specs.Words.{segmentWords};
+ghost use Rattle.evaluate.specs.code.Numbers.{lineOf};
 ghost use Rattle.making.specs.code.Numbers.{settledN, prunedN, maker, Inside, Room};
 ghost use Rattle.writing.specs.code.Numbers.{putBelow, placeOf, keptPut, segmentPut, namedPut, barePut, classPut, settledPut, markPut, markOn};
 
@@ -42,7 +45,27 @@ fn place_of(n: u64) -> usize
     (n % 65536) as usize
 }
 
-// Entry `at` is what is left of the line or the shortcut of entry w.
+// The words of the line or the curve that entry w names.
+fn line_words(w: Words) -> Words
+    ensures answer { λ r. ⌜ r ≡ segmentWords (drawn (lineOf w)) ⌝ }
+{
+    if stream::is_curve(w.kind) {
+        return Words {
+            kind: stream::ENTRY_CURVE,
+            p: w.p,
+            q: 0,
+            r: 0,
+        };
+    }
+    Words {
+        kind: stream::ENTRY_LINE,
+        p: w.p,
+        q: w.q,
+        r: 0,
+    }
+}
+
+// Entry `at` is what is left of the line, the curve or the shortcut of entry w.
 fn put_kept(out: &mut [u32], limit: usize, at: usize, l: Left, w: Words)
     requires { ⌜ limit * 4 ≤ length (now out) ⌝ }
     requires { ⌜ natAbs (l .sign) ≤ 1 ⌝ }
@@ -65,24 +88,15 @@ fn put_kept(out: &mut [u32], limit: usize, at: usize, l: Left, w: Words)
             );
         }
         Class::Kept => {
-            put_below(
-                out,
-                limit,
-                at,
-                Words {
-                    kind: stream::ENTRY_LINE,
-                    p: w.p,
-                    q: w.q,
-                    r: 0,
-                },
-            );
+            let v = line_words(w);
+            put_below(out, limit, at, v);
         }
         Class::Dropped => {}
         Class::Start => {}
     }
 }
 
-// The line or the shortcut of entry w, behind what waits.
+// The line, the curve or the shortcut of entry w, behind what waits.
 pub fn put_segment(out: &mut [u32], limit: usize, p: Pruner, a: Waiting, l: Left, w: Words)
     requires { ⌜ limit * 4 ≤ length (now out) ⌝ }
     requires { ⌜ natAbs (l .sign) ≤ 1 ⌝ }
@@ -222,7 +236,7 @@ fn put_other(out: &mut [u32], limit: usize, areas: &[u32], m: Maker, weight: u64
     put_mark(out, limit, q, weight, kind);
 }
 
-// An entry more that is neither a line nor a shortcut: what it makes is written, and the pruner goes on.
+// An entry more that is no line, curve or shortcut: what it makes is written, and the pruner goes on.
 pub fn write_other(
     out: &mut [u32],
     limit: usize,

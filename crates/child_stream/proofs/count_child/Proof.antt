@@ -1,19 +1,19 @@
 use Rattle.child_stream.proofs.count_child.Statement.{statement}
 use Rattle.child_stream.proofs.count_child.Tie as tie
-use mathlib.Core.Path.{refl, sym, ap, _∙_}
+use mathlib.Core.Path.{refl, sym, ap, ap₂, subst, _∙_}
 use mathlib.Core.Logic.{⊎-elim}
-use Prim.Native.Nat.{_-_}
+use Prim.Native.Nat.{_-_, _≤_}
 use native.Mathlib.Omega.{arith}
+use lib.IntN.{ℤ, natAbs}
 use denote.Ref.{now}
 use borrow.Author.Needs.{needs}
 use Rattle.stream.specs.Grammar.{env}
 use Rattle.ranges.specs.Held.{lent}
 use Rattle.pruner.specs.code.Numbers.{counted}
-use Rattle.making.specs.code.Numbers.{cellIn}
-use Rattle.making.specs.code.Numbers.{maker}
-use Rattle.making.proofs.Stays.{stays-pruned}
+use Rattle.making.specs.code.Numbers.{cellIn, maker, leftClass, leftSign, withLeft}
+use Rattle.making.proofs.Stays.{stays-pruned, segment-waits, other-waits}
 use Rattle.making.proofs.Lent.{lent-reads}
-use Rattle.child_stream.proofs.Loop.{loop-left, loop-sign, loop-asks, end-inside, end-room, end-weight}
+use Rattle.child_stream.proofs.Loop.{loop-left, sign-of, sign-read, loop-asks, end-inside, end-room, end-weight}
 use Rattle.child_stream.proofs.Noting.{Counting, counting-begin, looping, counting-turn, counting-end}
 
 abbrev Inv-loop : tie.InvT-loop
@@ -51,9 +51,13 @@ read-entry-requires c κs =
     let at-entry = c .before .before .before .before .before .before .before .before in
     omega (arith, at-entry .pre .0 .within, c .loop-test .taken)
 
-left-of-requires : tie.Need-left-of-requires Inv-loop μ-loop
-left-of-requires c κs =
-    let at-loop-test = c .before in
+slice-aggregate-note : tie.Need-slice-aggregate-note Inv-loop μ-loop
+slice-aggregate-note c = search needs
+
+note-requires : tie.Need-note-requires Inv-loop μ-loop
+note-requires c κs =
+    let after-read-entry = c .before in
+    let at-loop-test = after-read-entry .before in
     let at-loop = at-loop-test .before in
     let at-entry = at-loop .before .before .before .before .before .before .before in
     let a = at-entry .args in
@@ -61,36 +65,10 @@ left-of-requires c κs =
     let R = lent-reads (now (a .areas)) (now (a .xs)) (now (a .ys)) (a .b) in
     let v = env (now (a .areas)) (now (a .xs)) (now (a .ys)) (a .b) in
     let D = lent (now (a .areas)) (now (a .xs)) (now (a .ys)) (a .b) in
-    rw (c .read-entry .ensures) (
-      (p .0 .ready .xs, p .0 .ready .ys),
-      (
-        loop-left v D (cellIn (a .s)) R (now (a .entries)) (a .first) (a .count) (p .0) (at-loop .loop .i)
-            (maker (at-loop .loop .p) (at-loop .loop .a))
-            (looping v D (cellIn (a .s)) R (now (a .entries)) (a .first) (a .count) (p .0) (at-loop .loop .i)
-            (maker (at-loop .loop .p) (at-loop .loop .a)) (at-loop .loop .at) (at-loop .loop .inv))
-            (at-loop-test .loop-test .taken),
-        p .1 .0,
-      ),
-    )
-
-slice-aggregate-note : tie.Need-slice-aggregate-note Inv-loop μ-loop
-slice-aggregate-note c = search needs
-
-note-requires : tie.Need-note-requires Inv-loop μ-loop
-note-requires c κs =
-    let at-loop-test = c .before .before .before in
-    let at-loop = at-loop-test .before in
-    let at-entry = at-loop .before .before .before .before .before .before .before in
-    let a = at-entry .args in
-    let p = at-entry .pre in
-    let R = lent-reads (now (a .areas)) (now (a .xs)) (now (a .ys)) (a .b) in
-    let v = env (now (a .areas)) (now (a .xs)) (now (a .ys)) (a .b) in
-    let D = lent (now (a .areas)) (now (a .xs)) (now (a .ys)) (a .b) in (
+    let m = maker (at-loop .loop .p) (at-loop .loop .a) in
+    let held = looping v D (cellIn (a .s)) R (now (a .entries)) (a .first) (a .count) (p .0) (at-loop .loop .i) m (at-loop .loop .at) (at-loop .loop .inv) in (
       at-loop .loop .inv .size,
-      loop-asks v D (cellIn (a .s)) R (now (a .entries)) (a .first) (a .count) (p .0) (at-loop .loop .i)
-          (maker (at-loop .loop .p) (at-loop .loop .a))
-          (looping v D (cellIn (a .s)) R (now (a .entries)) (a .first) (a .count) (p .0) (at-loop .loop .i)
-          (maker (at-loop .loop .p) (at-loop .loop .a)) (at-loop .loop .at) (at-loop .loop .inv))
+      loop-asks v D (cellIn (a .s)) R (now (a .entries)) (a .first) (a .count) (p .0) (at-loop .loop .i) m held
           (at-loop-test .loop-test .taken) .inside .small,
     )
 
@@ -99,6 +77,22 @@ prunes-requires c κs = search needs
 
 pruner-after-requires : tie.Need-pruner-after-requires Inv-loop μ-loop
 pruner-after-requires c κs =
+    let after-read-entry = c .before .before .before .before .before in
+    let at-loop-test = after-read-entry .before in
+    let at-loop = at-loop-test .before in
+    let at-entry = at-loop .before .before .before .before .before .before .before in
+    let a = at-entry .args in
+    let p = at-entry .pre in
+    let R = lent-reads (now (a .areas)) (now (a .xs)) (now (a .ys)) (a .b) in
+    let v = env (now (a .areas)) (now (a .xs)) (now (a .ys)) (a .b) in
+    let D = lent (now (a .areas)) (now (a .xs)) (now (a .ys)) (a .b) in
+    let m = maker (at-loop .loop .p) (at-loop .loop .a) in
+    let held = looping v D (cellIn (a .s)) R (now (a .entries)) (a .first) (a .count) (p .0) (at-loop .loop .i) m (at-loop .loop .at) (at-loop .loop .inv) in
+    let h = loop-asks v D (cellIn (a .s)) R (now (a .entries)) (a .first) (a .count) (p .0) (at-loop .loop .i) m held (at-loop-test .loop-test .taken) in
+    rw (after-read-entry .read-entry .ensures) (h .inside, h .room)
+
+waiting-from-requires : tie.Need-waiting-from-requires Inv-loop μ-loop
+waiting-from-requires c κs =
     let after-read-entry = c .before .before .before .before .before .before in
     let at-loop-test = after-read-entry .before in
     let at-loop = at-loop-test .before in
@@ -108,41 +102,63 @@ pruner-after-requires c κs =
     let R = lent-reads (now (a .areas)) (now (a .xs)) (now (a .ys)) (a .b) in
     let v = env (now (a .areas)) (now (a .xs)) (now (a .ys)) (a .b) in
     let D = lent (now (a .areas)) (now (a .xs)) (now (a .ys)) (a .b) in
-    let h = loop-asks v D (cellIn (a .s)) R (now (a .entries)) (a .first) (a .count) (p .0) (at-loop .loop .i)
-    (maker (at-loop .loop .p) (at-loop .loop .a))
-    (looping v D (cellIn (a .s)) R (now (a .entries)) (a .first) (a .count) (p .0) (at-loop .loop .i)
-    (maker (at-loop .loop .p) (at-loop .loop .a)) (at-loop .loop .at) (at-loop .loop .inv))
-    (at-loop-test .loop-test .taken) in
-    rw (after-read-entry .read-entry .ensures) (h .inside, h .room)
+    let m = maker (at-loop .loop .p) (at-loop .loop .a) in
+    let held = looping v D (cellIn (a .s)) R (now (a .entries)) (a .first) (a .count) (p .0) (at-loop .loop .i) m (at-loop .loop .at) (at-loop .loop .inv) in
+    let h = loop-asks v D (cellIn (a .s)) R (now (a .entries)) (a .first) (a .count) (p .0) (at-loop .loop .i) m held (at-loop-test .loop-test .taken) in
+    rw (after-read-entry .read-entry .ensures) (h .start)
 
-waiting-after-requires : tie.Need-waiting-after-requires Inv-loop μ-loop
-waiting-after-requires c κs =
-    let after-left-of = c .before .before .before .before .before in
-    let after-read-entry = after-left-of .before in
+left-of-requires : tie.Need-left-of-requires Inv-loop μ-loop
+left-of-requires c κs =
+    let after-read-entry = c .before .before .before .before .before in
     let at-loop-test = after-read-entry .before in
     let at-loop = at-loop-test .before in
     let at-entry = at-loop .before .before .before .before .before .before .before in
-    let m = maker (at-loop .loop .p) (at-loop .loop .a) in
     let a = at-entry .args in
     let p = at-entry .pre in
     let R = lent-reads (now (a .areas)) (now (a .xs)) (now (a .ys)) (a .b) in
     let v = env (now (a .areas)) (now (a .xs)) (now (a .ys)) (a .b) in
     let D = lent (now (a .areas)) (now (a .xs)) (now (a .ys)) (a .b) in
+    let m = maker (at-loop .loop .p) (at-loop .loop .a) in
+    let held = looping v D (cellIn (a .s)) R (now (a .entries)) (a .first) (a .count) (p .0) (at-loop .loop .i) m (at-loop .loop .at) (at-loop .loop .inv) in
+    rw (after-read-entry .read-entry .ensures) (
+      (p .0 .ready .xs, p .0 .ready .ys),
+      (
+        loop-left v D (cellIn (a .s)) R (now (a .entries)) (a .first) (a .count) (p .0) (at-loop .loop .i) m held
+            (at-loop-test .loop-test .taken),
+        p .1 .0,
+      ),
+    )
+
+with-left-requires : tie.Need-with-left-requires Inv-loop μ-loop
+with-left-requires c κs =
+    let after-left-of = c .before in
+    let after-read-entry = after-left-of .before .before .before .before .before .before in
+    let at-loop-test = after-read-entry .before in
+    let at-loop = at-loop-test .before in
+    let at-entry = at-loop .before .before .before .before .before .before .before in
+    let a = at-entry .args in
+    let p = at-entry .pre in
+    let R = lent-reads (now (a .areas)) (now (a .xs)) (now (a .ys)) (a .b) in
+    let v = env (now (a .areas)) (now (a .xs)) (now (a .ys)) (a .b) in
+    let D = lent (now (a .areas)) (now (a .xs)) (now (a .ys)) (a .b) in
+    let m = maker (at-loop .loop .p) (at-loop .loop .a) in
     let held = looping v D (cellIn (a .s)) R (now (a .entries)) (a .first) (a .count) (p .0) (at-loop .loop .i) m (at-loop .loop .at) (at-loop .loop .inv) in
     let h = loop-asks v D (cellIn (a .s)) R (now (a .entries)) (a .first) (a .count) (p .0) (at-loop .loop .i) m held (at-loop-test .loop-test .taken) in
-    rw (after-left-of .left-of .ensures .0, after-read-entry .read-entry .ensures) (
-      (
-        h .inside .small,
-        loop-sign v D (cellIn (a .s)) R (now (a .entries)) (a .first) (a .count) (p .0) (at-loop .loop .i) m held
-            (at-loop-test .loop-test .taken),
-        omega (arith, h .room .weight),
-      ),
-      h .start,
+    let l = after-left-of .left-of in
+    let e = after-read-entry .read-entry in (
+      h .inside .small,
+      subst (λ (x : ℤ). natAbs x ≤ 1)
+          (sym
+          (sign-read v D (cellIn (a .s)) R (now (a .entries)) (a .first) (a .count) (p .0) (at-loop .loop .i) m held
+          (at-loop-test .loop-test .taken) (e .result) (e .ensures) (l .result .sign) (l .ensures .0)))
+          (sign-of v D (cellIn (a .s)) R (now (a .entries)) (a .first) (a .count) (p .0) (at-loop .loop .i) m held
+          (at-loop-test .loop-test .taken) (e .result) (e .ensures)),
+      omega (arith, h .room .weight),
     )
 
 add-i : tie.Need-add-i Inv-loop μ-loop
 add-i c =
-    let at-loop-test = c .before .before .before .before .before .before .before .before in
+    let at-loop-test = c .before .before .before .before .before .before in
     let at-add-end = at-loop-test .before .before .before .before in
     record { fits = omega (arith, add-end at-add-end .fits, at-loop-test .loop-test .taken) }
 
@@ -151,11 +167,9 @@ loop-less c = search needs
 
 loop-again : tie.Need-loop-again Inv-loop μ-loop
 loop-again c =
-    let at-if1 = c .before in
-    let after-prunes = at-if1 .before in
+    let after-prunes = c .before in
     let after-note = after-prunes .before .before in
-    let after-left-of = after-note .before .before in
-    let after-read-entry = after-left-of .before in
+    let after-read-entry = after-note .before .before in
     let at-loop-test = after-read-entry .before in
     let at-loop = at-loop-test .before in
     let at-entry = at-loop .before .before .before .before .before .before .before in
@@ -164,18 +178,29 @@ loop-again c =
     let R = lent-reads (now (a .areas)) (now (a .xs)) (now (a .ys)) (a .b) in
     let v = env (now (a .areas)) (now (a .xs)) (now (a .ys)) (a .b) in
     let D = lent (now (a .areas)) (now (a .xs)) (now (a .ys)) (a .b) in
-    counting-turn v D (cellIn (a .s)) R (now (a .entries)) (a .first) (a .count) (p .0) (at-loop .loop .i)
-    (maker (at-loop .loop .p) (at-loop .loop .a)) (at-loop .loop .at) (at-loop .loop .inv) (at-loop-test .loop-test .taken)
-    (maker (at-if1 .if1 .p) (c .waiting-after .result)) (after-read-entry .read-entry .result) (a .s)
-    (after-left-of .left-of .result .class) (after-left-of .left-of .result .sign) (after-read-entry .read-entry .ensures)
-    (after-read-entry .read-entry .ok .1 .1 .1 .1 .0 .1) (p .1 .1) (after-left-of .left-of .ensures .1) (after-left-of .left-of .ensures .0)
-    (⊎-elim (λ w. ap counted (w .2) ∙ w .1 .ensures)
+    let m = maker (at-loop .loop .p) (at-loop .loop .a) in
+    let held = looping v D (cellIn (a .s)) R (now (a .entries)) (a .first) (a .count) (p .0) (at-loop .loop .i) m (at-loop .loop .at) (at-loop .loop .inv) in
+    let wd = after-read-entry .read-entry .result in
+    let f = leftClass (now (a .xs)) (now (a .ys)) (a .s) wd in
+    let z = leftSign (now (a .xs)) (now (a .ys)) wd in
+    counting-turn v D (cellIn (a .s)) R (now (a .entries)) (a .first) (a .count) (p .0) (at-loop .loop .i) m (at-loop .loop .at)
+    (at-loop .loop .inv) (at-loop-test .loop-test .taken) (maker (c .if1 .p) (c .if1 .a)) wd (a .s) f z (after-read-entry .read-entry .ensures)
+    (after-read-entry .read-entry .ok .1 .1 .1 .1 .0 .1) (p .1 .1) refl refl
+    (⊎-elim (λ w. ap counted (w .3) ∙ w .1 .ensures)
     (λ w.
-    ap counted (w .1)
-    ∙ stays-pruned (now (a .areas)) (counted (at-loop .loop .p)) (at-loop .loop .a) (after-read-entry .read-entry .result .kind)
-    (sym (w .0 .left) ∙ after-prunes .prunes .ensures))
-    (at-if1 .if1 .came))
-    (c .waiting-after .ensures) _ (after-note .note .ensures)
+    ap counted (w .4)
+    ∙ stays-pruned (now (a .areas)) (counted (at-loop .loop .p)) (at-loop .loop .a) (wd .kind) (sym (w .0 .left) ∙ after-prunes .prunes .ensures))
+    (c .if1 .came))
+    (⊎-elim (λ w. w .4 ∙ (w .2 .ensures ∙ other-waits (at-loop .loop .a) f z wd (sym (w .0 .taken) ∙ after-prunes .prunes .ensures)))
+    (λ w.
+    w .5
+    ∙ (w .3 .ensures
+    ∙ (ap₂ (withLeft (at-loop .loop .a)) (w .1 .ensures .1)
+    (sign-read v D (cellIn (a .s)) R (now (a .entries)) (a .first) (a .count) (p .0) (at-loop .loop .i) m held (at-loop-test .loop-test .taken)
+    wd (after-read-entry .read-entry .ensures) (w .1 .result .sign) (w .1 .ensures .0))
+    ∙ segment-waits (at-loop .loop .a) f z wd (sym (w .0 .left) ∙ after-prunes .prunes .ensures))))
+    (c .if1 .came))
+    _ (after-note .note .ensures)
 
 slice-aggregate-note-2 : tie.Need-slice-aggregate-note-2 Inv-loop μ-loop
 slice-aggregate-note-2 c = search needs
@@ -255,12 +280,13 @@ count-child-spec =
     rest-requires
     loop-holds
     read-entry-requires
-    left-of-requires
     slice-aggregate-note
     note-requires
     prunes-requires
     pruner-after-requires
-    waiting-after-requires
+    waiting-from-requires
+    left-of-requires
+    with-left-requires
     add-i
     loop-less
     loop-again

@@ -1,21 +1,21 @@
 use Rattle.child_stream.proofs.write_child.Statement.{statement}
 use Rattle.child_stream.proofs.write_child.Tie as tie
-use mathlib.Core.Path.{sym, _∙_}
+use mathlib.Core.Path.{refl, sym, ap, subst, _∙_}
 use mathlib.Core.Logic.{⊎-elim}
-use Prim.Native.Nat.{_-_}
+use Prim.Native.Nat.{_-_, _≤_}
 use native.Mathlib.Omega.{arith}
 use lib.ListN.{length}
+use lib.IntN.{ℤ, natAbs}
 use denote.Ref.{now}
 use borrow.Author.Needs.{needs}
 use Rattle.pruner.specs.code.Numbers.{counted}
 use Rattle.stream.specs.Grammar.{env}
 use Rattle.ranges.specs.Held.{lent}
-use Rattle.making.specs.code.Numbers.{cellIn}
-use Rattle.making.specs.code.Numbers.{maker}
+use Rattle.making.specs.code.Numbers.{cellIn, maker, leftClass, leftSign, withLeft}
 use Rattle.making.proofs.Lent.{lent-reads}
-use Rattle.making.proofs.Stays.{stays-pruned}
+use Rattle.making.proofs.Stays.{stays-pruned, segment-waits, other-waits}
 use Rattle.writing.proofs.Stays.{segment-put, other-put}
-use Rattle.child_stream.proofs.Loop.{loop-left, loop-sign, loop-asks, end-inside}
+use Rattle.child_stream.proofs.Loop.{loop-left, sign-of, sign-read, loop-asks, end-inside}
 use Rattle.child_stream.proofs.Fill.{Filling, fill-begin, looping, part-room, entry-is, fill-turn, fill-end}
 use Rattle.child_stream.proofs.Tail.{offset-fits, end-begins}
 
@@ -59,42 +59,18 @@ read-entry-requires c κs =
     let at-entry = at-loop .before .before .before .before .before .before .before in
     omega (arith, at-entry .pre .0 .within, at-loop-test .loop-test .taken, at-loop .loop .inv .size)
 
-left-of-requires : tie.Need-left-of-requires Inv-loop μ-loop
-left-of-requires c κs =
-    let at-loop-test = c .before .before in
-    let at-loop = at-loop-test .before in
-    let at-entry = at-loop .before .before .before .before .before .before .before in
-    let m = maker (at-loop .loop .p) (at-loop .loop .a) in
-    let a = at-entry .args in
-    let p = at-entry .pre in
-    let R = lent-reads (now (a .areas)) (now (a .xs)) (now (a .ys)) (a .b) in
-    let v = env (now (a .areas)) (now (a .xs)) (now (a .ys)) (a .b) in
-    let D = lent (now (a .areas)) (now (a .xs)) (now (a .ys)) (a .b) in
-    rw (c .read-entry .ensures
-    ∙ entry-is v D (cellIn (a .s)) R (now (a .entries)) (a .first) (a .count) (a .free) (a .made) (p .0) (p .1 .1 .1 .0) (p .1 .1 .1 .1 .0)
-    (at-loop .loop .i) m (at-loop .loop .entries) (at-loop .loop .inv) (at-loop-test .loop-test .taken)) (
-      (p .0 .ready .xs, p .0 .ready .ys),
-      (
-        loop-left v D (cellIn (a .s)) R (now (a .entries)) (a .first) (a .count) (p .0) (at-loop .loop .i) m
-            (looping v D (cellIn (a .s)) R (now (a .entries)) (a .first) (a .count) (a .free) (a .made) (p .0) (p .1 .1 .1 .0)
-            (p .1 .1 .1 .1 .0) (at-loop .loop .i) m (at-loop .loop .entries) (at-loop .loop .inv))
-            (at-loop-test .loop-test .taken),
-        p .1 .0,
-      ),
-    )
-
 prunes-requires : tie.Need-prunes-requires Inv-loop μ-loop
 prunes-requires c κs = search needs
 
 mul-write-other : tie.Need-mul-write-other Inv-loop μ-loop
 mul-write-other c =
-    let at-entry = c .before .before .before .before .before .before .before .before .before .before .before .before .before in
+    let at-entry = c .before .before .before .before .before .before .before .before .before .before .before .before in
     let a = at-entry .args in
     offset-fits (length (now (a .entries))) (a .free) (a .made) (at-entry .good .0 .1) (at-entry .pre .1 .1 .1 .1 .0)
 
 sub-write-other : tie.Need-sub-write-other Inv-loop μ-loop
 sub-write-other c =
-    let at-loop = c .before .before .before .before .before .before in
+    let at-loop = c .before .before .before .before .before in
     let at-entry = at-loop .before .before .before .before .before .before .before in
     let a = at-entry .args in
     end-begins (length (now (a .entries))) (length (at-loop .loop .entries)) (a .free) (a .made) (at-loop .loop .inv .size)
@@ -102,7 +78,7 @@ sub-write-other c =
 
 part-write-other-start : tie.Need-part-write-other-start Inv-loop μ-loop
 part-write-other-start c =
-    let at-loop = c .before .before .before .before .before .before in
+    let at-loop = c .before .before .before .before .before in
     let at-entry = at-loop .before .before .before .before .before .before .before in
     let a = at-entry .args in
     end-begins (length (now (a .entries))) (length (at-loop .loop .entries)) (a .free) (a .made) (at-loop .loop .inv .size)
@@ -113,7 +89,7 @@ part-write-other-end c = search needs
 
 write-other-requires : tie.Need-write-other-requires Inv-loop μ-loop
 write-other-requires c κs =
-    let after-read-entry = c .before .before .before .before in
+    let after-read-entry = c .before .before .before in
     let at-loop-test = after-read-entry .before .before in
     let at-loop = at-loop-test .before in
     let at-entry = at-loop .before .before .before .before .before .before .before in
@@ -123,16 +99,61 @@ write-other-requires c κs =
     let R = lent-reads (now (a .areas)) (now (a .xs)) (now (a .ys)) (a .b) in
     let v = env (now (a .areas)) (now (a .xs)) (now (a .ys)) (a .b) in
     let D = lent (now (a .areas)) (now (a .xs)) (now (a .ys)) (a .b) in
-    let h = loop-asks v D (cellIn (a .s)) R (now (a .entries)) (a .first) (a .count) (p .0) (at-loop .loop .i) m
-    (looping v D (cellIn (a .s)) R (now (a .entries)) (a .first) (a .count) (a .free) (a .made) (p .0) (p .1 .1 .1 .0) (p .1 .1 .1 .1 .0)
-    (at-loop .loop .i) m (at-loop .loop .entries) (at-loop .loop .inv))
-    (at-loop-test .loop-test .taken) in (
+    let held = looping v D (cellIn (a .s)) R (now (a .entries)) (a .first) (a .count) (a .free) (a .made) (p .0) (p .1 .1 .1 .0)
+    (p .1 .1 .1 .1 .0) (at-loop .loop .i) m (at-loop .loop .entries) (at-loop .loop .inv) in
+    let h = loop-asks v D (cellIn (a .s)) R (now (a .entries)) (a .first) (a .count) (p .0) (at-loop .loop .i) m held (at-loop-test .loop-test .taken) in
+    let e = after-read-entry .read-entry .ensures
+    ∙ entry-is v D (cellIn (a .s)) R (now (a .entries)) (a .first) (a .count) (a .free) (a .made) (p .0) (p .1 .1 .1 .0) (p .1 .1 .1 .1 .0)
+    (at-loop .loop .i) m (at-loop .loop .entries) (at-loop .loop .inv) (at-loop-test .loop-test .taken) in (
       part-room v D (cellIn (a .s)) R (now (a .entries)) (a .first) (a .count) (a .free) (a .made) (p .0) (p .1 .1 .1 .0) (p .1 .1 .1 .1 .0)
           (at-loop .loop .i) m (at-loop .loop .entries) (at-loop .loop .inv),
-      rw (after-read-entry .read-entry .ensures
-          ∙ entry-is v D (cellIn (a .s)) R (now (a .entries)) (a .first) (a .count) (a .free) (a .made) (p .0) (p .1 .1 .1 .0)
-          (p .1 .1 .1 .1 .0) (at-loop .loop .i) m (at-loop .loop .entries) (at-loop .loop .inv) (at-loop-test .loop-test .taken))
-          (h .inside, h .room),
+      rw e (h .inside, h .room),
+    )
+
+waiting-from-requires : tie.Need-waiting-from-requires Inv-loop μ-loop
+waiting-from-requires c κs =
+    let after-read-entry = c .before .before .before .before .before .before in
+    let at-loop-test = after-read-entry .before .before in
+    let at-loop = at-loop-test .before in
+    let at-entry = at-loop .before .before .before .before .before .before .before in
+    let m = maker (at-loop .loop .p) (at-loop .loop .a) in
+    let a = at-entry .args in
+    let p = at-entry .pre in
+    let R = lent-reads (now (a .areas)) (now (a .xs)) (now (a .ys)) (a .b) in
+    let v = env (now (a .areas)) (now (a .xs)) (now (a .ys)) (a .b) in
+    let D = lent (now (a .areas)) (now (a .xs)) (now (a .ys)) (a .b) in
+    let held = looping v D (cellIn (a .s)) R (now (a .entries)) (a .first) (a .count) (a .free) (a .made) (p .0) (p .1 .1 .1 .0)
+    (p .1 .1 .1 .1 .0) (at-loop .loop .i) m (at-loop .loop .entries) (at-loop .loop .inv) in
+    let h = loop-asks v D (cellIn (a .s)) R (now (a .entries)) (a .first) (a .count) (p .0) (at-loop .loop .i) m held (at-loop-test .loop-test .taken) in
+    let e = after-read-entry .read-entry .ensures
+    ∙ entry-is v D (cellIn (a .s)) R (now (a .entries)) (a .first) (a .count) (a .free) (a .made) (p .0) (p .1 .1 .1 .0) (p .1 .1 .1 .1 .0)
+    (at-loop .loop .i) m (at-loop .loop .entries) (at-loop .loop .inv) (at-loop-test .loop-test .taken) in
+    rw e (h .start)
+
+left-of-requires : tie.Need-left-of-requires Inv-loop μ-loop
+left-of-requires c κs =
+    let after-read-entry = c .before .before in
+    let at-loop-test = after-read-entry .before .before in
+    let at-loop = at-loop-test .before in
+    let at-entry = at-loop .before .before .before .before .before .before .before in
+    let m = maker (at-loop .loop .p) (at-loop .loop .a) in
+    let a = at-entry .args in
+    let p = at-entry .pre in
+    let R = lent-reads (now (a .areas)) (now (a .xs)) (now (a .ys)) (a .b) in
+    let v = env (now (a .areas)) (now (a .xs)) (now (a .ys)) (a .b) in
+    let D = lent (now (a .areas)) (now (a .xs)) (now (a .ys)) (a .b) in
+    let held = looping v D (cellIn (a .s)) R (now (a .entries)) (a .first) (a .count) (a .free) (a .made) (p .0) (p .1 .1 .1 .0)
+    (p .1 .1 .1 .1 .0) (at-loop .loop .i) m (at-loop .loop .entries) (at-loop .loop .inv) in
+    let e = after-read-entry .read-entry .ensures
+    ∙ entry-is v D (cellIn (a .s)) R (now (a .entries)) (a .first) (a .count) (a .free) (a .made) (p .0) (p .1 .1 .1 .0) (p .1 .1 .1 .1 .0)
+    (at-loop .loop .i) m (at-loop .loop .entries) (at-loop .loop .inv) (at-loop-test .loop-test .taken) in
+    rw e (
+      (p .0 .ready .xs, p .0 .ready .ys),
+      (
+        loop-left v D (cellIn (a .s)) R (now (a .entries)) (a .first) (a .count) (p .0) (at-loop .loop .i) m held
+            (at-loop-test .loop-test .taken),
+        p .1 .0,
+      ),
     )
 
 mul-put-segment : tie.Need-mul-put-segment Inv-loop μ-loop
@@ -162,8 +183,8 @@ part-put-segment-end c = search needs
 
 put-segment-requires : tie.Need-put-segment-requires Inv-loop μ-loop
 put-segment-requires c κs =
-    let after-left-of = c .before .before .before in
-    let after-read-entry = after-left-of .before in
+    let after-left-of = c .before in
+    let after-read-entry = after-left-of .before .before .before in
     let at-loop-test = after-read-entry .before .before in
     let at-loop = at-loop-test .before in
     let at-entry = at-loop .before .before .before .before .before .before .before in
@@ -172,25 +193,23 @@ put-segment-requires c κs =
     let p = at-entry .pre in
     let R = lent-reads (now (a .areas)) (now (a .xs)) (now (a .ys)) (a .b) in
     let v = env (now (a .areas)) (now (a .xs)) (now (a .ys)) (a .b) in
-    let D = lent (now (a .areas)) (now (a .xs)) (now (a .ys)) (a .b) in (
+    let D = lent (now (a .areas)) (now (a .xs)) (now (a .ys)) (a .b) in
+    let held = looping v D (cellIn (a .s)) R (now (a .entries)) (a .first) (a .count) (a .free) (a .made) (p .0) (p .1 .1 .1 .0)
+    (p .1 .1 .1 .1 .0) (at-loop .loop .i) m (at-loop .loop .entries) (at-loop .loop .inv) in
+    let e = after-read-entry .read-entry .ensures
+    ∙ entry-is v D (cellIn (a .s)) R (now (a .entries)) (a .first) (a .count) (a .free) (a .made) (p .0) (p .1 .1 .1 .0) (p .1 .1 .1 .1 .0)
+    (at-loop .loop .i) m (at-loop .loop .entries) (at-loop .loop .inv) (at-loop-test .loop-test .taken) in (
       part-room v D (cellIn (a .s)) R (now (a .entries)) (a .first) (a .count) (a .free) (a .made) (p .0) (p .1 .1 .1 .0) (p .1 .1 .1 .1 .0)
           (at-loop .loop .i) m (at-loop .loop .entries) (at-loop .loop .inv),
-      rw (
-        after-left-of .left-of .ensures .0,
-        after-read-entry .read-entry .ensures
-            ∙ entry-is v D (cellIn (a .s)) R (now (a .entries)) (a .first) (a .count) (a .free) (a .made) (p .0) (p .1 .1 .1 .0)
-            (p .1 .1 .1 .1 .0) (at-loop .loop .i) m (at-loop .loop .entries) (at-loop .loop .inv) (at-loop-test .loop-test .taken),
-      )
-          (loop-sign v D (cellIn (a .s)) R (now (a .entries)) (a .first) (a .count) (p .0) (at-loop .loop .i) m
-          (looping v D (cellIn (a .s)) R (now (a .entries)) (a .first) (a .count) (a .free) (a .made) (p .0) (p .1 .1 .1 .0)
-          (p .1 .1 .1 .1 .0) (at-loop .loop .i) m (at-loop .loop .entries) (at-loop .loop .inv))
-          (at-loop-test .loop-test .taken)),
+      rw (after-left-of .left-of .ensures .0)
+          (sign-of v D (cellIn (a .s)) R (now (a .entries)) (a .first) (a .count) (p .0) (at-loop .loop .i) m held
+          (at-loop-test .loop-test .taken) (after-read-entry .read-entry .result) e),
     )
 
-waiting-after-requires : tie.Need-waiting-after-requires Inv-loop μ-loop
-waiting-after-requires c κs =
-    let after-left-of = c .before .before in
-    let after-read-entry = after-left-of .before in
+with-left-requires : tie.Need-with-left-requires Inv-loop μ-loop
+with-left-requires c κs =
+    let after-left-of = c .before .before .before .before .before in
+    let after-read-entry = after-left-of .before .before .before in
     let at-loop-test = after-read-entry .before .before in
     let at-loop = at-loop-test .before in
     let at-entry = at-loop .before .before .before .before .before .before .before in
@@ -203,24 +222,23 @@ waiting-after-requires c κs =
     let held = looping v D (cellIn (a .s)) R (now (a .entries)) (a .first) (a .count) (a .free) (a .made) (p .0) (p .1 .1 .1 .0)
     (p .1 .1 .1 .1 .0) (at-loop .loop .i) m (at-loop .loop .entries) (at-loop .loop .inv) in
     let h = loop-asks v D (cellIn (a .s)) R (now (a .entries)) (a .first) (a .count) (p .0) (at-loop .loop .i) m held (at-loop-test .loop-test .taken) in
-    rw (
-      after-left-of .left-of .ensures .0,
-      after-read-entry .read-entry .ensures
-          ∙ entry-is v D (cellIn (a .s)) R (now (a .entries)) (a .first) (a .count) (a .free) (a .made) (p .0) (p .1 .1 .1 .0)
-          (p .1 .1 .1 .1 .0) (at-loop .loop .i) m (at-loop .loop .entries) (at-loop .loop .inv) (at-loop-test .loop-test .taken),
-    ) (
-      (
-        h .inside .small,
-        loop-sign v D (cellIn (a .s)) R (now (a .entries)) (a .first) (a .count) (p .0) (at-loop .loop .i) m held
-            (at-loop-test .loop-test .taken),
-        omega (arith, h .room .weight),
-      ),
-      h .start,
+    let e = after-read-entry .read-entry .ensures
+    ∙ entry-is v D (cellIn (a .s)) R (now (a .entries)) (a .first) (a .count) (a .free) (a .made) (p .0) (p .1 .1 .1 .0) (p .1 .1 .1 .1 .0)
+    (at-loop .loop .i) m (at-loop .loop .entries) (at-loop .loop .inv) (at-loop-test .loop-test .taken) in
+    let l = after-left-of .left-of in (
+      h .inside .small,
+      subst (λ (x : ℤ). natAbs x ≤ 1)
+          (sym
+          (sign-read v D (cellIn (a .s)) R (now (a .entries)) (a .first) (a .count) (p .0) (at-loop .loop .i) m held
+          (at-loop-test .loop-test .taken) (after-read-entry .read-entry .result) e (l .result .sign) (l .ensures .0)))
+          (sign-of v D (cellIn (a .s)) R (now (a .entries)) (a .first) (a .count) (p .0) (at-loop .loop .i) m held
+          (at-loop-test .loop-test .taken) (after-read-entry .read-entry .result) e),
+      omega (arith, h .room .weight),
     )
 
 add-i : tie.Need-add-i Inv-loop μ-loop
 add-i c =
-    let at-loop-test = c .before .before .before .before .before .before in
+    let at-loop-test = c .before .before .before .before in
     let at-add-end = at-loop-test .before .before .before .before in
     record { fits = omega (arith, add-end at-add-end .fits, at-loop-test .loop-test .taken) }
 
@@ -229,10 +247,8 @@ loop-less c = search needs
 
 loop-again : tie.Need-loop-again Inv-loop μ-loop
 loop-again c =
-    let at-if1 = c .before in
-    let after-prunes = at-if1 .before in
-    let after-left-of = after-prunes .before in
-    let after-read-entry = after-left-of .before in
+    let after-prunes = c .before in
+    let after-read-entry = after-prunes .before in
     let at-loop-test = after-read-entry .before .before in
     let at-loop = at-loop-test .before in
     let at-entry = at-loop .before .before .before .before .before .before .before in
@@ -242,39 +258,39 @@ loop-again c =
     let R = lent-reads (now (a .areas)) (now (a .xs)) (now (a .ys)) (a .b) in
     let v = env (now (a .areas)) (now (a .xs)) (now (a .ys)) (a .b) in
     let D = lent (now (a .areas)) (now (a .xs)) (now (a .ys)) (a .b) in
+    let held = looping v D (cellIn (a .s)) R (now (a .entries)) (a .first) (a .count) (a .free) (a .made) (p .0) (p .1 .1 .1 .0)
+    (p .1 .1 .1 .1 .0) (at-loop .loop .i) m (at-loop .loop .entries) (at-loop .loop .inv) in
+    let e = after-read-entry .read-entry .ensures
+    ∙ entry-is v D (cellIn (a .s)) R (now (a .entries)) (a .first) (a .count) (a .free) (a .made) (p .0) (p .1 .1 .1 .0) (p .1 .1 .1 .1 .0)
+    (at-loop .loop .i) m (at-loop .loop .entries) (at-loop .loop .inv) (at-loop-test .loop-test .taken) in
+    let wd = after-read-entry .read-entry .result in
+    let ok = after-read-entry .read-entry .ok .1 .1 .1 .1 .0 .1 in
+    let f = leftClass (now (a .xs)) (now (a .ys)) (a .s) wd in
+    let z = leftSign (now (a .xs)) (now (a .ys)) wd in
     ⊎-elim
     (λ w.
-    rw (w .5, w .6)
+    let other = sym (w .0 .taken) ∙ after-prunes .prunes .ensures in
+    rw (w .6, w .7, w .8)
     (fill-turn v D (cellIn (a .s)) R (now (a .entries)) (a .first) (a .count) (a .free) (a .made) (p .0) (p .1 .1 .1 .0) (p .1 .1 .1 .1 .0)
     (at-loop .loop .i) m (at-loop .loop .entries) (at-loop .loop .inv) (at-loop-test .loop-test .taken)
-    (maker (w .2 .result) (c .waiting-after .result)) (after-read-entry .read-entry .result) (a .s) (after-left-of .left-of .result .class)
-    (after-left-of .left-of .result .sign) _
-    (after-read-entry .read-entry .ensures
-    ∙ entry-is v D (cellIn (a .s)) R (now (a .entries)) (a .first) (a .count) (a .free) (a .made) (p .0) (p .1 .1 .1 .0) (p .1 .1 .1 .1 .0)
-    (at-loop .loop .i) m (at-loop .loop .entries) (at-loop .loop .inv) (at-loop-test .loop-test .taken))
-    (after-read-entry .read-entry .ok .1 .1 .1 .1 .0 .1) (p .1 .1 .0) (after-left-of .left-of .ensures .1)
-    (after-left-of .left-of .ensures .0) (w .2 .ensures .0) (c .waiting-after .ensures)
-    (w .2 .ensures .1
-    ∙ other-put (a .made) (now (a .areas)) _ m (after-left-of .left-of .result .class) (after-left-of .left-of .result .sign)
-    (after-read-entry .read-entry .result) _ (sym (w .0 .taken) ∙ after-prunes .prunes .ensures))))
+    (maker (w .2 .result) (w .5 .result)) wd (a .s) f z _ e ok (p .1 .1 .0) refl refl (w .2 .ensures .0)
+    (w .5 .ensures ∙ other-waits (at-loop .loop .a) f z wd other) (w .2 .ensures .1 ∙ other-put (a .made) (now (a .areas)) _ m f z wd _ other)))
     (λ w.
-    rw (w .5, w .6)
+    let l = w .1 in
+    let segment = sym (w .0 .left) ∙ after-prunes .prunes .ensures in
+    let back = sign-read v D (cellIn (a .s)) R (now (a .entries)) (a .first) (a .count) (p .0) (at-loop .loop .i) m held
+    (at-loop-test .loop-test .taken) wd e (l .result .sign) (l .ensures .0)
+    ∙ sym (l .ensures .0) in
+    rw (w .8, w .9, w .10)
     (fill-turn v D (cellIn (a .s)) R (now (a .entries)) (a .first) (a .count) (a .free) (a .made) (p .0) (p .1 .1 .1 .0) (p .1 .1 .1 .1 .0)
     (at-loop .loop .i) m (at-loop .loop .entries) (at-loop .loop .inv) (at-loop-test .loop-test .taken)
-    (maker (at-loop .loop .p) (c .waiting-after .result)) (after-read-entry .read-entry .result) (a .s)
-    (after-left-of .left-of .result .class) (after-left-of .left-of .result .sign) _
-    (after-read-entry .read-entry .ensures
-    ∙ entry-is v D (cellIn (a .s)) R (now (a .entries)) (a .first) (a .count) (a .free) (a .made) (p .0) (p .1 .1 .1 .0) (p .1 .1 .1 .1 .0)
-    (at-loop .loop .i) m (at-loop .loop .entries) (at-loop .loop .inv) (at-loop-test .loop-test .taken))
-    (after-read-entry .read-entry .ok .1 .1 .1 .1 .0 .1) (p .1 .1 .0) (after-left-of .left-of .ensures .1)
-    (after-left-of .left-of .ensures .0)
-    (stays-pruned (now (a .areas)) (counted (at-loop .loop .p)) (at-loop .loop .a) (after-read-entry .read-entry .result .kind)
-    (sym (w .0 .left) ∙ after-prunes .prunes .ensures))
-    (c .waiting-after .ensures)
-    (w .2 .ensures
-    ∙ segment-put (a .made) (now (a .areas)) _ m (after-left-of .left-of .result .class) (after-left-of .left-of .result .sign)
-    (after-read-entry .read-entry .result) _ (sym (w .0 .left) ∙ after-prunes .prunes .ensures))))
-    (at-if1 .if1 .came)
+    (maker (at-loop .loop .p) (w .7 .result)) wd (a .s) (l .result .class) (l .result .sign) _ e ok (p .1 .1 .0) (l .ensures .1) (l .ensures .0)
+    (stays-pruned (now (a .areas)) (counted (at-loop .loop .p)) (at-loop .loop .a) (wd .kind) segment)
+    (w .7 .ensures
+    ∙ (ap (withLeft (at-loop .loop .a) (l .result .class)) back
+    ∙ segment-waits (at-loop .loop .a) (l .result .class) (l .result .sign) wd segment))
+    (w .3 .ensures ∙ segment-put (a .made) (now (a .areas)) _ m (l .result .class) (l .result .sign) wd _ segment)))
+    (c .if1 .came)
 
 mul-put-settled : tie.Need-mul-put-settled Inv-loop μ-loop
 mul-put-settled c =
@@ -350,19 +366,20 @@ write-child-spec =
     rest-requires
     loop-holds
     read-entry-requires
-    left-of-requires
     prunes-requires
     mul-write-other
     sub-write-other
     part-write-other-start
     part-write-other-end
     write-other-requires
+    waiting-from-requires
+    left-of-requires
     mul-put-segment
     sub-put-segment
     part-put-segment-start
     part-put-segment-end
     put-segment-requires
-    waiting-after-requires
+    with-left-requires
     add-i
     loop-less
     loop-again

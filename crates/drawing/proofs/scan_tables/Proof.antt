@@ -4,27 +4,29 @@ use mathlib.Core.Path.{_≡_}
 use Prim.Native.Nat.{_≤_, _-_}
 use native.Mathlib.Omega.{arith}
 use Rattle.grammar.specs.code.Machine.{scanN, startN}
+use Rattle.drawing.specs.code.Scanned.{cursorN}
 use Rattle.drawing.specs.Tables.{tables, cursor, rebuilt}
-use Rattle.drawing.proofs.Rows.{walk-begin, walk-turn, walk-stops, walk-done, past-area, past-corner}
+use Rattle.drawing.proofs.Rows.{walk-begin, walk-turn, walk-stops, walk-done}
 use Rattle.drawing.proofs.scan_tables.Statement.{statement}
 use Rattle.drawing.proofs.scan_tables.Tie as tie
 
 abbrev Inv-loop : tie.InvT-loop
-Inv-loop plan areas xs ys used n s₀ c₀ i₀ s c i =
+Inv-loop plan areas xs ys used n s₀ i₀ s i =
     (i ≤ n)
-    × (c .area ≤ i)
-    × (c .corner ≤ i)
-    × (scanN s i (rebuilt (tables plan areas xs ys) used i c (n - i))
+    × (scanN s i (rebuilt (tables plan areas xs ys) used i (cursorN s) (n - i))
     ≡ scanN startN 0 (rebuilt (tables plan areas xs ys) used 0 (cursor 0 0) n))
 
 abbrev μ-loop : tie.MeasureT-loop
-μ-loop plan areas xs ys used n s₀ c₀ i₀ s c i = n - i
+μ-loop plan areas xs ys used n s₀ i₀ s i = n - i
 
 start-requires : tie.Need-start-requires Inv-loop μ-loop
 start-requires c κs = search needs
 
 loop-holds : tie.Need-loop-holds Inv-loop μ-loop
-loop-holds c = (search needs, search needs, search needs, search walk-begin)
+loop-holds c = (search needs, search walk-begin)
+
+cursor-of-requires : tie.Need-cursor-of-requires Inv-loop μ-loop
+cursor-of-requires c κs = search needs
 
 row-requires : tie.Need-row-requires Inv-loop μ-loop
 row-requires c κs = search needs
@@ -38,9 +40,6 @@ is-stopped-requires c κs = search needs
 returns : tie.Need-returns Inv-loop μ-loop
 returns c = search walk-stops
 
-past-requires : tie.Need-past-requires Inv-loop μ-loop
-past-requires c κs = search needs
-
 add-i : tie.Need-add-i Inv-loop μ-loop
 add-i c = search needs
 
@@ -49,14 +48,15 @@ loop-less c = search needs
 
 loop-again : tie.Need-loop-again Inv-loop μ-loop
 loop-again c =
-    let after-advance = c .before .before .before in
+    let after-is-stopped = c .before in
+    let after-advance = after-is-stopped .before in
     let after-row = after-advance .before in
-    let at-loop = after-row .before .before in (
+    let after-cursor-of = after-row .before in
+    let at-loop-test = after-cursor-of .before in
+    let at-loop = at-loop-test .before in (
       search needs,
-      search past-area,
-      search past-corner,
-      walk-turn _ _ _ _ _ _ _ _ _ _ (omega arith) (after-row .row .ensures) (after-advance .advance .ensures) (c .past .ensures)
-          (at-loop .loop .inv .3),
+      walk-turn _ _ _ _ _ _ _ _ _ _ (at-loop-test .loop-test .taken) (after-cursor-of .cursor-of .ensures) (after-row .row .ensures)
+          (after-advance .advance .ensures) (after-is-stopped .is-stopped .ensures) (c .if1 .left) (at-loop .loop .inv .1),
     )
 
 returns-2 : tie.Need-returns-2 Inv-loop μ-loop
@@ -70,11 +70,11 @@ scan-tables-spec =
     μ-loop
     start-requires
     loop-holds
+    cursor-of-requires
     row-requires
     advance-requires
     is-stopped-requires
     returns
-    past-requires
     add-i
     loop-less
     loop-again

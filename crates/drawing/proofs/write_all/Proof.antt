@@ -1,4 +1,4 @@
-use Rattle.drawing.proofs.Rows.{Copying, copy-begin, copy-room, copy-turn, copy-done, past-area, past-corner}
+use Rattle.drawing.proofs.Rows.{Copying, copy-begin, copy-good, copy-room, copy-turn, copy-done, past-area, past-corner}
 use Rattle.drawing.specs.Tables.{tables}
 use borrow.Author.Needs.{needs}
 use Prim.Native.Nat.{_≤_, _-_}
@@ -15,8 +15,8 @@ abbrev μ-loop : tie.MeasureT-loop
 loop-holds : tie.Need-loop-holds Inv-loop μ-loop
 loop-holds c = (search needs, search needs, search needs, search copy-begin)
 
-row-requires : tie.Need-row-requires Inv-loop μ-loop
-row-requires c κs = search needs
+row-accepted-requires : tie.Need-row-accepted-requires Inv-loop μ-loop
+row-accepted-requires c κs = (search needs, (search needs, search copy-good))
 
 put-bytes-requires : tie.Need-put-bytes-requires Inv-loop μ-loop
 put-bytes-requires c κs = search copy-room
@@ -46,7 +46,7 @@ write-all-spec =
     Inv-loop
     μ-loop
     loop-holds
-    row-requires
+    row-accepted-requires
     put-bytes-requires
     past-requires
     add-i

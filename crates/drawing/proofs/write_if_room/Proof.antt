@@ -1,5 +1,5 @@
 use native.Mathlib.Omega.{arith}
-use Rattle.drawing.proofs.Rows.{ready, drawn, drawn-left}
+use Rattle.drawing.proofs.Rows.{ready, drawn, drawn-good, drawn-left}
 use mathlib.Core.Path.{refl}
 use borrow.Author.Tests.{le-leb, lt-leb}
 use borrow.Author.Needs.{needs}
@@ -10,7 +10,8 @@ write-all-requires : tie.Need-write-all-requires
 write-all-requires c κs =
     let at-if1 = c .before in
     let at-entry = at-if1 .before .before .before .before .before .before .before in
-    (ready _ _ (drawn _ _ (at-entry .pre)), omega (arith, at-if1 .if1 .taken))
+    let d = drawn _ _ (at-entry .pre) in
+    (ready _ _ d, (omega (arith, at-if1 .if1 .taken), drawn-good _ _ d))
 
 mul-t13 : tie.Need-mul-t13
 mul-t13 c = search needs

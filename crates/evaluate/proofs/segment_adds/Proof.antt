@@ -1,7 +1,7 @@
 use Rattle.evaluate.proofs.Laws.{line-below, entry-edge-in, shortcut-small}
 use Rattle.geometry.proofs.Windings.{adds-abs}
 use Rattle.geometry.specs.Windings.{edgeOf, adds}
-use Rattle.geometry.specs.Edges.{isRow}
+use Rattle.curves.specs.Lines.{isRow}
 use Rattle.evaluate.specs.code.Numbers.{lineOf}
 use Rattle.laws.proofs.Signed.{read-back}
 use borrow.Author.Needs.{needs}

@@ -1,4 +1,4 @@
--- `evaluate::winding_from` meets its contract: the running sum and the lines and shortcuts that are left make the winding.
+-- `evaluate::winding_from` meets its contract: the running sum and the lines, curves and shortcuts that are left make the winding.
 use mathlib.Core.Path.{_≡_, refl, sym, ap, subst, _∙_}
 use Prim.Native.Nat.{_+_, _-_, _≤_}
 use native.Mathlib.Omega.{arith}

@@ -8,14 +8,14 @@ use lib.ListN.{length}
 use lib.IntN.{ℤ, pos, _+ℤ_}
 use mir.Syntax.{w32}
 use mir.Val.{toZ}
-use Rattle.geometry.specs.Windings.{Line, line}
+use Rattle.geometry.specs.Windings.{Line, line, curve}
 use Rattle.pruning.specs.Sides.{clip}
 use Rattle.pruning.specs.Registers.{Registers, outOf, onItem, onPush, onActivate, onPop}
 use Rattle.stream.specs.declared.Words.{Words}
 use Rattle.stream.specs.declared.Bounds.{Bounds}
-use Rattle.stream.specs.Entry.{signRange, decode, isLine, isSegment}
+use Rattle.stream.specs.Entry.{signRange, decode, isCurve, isLine, isSegment}
 use Rattle.stream.specs.Table.{wordsAt, wordsFrom}
-use Rattle.stream.specs.Grammar.{Env, lineRange, inRange, Ready}
+use Rattle.stream.specs.Grammar.{Env, lineRange, curveRange, inRange, Ready}
 use Rattle.machine.specs.declared.Machine.{Machine}
 use Rattle.machine.specs.code.Registers.{meant}
 use Rattle.cells.specs.Cells.{at}
@@ -24,28 +24,32 @@ use Rattle.cells.specs.Elements.{settled, State, state, settle, onElements}
 use Rattle.evaluate.specs.declared.Reading.{Reading}
 use Rattle.evaluate.specs.Reading.{roleAt, passAt, opaqueAt, elementsIn}
 
--- ---- the lines and shortcuts of an area
+-- ---- the lines, curves and shortcuts of an area
 
--- the line that an entry of a line names; the line or the shortcut that an entry says
+-- the line or the curve that an entry of either names; that or the shortcut that an entry says
 abbrev pub lineOf : Words → Line
-lineOf w = line (w .p) (w .q)
+lineOf w = cond (isCurve (w .kind)) (curve (w .p)) (line (w .p) (w .q))
 
 abbrev pub segmentOf : Words → Segment
 segmentOf w = cond (isLine (w .kind)) (drawn (lineOf w)) (shortcut (toZ w32 (w .p)) (w .q) (w .r))
 
--- the numbers of a line or a shortcut are in range; what it adds
+-- the numbers of a line or a curve are in range; of a shortcut too; what it adds
+abbrev pub lineMet : (xs ys : List ℕ) → (corners : ℕ) → Line → Bool
+lineMet xs ys corners (line a b) = lineRange xs ys corners a b
+lineMet xs ys corners (curve a) = curveRange xs ys corners a
+
 abbrev pub segmentRange : List ℕ → List ℕ → ℕ → Words → Bool
-segmentRange xs ys corners w = cond (isLine (w .kind)) (lineRange xs ys corners (w .p) (w .q)) (signRange (w .p))
+segmentRange xs ys corners w = cond (isLine (w .kind)) (lineMet xs ys corners (lineOf w)) (signRange (w .p))
 
 abbrev pub segmentAdds : List ℕ → List ℕ → ℕ → ℕ → Words → ℤ
 segmentAdds xs ys x y w = addsAt xs ys (at x y) (segmentOf w)
 
--- what the lines and shortcuts that stand in front add
+-- what the lines, curves and shortcuts that stand in front add
 unfoldable pub segmentsSum : (xs ys : List ℕ) (x y : ℕ) → List Words → ℤ
 segmentsSum xs ys x y [] = pos 0
 segmentsSum xs ys x y (w ∷ ws) = cond (isSegment (w .kind)) (segmentAdds xs ys x y w +ℤ segmentsSum xs ys x y ws) (pos 0)
 
--- the lines and shortcuts of the entries from `from` up to `end` are in range
+-- the lines, curves and shortcuts of the entries from `from` up to `end` are in range
 pub record SegmentsIn (t : List ℕ) (from end : ℕ) (xs ys : List ℕ) (b : Bounds) : Type 0 where
   pub ordered : from ≤ end
   pub within : end * 4 ≤ length t
@@ -56,7 +60,7 @@ pub record SegmentsIn (t : List ℕ) (from end : ℕ) (xs ys : List ℕ) (b : Bo
 
 -- ---- the machine
 
--- after an entry that is no area; a line or a shortcut leaves it as it is
+-- after an entry that is no area; a line, a curve or a shortcut leaves it as it is
 abbrev pub movedBy : ℕ → Registers ℕ → Registers ℕ
 movedBy kind m =
     cond (eqb kind 1) (onPush m) (cond (eqb kind 2) (onActivate m) (cond (eqb kind 3) (onPop m) (cond (isSegment kind) m (onItem clip true true (λ s. s) m))))

@@ -1,36 +1,28 @@
 -- The ranges that the code asks of its numbers.
 use mathlib.Core.Path.{_≡_}
+use mathlib.Core.Bool.{true}
 use mathlib.Core.List.{List}
 use Prim.Native.Nat.{ℕ, _+_, _≤_, _<_}
 use lib.ListN.{length, getD}
-use Rattle.geometry.specs.Windings.{Line, line}
+use Rattle.curves.specs.Curves.{curveFits}
+use Rattle.curves.specs.code.Reach.{reach, EndsIn}
+use Rattle.geometry.specs.Windings.{Line, line, curve}
 use Rattle.geometry.specs.declared.edge.Edge.{Edge}
 use Rattle.geometry.specs.declared.class.Square.{Square}
 
--- Corners have coordinates 0 to 65,536 and positions 0 to 65,535. Positions between grid points are whole numbers too, once every
--- coordinate is multiplied by their denominator: so the code takes both up to 65,536 × 1,024.
-abbrev pub reach : ℕ
-reach = 67108864
+-- a curve, if it is one, that a drawing may have
+abbrev pub CurveIn : Edge → Type 0
+CurveIn e = e .bent ≡ true → curveFits (e .x0) (e .y0) (e .cx) (e .cy) (e .x1) (e .y1) ≡ true
 
--- the two ends of an edge
-pub record EndsIn (x0 y0 x1 y1 : ℕ) : Type 0 where
-  pub first-x : x0 ≤ reach
-  pub first-y : y0 ≤ reach
-  pub second-x : x1 ≤ reach
-  pub second-y : y1 ≤ reach
-
--- an edge, by its two ends
-abbrev pub EdgeIn : Edge → Type 0
-EdgeIn e = EndsIn (e .x0) (e .y0) (e .x1) (e .y1)
+-- an edge, by its two ends and its curve
+pub record EdgeIn (e : Edge) : Type 0 where
+  pub ends : EndsIn (e .x0) (e .y0) (e .x1) (e .y1)
+  pub fits : CurveIn e
 
 -- a line of which each corner is below n
 abbrev pub LineBelow : (n : ℕ) → Line → Type 0
 LineBelow n (line p q) = (p < n) × (q < n)
-
--- a position
-pub record PositionIn (x y : ℕ) : Type 0 where
-  pub position-x : x ≤ reach
-  pub position-y : y ≤ reach
+LineBelow n (curve p) = p + 2 < n
 
 -- a square with some position
 pub record SquareIn (s : Square) : Type 0 where

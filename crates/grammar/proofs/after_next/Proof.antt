@@ -5,11 +5,11 @@ use Rattle.grammar.proofs.after_next.Tie as tie
 more-requires : tie.Need-more-requires
 more-requires c κs = search needs
 
-add-t3 : tie.Need-add-t3
-add-t3 c = search needs
+add-t5 : tie.Need-add-t5
+add-t5 c = search needs
 
 returns : tie.Need-returns
 returns c = rw (c .before .more .ensures)
 
 pub after-next-spec : {M : Type 1} → statement M
-after-next-spec = tie.close (tie.spec more-requires add-t3 returns)
+after-next-spec = tie.close (tie.spec more-requires add-t5 returns)

@@ -35,6 +35,9 @@ enum-told-6 c = search needs
 is-short-requires-5 : tie.Need-is-short-requires-5
 is-short-requires-5 c κs = search needs
 
+enum-told-7 : tie.Need-enum-told-7
+enum-told-7 c = search needs
+
 returns : tie.Need-returns
 returns c = rw (c .before .enum-told .given .1, c .is-short .ensures)
 
@@ -53,6 +56,9 @@ returns-5 c = rw (c .before .enum-told5 .given .1, c .is-short4 .ensures)
 returns-6 : tie.Need-returns-6
 returns-6 c = rw (c .before .enum-told6 .given .1, c .is-short5 .ensures)
 
+returns-7 : tie.Need-returns-7
+returns-7 c = rw (c .enum-told7 .given .1)
+
 pub ends-short-spec : {M : Type 1} → statement M
 ends-short-spec =
     tie.close
@@ -68,9 +74,11 @@ ends-short-spec =
     is-short-requires-4
     enum-told-6
     is-short-requires-5
+    enum-told-7
     returns
     returns-2
     returns-3
     returns-4
     returns-5
-    returns-6)
+    returns-6
+    returns-7)

@@ -2,70 +2,17 @@ use borrow.Author.Needs.{needs}
 use Rattle.grammar.proofs.fits.Statement.{statement}
 use Rattle.grammar.proofs.fits.Tie as tie
 
-enum-known-r : tie.Need-enum-known-r
-enum-known-r c = search needs
-
-role-here-requires : tie.Need-role-here-requires
-role-here-requires c κs = search needs
-
-enum-told : tie.Need-enum-told
-enum-told c = search needs
-
-enum-told-2 : tie.Need-enum-told-2
-enum-told-2 c = search needs
-
-enum-told-3 : tie.Need-enum-told-3
-enum-told-3 c = search needs
-
-enum-told-4 : tie.Need-enum-told-4
-enum-told-4 c = search needs
-
-on-left-requires : tie.Need-on-left-requires
-on-left-requires c κs = search needs
-
-enum-told-5 : tie.Need-enum-told-5
-enum-told-5 c = search needs
-
-on-right-requires : tie.Need-on-right-requires
-on-right-requires c κs = search needs
+is-next-requires : tie.Need-is-next-requires
+is-next-requires c κs = search needs
 
 returns : tie.Need-returns
-returns c =
-    let after-role-here = c .before in
-    let after-r = after-role-here .before .before in
-    rw (after-r .r .given .1, after-role-here .role-here .ensures)
+returns c = rw (c .before .if1 .taken, c .is-next .ensures)
+
+stands-requires : tie.Need-stands-requires
+stands-requires c κs = search needs
 
 returns-2 : tie.Need-returns-2
-returns-2 c = rw (c .enum-told .given .1)
-
-returns-3 : tie.Need-returns-3
-returns-3 c = rw (c .before .enum-told2 .given .1)
-
-returns-4 : tie.Need-returns-4
-returns-4 c = rw (c .enum-told3 .given .1)
-
-returns-5 : tie.Need-returns-5
-returns-5 c = rw (c .before .enum-told4 .given .1, c .on-left .ensures)
-
-returns-6 : tie.Need-returns-6
-returns-6 c = rw (c .before .enum-told5 .given .1, c .on-right .ensures)
+returns-2 c = rw (c .stands .ensures, c .before .if1 .left)
 
 pub fits-spec : {M : Type 1} → statement M
-fits-spec =
-    tie.close
-    (tie.spec
-    enum-known-r
-    role-here-requires
-    enum-told
-    enum-told-2
-    enum-told-3
-    enum-told-4
-    on-left-requires
-    enum-told-5
-    on-right-requires
-    returns
-    returns-2
-    returns-3
-    returns-4
-    returns-5
-    returns-6)
+fits-spec = tie.close (tie.spec is-next-requires returns stands-requires returns-2)

@@ -23,6 +23,9 @@ enum-told-5 c = search needs
 enum-told-6 : tie.Need-enum-told-6
 enum-told-6 c = search needs
 
+enum-told-7 : tie.Need-enum-told-7
+enum-told-7 c = search needs
+
 returns : tie.Need-returns
 returns c = rw (c .before .enum-told .given .1)
 
@@ -41,6 +44,9 @@ returns-5 c = rw (c .enum-told5 .given .1)
 returns-6 : tie.Need-returns-6
 returns-6 c = rw (c .enum-told6 .given .1)
 
+returns-7 : tie.Need-returns-7
+returns-7 c = rw (c .before .enum-told7 .given .1)
+
 pub in-limit-spec : {M : Type 1} → statement M
 in-limit-spec =
     tie.close
@@ -52,9 +58,11 @@ in-limit-spec =
     has-room-requires
     enum-told-5
     enum-told-6
+    enum-told-7
     returns
     returns-2
     returns-3
     returns-4
     returns-5
-    returns-6)
+    returns-6
+    returns-7)

@@ -36,7 +36,7 @@ levelFrom (suc n) s = cond (leb s 1) 0 (suc (levelFrom n (s / 2)))
 unfoldable pub cellIn : Square → Cell
 cellIn s = cell (s .x) (s .y) (levelFrom 16 (s .side))
 
--- ---- what is left of a line or a shortcut in a square
+-- ---- what is left of a line, a curve or a shortcut in a square
 
 abbrev pub leftSign : (xs ys : List ℕ) → Words → ℤ
 leftSign xs ys w = cond (isSegment (w .kind)) (signOf xs ys (segmentOf w)) (pos 0)
@@ -48,7 +48,7 @@ leftClass xs ys s w = cond (isSegment (w .kind)) (classOn xs ys s (segmentOf w))
 abbrev pub leftRange : (xs ys : List ℕ) (corners : ℕ) → Words → Bool
 leftRange xs ys corners w = cond (isSegment (w .kind)) (segmentRange xs ys corners w) true
 
--- ---- the area that waits: its number, its start number, its weight with what is left of its lines and shortcuts
+-- ---- the area that waits: its number, its start number, its weight with what is left of its lines, curves and shortcuts
 
 abbrev pub waiting : Bool → ℕ → ℤ → ℕ → Waiting
 waiting b n z s = record { waits = b; number = n; start = z; weight = s }
@@ -65,10 +65,12 @@ withClass Kept a z = waiting true (a .number) (a .start) (a .weight + 65537)
 abbrev pub withLeft : Waiting → Class → ℤ → Waiting
 withLeft a f z = cond (a .waits) (withClass f a z) a
 
--- an area alone weighs 4,294,967,297
+-- after an entry that is no line, curve or shortcut: an area alone weighs 4,294,967,297
+abbrev pub waitingFrom : Words → Waiting
+waitingFrom w = cond (eqb (w .kind) 4) (waiting true (w .p) (toZ w32 (w .q)) 4294967297) resting
+
 abbrev pub waitingN : Waiting → Class → ℤ → Words → Waiting
-waitingN a f z w =
-    cond (isSegment (w .kind)) (withLeft a f z) (cond (eqb (w .kind) 4) (waiting true (w .p) (toZ w32 (w .q)) 4294967297) resting)
+waitingN a f z w = cond (isSegment (w .kind)) (withLeft a f z) (waitingFrom w)
 
 -- ---- the pruner
 
@@ -89,7 +91,7 @@ movedN kind c =
     (cond (eqb kind 3) (countStep sizedItems sizeOf c pop)
     (cond (eqb kind 7) (countStep sizedItems sizeOf c (item clip (sized passes 1))) c)))
 
--- an entry that is neither a line nor a shortcut
+-- an entry that is no line, curve or shortcut
 abbrev pub prunesN : ℕ → Bool
 prunesN kind = not (isSegment kind)
 

@@ -4,8 +4,8 @@ use mathlib.Core.Bool.{true}
 use mathlib.Core.List.{List, [], _∷_}
 use Prim.Native.Nat.{ℕ, suc, _+_, _*_, _≤_, _<_, max}
 use lib.ListN.{length, getD}
-use Rattle.geometry.specs.Windings.{Line, linesOf}
-use Rattle.geometry.specs.code.Reach.{LineBelow}
+use Rattle.geometry.specs.Windings.{Line, edgeOf, linesOf}
+use Rattle.geometry.specs.code.Reach.{CurveIn, LineBelow}
 use Rattle.records.specs.Record.{areaRange, cornerRange}
 use Rattle.pruning.specs.Sides.{paint, Side, end, leaf, group}
 use Rattle.cells.specs.Drawings.{Drawing, fieldsOf}
@@ -29,6 +29,11 @@ abbrev pub CornersBelow : ℕ → List Line → Type 0
 CornersBelow n [] = Unit {0}
 CornersBelow n (l ∷ ls) = LineBelow n l × CornersBelow n ls
 
+-- a drawing may have those of these lines that are curves
+abbrev pub CurvesIn : (xs ys : List ℕ) → List Line → Type 0
+CurvesIn xs ys [] = Unit {0}
+CurvesIn xs ys (l ∷ ls) = CurveIn (edgeOf xs ys l) × CurvesIn xs ys ls
+
 -- the lines of area n
 abbrev pub lines : Drawing → ℕ → List Line
 lines D n = linesOf (getD (D .contours) n [])
@@ -42,6 +47,8 @@ pub record Valid (D : Drawing) : Type 0 where
   -- "each 0 to 65,536"
   pub coordinates : (n : ℕ) → n < length (D .xs) → cornerRange (getD (D .xs) n 0) (getD (D .ys) n 0) ≡ true
   pub corners : (n : ℕ) → CornersBelow (length (D .xs)) (lines D n)
+  -- document 02: "Its curve must rise or fall steadily in each axis"; document 02: "No axis spans over 4,096 units."
+  pub curves : (n : ℕ) → CurvesIn (D .xs) (D .ys) (lines D n)
   -- "Limits: 4,096 records, 64 areas, 2,048 corners, 8 open groups."
   pub few-records : weigh (λ n. suc (length (lines D n))) 1 (D .plan) ≤ 4096
   pub few-areas : weigh (λ n. 1) 0 (D .plan) ≤ 64

@@ -2,7 +2,7 @@
 use borrow.Author.Needs.{needs}
 use Prim.Native.Nat.{_≤_, _-_}
 use Rattle.read.specs.Words.{wordsOf}
-use Rattle.read.proofs.Loops.{Filling, fill-begin, fill-room, fill-turn, fill-done}
+use Rattle.read.proofs.Loops.{Filling, fill-good, fill-begin, fill-room, fill-turn, fill-done}
 use Rattle.read.proofs.fill.Statement.{statement}
 use Rattle.read.proofs.fill.Tie as tie
 
@@ -20,8 +20,8 @@ abbrev μ-loop : tie.MeasureT-loop
 loop-holds : tie.Need-loop-holds Inv-loop μ-loop
 loop-holds c = (search needs, search fill-begin, search fill-begin, search fill-begin, search fill-begin)
 
-read-record-requires : tie.Need-read-record-requires Inv-loop μ-loop
-read-record-requires c κs = search needs
+read-accepted-requires : tie.Need-read-accepted-requires Inv-loop μ-loop
+read-accepted-requires c κs = (search needs, search fill-good)
 
 put-decoded-requires : tie.Need-put-decoded-requires Inv-loop μ-loop
 put-decoded-requires c κs = search fill-room
@@ -47,17 +47,17 @@ loop-again c =
     let after-put-decoded3 = after-put-decoded4 .before .before .before .before in
     let after-put-decoded2 = after-put-decoded3 .before .before .before .before in
     let after-put-decoded = after-put-decoded2 .before .before .before .before in
-    let after-read-record = after-put-decoded .before .before in
-    let at-loop-test = after-read-record .before in
+    let after-read-accepted = after-put-decoded .before .before in
+    let at-loop-test = after-read-accepted .before in
     let at-loop = at-loop-test .before in (
       search needs,
-      fill-turn _ _ _ _ _ _ _ _ _ _ _ (at-loop-test .loop-test .taken) (after-read-record .read-record .ensures)
+      fill-turn _ _ _ _ _ _ _ _ _ _ _ (at-loop-test .loop-test .taken) (after-read-accepted .read-accepted .ensures)
           (after-put-decoded .put-decoded .ensures .0) (after-put-decoded .put-decoded .ensures .1) (at-loop .loop .inv .1),
-      fill-turn _ _ _ _ _ _ _ _ _ _ _ (at-loop-test .loop-test .taken) (after-read-record .read-record .ensures)
+      fill-turn _ _ _ _ _ _ _ _ _ _ _ (at-loop-test .loop-test .taken) (after-read-accepted .read-accepted .ensures)
           (after-put-decoded2 .put-decoded2 .ensures .0) (after-put-decoded2 .put-decoded2 .ensures .1) (at-loop .loop .inv .2),
-      fill-turn _ _ _ _ _ _ _ _ _ _ _ (at-loop-test .loop-test .taken) (after-read-record .read-record .ensures)
+      fill-turn _ _ _ _ _ _ _ _ _ _ _ (at-loop-test .loop-test .taken) (after-read-accepted .read-accepted .ensures)
           (after-put-decoded3 .put-decoded3 .ensures .0) (after-put-decoded3 .put-decoded3 .ensures .1) (at-loop .loop .inv .3),
-      fill-turn _ _ _ _ _ _ _ _ _ _ _ (at-loop-test .loop-test .taken) (after-read-record .read-record .ensures)
+      fill-turn _ _ _ _ _ _ _ _ _ _ _ (at-loop-test .loop-test .taken) (after-read-accepted .read-accepted .ensures)
           (after-put-decoded4 .put-decoded4 .ensures .0) (after-put-decoded4 .put-decoded4 .ensures .1) (at-loop .loop .inv .4),
     )
 
@@ -83,7 +83,7 @@ fill-spec =
     Inv-loop
     μ-loop
     loop-holds
-    read-record-requires
+    read-accepted-requires
     put-decoded-requires
     put-decoded-requires-2
     put-decoded-requires-3

@@ -1,6 +1,6 @@
 use native.Mathlib.Omega.{arith}
 use lib.ListN.{length-set}
-use Rattle.read.proofs.Files.{room-0, room-1, room-2, room-3, left-0, left-1, left-2, left-3}
+use Rattle.read.proofs.Files.{good-from, room-0, room-1, room-2, room-3, left-0, left-1, left-2, left-3}
 use borrow.Author.Needs.{needs}
 use Rattle.read.proofs.fill_all.Statement.{statement}
 use Rattle.read.proofs.fill_all.Tie as tie
@@ -15,8 +15,11 @@ fill-requires c κs =
     let p = at-entry .pre in (
       omega (arith, p .0 .whole),
       (
-        room-0 _ _ (p .0) _ (rw (after-put-header .put-header .ensures) (simp length-set (p .1 .0))),
-        (room-1 _ _ (p .0) _ (p .1 .1), (room-2 _ _ (p .0) _ (p .1 .2), room-3 _ _ (p .0) _ (p .1 .3))),
+        good-from _ _ (p .0),
+        (
+          room-0 _ _ (p .0) _ (rw (after-put-header .put-header .ensures) (simp length-set (p .1 .0))),
+          (room-1 _ _ (p .0) _ (p .1 .1), (room-2 _ _ (p .0) _ (p .1 .2), room-3 _ _ (p .0) _ (p .1 .3))),
+        ),
       ),
     )
 

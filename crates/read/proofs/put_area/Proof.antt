@@ -29,6 +29,9 @@ enum-told-4 c = search needs
 enum-told-5 : tie.Need-enum-told-5
 enum-told-5 c = search needs
 
+enum-told-6 : tie.Need-enum-told-6
+enum-told-6 c = search needs
+
 same-length : tie.Need-same-length
 same-length c = search needs
 
@@ -55,6 +58,9 @@ returns-5 c = (none-at _ _ (ap wordsOfArea (c .enum-told4 .given .1)), none-tabl
 returns-6 : tie.Need-returns-6
 returns-6 c = (none-at _ _ (ap wordsOfArea (c .enum-told5 .given .1)), none-table _ _ _ (ap wordsOfArea (c .enum-told5 .given .1)))
 
+returns-7 : tie.Need-returns-7
+returns-7 c = (none-at _ _ (ap wordsOfArea (c .enum-told6 .given .1)), none-table _ _ _ (ap wordsOfArea (c .enum-told6 .given .1)))
+
 pub put-area-spec : {M : Type 1} → statement M
 put-area-spec =
     tie.close
@@ -66,10 +72,12 @@ put-area-spec =
     enum-told-3
     enum-told-4
     enum-told-5
+    enum-told-6
     same-length
     returns
     returns-2
     returns-3
     returns-4
     returns-5
-    returns-6)
+    returns-6
+    returns-7)

@@ -35,6 +35,15 @@ enum-told-3 c = search needs
 enum-told-4 : tie.Need-enum-told-4
 enum-told-4 c = search needs
 
+enum-known-r-3 : tie.Need-enum-known-r-3
+enum-known-r-3 c = search needs
+
+put-word-requires-3 : tie.Need-put-word-requires-3
+put-word-requires-3 c κs =
+    let after-r3 = c .before .before in
+    let at-entry = after-r3 .before .before .before in
+    one-room _ _ _ _ (ap wordsOfY (after-r3 .r3 .given .1)) (at-entry .pre)
+
 returns : tie.Need-returns
 returns c = (none-at _ _ (ap wordsOfY (c .enum-told .given .1)), none-table _ _ _ (ap wordsOfY (c .enum-told .given .1)))
 
@@ -69,6 +78,17 @@ returns-5 c = (none-at _ _ (ap wordsOfY (c .enum-told3 .given .1)), none-table _
 returns-6 : tie.Need-returns-6
 returns-6 c = (none-at _ _ (ap wordsOfY (c .enum-told4 .given .1)), none-table _ _ _ (ap wordsOfY (c .enum-told4 .given .1)))
 
+same-length-3 : tie.Need-same-length-3
+same-length-3 c = search needs
+
+returns-7 : tie.Need-returns-7
+returns-7 c =
+    let after-put-word3 = c .before .before in
+    let after-r3 = after-put-word3 .before .before .before in (
+      one-at _ _ _ _ (ap wordsOfY (after-r3 .r3 .given .1)) (after-put-word3 .put-word3 .ensures .0),
+      one-table _ _ _ _ _ (ap wordsOfY (after-r3 .r3 .given .1)) (after-put-word3 .put-word3 .ensures .1),
+    )
+
 pub put-y-spec : {M : Type 1} → statement M
 put-y-spec =
     tie.close
@@ -81,6 +101,8 @@ put-y-spec =
     enum-told-2
     enum-told-3
     enum-told-4
+    enum-known-r-3
+    put-word-requires-3
     returns
     same-length
     returns-2
@@ -88,4 +110,6 @@ put-y-spec =
     returns-3
     returns-4
     returns-5
-    returns-6)
+    returns-6
+    same-length-3
+    returns-7)

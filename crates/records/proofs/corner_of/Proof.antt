@@ -11,5 +11,9 @@ returns-2 : tie.Need-returns-2
 unfolding cornerOf
 returns-2 c = search tests
 
+returns-3 : tie.Need-returns-3
+unfolding cornerOf
+returns-3 c = search tests
+
 pub corner-of-spec : {M : Type 1} → statement M
-corner-of-spec = tie.close (tie.spec returns returns-2)
+corner-of-spec = tie.close (tie.spec returns returns-2 returns-3)

@@ -30,6 +30,12 @@ enum-told-2 c = search needs
 enum-told-3 : tie.Need-enum-told-3
 enum-told-3 c = search needs
 
+enum-known-r-4 : tie.Need-enum-known-r-4
+enum-known-r-4 c = search needs
+
+corner-range-requires-3 : tie.Need-corner-range-requires-3
+corner-range-requires-3 c κs = search needs
+
 returns : tie.Need-returns
 returns c =
     let after-r = c .before .before in
@@ -46,13 +52,18 @@ returns-3 c =
     rw (after-r3 .r3 .given .1) (c .corner-range2 .ensures)
 
 returns-4 : tie.Need-returns-4
-returns-4 c = search (tests, c .before .match .keys4)
+returns-4 c = search tests
 
 returns-5 : tie.Need-returns-5
-returns-5 c = search (tests, c .before .match .keys5)
+returns-5 c = search tests
 
 returns-6 : tie.Need-returns-6
-returns-6 c = search (tests, c .before .match .keys6)
+returns-6 c = search tests
+
+returns-7 : tie.Need-returns-7
+returns-7 c =
+    let after-r4 = c .before .before in
+    rw (after-r4 .r4 .given .1) (c .corner-range3 .ensures)
 
 pub in-range-spec : {M : Type 1} → statement M
 in-range-spec =
@@ -67,9 +78,12 @@ in-range-spec =
     enum-told
     enum-told-2
     enum-told-3
+    enum-known-r-4
+    corner-range-requires-3
     returns
     returns-2
     returns-3
     returns-4
     returns-5
-    returns-6)
+    returns-6
+    returns-7)

@@ -38,6 +38,12 @@ enum-told-3 c = search needs
 raw-delimiter-requires-3 : tie.Need-raw-delimiter-requires-3
 raw-delimiter-requires-3 c κs = search needs
 
+enum-known-r-4 : tie.Need-enum-known-r-4
+enum-known-r-4 c = search needs
+
+raw-corner-requires-3 : tie.Need-raw-corner-requires-3
+raw-corner-requires-3 c κs = search needs
+
 returns : tie.Need-returns
 returns c =
     let after-r = c .before .before in
@@ -62,6 +68,11 @@ returns-5 c = rw (c .before .enum-told2 .given .1) (c .raw-delimiter2 .ensures)
 returns-6 : tie.Need-returns-6
 returns-6 c = rw (c .before .enum-told3 .given .1) (c .raw-delimiter3 .ensures)
 
+returns-7 : tie.Need-returns-7
+returns-7 c =
+    let after-r4 = c .before .before in
+    rw (after-r4 .r4 .given .1) (c .raw-corner3 .ensures)
+
 pub raw-of-spec : {M : Type 1} → statement M
 raw-of-spec =
     tie.close
@@ -78,9 +89,12 @@ raw-of-spec =
     raw-delimiter-requires-2
     enum-told-3
     raw-delimiter-requires-3
+    enum-known-r-4
+    raw-corner-requires-3
     returns
     returns-2
     returns-3
     returns-4
     returns-5
-    returns-6)
+    returns-6
+    returns-7)

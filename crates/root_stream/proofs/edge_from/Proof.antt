@@ -1,19 +1,21 @@
 use borrow.Author.Needs.{needs}
+use Rattle.laws.proofs.Tests.{tests}
 use Rattle.root_stream.proofs.edge_from.Statement.{statement}
 use Rattle.root_stream.proofs.edge_from.Tie as tie
-use mathlib.Core.Path.{ap}
-use Prim.Native.Nat.{ℕ}
-use Rattle.geometry.specs.Windings.{line}
-use Rattle.cells.specs.Segments.{drawn}
-use Rattle.evaluate.specs.Words.{segmentWords}
+use Rattle.root_stream.proofs.edge_from.Reads as reads
+use Rattle.root_stream.proofs.edge_from.Lts as lts
 
-edge-end-requires : tie.Need-edge-end-requires
-edge-end-requires c κs = search needs
+add-t5 : tie.Need-add-t5
+add-t5 c = search needs
 
 returns : tie.Need-returns
-returns c =
-    let at-entry = c .before .before in
-    ap (λ (q : ℕ). segmentWords (drawn (line (at-entry .args .corner) q))) (c .edge-end .ensures)
+returns c = search tests
+
+returns-2 : tie.Need-returns-2
+returns-2 c = search tests
+
+returns-3 : tie.Need-returns-3
+returns-3 c = search tests
 
 pub edge-from-spec : {M : Type 1} → statement M
-edge-from-spec = tie.close (tie.spec edge-end-requires returns)
+edge-from-spec = tie.close (tie.spec add-t5 returns returns-2 returns-3)

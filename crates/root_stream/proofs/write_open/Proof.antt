@@ -1,8 +1,8 @@
 use Rattle.root_stream.proofs.write_open.Statement.{statement}
 use Rattle.root_stream.proofs.write_open.Tie as tie
-use mathlib.Core.Path.{sym, ap, _∙_}
+use mathlib.Core.Path.{_≡_, sym, ap, ap₂, _∙_}
 use mathlib.Core.Logic.{⊎-elim}
-use Prim.Native.Nat.{_-_}
+use Prim.Native.Nat.{ℕ, _+_, _-_}
 use native.Mathlib.Omega.{arith}
 use lib.ListN.{length}
 use denote.Ref.{now}
@@ -14,6 +14,7 @@ use Rattle.stream.specs.Grammar.{env}
 use Rattle.making.specs.code.Numbers.{maker}
 use Rattle.making.proofs.Stays.{stays-pruned}
 use Rattle.writing.proofs.Stays.{segment-put, other-put}
+use Rattle.root_stream.specs.code.Numbers.{kindN, strideN, entryN, afterN}
 use Rattle.root_stream.specs.Opened.{drawingIn}
 use Rattle.root_stream.proofs.Base.{wordsIn, base, base-made}
 use Rattle.root_stream.proofs.Loop.{root-in, source-few, loop-left, loop-sign, loop-asks, end-inside}
@@ -52,21 +53,54 @@ loop-holds c =
     (c .source-begin .result) (maker (after-begun .begun .result) (after-rest .rest .result)) (c .source-begin .ensures)
     (after-begun .begun .ensures) (after-rest .rest .ensures)
 
-source-entry-requires : tie.Need-source-entry-requires Inv-loop μ-loop
-source-entry-requires c κs =
+kind-at-requires : tie.Need-kind-at-requires Inv-loop μ-loop
+kind-at-requires c κs =
     let at-loop = c .before in
     let at-entry = at-loop .before .before .before .before .before .before .before .before .before .before in
     let a = at-entry .args in
     let t = tables (now (a .plan)) (now (a .areas)) (now (a .xs)) (now (a .ys)) in
-    let B = base t (a .records) (a .b) (at-entry .pre .0) in (
-      B .long,
-      c .loop-test .taken,
-      source-few (t .plan) (a .records) (at-loop .loop .i) (at-loop .loop .c) (at-loop .loop .inv .ws) (at-loop .loop .inv .ahead) .1,
-    )
+    base t (a .records) (a .b) (at-entry .pre .0) .long
+
+add-kind-at : tie.Need-add-kind-at Inv-loop μ-loop
+add-kind-at c =
+    let at-loop-test = c .before in
+    let at-loop = at-loop-test .before in
+    let at-entry = at-loop .before .before .before .before .before .before .before .before .before .before in
+    let a = at-entry .args in
+    let t = tables (now (a .plan)) (now (a .areas)) (now (a .xs)) (now (a .ys)) in
+    let B = base t (a .records) (a .b) (at-entry .pre .0) in
+    record { fits = omega (arith, B .few, at-loop-test .loop-test .taken) }
+
+kind-at-requires-2 : tie.Need-kind-at-requires-2 Inv-loop μ-loop
+kind-at-requires-2 c κs =
+    let at-loop = c .before .before in
+    let at-entry = at-loop .before .before .before .before .before .before .before .before .before .before in
+    let a = at-entry .args in
+    let t = tables (now (a .plan)) (now (a .areas)) (now (a .xs)) (now (a .ys)) in
+    base t (a .records) (a .b) (at-entry .pre .0) .long
+
+source-entry-requires : tie.Need-source-entry-requires Inv-loop μ-loop
+source-entry-requires c κs =
+    let at-loop = c .before .before .before in
+    let at-entry = at-loop .before .before .before .before .before .before .before .before .before .before in
+    let a = at-entry .args in
+    let t = tables (now (a .plan)) (now (a .areas)) (now (a .xs)) (now (a .ys)) in
+    source-few (t .plan) (a .records) (at-loop .loop .i) (at-loop .loop .c) (at-loop .loop .inv .ws) (at-loop .loop .inv .ahead) .1
+
+-- the entry of record i
+entry : (c : tie.After-source-entry Inv-loop μ-loop) → let at-loop = c .before .before .before .before in
+    let a = at-loop .before .before .before .before .before .before .before .before .before .before .args in
+    c .source-entry .result
+    ≡ entryN (at-loop .loop .c) (kindN (now (a .plan)) (a .records) (at-loop .loop .i)) (kindN (now (a .plan)) (a .records) (at-loop .loop .i + 1))
+entry c =
+    let after-kind-at2 = c .before in
+    let after-kind-at = after-kind-at2 .before in
+    c .source-entry .ensures
+    ∙ ap₂ (entryN (after-kind-at .before .before .loop .c)) (after-kind-at .kind-at .ensures) (after-kind-at2 .kind-at2 .ensures)
 
 left-of-requires : tie.Need-left-of-requires Inv-loop μ-loop
 left-of-requires c κs =
-    let at-loop-test = c .before in
+    let at-loop-test = c .before .before .before in
     let at-loop = at-loop-test .before in
     let after-root-square = at-loop .before .before .before .before in
     let at-entry = after-root-square .before .before .before .before .before .before in
@@ -76,7 +110,7 @@ left-of-requires c κs =
     let B = base t (a .records) (a .b) (at-entry .pre .0) in (
       (B .ready .xs, B .ready .ys),
       (
-        rw (c .source-entry .ensures)
+        rw (entry c)
             (loop-left v (drawingIn t) (t .plan) (a .records) (wordsIn t) B (at-loop .loop .i) (at-loop .loop .c)
             (maker (at-loop .loop .p) (at-loop .loop .a))
             (looping v (drawingIn t) (t .plan) (a .records) (wordsIn t) B (a .made) (now (a .entries)) (at-entry .pre .1 .1)
@@ -93,7 +127,7 @@ prunes-requires c κs = search needs
 write-other-requires : tie.Need-write-other-requires Inv-loop μ-loop
 write-other-requires c κs =
     let after-source-entry = c .before .before .before .before in
-    let at-loop-test = after-source-entry .before in
+    let at-loop-test = after-source-entry .before .before .before in
     let at-loop = at-loop-test .before in
     let at-entry = at-loop .before .before .before .before .before .before .before .before .before .before in
     let m = maker (at-loop .loop .p) (at-loop .loop .a) in
@@ -107,14 +141,14 @@ write-other-requires c κs =
     (at-loop-test .loop-test .taken) in (
       room-now v (drawingIn t) (t .plan) (a .records) (wordsIn t) B (a .made) (now (a .entries)) (at-entry .pre .1 .1) (at-loop .loop .i)
           (at-loop .loop .c) m (at-loop .loop .entries) (at-loop .loop .inv),
-      rw (after-source-entry .source-entry .ensures) (h .inside, h .room),
+      rw (entry after-source-entry) (h .inside, h .room),
     )
 
 put-segment-requires : tie.Need-put-segment-requires Inv-loop μ-loop
 put-segment-requires c κs =
     let after-left-of = c .before .before .before in
     let after-source-entry = after-left-of .before in
-    let at-loop-test = after-source-entry .before in
+    let at-loop-test = after-source-entry .before .before .before in
     let at-loop = at-loop-test .before in
     let at-entry = at-loop .before .before .before .before .before .before .before .before .before .before in
     let m = maker (at-loop .loop .p) (at-loop .loop .a) in
@@ -124,7 +158,7 @@ put-segment-requires c κs =
     let B = base t (a .records) (a .b) (at-entry .pre .0) in (
       room-now v (drawingIn t) (t .plan) (a .records) (wordsIn t) B (a .made) (now (a .entries)) (at-entry .pre .1 .1) (at-loop .loop .i)
           (at-loop .loop .c) m (at-loop .loop .entries) (at-loop .loop .inv),
-      rw (after-left-of .left-of .ensures .0, after-source-entry .source-entry .ensures)
+      rw (after-left-of .left-of .ensures .0, entry after-source-entry)
           (loop-sign v (drawingIn t) (t .plan) (a .records) (wordsIn t) B (at-loop .loop .i) (at-loop .loop .c) m
           (looping v (drawingIn t) (t .plan) (a .records) (wordsIn t) B (a .made) (now (a .entries)) (at-entry .pre .1 .1)
           (at-loop .loop .i) (at-loop .loop .c) m (at-loop .loop .entries) (at-loop .loop .inv))
@@ -135,7 +169,7 @@ waiting-after-requires : tie.Need-waiting-after-requires Inv-loop μ-loop
 waiting-after-requires c κs =
     let after-left-of = c .before .before in
     let after-source-entry = after-left-of .before in
-    let at-loop-test = after-source-entry .before in
+    let at-loop-test = after-source-entry .before .before .before in
     let at-loop = at-loop-test .before in
     let at-entry = at-loop .before .before .before .before .before .before .before .before .before .before in
     let m = maker (at-loop .loop .p) (at-loop .loop .a) in
@@ -146,7 +180,7 @@ waiting-after-requires c κs =
     let held = looping v (drawingIn t) (t .plan) (a .records) (wordsIn t) B (a .made) (now (a .entries)) (at-entry .pre .1 .1)
     (at-loop .loop .i) (at-loop .loop .c) m (at-loop .loop .entries) (at-loop .loop .inv) in
     let h = loop-asks v (drawingIn t) (t .plan) (a .records) (wordsIn t) B (at-loop .loop .i) (at-loop .loop .c) m held (at-loop-test .loop-test .taken) in
-    rw (after-left-of .left-of .ensures .0, after-source-entry .source-entry .ensures) (
+    rw (after-left-of .left-of .ensures .0, entry after-source-entry) (
       (
         h .inside .small,
         loop-sign v (drawingIn t) (t .plan) (a .records) (wordsIn t) B (at-loop .loop .i) (at-loop .loop .c) m held
@@ -156,61 +190,43 @@ waiting-after-requires c κs =
       h .start,
     )
 
-add-source-after : tie.Need-add-source-after Inv-loop μ-loop
-add-source-after c =
-    let at-loop-test = c .before .before .before .before .before in
-    let at-entry = at-loop-test .before .before .before .before .before .before .before .before .before .before .before in
-    let a = at-entry .args in
-    let t = tables (now (a .plan)) (now (a .areas)) (now (a .xs)) (now (a .ys)) in
-    let B = base t (a .records) (a .b) (at-entry .pre .0) in
-    record { fits = omega (arith, B .few, at-loop-test .loop-test .taken) }
-
-mul-source-after : tie.Need-mul-source-after Inv-loop μ-loop
-mul-source-after c =
-    let at-loop-test = c .before .before .before .before .before in
-    let at-entry = at-loop-test .before .before .before .before .before .before .before .before .before .before .before in
-    let a = at-entry .args in
-    let t = tables (now (a .plan)) (now (a .areas)) (now (a .xs)) (now (a .ys)) in
-    let B = base t (a .records) (a .b) (at-entry .pre .0) in
-    record { fits = omega (arith, B .few, at-loop-test .loop-test .taken) }
-
-shared-slice-read-source-after : tie.Need-shared-slice-read-source-after Inv-loop μ-loop
-shared-slice-read-source-after c =
-    let at-loop-test = c .before .before .before .before .before .before in
-    let at-entry = at-loop-test .before .before .before .before .before .before .before .before .before .before .before in
-    let a = at-entry .args in
-    let t = tables (now (a .plan)) (now (a .areas)) (now (a .xs)) (now (a .ys)) in
-    let B = base t (a .records) (a .b) (at-entry .pre .0) in
-    omega (arith, B .long, at-loop-test .loop-test .taken)
-
 source-after-requires : tie.Need-source-after-requires Inv-loop μ-loop
 source-after-requires c κs =
-    let at-loop = c .before .before .before .before .before .before .before in
+    let at-loop = c .before .before .before .before .before .before .before .before in
     let at-entry = at-loop .before .before .before .before .before .before .before .before .before .before in
     let a = at-entry .args in
     let t = tables (now (a .plan)) (now (a .areas)) (now (a .xs)) (now (a .ys)) in
     source-few (t .plan) (a .records) (at-loop .loop .i) (at-loop .loop .c) (at-loop .loop .inv .ws) (at-loop .loop .inv .ahead)
 
+stride-requires : tie.Need-stride-requires Inv-loop μ-loop
+stride-requires c κs = search needs
+
+cast-i : tie.Need-cast-i Inv-loop μ-loop
+cast-i c = search needs
+
 add-i : tie.Need-add-i Inv-loop μ-loop
 add-i c =
-    let at-loop-test = c .before .before .before .before .before .before .before in
+    let at-loop-test = c .before .before .before .before .before .before .before .before .before in
     let at-entry = at-loop-test .before .before .before .before .before .before .before .before .before .before .before in
     let a = at-entry .args in
     let t = tables (now (a .plan)) (now (a .areas)) (now (a .xs)) (now (a .ys)) in
     let B = base t (a .records) (a .b) (at-entry .pre .0) in
-    record { fits = omega (arith, B .few, at-loop-test .loop-test .taken) }
+    record { fits = omega (arith, B .few, at-loop-test .loop-test .taken, c .stride .ensures .1) }
 
 loop-less : tie.Need-loop-less Inv-loop μ-loop
 loop-less c = search needs
 
 loop-again : tie.Need-loop-again Inv-loop μ-loop
 loop-again c =
-    let after-waiting-after = c .before .before in
+    let after-source-after = c .before in
+    let after-waiting-after = after-source-after .before in
     let at-if1 = after-waiting-after .before in
     let after-prunes = at-if1 .before in
     let after-left-of = after-prunes .before in
     let after-source-entry = after-left-of .before in
-    let at-loop-test = after-source-entry .before in
+    let after-kind-at2 = after-source-entry .before in
+    let after-kind-at = after-kind-at2 .before in
+    let at-loop-test = after-kind-at .before in
     let at-loop = at-loop-test .before in
     let after-root-square = at-loop .before .before .before .before in
     let at-entry = after-root-square .before .before .before .before .before .before in
@@ -226,20 +242,22 @@ loop-again c =
     (at-loop .loop .c) m (at-loop .loop .entries) (at-loop .loop .inv) (at-loop-test .loop-test .taken)
     (maker (w .2 .result) (after-waiting-after .waiting-after .result)) (after-source-entry .source-entry .result)
     (after-root-square .root-square .result) (after-left-of .left-of .result .class) (after-left-of .left-of .result .sign)
-    (c .source-after .result) _ (after-source-entry .source-entry .ensures) (after-source-entry .source-entry .ok .1 .1 .1 .1 .0 .1)
+    (after-source-after .source-after .result) _ _ (entry after-source-entry) (after-source-entry .source-entry .ok .1 .1 .1 .1 .0 .1)
     (after-root-square .root-square .ensures) (after-left-of .left-of .ensures .1) (after-left-of .left-of .ensures .0) (w .2 .ensures .0)
     (after-waiting-after .waiting-after .ensures)
     (w .2 .ensures .1
     ∙ other-put (a .made) (now (a .areas)) _ m (after-left-of .left-of .result .class) (after-left-of .left-of .result .sign)
     (after-source-entry .source-entry .result) _ (sym (w .0 .taken) ∙ after-prunes .prunes .ensures))
-    (c .source-after .ensures)))
+    (after-source-after .source-after .ensures
+    ∙ ap₂ (afterN (at-loop .loop .c)) (after-kind-at .kind-at .ensures) (after-kind-at2 .kind-at2 .ensures))
+    (ap (λ (n : ℕ). at-loop .loop .i + n) (c .stride .ensures .0 ∙ ap strideN (after-kind-at2 .kind-at2 .ensures)))))
     (λ w.
     rw (w .5, w .6)
     (fill-turn v (drawingIn t) (t .plan) (a .records) (wordsIn t) B (a .made) (now (a .entries)) (at-entry .pre .1 .1) (at-loop .loop .i)
     (at-loop .loop .c) m (at-loop .loop .entries) (at-loop .loop .inv) (at-loop-test .loop-test .taken)
     (maker (at-loop .loop .p) (after-waiting-after .waiting-after .result)) (after-source-entry .source-entry .result)
     (after-root-square .root-square .result) (after-left-of .left-of .result .class) (after-left-of .left-of .result .sign)
-    (c .source-after .result) _ (after-source-entry .source-entry .ensures) (after-source-entry .source-entry .ok .1 .1 .1 .1 .0 .1)
+    (after-source-after .source-after .result) _ _ (entry after-source-entry) (after-source-entry .source-entry .ok .1 .1 .1 .1 .0 .1)
     (after-root-square .root-square .ensures) (after-left-of .left-of .ensures .1) (after-left-of .left-of .ensures .0)
     (stays-pruned (now (a .areas)) (counted (at-loop .loop .p)) (at-loop .loop .a) (after-source-entry .source-entry .result .kind)
     (sym (w .0 .left) ∙ after-prunes .prunes .ensures))
@@ -247,7 +265,9 @@ loop-again c =
     (w .2 .ensures
     ∙ segment-put (a .made) (now (a .areas)) _ m (after-left-of .left-of .result .class) (after-left-of .left-of .result .sign)
     (after-source-entry .source-entry .result) _ (sym (w .0 .left) ∙ after-prunes .prunes .ensures))
-    (c .source-after .ensures)))
+    (after-source-after .source-after .ensures
+    ∙ ap₂ (afterN (at-loop .loop .c)) (after-kind-at .kind-at .ensures) (after-kind-at2 .kind-at2 .ensures))
+    (ap (λ (n : ℕ). at-loop .loop .i + n) (c .stride .ensures .0 ∙ ap strideN (after-kind-at2 .kind-at2 .ensures)))))
     (at-if1 .if1 .came)
 
 put-settled-requires : tie.Need-put-settled-requires Inv-loop μ-loop
@@ -298,16 +318,18 @@ write-open-spec =
     rest-requires
     source-begin-requires
     loop-holds
+    kind-at-requires
+    add-kind-at
+    kind-at-requires-2
     source-entry-requires
     left-of-requires
     prunes-requires
     write-other-requires
     put-segment-requires
     waiting-after-requires
-    add-source-after
-    mul-source-after
-    shared-slice-read-source-after
     source-after-requires
+    stride-requires
+    cast-i
     add-i
     loop-less
     loop-again

@@ -6,7 +6,7 @@ use mathlib.Core.List.{List, [], _∷_}
 use Prim.Native.Nat.{ℕ, zero, suc, _+_}
 use lib.Dec.{eqb, ltb}
 use lib.ListN.{getD}
-use Rattle.geometry.specs.Windings.{line}
+use Rattle.geometry.specs.Windings.{Line, line, curve}
 use Rattle.grammar.specs.declared.Counts.{Counts}
 use Rattle.drawing.specs.Tables.{Tables, drawnIn}
 use Rattle.drawing.specs.code.Held.{Acceptable, Holding}
@@ -21,36 +21,47 @@ use Rattle.root_stream.specs.declared.Source.{Source}
 abbrev pub sourceAt : (area corner first : ℕ) → Source
 sourceAt a c f = record { area = a; corner = c; first = f }
 
--- "corner to next corner, the closing edge last of its contour": where the edge from the corner of record i ends
-abbrev pub endN : List ℕ → (i records corner first : ℕ) → ℕ
-endN plan i records c f = cond (ltb (i + 1) records) (cond (eqb (getD plan (i + 4) 0) 3) (c + 1) f) f
+-- the kind of record i, or 0 where there is none
+abbrev pub kindN : List ℕ → (records i : ℕ) → ℕ
+kindN plan records i = cond (ltb i records) (getD plan (i + 3) 0) 0
 
-abbrev pub edgeN : List ℕ → (i records corner first : ℕ) → Words
-edgeN plan i records c f = segmentWords (drawn (line c (endN plan i records c f)))
+-- how many records and corners an edge takes up to where it ends, with a record of kind b straight behind its first corner
+abbrev pub strideN : (b : ℕ) → ℕ
+strideN b = cond (eqb b 7) 2 1
+
+-- "corner to next corner, the closing edge last of its contour"; document 02: "Record kind 7 is a control corner": the line or curve from corner c,
+-- with a record of kind b straight behind it
+abbrev pub lineN : (b corner first : ℕ) → Line
+lineN b c f = cond (eqb b 3) (line c (c + 1)) (cond (eqb b 7) (curve c) (line c f))
+
+abbrev pub edgeN : (b corner first : ℕ) → Words
+edgeN b c f = segmentWords (drawn (lineN b c f))
 
 -- `(`, `|` and `)`
 abbrev pub markN : ℕ → Words
 markN k = cond (eqb k 4) (words 1 0 0 0) (cond (eqb k 5) (words 2 0 0 0) (words 3 0 0 0))
 
--- record i, of kind k
-abbrev pub kindN : List ℕ → (i records : ℕ) → Source → ℕ → Words
-kindN plan i records s k =
+-- a record of kind k, with one of kind b straight behind it
+abbrev pub entryN : Source → (k b : ℕ) → Words
+entryN s k b =
     cond (eqb k 1) (words 4 (s .area) 0 0)
-    (cond (eqb k 2) (edgeN plan i records (s .corner) (s .corner)) (cond (eqb k 3) (edgeN plan i records (s .corner) (s .first)) (markN k)))
+    (cond (eqb k 2) (edgeN b (s .corner) (s .corner)) (cond (eqb k 3) (edgeN b (s .corner) (s .first)) (markN k)))
 
-abbrev pub entryN : List ℕ → (i records : ℕ) → Source → Words
-entryN plan i records s = kindN plan i records s (getD plan (i + 3) 0)
-
--- behind a record of kind k
-abbrev pub afterN : Source → ℕ → Source
-afterN s k =
+-- behind that entry
+abbrev pub afterN : Source → (k b : ℕ) → Source
+afterN s k b =
     cond (eqb k 1) (sourceAt (s .area + 1) (s .corner) (s .first))
-    (cond (eqb k 2) (sourceAt (s .area) (s .corner + 1) (s .corner)) (cond (eqb k 3) (sourceAt (s .area) (s .corner + 1) (s .first)) s))
+    (cond (eqb k 2) (sourceAt (s .area) (s .corner + strideN b) (s .corner))
+    (cond (eqb k 3) (sourceAt (s .area) (s .corner + strideN b) (s .first)) s))
 
--- the entries of the n records from record i on
-abbrev pub entriesN : List ℕ → (i records : ℕ) → Source → (n : ℕ) → List Words
-entriesN plan i records s zero = []
-entriesN plan i records s (suc n) = entryN plan i records s ∷ entriesN plan (i + 1) records (afterN s (getD plan (i + 3) 0)) n
+-- the entries of the records from record i on, at most n of them
+abbrev pub entriesN : List ℕ → (records i : ℕ) → Source → (n : ℕ) → List Words
+entriesN plan records i s zero = []
+entriesN plan records i s (suc n) =
+    cond (ltb i records)
+    (entryN s (kindN plan records i) (kindN plan records (i + 1))
+    ∷ entriesN plan records (i + strideN (kindN plan records (i + 1))) (afterN s (kindN plan records i) (kindN plan records (i + 1))) n)
+    []
 
 -- ---- what is asked of the lent tables
 

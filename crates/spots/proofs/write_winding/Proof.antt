@@ -1,6 +1,6 @@
 use mathlib.Core.Path.{refl}
 use borrow.Author.Tests.{le-leb}
-use Rattle.geometry.specs.code.Reach.{reach}
+use Rattle.curves.specs.code.Reach.{reach}
 use Rattle.spots.proofs.Tables.{corners-in}
 use borrow.Author.Needs.{needs}
 use Rattle.spots.proofs.write_winding.Statement.{statement}

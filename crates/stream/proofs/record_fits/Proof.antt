@@ -20,6 +20,9 @@ enum-told-4 c = search needs
 enum-told-5 : tie.Need-enum-told-5
 enum-told-5 c = search needs
 
+enum-told-6 : tie.Need-enum-told-6
+enum-told-6 c = search needs
+
 returns : tie.Need-returns
 returns c =
     let at-if1 = c .before in
@@ -47,6 +50,9 @@ returns-6 c = rw (c .enum-told4 .given .1)
 returns-7 : tie.Need-returns-7
 returns-7 c = rw (c .enum-told5 .given .1)
 
+returns-8 : tie.Need-returns-8
+returns-8 c = rw (c .enum-told6 .given .1)
+
 pub record-fits-spec : {M : Type 1} → statement M
 record-fits-spec =
     tie.close
@@ -57,10 +63,12 @@ record-fits-spec =
     enum-told-3
     enum-told-4
     enum-told-5
+    enum-told-6
     returns
     returns-2
     returns-3
     returns-4
     returns-5
     returns-6
-    returns-7)
+    returns-7
+    returns-8)

@@ -3,6 +3,7 @@ use Prim.Native.Nat.{_+_, _-_}
 use native.Mathlib.Omega.{arith}
 use denote.Ref.{now}
 use borrow.Author.Needs.{needs}
+use Rattle.laws.proofs.Booleans.{clash}
 use Rattle.stream.specs.Grammar.{env}
 use Rattle.stream.proofs.Runs.{fits-few, one-onward, run-onward}
 use Rattle.stream.proofs.scan_next.Statement.{statement}
@@ -15,7 +16,9 @@ read-entry-requires c κs =
     omega (arith, p .0 .0, p .0 .2)
 
 step-requires : tie.Need-step-requires
-step-requires c κs = search needs
+step-requires c κs =
+    let at-entry = c .before .before .before .before .before in
+    at-entry .pre .1 .0 .areas
 
 add-t14 : tie.Need-add-t14
 add-t14 c = search needs
@@ -28,7 +31,7 @@ returns c =
     let a = at-entry .args in
     let w = after-read-entry .read-entry in
     one-onward (env (now (a .areas)) (now (a .xs)) (now (a .ys)) (a .b)) (now (a .entries)) (a .i) (a .end) (a .s) (w .result) (w .ensures)
-    (at-entry .pre .0 .0) _ (after-step .step .ensures) refl
+    (at-entry .pre .0 .0) (at-entry .pre .1 .1) _ (after-step .step .ensures) refl (λ _ some _. absurd (some (c .if1 .taken)))
 
 add-scan-run : tie.Need-add-scan-run
 add-scan-run c = search needs
@@ -42,7 +45,7 @@ scan-run-requires c κs =
     let at-entry = after-step .before .before .before .before .before .before in
     let p = at-entry .pre in (
       (omega (arith, p .0 .0), omega (arith, p .0 .1), p .0 .2),
-      ((p .1 .xs, p .1 .ys), omega (arith, after-step .step .ok .1 .1 .1 .1 .1 .0 .1)),
+      ((p .1 .0 .xs, p .1 .0 .ys), omega (arith, after-step .step .ok .1 .1 .1 .1 .1 .0 .1)),
     )
 
 after-run-requires : tie.Need-after-run-requires
@@ -73,8 +76,8 @@ returns-2 c =
     let n = after-step .step in
     let r = after-scan-run .scan-run in
     run-onward (env (now (a .areas)) (now (a .xs)) (now (a .ys)) (a .b)) (now (a .entries)) (a .i) (a .end) (a .s) (w .result) (w .ensures)
-    (at-entry .pre .0 .0) (n .result) (n .ensures) (at-if1 .if1 .left) (at-if2 .if2 .taken) _ (r .result .fits) (r .result .lines)
-    (r .ensures .0) (r .ensures .1 .0) (c .after-run .ensures) (r .ensures .1 .1)
+    (at-entry .pre .0 .0) (at-entry .pre .1 .1) (n .result) (n .ensures) (at-if1 .if1 .left) (at-if2 .if2 .taken) _ (r .result .fits) (r .result .lines)
+    (r .ensures .0) (r .ensures .1 .0) (c .after-run .ensures) (r .ensures .1 .1 .0) (r .ensures .1 .1 .1)
 
 add-t17 : tie.Need-add-t17
 add-t17 c = search needs
@@ -87,7 +90,7 @@ returns-3 c =
     let a = at-entry .args in
     let w = after-read-entry .read-entry in
     one-onward (env (now (a .areas)) (now (a .xs)) (now (a .ys)) (a .b)) (now (a .entries)) (a .i) (a .end) (a .s) (w .result) (w .ensures)
-    (at-entry .pre .0 .0) _ (after-step .step .ensures) refl
+    (at-entry .pre .0 .0) (at-entry .pre .1 .1) _ (after-step .step .ensures) refl (λ _ _ h. clash (sym (c .if2 .left) ∙ h))
 
 pub scan-next-spec : {M : Type 1} → statement M
 scan-next-spec =

@@ -6,7 +6,9 @@ use native.Mathlib.Omega.{arith}
 use lib.Dec.{ltb}
 use denote.Ref.{now}
 use borrow.Author.Needs.{needs}
+use Rattle.stream.specs.declared.Words.{Words}
 use Rattle.stream.specs.Table.{wordsFrom}
+use Rattle.stream.specs.Entry.{isSegment}
 use Rattle.stream.specs.code.Machine.{segmentsIn, runFits}
 use Rattle.laws.proofs.Booleans.{and-assoc, and-true}
 use Rattle.stream.proofs.Runs.{count-more, count-stop, count-last, fits-more, fits-stop, fits-last}
@@ -103,7 +105,10 @@ returns c =
           ∙ l .inv .3),
       (
         omega (arith, l .inv .0, l .inv .2, l .inv .4, count-stop (now (a .entries)) (l .i) (a .end) (w .result) (w .ensures) t s),
-        omega (arith, l .inv .4, count-stop (now (a .entries)) (l .i) (a .end) (w .result) (w .ensures) t s),
+        (
+          omega (arith, l .inv .4, count-stop (now (a .entries)) (l .i) (a .end) (w .result) (w .ensures) t s),
+          λ _. ap (λ (u : Words). isSegment (u .kind)) (sym (w .ensures)) ∙ s,
+        ),
       ),
     )
 
@@ -118,7 +123,7 @@ returns-2 c =
           ∙ (ap (λ r. l .fits && r)
           (sym (fits-last (now (a .xs)) (now (a .ys)) (a .b) (now (a .entries)) (l .i) (a .end) (l .n) (c .loop-test .left)))
           ∙ l .inv .3),
-      (omega (arith, l .inv .0, l .inv .2, l .inv .4, k), omega (arith, l .inv .4, k)),
+      (omega (arith, l .inv .0, l .inv .2, l .inv .4, k), (omega (arith, l .inv .4, k), λ p. absurd (omega (arith, p, c .loop-test .left)))),
     )
 
 pub scan-run-spec : {M : Type 1} → statement M

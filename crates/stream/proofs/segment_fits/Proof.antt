@@ -6,13 +6,13 @@ use Rattle.stream.proofs.segment_fits.Tie as tie
 is-line-requires : tie.Need-is-line-requires
 is-line-requires c κs = search needs
 
-line-range-requires : tie.Need-line-range-requires
-line-range-requires c κs = search needs
+line-fits-requires : tie.Need-line-fits-requires
+line-fits-requires c κs = search needs
 
 returns : tie.Need-returns
 returns c =
     let at-if1 = c .before in
-    rw (sym (at-if1 .before .is-line .ensures) ∙ at-if1 .if1 .taken) (c .line-range .ensures)
+    rw (sym (at-if1 .before .is-line .ensures) ∙ at-if1 .if1 .taken) (c .line-fits .ensures)
 
 shortcut-range-requires : tie.Need-shortcut-range-requires
 shortcut-range-requires c κs = search needs
@@ -23,4 +23,4 @@ returns-2 c =
     rw (sym (at-if1 .before .is-line .ensures) ∙ at-if1 .if1 .left) (c .shortcut-range .ensures)
 
 pub segment-fits-spec : {M : Type 1} → statement M
-segment-fits-spec = tie.close (tie.spec is-line-requires line-range-requires returns shortcut-range-requires returns-2)
+segment-fits-spec = tie.close (tie.spec is-line-requires line-fits-requires returns shortcut-range-requires returns-2)

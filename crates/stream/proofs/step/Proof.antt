@@ -1,8 +1,6 @@
 use Rattle.laws.proofs.Tests.{tests}
 use borrow.Author.Tests.{eq-eqb, ne-eqb}
 use borrow.Author.Needs.{needs}
-use mathlib.Core.Path.{refl, sym, _∙_}
-use Rattle.stream.proofs.Entries.{segment-ne}
 use Rattle.stream.proofs.step.Statement.{statement}
 use Rattle.stream.proofs.step.Tie as tie
 
@@ -27,75 +25,42 @@ with-area-requires c κs = search needs
 after-passes-requires : tie.Need-after-passes-requires
 after-passes-requires c κs = search needs
 
-is-segment-requires : tie.Need-is-segment-requires
-is-segment-requires c κs = search needs
-
-segment-fits-requires : tie.Need-segment-fits-requires
-segment-fits-requires c κs =
-    let at-entry = c .before .before .before .before .before .before .before .before in
-    (at-entry .pre .xs, at-entry .pre .ys)
-
-with-line-requires : tie.Need-with-line-requires
-with-line-requires c κs = search needs
+off-requires : tie.Need-off-requires
+off-requires c κs = search needs
 
 returns-2 : tie.Need-returns-2
 returns-2 c =
-    let after-segment-fits = c .before in
-    let at-if2 = after-segment-fits .before in
-    let after-is-segment = at-if2 .before in
-    let at-if1 = after-is-segment .before .before in
-    let s = sym (after-is-segment .is-segment .ensures) ∙ at-if2 .if2 .taken in
-    rw (
-      ne-eqb _ _ (at-if1 .if1 .left),
-      segment-ne _ 1 s refl,
-      segment-ne _ 2 s refl,
-      segment-ne _ 3 s refl,
-      segment-ne _ 4 s refl,
-      s,
-      c .with-line .ensures,
-      after-segment-fits .segment-fits .ensures,
-    )
-
-off-requires : tie.Need-off-requires
-off-requires c κs = search needs
+    let at-match = c .before in
+    let at-if1 = at-match .before in
+    rw (ne-eqb _ _ (at-if1 .if1 .left), at-match .match .keys1, c .after-open .ensures)
 
 returns-3 : tie.Need-returns-3
 returns-3 c =
     let at-match = c .before in
     let at-if1 = at-match .before in
-    rw (ne-eqb _ _ (at-if1 .if1 .left), at-match .match .keys1, c .after-open .ensures)
+    rw (ne-eqb _ _ (at-if1 .if1 .left), at-match .match .keys2, c .after-bar .ensures)
 
 returns-4 : tie.Need-returns-4
 returns-4 c =
     let at-match = c .before in
     let at-if1 = at-match .before in
-    rw (ne-eqb _ _ (at-if1 .if1 .left), at-match .match .keys2, c .after-bar .ensures)
+    rw (ne-eqb _ _ (at-if1 .if1 .left), at-match .match .keys3, c .after-close .ensures)
 
 returns-5 : tie.Need-returns-5
 returns-5 c =
-    let at-match = c .before in
-    let at-if1 = at-match .before in
-    rw (ne-eqb _ _ (at-if1 .if1 .left), at-match .match .keys3, c .after-close .ensures)
-
-returns-6 : tie.Need-returns-6
-returns-6 c =
     let after-area-fits = c .before in
     let at-match = after-area-fits .before in
     let at-if1 = at-match .before in
     rw (ne-eqb _ _ (at-if1 .if1 .left), at-match .match .keys4, c .with-area .ensures, after-area-fits .area-fits .ensures)
 
-returns-7 : tie.Need-returns-7
-returns-7 c =
+returns-6 : tie.Need-returns-6
+returns-6 c =
     let at-match = c .before in
     let at-if1 = at-match .before in
     rw (ne-eqb _ _ (at-if1 .if1 .left), at-match .match .keys5, c .after-passes .ensures)
 
-returns-8 : tie.Need-returns-8
-returns-8 c =
-    let at-if2 = c .before in
-    let after-is-segment = at-if2 .before in
-    let at-match = after-is-segment .before in
-    rw (sym (after-is-segment .is-segment .ensures) ∙ at-if2 .if2 .left) (search (tests, at-match .match .rest))
+returns-7 : tie.Need-returns-7
+returns-7 c = rw (c .off .ensures) (search tests)
 
 pub step-spec : {M : Type 1} → statement M
 step-spec =
@@ -108,14 +73,10 @@ step-spec =
     area-fits-requires
     with-area-requires
     after-passes-requires
-    is-segment-requires
-    segment-fits-requires
-    with-line-requires
-    returns-2
     off-requires
+    returns-2
     returns-3
     returns-4
     returns-5
     returns-6
-    returns-7
-    returns-8)
+    returns-7)

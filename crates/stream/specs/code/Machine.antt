@@ -10,9 +10,9 @@ use Rattle.stream.specs.declared.Words.{Words}
 use Rattle.stream.specs.declared.Bounds.{Bounds}
 use Rattle.stream.specs.declared.Scan.{Scan}
 use Rattle.stream.specs.declared.Scanned.{Scanned}
-use Rattle.stream.specs.Table.{wordsFrom}
-use Rattle.stream.specs.Entry.{isLine, isSegment, startRange}
-use Rattle.stream.specs.Grammar.{Env, lineRange, shortcutRange, roleFits}
+use Rattle.stream.specs.Table.{wordsAt, wordsFrom}
+use Rattle.stream.specs.Entry.{isCurve, isLine, isSegment, startRange}
+use Rattle.stream.specs.Grammar.{Env, lineRange, curveRange, shortcutRange, roleFits}
 
 abbrev pub mk : ℕ → Bool → ℕ → ℕ → Scan
 mk n h a l = record { stack = n; held = h; areas = a; lines = l }
@@ -47,11 +47,14 @@ withAreaN s ok = cond ok (cond (ltb (s .areas) 64) (mk (s .stack) true (s .areas
 abbrev pub areaFitsN : List ℕ → ℕ → ℕ → Words → Bool
 areaFitsN areas used stack w = roleFits (areaRow areas used (w .p)) (paintN stack) && startRange (w .q)
 
--- the numbers of a line or a shortcut are in range
-abbrev pub segmentFits : (xs ys : List ℕ) → Bounds → Words → Bool
-segmentFits xs ys b w = cond (isLine (w .kind)) (lineRange xs ys (b .corners) (w .p) (w .q)) (shortcutRange (b .low) (b .side) (w .p) (w .q) (w .r))
+-- the numbers of a line or a curve are in range; and of a shortcut too
+abbrev pub lineFits : (xs ys : List ℕ) → (corners : ℕ) → Words → Bool
+lineFits xs ys corners w = cond (isCurve (w .kind)) (curveRange xs ys corners (w .p)) (lineRange xs ys corners (w .p) (w .q))
 
--- a line or a shortcut whose numbers are in range
+abbrev pub segmentFits : (xs ys : List ℕ) → Bounds → Words → Bool
+segmentFits xs ys b w = cond (isLine (w .kind)) (lineFits xs ys (b .corners) w) (shortcutRange (b .low) (b .side) (w .p) (w .q) (w .r))
+
+-- a line, a curve or a shortcut whose numbers are in range
 abbrev pub withLineN : Scan → Bool → Scan
 withLineN s ok = cond ok (cond (s .held) (cond (ltb (s .lines) 2048) (mk (s .stack) true (s .areas) (s .lines + 1)) offN) offN) offN
 
@@ -65,11 +68,21 @@ stepN v s w =
     (cond (isSegment (w .kind)) (withLineN s (segmentFits (v .xs) (v .ys) (v .used) w))
     (cond (eqb (w .kind) 7) (afterPassesN s) offN))))))
 
+-- the same where a line, a curve or a shortcut does not fit
+abbrev pub otherN : (areas : List ℕ) → (used : ℕ) → Scan → Words → Scan
+otherN areas used s w =
+    cond (eqb (s .stack) 0) s
+    (cond (eqb (w .kind) 1) (afterOpenN s)
+    (cond (eqb (w .kind) 2) (afterBarN s)
+    (cond (eqb (w .kind) 3) (afterCloseN s)
+    (cond (eqb (w .kind) 4) (withAreaN s (areaFitsN areas used (s .stack) w))
+    (cond (eqb (w .kind) 7) (afterPassesN s) offN)))))
+
 unfoldable pub scanN : Env → Scan → List Words → Scan
 scanN v s [] = s
 scanN v s (w ∷ ws) = scanN v (stepN v s w) ws
 
--- ---- lines and shortcuts in a row
+-- ---- lines, curves and shortcuts in a row
 
 -- how many stand in front
 unfoldable pub segmentsIn : List Words → ℕ
@@ -84,8 +97,13 @@ runFits xs ys b l (w ∷ ws) = cond (isSegment (w .kind)) ((segmentFits xs ys b 
 abbrev pub afterRunN : Scan → Bool → ℕ → Scan
 afterRunN s fits lines = cond fits (mk (s .stack) true (s .areas) lines) offN
 
--- from entry i the scan s has come to another entry: what is left gives the same
+-- no line, curve or shortcut of entry i fits: none stands straight behind what holds it
+abbrev pub Apart : List ℕ → (i end : ℕ) → Scan → Type 0
+Apart t i end s = i < end → (s .stack ≡ 0 → ⊥) → s .held ≡ true → isSegment (wordsAt t i .kind) ≡ false
+
+-- from entry i the scan s has come to another entry, behind a whole run: what is left gives the same
 pub record Onward (v : Env) (t : List ℕ) (i end : ℕ) (s : Scan) (r : Scanned) : Type 0 where
   pub later : i < r .next
   pub inside : r .next ≤ end
+  pub apart : Apart t (r .next) end (r .scan)
   pub same : scanN v (r .scan) (wordsFrom t (r .next) (end - r .next)) ≡ scanN v s (wordsFrom t i (end - i))

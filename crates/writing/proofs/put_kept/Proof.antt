@@ -18,6 +18,9 @@ put-below-requires c κs = search needs
 enum-told : tie.Need-enum-told
 enum-told c = search needs
 
+line-words-requires : tie.Need-line-words-requires
+line-words-requires c κs = search needs
+
 put-below-requires-2 : tie.Need-put-below-requires-2
 put-below-requires-2 c κs = search needs
 
@@ -46,8 +49,9 @@ same-length-2 c = search needs
 returns-2 : tie.Need-returns-2
 returns-2 c =
     let after-put-below2 = c .before .before in
-    let after-enum-told = after-put-below2 .before .before in
-    rw (after-enum-told .enum-told .given .1) (after-put-below2 .put-below2 .ensures)
+    let after-line-words = after-put-below2 .before .before in
+    let after-enum-told = after-line-words .before in
+    rw (after-enum-told .enum-told .given .1, ← after-line-words .line-words .ensures) (after-put-below2 .put-below2 .ensures)
 
 returns-3 : tie.Need-returns-3
 returns-3 c = search needs
@@ -63,6 +67,7 @@ put-kept-spec =
     word-of-requires
     put-below-requires
     enum-told
+    line-words-requires
     put-below-requires-2
     enum-told-2
     enum-told-3

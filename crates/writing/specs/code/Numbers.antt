@@ -29,7 +29,7 @@ putBelow limit t at w = cond (ltb at limit) (putAt t at w) t
 abbrev pub placeOf : ℕ → ℕ
 placeOf n = n % 65536
 
--- ---- a line or a shortcut of which this is left
+-- ---- a line, a curve or a shortcut of which this is left
 
 abbrev pub keptPut : Class → (limit : ℕ) → List ℕ → (at : ℕ) → ℤ → Words → List ℕ
 keptPut Dropped limit t at z w = t

@@ -3,7 +3,7 @@ use mathlib.Core.Path.{sym, _∙_}
 use native.Mathlib.Omega.{arith}
 use Rattle.geometry.specs.Edges.{counts, firstRow, endRow}
 use Rattle.geometry.specs.Classes.{edgeClass}
-use Rattle.geometry.proofs.Lines.{edge-segment}
+use Rattle.geometry.proofs.Edges.{edge-segment}
 use Rattle.geometry.proofs.Classes.{no-rows, quick-dropped, quick-every, quick-kept}
 use borrow.Author.Needs.{needs}
 use Rattle.geometry.proofs.class.classify.Statement.{statement}

@@ -6,7 +6,7 @@ use lib.Dec.{T}
 use lib.ListN.{length, drop}
 use denote.Ref.{now}
 use Rattle.laws.proofs.Signed.{Running, running-start, running-fits, running-more}
-use Rattle.geometry.specs.Windings.{linesFrom, sumOf, winding, contoursTo, follow}
+use Rattle.geometry.specs.Windings.{straightLines, sumOf, winding, contoursTo, follow}
 use Rattle.geometry.proofs.Windings.{follow-step, area-step, area-done, contour-abs}
 use Rattle.geometry.proofs.winding.area_winding.Statement.{statement}
 use Rattle.geometry.proofs.winding.area_winding.Tie as tie
@@ -62,7 +62,7 @@ add-sum c =
     let l = at-loop .loop in
     let e = after-wide .wide .result in
     let n = next-in after-wide in
-    running-fits (l .inv .2) (sumOf (now (a .xs)) (now (a .ys)) (linesFrom (l .first) (l .first) (e - l .first)) (a .x) (a .y)) _ _ e
+    running-fits (l .inv .2) (sumOf (now (a .xs)) (now (a .ys)) (straightLines (l .first) (l .first) (e - l .first)) (a .x) (a .y)) _ _ e
     (e - l .first)
     (area-step (now (a .ends)) (l .first) (length (now (a .xs))) (l .k) e (omega arith) (after-wide .wide .ensures) (now (a .xs))
     (now (a .ys)) (a .x) (a .y))
@@ -85,7 +85,7 @@ loop-again c =
     let n = next-in after-wide in (
       omega arith,
       n .2,
-      running-more (l .inv .2) (sumOf (now (a .xs)) (now (a .ys)) (linesFrom (l .first) (l .first) (e - l .first)) (a .x) (a .y)) _ _ e
+      running-more (l .inv .2) (sumOf (now (a .xs)) (now (a .ys)) (straightLines (l .first) (l .first) (e - l .first)) (a .x) (a .y)) _ _ e
           (e - l .first)
           (area-step (now (a .ends)) (l .first) (length (now (a .xs))) (l .k) e (omega arith) (after-wide .wide .ensures) (now (a .xs))
           (now (a .ys)) (a .x) (a .y))

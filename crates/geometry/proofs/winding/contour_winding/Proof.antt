@@ -4,7 +4,7 @@ use Prim.Native.Nat.{_+_, _-_, _≤_}
 use native.Mathlib.Omega.{arith}
 use denote.Ref.{now}
 use Rattle.laws.proofs.Signed.{Running, running-start, running-fits, running-more}
-use Rattle.geometry.specs.Windings.{line, edgeOf, nextCorner, linesFrom, adds, sumOf}
+use Rattle.geometry.specs.Windings.{line, edgeOf, nextCorner, straightLines, adds, sumOf}
 use Rattle.geometry.proofs.Windings.{adds-abs, sum-step, sum-done}
 use Rattle.geometry.proofs.winding.contour_winding.Statement.{statement}
 use Rattle.geometry.proofs.winding.contour_winding.Tie as tie
@@ -13,7 +13,7 @@ abbrev Inv-loop : tie.InvT-loop
 Inv-loop xs ys first end x y sum₀ i₀ sum i =
     (first ≤ i)
     × (i ≤ end)
-    × Running (i - first) sum (sumOf xs ys (linesFrom first i (end - i)) x y) (sumOf xs ys (linesFrom first first (end - first)) x y)
+    × Running (i - first) sum (sumOf xs ys (straightLines first i (end - i)) x y) (sumOf xs ys (straightLines first first (end - first)) x y)
 
 abbrev μ-loop : tie.MeasureT-loop
 μ-loop xs ys first end x y sum₀ i₀ sum i = end - i

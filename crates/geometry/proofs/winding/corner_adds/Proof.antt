@@ -1,5 +1,6 @@
 use mathlib.Core.Path.{sym, _∙_, subst}
 use native.Mathlib.Omega.{arith}
+use Rattle.laws.proofs.Booleans.{clash}
 use Rattle.laws.proofs.Signed.{read-back}
 use Rattle.geometry.specs.code.Reach.{EdgeIn}
 use Rattle.geometry.specs.Windings.{line}
@@ -19,7 +20,7 @@ edge-adds-requires c κs =
     let after-next-corner = c .before in
     let at-entry = after-next-corner .before .before .before in
     let l = line (at-entry .args .i) (after-next-corner .next-corner .result) in
-    (subst EdgeIn (sym (c .edge-between .ensures)) (edge-in _ _ (at-entry .pre .0) l (omega arith)), search needs)
+    (subst EdgeIn (sym (c .edge-between .ensures)) (edge-in _ _ (at-entry .pre .0) l (omega arith) (λ h. clash h)), search needs)
 
 returns : tie.Need-returns
 returns c =
