@@ -1,8 +1,10 @@
-//! Squares of cells, their keys, and what becomes of an edge in a square: document 01, "Cells".
+//! Squares of cells, their keys, and what becomes of an edge or a curve in a square: document 01,
+//! "Cells", and document 02, Item 2: "In cells, streams, their grammar and pruning a curve goes as an
+//! edge or line does".
 
 use std::ops::Range;
 
-use crate::meaning::Edge;
+use crate::curve::Segment;
 
 /// "Cell 0 is the square of side 65,536 at (0, 0)."
 pub const WHOLE_SIDE: u32 = 65_536;
@@ -65,7 +67,7 @@ pub fn key(x: u32, y: u32) -> u32 {
     })
 }
 
-/// What becomes in a square of an edge, a line or a shortcut.
+/// What becomes in a square of an edge, a curve, a line or a shortcut.
 #[derive(Clone, Copy, PartialEq, Eq, Debug)]
 pub enum Class {
     /// "no rows, or it counts at none of the cell's positions: dropped"
@@ -123,23 +125,30 @@ fn class(sign: i32, rows: Range<i64>, square: Square, counted: Where) -> Class {
     }
 }
 
-/// The class of an edge by looking at every position of the square in those rows.
-pub fn edge_by_looking(edge: Edge, square: Square) -> Class {
-    let rows = rows_in(edge.rows(), square);
+/// The class of an edge or a curve by looking at every position of the square in those rows.
+pub fn by_looking(segment: Segment, square: Square) -> Class {
+    let rows = rows_in(segment.rows(), square);
     let positions = rows
         .clone()
         .flat_map(|y| square.xs().map(move |x| (x, y)))
-        .map(|(x, y)| edge.counts(x, y));
+        .map(|(x, y)| segment.counts(x, y));
     let counted = Where::among(positions);
-    class(edge.sign(), rows, square, counted)
+    class(segment.sign(), rows, square, counted)
 }
 
-/// The same for squares of any size. In those rows an edge counts where P is above zero; P is
-/// linear in x and in y, so over the positions of a box it is greatest at one of the four corner
-/// positions and least at one: it is above zero at all positions, or at none, if it is at the
-/// four.
-pub fn edge(edge: Edge, square: Square) -> Class {
-    let rows = rows_in(edge.rows(), square);
+/// The same for squares of any size, by four positions.
+///
+/// In those rows an edge counts where P is above zero; P is linear in x and in y, so over the
+/// positions of a box it is greatest at one of the four corner positions and least at one: it is
+/// above zero at all positions, or at none, if it is at the four.
+///
+/// A curve that counts at a position counts, by the same fraction t, at each position left of it in
+/// the row: curve x is above a smaller x too. Where its x do not fall, t serves every higher row of
+/// it, as curve y is at most a larger y too; where its x fall, every lower one. So over the
+/// positions of a box there is a corner position at which it counts if it counts anywhere, and one
+/// at which it does not if there is any such position.
+pub fn of(segment: Segment, square: Square) -> Class {
+    let rows = rows_in(segment.rows(), square);
     if rows.is_empty() {
         return Class::Dropped;
     }
@@ -150,8 +159,8 @@ pub fn edge(edge: Edge, square: Square) -> Class {
         (xs.start, rows.end - 1),
         (xs.end - 1, rows.end - 1),
     ];
-    let counted = Where::among(corners.into_iter().map(|(x, y)| edge.counts(x, y)));
-    class(edge.sign(), rows, square, counted)
+    let counted = Where::among(corners.into_iter().map(|(x, y)| segment.counts(x, y)));
+    class(segment.sign(), rows, square, counted)
 }
 
 /// The class of a parent's shortcut, which counts at every position of its rows.

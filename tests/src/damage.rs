@@ -1,8 +1,9 @@
 //! Damage to the records of a file, and to lent tables.
 
+use crate::bends;
 use crate::drawing::{
-    AREA, AREA_WORDS, BAR, CLIP, CLOSE, FIRST, MOST_COORDINATE, MOST_RECORDS, NEXT, OPEN, PAINT,
-    PLAN_COUNTS, RECORD_BYTES,
+    AREA, AREA_WORDS, BAR, CLIP, CLOSE, CONTROL, FIRST, MOST_COORDINATE, MOST_KIND, MOST_RECORDS,
+    NEXT, OPEN, PAINT, PLAN_COUNTS, RECORD_BYTES,
 };
 use crate::lent::LentTables;
 use crate::random::Random;
@@ -30,7 +31,7 @@ pub fn damaged(random: &mut Random, mut records: Vec<Record>) -> Vec<u8> {
         records.push(random_record(random));
     }
     let at = place(random, records.len());
-    match random.below(20) {
+    match random.below(24) {
         0 => records[at][random.below(RECORD_BYTES)] ^= 1 << random.below(8),
         1 => records[at][random.below(RECORD_BYTES)] = random.byte(),
         2 => _ = records.remove(at),
@@ -41,13 +42,13 @@ pub fn damaged(random: &mut Random, mut records: Vec<Record>) -> Vec<u8> {
         }
         5 => records.insert(at, random_record(random)),
         6 => records.truncate(at),
-        7 => records[at][0] = random.within(1..=6) as u8,
+        7 => records[at][0] = random.within(1..=MOST_KIND.into()) as u8,
         8 => records[at] = random_record(random),
-        9 => records[at][0] = random.pick(&[0, 7, 8, 9, 16, 128 + 1, 255]),
+        9 => records[at][0] = random.pick(&[0, MOST_KIND + 1, 9, 16, 128 + 1, 255]),
         10 => {
             let unnamed: &[usize] = match records[at][0] {
                 AREA => &[7, 10, 11, 12, 13, 14, 15],
-                FIRST | NEXT => &[1, 2, 3, 12, 13, 14, 15],
+                FIRST | NEXT | CONTROL => &[1, 2, 3, 12, 13, 14, 15],
                 _ => &[1, 2, 3, 4, 5, 6, 7, 8, 9, 10, 11, 12, 13, 14, 15],
             };
             records[at][random.pick(unnamed)] = random.within(1..=255) as u8;
@@ -74,6 +75,7 @@ pub fn damaged(random: &mut Random, mut records: Vec<Record>) -> Vec<u8> {
             }
             return bytes;
         }
+        20..24 => damage_curve(random, &mut records),
         _ => {
             // Too many records, by a few; not often, as they are long.
             if random.one_in(6) {
@@ -91,7 +93,7 @@ pub fn damaged(random: &mut Random, mut records: Vec<Record>) -> Vec<u8> {
 
 /// Puts a field of an area or corner out of its range.
 fn out_of_range(random: &mut Random, records: &mut [Record]) {
-    let some = places_of(records, &[AREA, FIRST, NEXT]);
+    let some = places_of(records, &[AREA, FIRST, NEXT, CONTROL]);
     if some.is_empty() {
         return;
     }
@@ -137,12 +139,44 @@ fn short_contour(random: &mut Random, records: &mut Vec<Record>) {
     if !firsts.is_empty() && random.one_in(2) {
         let at = firsts[place(random, firsts.len())];
         let rest = records[at + 1..].iter();
-        let contour = 1 + rest.take_while(|record| record[0] == NEXT).count();
+        let more = rest.take_while(|record| [NEXT, CONTROL].contains(&record[0]));
+        let contour = 1 + more.count();
         records.drain(at + left.min(contour)..at + contour);
     } else if !areas.is_empty() {
         let at = areas[place(random, areas.len())] + 1;
         let corners = [random_corner(random, FIRST), random_corner(random, NEXT)];
         records.splice(at..at, corners.into_iter().take(left));
+    }
+}
+
+/// Moves a corner of a curve so that it does not fit, takes a record beside a control corner away, or
+/// makes a corner one.
+fn damage_curve(random: &mut Random, records: &mut Vec<Record>) {
+    let controls = places_of(records, &[CONTROL]);
+    let corners = places_of(records, &[FIRST, NEXT]);
+    if let (false, 0..3) = (controls.is_empty(), random.below(4)) {
+        let at = controls[place(random, controls.len())];
+        let (Some(before), Some(behind)) = (at.checked_sub(1), records.get(at + 1)) else {
+            return;
+        };
+        let number = |record: &Record, from: usize| {
+            let bytes = record[from..from + 4].try_into();
+            u32::from_le_bytes(bytes.expect("four bytes")).min(MOST_COORDINATE)
+        };
+        let curve = [&records[before], &records[at], behind];
+        let curve = curve.map(|record| (number(record, 4), number(record, 8)));
+        if random.one_in(3) {
+            let gone = random.pick(&[before, at, at + 1]);
+            records.remove(gone);
+            return;
+        }
+        for (record, (x, y)) in (before..).zip(bends::broken(random, curve)) {
+            records[record][4..8].copy_from_slice(&x.to_le_bytes());
+            records[record][8..12].copy_from_slice(&y.to_le_bytes());
+        }
+    } else if !corners.is_empty() {
+        let at = corners[place(random, corners.len())];
+        records[at][0] = CONTROL;
     }
 }
 

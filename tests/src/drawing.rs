@@ -1,5 +1,7 @@
-//! The second implementation: records to the drawing's tables and back, from document 01.
+//! The second implementation: records to the drawing's tables and back, from document 01 and Item 2
+//! of document 02.
 
+use crate::curve;
 use crate::zones::Answer;
 
 pub const RECORD_BYTES: usize = 16;
@@ -18,6 +20,11 @@ pub const NEXT: u8 = 3;
 pub const OPEN: u8 = 4;
 pub const BAR: u8 = 5;
 pub const CLOSE: u8 = 6;
+/// Document 02, Item 2: "Record kind 7 is a control corner, laid out as kind 3".
+pub const CONTROL: u8 = 7;
+
+/// Records have the kinds from 1 to this one.
+pub const MOST_KIND: u8 = CONTROL;
 
 pub const PAINT: u32 = 0;
 pub const CLIP: u32 = 1;
@@ -102,7 +109,7 @@ pub fn corner_in_range(x: u32, y: u32) -> bool {
 fn record_in_range(record: &[u8; RECORD_BYTES]) -> bool {
     match record[0] {
         AREA => record[7] == 0 && record[10..] == [0; 6] && Area::of_record(record).in_range(),
-        FIRST | NEXT => {
+        FIRST | NEXT | CONTROL => {
             let (x, y) = corner_of_record(record);
             record[1..4] == [0; 3] && record[12..] == [0; 4] && corner_in_range(x, y)
         }
@@ -121,8 +128,10 @@ struct Grammar {
     groups: Vec<Group>,
     /// Kind of the record before, 0 at the start.
     last: u8,
-    /// Corners of the last contour.
+    /// Corners of the last contour, its control corners not counted.
     contour: usize,
+    /// The last two corners, control corners too: what the next corner may end a curve with.
+    corners: [(u32, u32); 2],
     size: Size,
 }
 
@@ -132,6 +141,7 @@ impl Grammar {
             groups: Vec::with_capacity(MOST_GROUPS),
             last: 0,
             contour: 0,
+            corners: [(0, 0); 2],
             size: Size {
                 records: 0,
                 areas: 0,
@@ -153,9 +163,14 @@ impl Grammar {
         self.last == FIRST || self.last == NEXT
     }
 
-    /// Whether a record fits here; `role` is that of an area.
+    /// Whether a record fits here; `role` is that of an area. Document 02, Item 2, of a control
+    /// corner: "it follows kind 2 or 3 and is followed by kind 3, otherwise 4".
     fn fits(&self, kind: u8, role: u32) -> bool {
+        if self.last == CONTROL {
+            return kind == NEXT;
+        }
         match kind {
+            CONTROL => self.after_corner(),
             AREA => role == self.side(),
             FIRST => self.last == AREA || self.after_corner(),
             NEXT => self.after_corner(),
@@ -165,12 +180,20 @@ impl Grammar {
         }
     }
 
-    /// Takes one record of known kind with fields in range, or gives 4, 5 or 6.
-    fn take(&mut self, kind: u8, role: u32) -> Result<(), u32> {
+    /// Takes one record of known kind with fields in range, or gives 13, 4, 5 or 6; `role` is that
+    /// of an area, `at` where a corner lies.
+    fn take(&mut self, kind: u8, role: u32, at: (u32, u32)) -> Result<(), u32> {
+        // "13 for a curve that breaks the order or span, place the record of kind 3 that ends it,
+        // tried after 3 and before 4".
+        let [from, control] = self.corners;
+        if self.last == CONTROL && kind == NEXT && !curve::fits([from, control, at]) {
+            return Err(13);
+        }
         if !self.fits(kind, role) {
             return Err(4);
         }
-        if self.after_corner() && kind != NEXT && self.contour < 3 {
+        let ends_contour = kind != NEXT && kind != CONTROL;
+        if self.after_corner() && ends_contour && self.contour < 3 {
             return Err(5);
         }
         match kind {
@@ -180,12 +203,18 @@ impl Grammar {
                 }
                 self.size.areas += 1;
             }
-            FIRST | NEXT => {
+            FIRST | NEXT | CONTROL => {
                 if self.size.corners == MOST_CORNERS {
                     return Err(6);
                 }
+                // "It counts toward 2,048 corners but not toward the three of a contour."
                 self.size.corners += 1;
-                self.contour = if kind == FIRST { 1 } else { self.contour + 1 };
+                self.contour = match kind {
+                    FIRST => 1,
+                    NEXT => self.contour + 1,
+                    _ => self.contour,
+                };
+                self.corners = [self.corners[1], at];
             }
             OPEN => {
                 if self.groups.len() == MOST_GROUPS {
@@ -211,9 +240,10 @@ impl Grammar {
         Ok(())
     }
 
-    /// The end: 4 if a group is open, 5 if the last contour is short.
+    /// The end: 4 if a group is open or a control corner is not followed, 5 if the last contour is
+    /// short.
     fn end(self) -> Result<Size, u32> {
-        if !self.groups.is_empty() {
+        if !self.groups.is_empty() || self.last == CONTROL {
             return Err(4);
         }
         if self.after_corner() && self.contour < 3 {
@@ -231,7 +261,7 @@ pub fn check(records: &[u8]) -> Result<Size, Refusal> {
     }
     let mut grammar = Grammar::new();
     for (place, record) in records.iter().enumerate() {
-        if !(AREA..=CLOSE).contains(&record[0]) {
+        if !(AREA..=MOST_KIND).contains(&record[0]) {
             return Err(refusal(2, place));
         }
         if !record_in_range(record) {
@@ -239,7 +269,7 @@ pub fn check(records: &[u8]) -> Result<Size, Refusal> {
         }
         let role = record[1].into();
         grammar
-            .take(record[0], role)
+            .take(record[0], role, corner_of_record(record))
             .map_err(|number| refusal(number, place))?;
     }
     grammar
@@ -269,7 +299,7 @@ pub fn check_tables(plan: &[u32], areas: &[u32], xs: &[u32], ys: &[u32]) -> Opti
     let mut grammar = Grammar::new();
     for kind in &kinds[..said.records] {
         let kind = u8::try_from(*kind).ok()?;
-        let mut role = PAINT;
+        let (mut role, mut at) = (PAINT, (0, 0));
         match kind {
             AREA => {
                 let row = rows.next()?;
@@ -279,16 +309,18 @@ pub fn check_tables(plan: &[u32], areas: &[u32], xs: &[u32], ys: &[u32]) -> Opti
                 }
                 role = area.role;
             }
-            FIRST | NEXT => {
+            FIRST | NEXT | CONTROL => {
                 let (x, y) = corners.next()?;
                 if !corner_in_range(*x, *y) {
                     return None;
                 }
+                at = (*x, *y);
             }
             OPEN | BAR | CLOSE => {}
             _ => return None,
         }
-        grammar.take(kind, role).ok()?;
+        // "met in the tables, 12", as all that the grammar refuses.
+        grammar.take(kind, role, at).ok()?;
     }
     grammar.end().ok().filter(|counted| *counted == said)
 }
@@ -348,7 +380,7 @@ fn read_or_refuse(
                     row.copy_from_slice(&[role, rule, alpha, red, green, blue, material, 0]);
                 }
             }
-            FIRST | NEXT => {
+            FIRST | NEXT | CONTROL => {
                 if let Some((x, y)) = corners.next() {
                     (*x, *y) = corner_of_record(record);
                 }
@@ -397,7 +429,7 @@ fn write_or_refuse(
                     record[8..10].copy_from_slice(&(area.material as u16).to_le_bytes());
                 }
             }
-            FIRST | NEXT => {
+            FIRST | NEXT | CONTROL => {
                 if let Some((x, y)) = corners.next() {
                     record[4..8].copy_from_slice(&x.to_le_bytes());
                     record[8..12].copy_from_slice(&y.to_le_bytes());

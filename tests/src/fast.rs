@@ -1,8 +1,12 @@
 //! The second implementation in a fast form, for the benchmark: opening, splitting and growing on
 //! the same tables with the same answers. A stream is checked in one pass, a child is made and
-//! pruned in one pass over its parent's stream, and growing sweeps over the cells once.
+//! pruned in one pass over its parent's stream, and growing sweeps over the cells once. Where a curve
+//! counts is decided by document 000's implicit form, as document 02 says of the quick test.
+
+use std::cmp::Ordering;
 
 use crate::class::{Square, WHOLE_SIDE};
+use crate::curve::{self, Curve};
 use crate::drawing::{
     check_tables, corner_in_range, refusal, Refusal, CLIP, MOST_AREAS, MOST_CORNERS, MOST_GROUPS,
     MOST_RECORDS, PAINT,
@@ -31,6 +35,11 @@ fn in_range(drawing: Drawing, in_use: InUse, square: Square, entry: Entry) -> bo
                 && (-MOST_START..=MOST_START).contains(&start)
         }
         Entry::Line { from, to } => corner(from) && corner(to),
+        Entry::Curve { from } => {
+            (from as usize).saturating_add(2) < in_use.corners
+                && (from..from + 3).all(corner)
+                && curve::fits(drawing.curve_corners(from))
+        }
         Entry::Shortcut { sign, first, end } => {
             let high = square.y + square.side;
             (sign == 1 || sign == -1) && square.y <= first && first < end && end <= high
@@ -87,10 +96,10 @@ fn lines_of_checked(drawing: Drawing, in_use: InUse, square: Square, rows: &[Row
                     return None;
                 }
             }
-            Entry::Line { .. } | Entry::Shortcut { .. } => {
+            Entry::Line { .. } | Entry::Shortcut { .. } | Entry::Curve { .. } => {
                 segments += 1;
                 segment = true;
-                lines += u32::from(matches!(entry, Entry::Line { .. }));
+                lines += u32::from(entry.is_line());
                 if !after_area {
                     return None;
                 }
@@ -142,6 +151,93 @@ fn of_edge(drawing: Drawing, square: Square, from: u32, to: u32) -> Kept {
         };
     }
     Kept::Line
+}
+
+/// The signed product P of the line from (a, b) to (c, d) at a position.
+fn product((a, b): (i64, i64), (c, d): (i64, i64), (x, y): (i64, i64)) -> i64 {
+    (a - x) * (d - b) + (y - b) * (c - a)
+}
+
+/// Whether a curve counts at a position, by the implicit form.
+pub fn curve_counts(curve: Curve, x: i64, y: i64) -> bool {
+    let mut corners = [curve.from, curve.control, curve.to];
+    if curve.to.1 < curve.from.1 {
+        corners.reverse();
+    }
+    let [lower, _, upper] = corners;
+    (lower.1..upper.1).contains(&y) && Bent::new(corners).counts(x, y)
+}
+
+/// A curve whose lower end is the first of its corners, and how far it bends to the right of its chord.
+struct Bent {
+    corners: [(i64, i64); 3],
+    bend: i64,
+}
+
+impl Bent {
+    fn new(corners: [(i64, i64); 3]) -> Bent {
+        let [lower, control, upper] = corners;
+        let bend = -product(lower, upper, control);
+        Bent { corners, bend }
+    }
+
+    /// Whether it counts at a position of its rows. Document 000's implicit form k² − lm is 0 on the
+    /// curve's parabola and below 0 on the inner side of it. With the products of the chord, c, and of
+    /// the two legs, f and s, it is c² − 4fs. A curve that bends to the right has the chord on its
+    /// left, and its inner side between the two.
+    fn counts(&self, x: i64, y: i64) -> bool {
+        let [lower, control, upper] = self.corners;
+        let at = (x, y);
+        let chord = product(lower, upper, at);
+        let form = || {
+            let (f, s) = (product(lower, control, at), product(control, upper, at));
+            chord * chord - 4 * f * s
+        };
+        match self.bend.cmp(&0) {
+            Ordering::Equal => chord > 0,
+            // Right of the chord it counts between chord and curve.
+            Ordering::Greater => chord > 0 || form() < 0,
+            // Left of the chord it counts but between curve and chord.
+            Ordering::Less => chord > 0 && form() > 0,
+        }
+    }
+}
+
+fn of_curve(drawing: Drawing, square: Square, from: u32) -> Kept {
+    let mut corners = drawing
+        .curve_corners(from)
+        .map(|(x, y)| (i64::from(x), i64::from(y)));
+    let upward = corners[0].1 < corners[2].1;
+    if !upward {
+        corners.swap(0, 2);
+    }
+    let [lower, _, upper] = corners;
+    let (low, side) = (i64::from(square.y), i64::from(square.side));
+    let (first, end) = (lower.1.max(low), upper.1.min(low + side));
+    if first >= end {
+        return Kept::Nothing;
+    }
+    // Left of all three corners it counts in all its rows, from the greatest x on in none.
+    let (left, right) = (i64::from(square.x), i64::from(square.x) + side - 1);
+    let (least, most) = (lower.0.min(upper.0), lower.0.max(upper.0));
+    let rows = Kept::Rows {
+        sign: if upward { 1 } else { -1 },
+        first: first as u32,
+        end: end as u32,
+    };
+    if most <= left {
+        return Kept::Nothing;
+    }
+    if right < least {
+        return rows;
+    }
+    let bent = Bent::new(corners);
+    let counts = |x: i64| [first, end - 1].map(|y| bent.counts(x, y));
+    match (counts(left), counts(right)) {
+        ([false, false], _) => Kept::Nothing,
+        (_, [true, true]) => rows,
+        _ => Kept::Line,
+    }
 }
 
 fn of_shortcut(square: Square, sign: i32, first: u32, end: u32) -> Kept {
@@ -304,8 +400,7 @@ impl Maker<'_> {
     }
 
     fn entry(&mut self, entry: Entry) {
-        let segment = matches!(entry, Entry::Line { .. } | Entry::Shortcut { .. });
-        if !segment {
+        if !entry.is_segment() {
             self.end_area();
         }
         if self.over != Over::No {
@@ -315,6 +410,10 @@ impl Maker<'_> {
         match entry {
             Entry::Line { from, to } => {
                 let kept = of_edge(self.drawing, self.square, from, to);
+                self.keep(kept, entry);
+            }
+            Entry::Curve { from } => {
+                let kept = of_curve(self.drawing, self.square, from);
                 self.keep(kept, entry);
             }
             Entry::Shortcut { sign, first, end } => {

@@ -1,9 +1,10 @@
 //! Trees written by others: "Tables that pass 12 but were written by others are read for what they
 //! say." Their numbers are in range and their streams keep the grammar, but no splitting made
-//! them: areas are repeated and out of order, lines join any two corners, nothing is pruned, cells
-//! share entries, children stand anywhere.
+//! them: areas are repeated and out of order, lines join any two corners, curves begin at any corner
+//! whose next two make one, nothing is pruned, cells share entries, children stand anywhere.
 
 use crate::class::Square;
+use crate::curve;
 use crate::drawing::{AREA_WORDS, CLIP, MOST_AREAS, MOST_GROUPS, PAINT};
 use crate::random::Random;
 use crate::samples::Tables;
@@ -25,6 +26,7 @@ pub fn stream(random: &mut Random, tables: &Tables, square: Square) -> Vec<Entry
         paints: of_role(PAINT),
         clips: of_role(CLIP),
         corners: tables.xs.len().min(tables.ys.len()),
+        curves: curves(tables),
         square,
         random,
     };
@@ -40,8 +42,25 @@ struct Maker<'a> {
     paints: Vec<u32>,
     clips: Vec<u32>,
     corners: usize,
+    /// The corners at which a curve may begin.
+    curves: Vec<u32>,
     square: Square,
     random: &'a mut Random,
+}
+
+/// The corners at which a curve may begin: those whose next two make one with them.
+fn curves(tables: &Tables) -> Vec<u32> {
+    let corners: Vec<(u32, u32)> = tables
+        .xs
+        .iter()
+        .copied()
+        .zip(tables.ys.iter().copied())
+        .collect();
+    let windows = corners.as_slice().array_windows::<3>();
+    let fitting = (0..)
+        .zip(windows)
+        .filter(|(_, corners)| curve::fits(**corners));
+    fitting.map(|(from, _)| from).collect()
 }
 
 impl Maker<'_> {
@@ -95,6 +114,10 @@ impl Maker<'_> {
 
     fn segment(&mut self) -> Entry {
         let Square { y, side, .. } = self.square;
+        if !self.curves.is_empty() && self.random.one_in(3) {
+            let from = self.random.pick(&self.curves);
+            return Entry::Curve { from };
+        }
         if self.corners > 0 && self.random.one_in(2) {
             let from = self.random.below(self.corners) as u32;
             let to = self.random.below(self.corners) as u32;
@@ -121,13 +144,8 @@ impl Maker<'_> {
 pub fn words(random: &mut Random, stream: &[Entry]) -> Vec<u32> {
     let mut words = Vec::new();
     for entry in stream {
-        let named = match entry {
-            Entry::Area { .. } | Entry::Line { .. } => 3,
-            Entry::Shortcut { .. } => ENTRY_WORDS,
-            _ => 1,
-        };
         let mut row = entry.encode();
-        for word in &mut row[named..] {
+        for word in &mut row[entry.named()..] {
             *word = random.word();
         }
         words.extend(row);

@@ -1,11 +1,13 @@
-//! A second implementation of document 01, with Item 1 of document 02, and what is needed to compare
-//! the library with it.
+//! A second implementation of document 01, with Items 1 and 2 of document 02, and what is needed to
+//! compare the library with it.
 
 #![deny(unsafe_code)]
 
+pub mod bends;
 pub mod c_program;
 pub mod class;
 pub mod compare;
+pub mod curve;
 pub mod damage;
 pub mod drawing;
 pub mod expect;
@@ -16,6 +18,7 @@ pub mod lister;
 pub mod machine;
 pub mod meaning;
 pub mod pages;
+pub mod png;
 #[allow(unsafe_code)]
 pub mod probe;
 pub mod prune;

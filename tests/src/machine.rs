@@ -35,11 +35,9 @@ pub fn shown(drawing: Drawing, entries: &[Entry], x: u32, y: u32) -> u64 {
             }
             Entry::Passes if state == State::P => (state, stop) = (State::S, depth),
             Entry::Area { number, start } if state == State::P => {
-                let is_segment =
-                    |e: &&Entry| matches!(e, Entry::Line { .. } | Entry::Shortcut { .. });
                 let segments: Vec<Entry> = entries[i + 1..]
                     .iter()
-                    .take_while(is_segment)
+                    .take_while(|entry| entry.is_segment())
                     .copied()
                     .collect();
                 let winding = winding(drawing, *start, &segments, x, y);

@@ -1,10 +1,11 @@
 //! What a drawing says at a position, with no tree: document 01, "Winding and meaning", word for
-//! word, with the rule for pixels of document 02, Item 1. The sides and groups of this page serve
-//! the streams of leaves too.
+//! word, with the rule for pixels of document 02, Item 1, and the curves of its Item 2. The sides and
+//! groups of this page serve the streams of leaves too.
 
 use std::ops::Range;
 
-use crate::drawing::{Area, AREA, AREA_WORDS, BAR, CLOSE, FIRST, NEXT, OPEN, PLAN_COUNTS};
+use crate::curve::{Curve, Segment};
+use crate::drawing::{Area, AREA, AREA_WORDS, BAR, CLOSE, CONTROL, FIRST, NEXT, OPEN, PLAN_COUNTS};
 use crate::samples::Tables;
 
 /// "Positions are whole x, y from 0 to 65,535."
@@ -46,13 +47,28 @@ impl<'a> Drawing<'a> {
         Area::of_words(self.row(area))
     }
 
+    /// A corner that is in use.
+    pub fn corner(&self, number: u32) -> (u32, u32) {
+        (self.xs[number as usize], self.ys[number as usize])
+    }
+
     /// The edge drawn from one corner to another.
-    pub fn edge(&self, from: u32, to: u32) -> Edge {
-        let corner = |n: u32| (self.xs[n as usize].into(), self.ys[n as usize].into());
-        Edge {
-            from: corner(from),
-            to: corner(to),
-        }
+    pub fn edge(&self, from: u32, to: u32) -> Segment {
+        let [from, to] = [from, to].map(|number| {
+            let (x, y) = self.corner(number);
+            (x.into(), y.into())
+        });
+        Segment::Edge(Edge { from, to })
+    }
+
+    /// The three corners of a curve: its first end, its control corner and its other end.
+    pub fn curve_corners(&self, from: u32) -> [(u32, u32); 3] {
+        [from, from + 1, from + 2].map(|number| self.corner(number))
+    }
+
+    /// The curve that begins at a corner.
+    pub fn curve(&self, from: u32) -> Segment {
+        Segment::Curve(Curve::of(self.curve_corners(from)))
     }
 
     /// The kinds of the records in use.
@@ -317,11 +333,18 @@ pub fn log(materials: &[u32]) -> Vec<u32> {
 
 // ---- with no tree ----
 
-/// An area with all its edges.
+/// An area with all its edges and curves.
 #[derive(Clone, Debug)]
 pub struct Drawn {
     pub number: u32,
-    pub edges: Vec<Edge>,
+    pub segments: Vec<Segment>,
+}
+
+/// A corner of a contour as its record has it: an end, or the control corner of a curve.
+#[derive(Clone, Copy, PartialEq, Eq, Debug)]
+struct Corner {
+    control: bool,
+    at: (i64, i64),
 }
 
 /// A drawing taken apart, straight from its tables.
@@ -335,28 +358,30 @@ impl<'a> Scene<'a> {
     /// A drawing that passes 12.
     pub fn of(drawing: Drawing<'a>) -> Scene<'a> {
         // Contours of each area, as lists of corners.
-        let mut contours: Vec<Vec<Vec<(i64, i64)>>> = Vec::new();
+        let mut contours: Vec<Vec<Vec<Corner>>> = Vec::new();
         let mut corner = 0;
         for kind in drawing.kinds() {
             match kind {
                 AREA => contours.push(Vec::new()),
-                FIRST | NEXT => {
+                FIRST | NEXT | CONTROL => {
                     let at = (drawing.xs[corner].into(), drawing.ys[corner].into());
+                    let control = kind == CONTROL;
                     corner += 1;
                     let of_area = contours.last_mut().expect("a corner has an area");
                     if kind == FIRST {
                         of_area.push(Vec::new());
                     }
-                    of_area.last_mut().expect("a contour begins").push(at);
+                    let contour = of_area.last_mut().expect("a contour begins");
+                    contour.push(Corner { control, at });
                 }
                 _ => {}
             }
         }
         let mut areas = contours.iter().enumerate().map(|(number, contours)| Drawn {
             number: number as u32,
-            edges: contours
+            segments: contours
                 .iter()
-                .flat_map(|contour| edges_of(contour))
+                .flat_map(|contour| segments_of(contour))
                 .collect(),
         });
         let tokens: Vec<Token<Drawn>> = drawing
@@ -377,8 +402,7 @@ impl<'a> Scene<'a> {
 
     /// The area's sum at a position.
     pub fn winding(area: &Drawn, x: u32, y: u32) -> i32 {
-        let counting = |edge: &&Edge| edge.counts(x.into(), y.into());
-        area.edges.iter().filter(counting).map(Edge::sign).sum()
+        area.segments.iter().map(|segment| segment.adds(x, y)).sum()
     }
 
     pub fn shown(&self, x: u32, y: u32) -> u64 {
@@ -409,14 +433,18 @@ impl<'a> Scene<'a> {
     }
 }
 
-/// "a contour closes from its last corner to its first."
-fn edges_of(contour: &[(i64, i64)]) -> Vec<Edge> {
-    let next = contour.iter().cycle().skip(1);
-    let pairs = contour.iter().zip(next);
-    pairs
-        .map(|(from, to)| Edge {
-            from: *from,
-            to: *to,
-        })
-        .collect()
+/// "a contour closes from its last corner to its first." A curve leads from the corner before its
+/// control corner to the one behind it.
+fn segments_of(contour: &[Corner]) -> Vec<Segment> {
+    let behind = |i: usize| contour[i % contour.len()];
+    let ends = (0..contour.len()).filter(|i| !contour[*i].control);
+    ends.map(|i| match (contour[i].at, behind(i + 1)) {
+        (from, Corner { control: false, at }) => Segment::Edge(Edge { from, to: at }),
+        (from, Corner { control: true, at }) => Segment::Curve(Curve {
+            from,
+            control: at,
+            to: behind(i + 2).at,
+        }),
+    })
+    .collect()
 }

@@ -1,7 +1,8 @@
 //! Single records, chosen and random.
 
 use crate::drawing::{
-    AREA, BAR, CLIP, CLOSE, FIRST, MOST_COORDINATE, NEXT, OPEN, PAINT, RECORD_BYTES,
+    AREA, BAR, CLIP, CLOSE, CONTROL, FIRST, MOST_COORDINATE, MOST_KIND, NEXT, OPEN, PAINT,
+    RECORD_BYTES,
 };
 use crate::random::Random;
 
@@ -23,7 +24,7 @@ pub fn clip() -> Record {
     area(CLIP, 0, 0, [0, 0, 0], 0)
 }
 
-/// A record of kind 2 or 3.
+/// A record of kind 2, 3 or 7.
 pub fn corner(kind: u8, x: u32, y: u32) -> Record {
     let mut record = [0; RECORD_BYTES];
     record[0] = kind;
@@ -39,13 +40,15 @@ pub fn delimiter(kind: u8) -> Record {
     record
 }
 
-/// Records from letters: `p` paint, `c` clip, `2`, `3`, `(`, `|`, `)`.
+/// Records from letters: `p` paint, `c` clip, `2`, `3`, `7`, `(`, `|`, `)`. A curve from 2 to 3 fits, one
+/// from 3 to 3 breaks the order.
 pub fn letters(text: &str) -> Vec<Record> {
     let record = |letter| match letter {
         'p' => paint(),
         'c' => clip(),
         '2' => corner(FIRST, 10, 20),
         '3' => corner(NEXT, 30, 5),
+        '7' => corner(CONTROL, 20, 12),
         '(' => delimiter(OPEN),
         '|' => delimiter(BAR),
         ')' => delimiter(CLOSE),
@@ -87,12 +90,12 @@ pub fn random_corner(random: &mut Random, kind: u8) -> Record {
 }
 
 pub fn random_record(random: &mut Random) -> Record {
-    match random.within(1..=6) as u8 {
+    match random.within(1..=MOST_KIND.into()) as u8 {
         AREA => {
             let role = random.pick(&[PAINT, CLIP]);
             random_area(random, role)
         }
-        kind @ (FIRST | NEXT) => random_corner(random, kind),
+        kind @ (FIRST | NEXT | CONTROL) => random_corner(random, kind),
         kind => delimiter(kind),
     }
 }

@@ -1,11 +1,12 @@
 //! Random drawings of many shapes, as records and as tables.
 
+use crate::bends;
 use crate::drawing::{
-    AREA, BAR, CLIP, CLOSE, FIRST, MOST_AREAS, MOST_CORNERS, MOST_GROUPS, MOST_RECORDS, NEXT, OPEN,
-    PAINT, PLAN_COUNTS,
+    AREA, BAR, CLIP, CLOSE, CONTROL, FIRST, MOST_AREAS, MOST_CORNERS, MOST_GROUPS, MOST_RECORDS,
+    NEXT, OPEN, PAINT, PLAN_COUNTS,
 };
 use crate::random::Random;
-use crate::record::{delimiter, random_area, random_corner, Record};
+use crate::record::{corner, delimiter, random_area, random_corner, Record};
 
 /// How large a drawing may grow, and what it is mostly made of.
 #[derive(Clone, Copy)]
@@ -19,10 +20,25 @@ pub struct Shape {
     pub contour: usize,
     /// How often an area, a `(`, and a `|` or `)` is chosen.
     pub often: [usize; 3],
+    /// Of ten corners, how many end a curve.
+    pub curved: usize,
 }
 
 /// A drawing whose shape is random; `over` lets it pass one of the limits of areas, corners, groups.
 pub fn drawing(random: &mut Random, over: bool) -> Vec<Record> {
+    let shape = any_shape(random, over);
+    drawing_of(random, &shape)
+}
+
+/// The same with curves.
+pub fn curved(random: &mut Random, over: bool) -> Vec<Record> {
+    let mut shape = any_shape(random, over);
+    shape.contours = shape.contours.max(1);
+    shape.curved = random.within(1..=10);
+    drawing_of(random, &shape)
+}
+
+fn any_shape(random: &mut Random, over: bool) -> Shape {
     let mut shape = Shape {
         records: random.within(8..=60),
         areas: MOST_AREAS,
@@ -35,6 +51,10 @@ pub fn drawing(random: &mut Random, over: bool) -> Vec<Record> {
             random.within(1..=4),
             random.within(1..=4),
         ],
+        curved: match random.below(3) {
+            0 => random.within(1..=10),
+            _ => 0,
+        },
     };
     match random.below(40) {
         0..5 => shape.records = random.below(8),
@@ -82,7 +102,30 @@ pub fn drawing(random: &mut Random, over: bool) -> Vec<Record> {
             }
         }
     }
-    drawing_of(random, &shape)
+    shape
+}
+
+/// A contour of so many records, 3 or more.
+fn contour_of(random: &mut Random, records: usize, curved: usize) -> Vec<Record> {
+    let mut contour = vec![random_corner(random, FIRST)];
+    let mut ends = 1;
+    while contour.len() < records {
+        // A curve takes two records, and three corners that are no control corners must be there.
+        let behind = records.saturating_sub(contour.len() + 2);
+        let room = contour.len() + 2 <= records && ends + 1 + behind >= 3;
+        if curved > 0 && room && random.below(10) < curved {
+            let last = contour[contour.len() - 1];
+            let number = |from: usize| last[from..].iter().take(4).rev();
+            let number = |from: usize| number(from).fold(0, |n, b| n << 8 | u32::from(*b));
+            let (control, to) = bends::curve_from(random, (number(4), number(8)));
+            contour.push(corner(CONTROL, control.0, control.1));
+            contour.push(corner(NEXT, to.0, to.1));
+        } else {
+            contour.push(random_corner(random, NEXT));
+        }
+        ends += 1;
+    }
+    contour
 }
 
 /// A drawing of a shape: accepted if the shape keeps the limits.
@@ -125,10 +168,7 @@ pub fn drawing_of(random: &mut Random, shape: &Shape) -> Vec<Record> {
                     break;
                 }
                 let contour = random.within(3..=most);
-                records.push(random_corner(random, FIRST));
-                for _ in 1..contour {
-                    records.push(random_corner(random, NEXT));
-                }
+                records.extend(contour_of(random, contour, shape.curved));
                 corners += contour;
                 room -= contour;
             }
@@ -216,7 +256,7 @@ pub fn tables(records: &[Record]) -> Tables {
                 .areas
                 .extend(record[1..7].iter().map(|byte| u32::from(*byte)));
             tables.areas.extend([number(&record[8..10]), 0]);
-        } else if record[0] == FIRST || record[0] == NEXT {
+        } else if [FIRST, NEXT, CONTROL].contains(&record[0]) {
             tables.plan[2] += 1;
             tables.xs.push(number(&record[4..8]));
             tables.ys.push(number(&record[8..12]));

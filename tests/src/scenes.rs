@@ -4,7 +4,9 @@
 
 use std::iter;
 
+use crate::bends;
 use crate::class::{Square, WHOLE_SIDE};
+use crate::curve::{self, Curve};
 use crate::drawing::{
     check, BAR, CLIP, CLOSE, FIRST, MOST_AREAS, MOST_COORDINATE, MOST_CORNERS, MOST_GROUPS,
     MOST_RECORDS, NEXT, OPEN, PAINT,
@@ -31,6 +33,8 @@ pub struct Look {
     pub contour: usize,
     /// Of ten contours, how many are the square of a cell.
     pub filling: usize,
+    /// Of ten sides of a contour, how many are curves or begin with one.
+    pub curved: usize,
     /// Of ten paint areas, how many have alpha 255.
     pub opaque: usize,
     /// Where most corners lie, on multiples of `step`, of ten coordinates so many one beside.
@@ -72,6 +76,7 @@ impl Look {
             contours: random.within(1..=3),
             contour: random.within(3..=8),
             filling: random.within(0..=10),
+            curved: 0,
             opaque: random.within(0..=10),
             base,
             step: step.max(1),
@@ -96,6 +101,23 @@ impl Look {
             }
             _ => {}
         }
+        if random.one_in(3) {
+            look.curved = random.within(1..=10);
+        }
+        look
+    }
+
+    /// Any look, with curves: often in a square as large as a curve, or some of them.
+    pub fn curved(random: &mut Random) -> Look {
+        let mut look = Look {
+            curved: random.within(1..=10),
+            ..Look::any(random)
+        };
+        if random.one_in(2) {
+            let levels = random.within(2..=7) as u32;
+            look.base = square_in(random, Square::WHOLE, levels);
+            look.step = random.pick(&[1, look.base.side / 16, look.base.side / 4]);
+        }
         look
     }
 
@@ -112,6 +134,7 @@ impl Look {
             contours: 4,
             contour: 40,
             filling: random.pick(&[0, 0, 5]),
+            curved: random.pick(&[0, 0, 4]),
             opaque: random.within(0..=3),
             base: Square::WHOLE,
             step: random.pick(&[1, 256, 4_096]),
@@ -123,6 +146,12 @@ impl Look {
 /// A drawing of any look.
 pub fn any(random: &mut Random) -> Vec<Record> {
     let look = Look::any(random);
+    of(random, &look)
+}
+
+/// A drawing with curves of any look.
+pub fn curved(random: &mut Random) -> Vec<Record> {
+    let look = Look::curved(random);
     of(random, &look)
 }
 
@@ -222,16 +251,14 @@ impl Maker<'_> {
             if self.random.one_in(8) {
                 corners.extend(corners.clone());
             }
+            let records = bends::contour(self.random, &corners, self.look.curved);
             let most = self.room.min(self.look.corners - self.corners);
-            if corners.len() > most {
+            if records.len() > most {
                 return;
             }
-            self.room -= corners.len();
-            self.corners += corners.len();
-            for (i, (x, y)) in corners.into_iter().enumerate() {
-                let kind = if i == 0 { FIRST } else { NEXT };
-                self.records.push(corner(kind, x, y));
-            }
+            self.room -= records.len();
+            self.corners += records.len();
+            self.records.extend(records);
         }
     }
 
@@ -351,8 +378,37 @@ pub fn position_on_edge(random: &mut Random, tables: &Tables) -> (u32, u32) {
     (between(&tables.xs), between(&tables.ys))
 }
 
-/// On a line, a corner or a border of cells, or one beside it, or anywhere.
+/// A position in a row of a curve, on it or one or two beside it.
+pub fn position_on_curve(random: &mut Random, curve: Curve) -> (u32, u32) {
+    let rows = curve.ends().rows();
+    let (first, end) = (rows.start, rows.end);
+    let y = match random.below(8) {
+        0 => first,
+        1 => end - 1,
+        2 => first - 1,
+        3 => end,
+        _ if first < end => first + random.below((end - first) as usize) as i64,
+        _ => first,
+    };
+    let x = match rows.contains(&y) {
+        true => curve.floor_at(y),
+        false => curve.from.0,
+    };
+    let x = x + random.pick(&[0, 0, 1, -1, -2]);
+    let [x, y] = [x, y].map(|at| at.clamp(0, MOST_POSITION.into()) as u32);
+    (x, y)
+}
+
+/// On a line, a curve, a corner or a border of cells, or one beside it, or anywhere.
 pub fn any_position(random: &mut Random, tables: &Tables) -> (u32, u32) {
+    let curves = bends::curves(tables);
+    if !curves.is_empty() && random.one_in(2) {
+        let corners = bends::corners_at(tables, random.pick(&curves));
+        // Damaged tables may hold what is no curve.
+        if curve::fits(corners) {
+            return position_on_curve(random, Curve::of(corners));
+        }
+    }
     match random.below(3) {
         0 => position_on_edge(random, tables),
         _ => position(random, tables),

@@ -1,12 +1,13 @@
 //! Streams: entries and their words, the check of a lent stream, the stream of a drawing, a stream
-//! in a smaller square, and a stream read at a position. Document 01, "Cells" and "From the state".
+//! in a smaller square, and a stream read at a position. Document 01, "Cells" and "From the state",
+//! with the curves of document 02, Item 2.
 
 use crate::class::{self, Class, Square};
+use crate::curve;
 use crate::drawing::{
-    corner_in_range, AREA, CLIP, FIRST, MOST_AREAS, MOST_CORNERS, MOST_GROUPS, MOST_RECORDS, NEXT,
-    OPEN, PAINT,
+    corner_in_range, AREA, BAR, CLIP, CLOSE, CONTROL, FIRST, MOST_AREAS, MOST_CORNERS, MOST_GROUPS,
+    MOST_RECORDS, NEXT, OPEN, PAINT,
 };
-use crate::drawing::{BAR, CLOSE};
 use crate::meaning::{fill_passes, shown_set, sides, Drawing, Item, Side, Token};
 
 pub const ENTRY_WORDS: usize = 4;
@@ -14,7 +15,8 @@ pub const ENTRY_WORDS: usize = 4;
 pub const MOST_START: i32 = 2_048;
 
 /// "A stream holds one entry for each delimiter, each area (with its start number), line and
-/// shortcut", and "C1 becomes a bare entry "passes", with no area number".
+/// shortcut", and "C1 becomes a bare entry "passes", with no area number". Document 02, Item 2: "a
+/// kept curve is one entry".
 #[derive(Clone, Copy, PartialEq, Eq, Debug)]
 pub enum Entry {
     Open,
@@ -36,6 +38,10 @@ pub enum Entry {
         end: u32,
     },
     Passes,
+    /// The number of its first corner; the control corner and the other end are the next two.
+    Curve {
+        from: u32,
+    },
 }
 
 impl Entry {
@@ -58,6 +64,7 @@ impl Entry {
                 end: r,
             }),
             7 => Some(Entry::Passes),
+            8 => Some(Entry::Curve { from: p }),
             _ => None,
         }
     }
@@ -72,7 +79,28 @@ impl Entry {
             Entry::Line { from, to } => [5, from, to, 0],
             Entry::Shortcut { sign, first, end } => [6, sign as u32, first, end],
             Entry::Passes => [7, 0, 0, 0],
+            Entry::Curve { from } => [8, from, 0, 0],
         }
+    }
+
+    /// How many of its words have a name.
+    pub fn named(self) -> usize {
+        match self {
+            Entry::Open | Entry::Bar | Entry::Close | Entry::Passes => 1,
+            Entry::Curve { .. } => 2,
+            Entry::Area { .. } | Entry::Line { .. } => 3,
+            Entry::Shortcut { .. } => 4,
+        }
+    }
+
+    /// A line or a curve: "a kept curve is one entry that the lister and growing count as a line."
+    pub fn is_line(&self) -> bool {
+        matches!(self, Entry::Line { .. } | Entry::Curve { .. })
+    }
+
+    /// A line, a curve or a shortcut.
+    pub fn is_segment(&self) -> bool {
+        self.is_line() || matches!(self, Entry::Shortcut { .. })
     }
 }
 
@@ -81,10 +109,9 @@ pub fn words(stream: &[Entry]) -> Vec<u32> {
     stream.iter().flat_map(|entry| entry.encode()).collect()
 }
 
-/// How many lines a stream has: shortcuts are none.
+/// How many lines a stream has, curves among them: shortcuts are none.
 pub fn lines(stream: &[Entry]) -> u32 {
-    let is_line = |entry: &&Entry| matches!(entry, Entry::Line { .. });
-    stream.iter().filter(is_line).count() as u32
+    stream.iter().filter(|entry| entry.is_line()).count() as u32
 }
 
 // ---- the check ----
@@ -113,6 +140,12 @@ fn entry_in_range(drawing: Drawing, in_use: InUse, square: Square, entry: Entry)
                 && (-MOST_START..=MOST_START).contains(&start)
         }
         Entry::Line { from, to } => corner(from) && corner(to),
+        Entry::Curve { from } => {
+            // "13 for a curve that breaks the order or span ...; met in the tables, 12."
+            let numbers = [0, 1, 2].map(|more| from.checked_add(more));
+            numbers.into_iter().all(|number| number.is_some_and(corner))
+                && curve::fits(drawing.curve_corners(from))
+        }
         Entry::Shortcut { sign, first, end } => {
             // "no rows ...: dropped": a shortcut has a row.
             let high = square.y + square.side;
@@ -124,7 +157,7 @@ fn entry_in_range(drawing: Drawing, in_use: InUse, square: Square, entry: Entry)
 
 /// Whether entries whose numbers are in range keep the grammar: the drawing's, with its limits.
 /// "In a stream, "passes" stands where a clip area may, and a line or shortcut stands straight
-/// after an area, line or shortcut."
+/// after an area, line or shortcut." A curve goes as a line does.
 fn in_grammar(drawing: Drawing, stream: &[Entry]) -> bool {
     // For each open group, the role of the side it stands on and whether its bar was met.
     let mut groups: Vec<(u32, bool)> = Vec::new();
@@ -159,12 +192,11 @@ fn in_grammar(drawing: Drawing, stream: &[Entry]) -> bool {
                     return false;
                 }
             }
-            Entry::Line { .. } | Entry::Shortcut { .. } => {
+            Entry::Line { .. } | Entry::Shortcut { .. } | Entry::Curve { .. } => {
                 segments += 1;
-                let after_area = matches!(
-                    before,
-                    Some(Entry::Area { .. } | Entry::Line { .. } | Entry::Shortcut { .. })
-                );
+                let after_area = before.is_some_and(|entry: Entry| {
+                    matches!(entry, Entry::Area { .. }) || entry.is_segment()
+                });
                 if !after_area {
                     return false;
                 }
@@ -210,8 +242,9 @@ pub fn check(
 // ---- making ----
 
 /// "Cell 0's stream is made from the drawing: each area, then its edges, contour by contour, corner
-/// to next corner, the closing edge last of its contour." This is the stream before any edge is
-/// classed: every edge is a line, every start number 0.
+/// to next corner, the closing edge last of its contour." A curve stands where its first corner
+/// does. This is the stream before any edge is classed: every edge is a line, every curve is kept,
+/// every start number is 0.
 pub fn of_drawing(drawing: Drawing) -> Vec<Entry> {
     let kinds: Vec<u8> = drawing.kinds().collect();
     let mut stream = Vec::new();
@@ -229,13 +262,15 @@ pub fn of_drawing(drawing: Drawing) -> Vec<Entry> {
                 if *kind == FIRST {
                     first = corners;
                 }
-                let to = match kinds.get(i + 1) {
-                    Some(&NEXT) => corners + 1,
-                    _ => first,
-                };
-                stream.push(Entry::Line { from: corners, to });
+                let from = corners;
+                stream.push(match kinds.get(i + 1) {
+                    Some(&CONTROL) => Entry::Curve { from },
+                    Some(&NEXT) => Entry::Line { from, to: from + 1 },
+                    _ => Entry::Line { from, to: first },
+                });
                 corners += 1;
             }
+            CONTROL => corners += 1,
             OPEN => stream.push(Entry::Open),
             BAR => stream.push(Entry::Bar),
             CLOSE => stream.push(Entry::Close),
@@ -252,7 +287,8 @@ pub fn in_square(drawing: Drawing, stream: &[Entry], square: Square) -> Vec<Entr
     let mut area = None;
     for entry in stream {
         let class = match *entry {
-            Entry::Line { from, to } => class::edge(drawing.edge(from, to), square),
+            Entry::Line { from, to } => class::of(drawing.edge(from, to), square),
+            Entry::Curve { from } => class::of(drawing.curve(from), square),
             Entry::Shortcut { sign, first, end } => class::shortcut(sign, first, end, square),
             _ => {
                 if matches!(entry, Entry::Area { .. }) {
@@ -282,7 +318,7 @@ pub fn in_square(drawing: Drawing, stream: &[Entry], square: Square) -> Vec<Entr
 /// What stands on a side of a stream.
 #[derive(Clone, PartialEq, Eq, Debug)]
 pub enum Piece {
-    /// An area with its lines and shortcuts.
+    /// An area with its lines, curves and shortcuts.
     Area {
         number: u32,
         start: i32,
@@ -305,10 +341,12 @@ pub fn sides_of(stream: &[Entry]) -> Side<Piece> {
                 start,
                 segments: Vec::new(),
             })),
-            Entry::Line { .. } | Entry::Shortcut { .. } => match tokens.last_mut() {
-                Some(Token::One(Piece::Area { segments, .. })) => segments.push(*entry),
-                _ => panic!("a line or shortcut stands after its area"),
-            },
+            Entry::Line { .. } | Entry::Shortcut { .. } | Entry::Curve { .. } => {
+                match tokens.last_mut() {
+                    Some(Token::One(Piece::Area { segments, .. })) => segments.push(*entry),
+                    _ => panic!("a line or shortcut stands after its area"),
+                }
+            }
         }
     }
     sides(tokens)
@@ -346,18 +384,13 @@ pub fn of_sides(side: &Side<Piece>) -> Vec<Entry> {
 // ---- reading ----
 
 /// "An area's winding in it at (x, y) is its start number, plus the sign of each of its shortcuts
-/// with row y, plus +1 or −1 for each of its kept lines that counts there."
+/// with row y, plus +1 or −1 for each of its kept lines that counts there." Document 02, Item 2: "A
+/// contour's winding now means its curves too, in the tree and without it."
 pub fn winding(drawing: Drawing, start: i32, segments: &[Entry], x: u32, y: u32) -> i32 {
     let add = |segment: &Entry| match *segment {
         Entry::Shortcut { sign, first, end } if (first..end).contains(&y) => sign,
-        Entry::Line { from, to } => {
-            let edge = drawing.edge(from, to);
-            if edge.counts(x.into(), y.into()) {
-                edge.sign()
-            } else {
-                0
-            }
-        }
+        Entry::Line { from, to } => drawing.edge(from, to).adds(x, y),
+        Entry::Curve { from } => drawing.curve(from).adds(x, y),
         _ => 0,
     };
     start + segments.iter().map(add).sum::<i32>()

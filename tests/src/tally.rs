@@ -40,9 +40,13 @@ impl Tally {
         println!("{title}: {}", counts.join(", "));
     }
 
+    pub fn times(&self, what: &str) -> usize {
+        self.0.get(what).copied().unwrap_or(0)
+    }
+
     #[track_caller]
     pub fn reached(&self, what: &str, least: usize) {
-        let times = self.0.get(what).copied().unwrap_or(0);
+        let times = self.times(what);
         assert!(times >= least, "{what} reached {times} times, not {least}");
     }
 }

@@ -1,6 +1,6 @@
 //! A drawing in words, a line for each area, contour and delimiter (docs/SAMPLES.md), as records.
 
-use crate::drawing::{BAR, CLIP, CLOSE, FIRST, NEXT, OPEN, PAINT};
+use crate::drawing::{BAR, CLIP, CLOSE, CONTROL, FIRST, NEXT, OPEN, PAINT};
 use crate::record::{area, corner, delimiter, Record};
 
 /// The records of a text. Nothing but the form of the words is checked: a text may say a drawing
@@ -28,22 +28,28 @@ fn record_line(words: &[&str]) -> Option<Vec<Record>> {
             Some(vec![record])
         }
         ("clip", [rule]) => Some(vec![area(CLIP, fill_rule(rule)?, 0, [0; 3], 0)]),
-        ("contour", corners) => {
-            let kinds = std::iter::once(FIRST).chain(std::iter::repeat(NEXT));
-            corners
-                .iter()
-                .zip(kinds)
-                .map(|(place, kind)| {
-                    let (x, y) = place.split_once(',')?;
-                    Some(corner(kind, x.parse().ok()?, y.parse().ok()?))
-                })
-                .collect()
-        }
+        ("contour", corners) => contour(corners),
         ("(", []) => Some(vec![delimiter(OPEN)]),
         ("|", []) => Some(vec![delimiter(BAR)]),
         (")", []) => Some(vec![delimiter(CLOSE)]),
         _ => None,
     }
+}
+
+/// The corners of a contour. The word `control` says that the next is the control corner of a curve.
+fn contour(words: &[&str]) -> Option<Vec<Record>> {
+    let mut records = Vec::new();
+    let mut words = words.iter();
+    while let Some(word) = words.next() {
+        let (kind, place) = match *word {
+            "control" => (CONTROL, words.next()?),
+            _ if records.is_empty() => (FIRST, word),
+            _ => (NEXT, word),
+        };
+        let (x, y) = place.split_once(',')?;
+        records.push(corner(kind, x.parse().ok()?, y.parse().ok()?));
+    }
+    Some(records)
 }
 
 fn fill_rule(word: &str) -> Option<u8> {

@@ -348,9 +348,9 @@ fn breaks(tables: &Tables, tree: &TreeTables, leaf: u32) -> Vec<Break> {
     at("count", true, Change::Cell(5, u32::MAX));
     at("unnamed", false, Change::Cell(6, u32::MAX));
     at("unnamed", false, Change::Cell(7, u32::MAX));
-    for kind in [1, 2, 3, 4, 5, 6, 7] {
+    for kind in [1, 2, 3, 4, 5, 6, 7, 8] {
         at("kind", true, Change::Entry(kind, 0, 0));
-        at("kind", true, Change::Entry(kind, 0, 8));
+        at("kind", true, Change::Entry(kind, 0, 9));
     }
     at("area number", true, Change::Entry(4, 1, areas));
     at("area number", true, Change::Entry(4, 1, u32::MAX));
@@ -362,6 +362,12 @@ fn breaks(tables: &Tables, tree: &TreeTables, leaf: u32) -> Vec<Break> {
         at("corner number", true, Change::Entry(5, word, corners));
         at("corner number", true, Change::Entry(5, word, u32::MAX));
     }
+    // Of a curve the first of three corners.
+    for number in [corners.wrapping_sub(2), corners - 1, corners, u32::MAX] {
+        at("curve", true, Change::Entry(8, 1, number));
+    }
+    at("curve", false, Change::Entry(8, 2, u32::MAX));
+    at("curve", false, Change::Entry(8, 3, u32::MAX));
     for (beyond, sign) in [(false, 1), (false, u32::MAX), (true, 0), (true, 2)] {
         at("sign", beyond, Change::Entry(6, 1, sign));
     }
@@ -479,6 +485,7 @@ fn each_range_of_12_at_its_end_and_beyond() {
         "area number",
         "start",
         "corner number",
+        "curve",
         "sign",
         "first row",
         "row behind",
@@ -490,7 +497,7 @@ fn each_range_of_12_at_its_end_and_beyond() {
     for name in ["cells in use", "entries in use", "child", "start", "sign"] {
         tally.reached(&format!("{name} passed"), 30);
     }
-    for name in ["first row", "row behind", "coordinate", "unnamed"] {
+    for name in ["first row", "row behind", "coordinate", "unnamed", "curve"] {
         tally.reached(&format!("{name} passed"), 30);
     }
 }

@@ -3,7 +3,7 @@
 use zones_tests::compare;
 use zones_tests::damage::{self, Damage, DAMAGES};
 use zones_tests::drawing::{
-    self, AREA, AREA_WORDS, BAR, CLOSE, FIRST, MOST_AREAS, MOST_COORDINATE, MOST_CORNERS,
+    self, AREA, AREA_WORDS, BAR, CLOSE, CONTROL, FIRST, MOST_AREAS, MOST_COORDINATE, MOST_CORNERS,
     MOST_GROUPS, MOST_RECORDS, NEXT, OPEN, PLAN_COUNTS, RECORD_BYTES,
 };
 use zones_tests::lent::{any_bytes, lent_bytes, Lent, LentTables};
@@ -69,6 +69,7 @@ fn name_of_kind(kind: u8) -> &'static str {
         AREA => "area",
         FIRST => "first corner",
         NEXT => "next corner",
+        CONTROL => "control corner",
         OPEN => "(",
         BAR => "|",
         _ => ")",
@@ -128,7 +129,7 @@ fn random_records_are_read_alike() {
         let file = random_lent_file(random);
         let records = file.table().as_chunks::<RECORD_BYTES>().0;
         let count = |kinds: &[u8]| records.iter().filter(|r| kinds.contains(&r[0])).count();
-        let (areas, corners) = (count(&[AREA]), count(&[FIRST, NEXT]));
+        let (areas, corners) = (count(&[AREA]), count(&[FIRST, NEXT, CONTROL]));
         let plan = length(random, PLAN_COUNTS + records.len());
         let areas = length(random, AREA_WORDS * areas);
         let xs = length(random, corners);
@@ -145,13 +146,13 @@ fn random_records_are_read_alike() {
     }
     numbers.print("read");
     places.print("places");
-    for what in ["accepted", "1", "2", "3", "4", "5", "6", "7", "11"] {
+    for what in ["accepted", "1", "2", "3", "4", "5", "6", "7", "11", "13"] {
         numbers.reached(what, 1_000);
     }
     for what in ["2 first", "3 first", "4 first", "4 end", "5 end"] {
         places.reached(what, 100);
     }
-    for number in 2..=6 {
+    for number in [2, 3, 4, 5, 6, 13] {
         places.reached(&format!("{number} middle"), 100);
         places.reached(&format!("{number} last"), 100);
     }
@@ -161,12 +162,14 @@ fn random_records_are_read_alike() {
     for kind in ["area", "first corner", "next corner", "("] {
         places.reached(&format!("6 by {kind}"), 20);
     }
+    places.reached("6 by control corner", 5);
+    places.reached("13 by next corner", 1_000);
 }
 
-/// Where a refusal of 2 to 6 stands among the records, and what kind of record met 5 or 6.
+/// Where a refusal of 2 to 6 or 13 stands among the records, and what kind of record met 5, 6 or 13.
 fn note_place(places: &mut Tally, number: u32, place: usize, records: &[Record]) {
     let end = records.len();
-    if !(2..=6).contains(&number) {
+    if !(2..=6).contains(&number) && number != 13 {
         return;
     }
     if place == 0 {
@@ -194,9 +197,9 @@ fn note_place(places: &mut Tally, number: u32, place: usize, records: &[Record])
 fn every_byte_of_every_kind_is_read_alike() {
     let random = &mut Random::for_test(2);
     let mut tally = Tally::default();
-    let tables = LentTables::blank(random, [PLAN_COUNTS + 9, AREA_WORDS * 2, 3, 3]);
+    let tables = LentTables::blank(random, [PLAN_COUNTS + 10, AREA_WORDS * 2, 4, 4]);
     // Each kind stands in it, areas of both roles.
-    let whole = letters("p233(c|)");
+    let whole = letters("p2733(c|)");
     expect_accepted(&whole);
     for place in 0..whole.len() {
         for at in 0..RECORD_BYTES {
@@ -209,8 +212,14 @@ fn every_byte_of_every_kind_is_read_alike() {
         }
     }
     tally.print("every byte");
-    tally.reached("2", whole.len() * 250);
-    for (what, least) in [("accepted", 1_000), ("3", 1_000), ("4", 10), ("5", 1)] {
+    tally.reached("2", whole.len() * 249);
+    for (what, least) in [
+        ("accepted", 1_000),
+        ("3", 1_000),
+        ("4", 10),
+        ("5", 1),
+        ("13", 10),
+    ] {
         tally.reached(what, least);
     }
 }
@@ -233,7 +242,7 @@ fn coordinates_near_every_power_of_two_are_read_alike() {
     }
 }
 
-/// All sequences of up to seven of the records p, c, 2, 3, (, |, ).
+/// All sequences of up to seven of the records p, c, 2, 3, (, |, ); tests/curves.rs has those with 7.
 #[test]
 fn every_short_sequence_is_read_and_checked_alike() {
     let random = &mut Random::for_test(3);
@@ -402,12 +411,13 @@ fn order_of_checks() {
     let areas = repeated("p", MOST_AREAS + 1);
     let groups = repeated("(", MOST_GROUPS + 1);
     // 2 before 3, 4, 5, 6.
-    expect_read(&[[7; RECORD_BYTES]], refused(2, 0));
+    expect_read(&[[8; RECORD_BYTES]], refused(2, 0));
     expect_read(&[[0xFF; RECORD_BYTES]], refused(2, 0));
     expect_read(&marked(&letters("p23("), 3, 0, 9), refused(2, 3));
     expect_read(&marked(&areas, MOST_AREAS, 0, 0), refused(2, MOST_AREAS));
     expect_read(&marked(&groups, MOST_GROUPS, 0, 8), refused(2, MOST_GROUPS));
     // 3 before 4, 5, 6.
+    expect_read(&[[7; RECORD_BYTES]], refused(3, 0));
     expect_read(&[corner(NEXT, MOST_COORDINATE + 1, 0)], refused(3, 0));
     expect_read(&[corner(FIRST, 0, MOST_COORDINATE + 1)], refused(3, 0));
     expect_read(&marked(&letters(")"), 0, 15, 1), refused(3, 0));
@@ -444,7 +454,7 @@ fn order_of_checks() {
     }
     // An earlier record before a later one, whatever the numbers.
     let mut records = letters("p3()p");
-    records[4][0] = 7;
+    records[4][0] = 8;
     expect_read(&records, refused(4, 1));
     // 1 before the records.
     expect_read_bytes(&[7; 17], refused(1, 0));
@@ -460,7 +470,7 @@ fn order_of_checks_with_tables() {
         compare::read(&records, &tables).0
     };
     let whole = letters("p233(c|)").concat();
-    let unknown = [7; RECORD_BYTES];
+    let unknown = [8; RECORD_BYTES];
     let too_many = [0; RECORD_BYTES * (MOST_RECORDS + 1)];
     // 7 before 1, the records, the end, 11.
     assert_eq!(read(&[7; 17], [99, 99, 9, 8]), refused(7, 0));
@@ -505,7 +515,7 @@ fn order_of_checks_of_writing() {
     assert_eq!(write(&whole, 0), refused(11, 0));
     // 12 before 11.
     let mut broken = whole.clone();
-    broken.plan[3] = 7;
+    broken.plan[3] = 8;
     assert_eq!(write(&broken, 128), refused(12, 0));
     assert_eq!(write(&broken, 0), refused(12, 0));
     // 7 before 12 and 11.
@@ -581,7 +591,7 @@ fn what_was_read_is_written_back() {
 fn words_near_every_power_of_two_are_written_alike() {
     let random = &mut Random::for_test(10);
     let mut tally = Tally::default();
-    let whole = LentTables::longer(random, samples::tables(&letters("p233(c|)")));
+    let whole = LentTables::longer(random, samples::tables(&letters("p2733(c|)")));
     let out = lent_bytes(random, &[0xA5; 200]);
     for table in 0..4 {
         for at in 0..whole.each()[table].table().len() {

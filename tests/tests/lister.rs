@@ -58,6 +58,7 @@ fn the_samples() {
     let samples = Path::new(env!("CARGO_MANIFEST_DIR")).join("../samples");
     for (name, last) in [
         ("pit", "84 4227858432 8192 0 0\n"),
+        ("berms", "84 4227858432 8192 0 0\n"),
         ("quarter", "4 3221225472 32768 0 0\n"),
         ("full", "\nfull\n"),
         ("refused", "refused 5 at 7\n"),
@@ -78,6 +79,8 @@ fn words_are_refused() {
         "paint non-zero 256 0 0 0 1",
         "clip odd",
         "contour 1",
+        "contour 1,2 control",
+        "contour 1,2 control control 3,4",
         "( (",
         "group",
     ] {

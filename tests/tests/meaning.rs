@@ -2,6 +2,7 @@
 //! classes, the streams and the pruning.
 
 use zones_tests::class::{self, Class, Square};
+use zones_tests::curve::Segment;
 use zones_tests::drawing::{check_tables, CLIP, PAINT};
 use zones_tests::foreign;
 use zones_tests::machine;
@@ -236,8 +237,9 @@ fn the_class_at_four_positions_is_the_class_at_all() {
             from: end(random),
             to: end(random),
         };
-        let by_looking = class::edge_by_looking(edge, square);
-        assert_eq!(class::edge(edge, square), by_looking, "{edge:?} {square:?}");
+        let edge = Segment::Edge(edge);
+        let by_looking = class::by_looking(edge, square);
+        assert_eq!(class::of(edge, square), by_looking, "{edge:?} {square:?}");
         tally.note(name_of_class(by_looking).to_string());
 
         // L3: a shortcut of a parent, cut to a child, is what the edge itself is there.
@@ -245,7 +247,7 @@ fn the_class_at_four_positions_is_the_class_at_all() {
             (by_looking, square.quarters())
         {
             for quarter in quarters {
-                let of_edge = class::edge(edge, quarter);
+                let of_edge = class::of(edge, quarter);
                 assert_eq!(class::shortcut(sign, first, end, quarter), of_edge);
             }
         }
@@ -294,19 +296,21 @@ fn entries_and_their_words() {
     let random = &mut Random::for_test(43);
     for _ in 0..10_000 {
         let words = [
-            random.within(0..=8) as u32,
+            random.within(0..=9) as u32,
             random.word(),
             random.word(),
             random.word(),
         ];
         match Entry::decode(words) {
-            None => assert!(words[0] == 0 || words[0] == 8),
+            None => assert!(words[0] == 0 || words[0] == 9),
             Some(entry) => {
-                let named = match entry {
-                    Entry::Area { .. } | Entry::Line { .. } => 3,
-                    Entry::Shortcut { .. } => 4,
+                let named = match words[0] {
+                    4 | 5 => 3,
+                    6 => 4,
+                    8 => 2,
                     _ => 1,
                 };
+                assert_eq!(entry.named(), named);
                 let encoded = entry.encode();
                 assert_eq!(encoded[..named], words[..named]);
                 assert!(encoded[named..].iter().all(|word| *word == 0));

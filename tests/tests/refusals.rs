@@ -373,7 +373,7 @@ fn streams_that_pass_and_streams_that_do_not() {
     expect(true, &bares(4_093));
     expect(false, &bares(4_094));
     // Kinds.
-    for kind in [0, 8, 256 + 4, u32::MAX] {
+    for kind in [0, 9, 256 + 4, u32::MAX] {
         assert!(!passes(&lone_cell(&[paint]).changed(|case| {
             case.tree.entries[0] = kind;
         })));

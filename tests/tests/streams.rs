@@ -3,6 +3,7 @@
 //! the second implementation reads by meaning and prunes by literal rewriting.
 
 use zones_tests::class::Square;
+use zones_tests::curve::Curve;
 use zones_tests::drawing::{AREA_WORDS, MOST_AREAS, MOST_CORNERS, MOST_GROUPS, MOST_RECORDS};
 use zones_tests::foreign;
 use zones_tests::meaning::{Drawing, MOST_POSITION};
@@ -144,7 +145,7 @@ fn break_entry(random: &mut Random, sample: &mut Sample, at: usize) -> &'static 
     let at = ENTRY_WORDS * (sample.first() + at);
     let row = &mut sample.tree.entries[at..at + ENTRY_WORDS];
     let (name, word, value) = match (row[0], random.below(5)) {
-        (_, 0) => ("kind", 0, random.pick(&[0, 8, 9, 256 + row[0], u32::MAX])),
+        (_, 0) => ("kind", 0, random.pick(&[0, 9, 10, 256 + row[0], u32::MAX])),
         (4, 1 | 2) => {
             let areas = in_use.areas as u32;
             ("area", 1, random.pick(&[areas, areas + 1, 64, u32::MAX]))
@@ -167,11 +168,17 @@ fn break_entry(random: &mut Random, sample: &mut Sample, at: usize) -> &'static 
             2,
             random.pick(&[in_use.corners as u32, 2_048, u32::MAX]),
         ),
+        (8, _) => {
+            // The first of three corners: one of the three is not in use.
+            let corners = in_use.corners as u32;
+            let number = random.pick(&[corners - 2, corners - 1, corners, u32::MAX - 1, u32::MAX]);
+            ("curve", 1, number)
+        }
         (6, 1) => ("sign", 1, random.pick(&[0, 2, u32::MAX - 1, 1 << 31])),
         (6, 2) if low > 0 => ("first row", 2, low - 1),
         (6, 2 | 3) => ("no row", 2, row[3]),
         (6, _) => ("last row", 3, random.pick(&[low + side + 1, u32::MAX])),
-        (_, _) => ("kind", 0, random.pick(&[0, 8, u32::MAX])),
+        (_, _) => ("kind", 0, random.pick(&[0, 9, u32::MAX])),
     };
     row[word] = value;
     name
@@ -237,7 +244,7 @@ fn the_check_of_lent_streams() {
         tally.note(format!("other cell {passes}"));
     });
     tally.print("check");
-    for name in ["kind", "area", "start", "from", "to", "sign"] {
+    for name in ["kind", "area", "start", "from", "to", "curve", "sign"] {
         tally.reached(&format!("broken {name}"), 200);
     }
     for name in ["first row", "no row", "last row"] {
@@ -371,6 +378,10 @@ fn position(random: &mut Random, sample: &Sample, stream: &[Entry]) -> (u32, u32
                 let corner = random.pick(&[from, to]) as usize;
                 at_x = beside(random, sample.tables.xs[corner]);
                 at_y = beside(random, sample.tables.ys[corner]);
+            }
+            Entry::Curve { from } => {
+                let curve = Curve::of(Drawing::of(&sample.tables).curve_corners(from));
+                (at_x, at_y) = scenes::position_on_curve(random, curve);
             }
             _ => {}
         },
@@ -524,6 +535,7 @@ fn the_streams_of_children() {
         tally.reached(&format!("kind {kind}"), 2_000);
     }
     tally.reached("kind 7", 200);
+    tally.reached("kind 8", 2_000);
     for rule in 12..=18 {
         tally.reached(&format!("rule {rule}"), 300);
     }
