@@ -4,8 +4,8 @@
  * between calls. No two slices may overlap where one of them is written.
  *
  * Each answer is one number. Where zones_refusal(answer) is 0 the call was accepted and zones_low(answer) is the result that is named with the
- * call; otherwise it is document 01's number of the refusal, and zones_low(answer) is its place. A refused call leaves every table as it was,
- * but for a growing and a pixel row that are met by 12. */
+ * call; otherwise it is the documents' number of the refusal, 1 to 13, and zones_low(answer) is its place. A refused call leaves every table as it
+ * was, but for a growing and a pixel row that are met by 12. */
 #ifndef ZONES_H
 #define ZONES_H
 
@@ -29,7 +29,9 @@ static inline uint32_t zones_low(uint64_t answer) { return (uint32_t)answer; }
     const uint32_t *head, size_t head_len, const uint32_t *cells, size_t cells_len, const uint32_t *entries, \
         size_t entries_len
 
-/* Reads a file of records into the tables of a drawing. Result: the records. */
+/* Reads a file of records into the tables of a drawing. Record kind 7 is the control corner of a quadratic Bezier curve, between a corner (kind 2
+ * or 3) and the next (kind 3); a curve whose x or y are not in order, or that spans over 4,096 units, is refused with 13, at the record of kind 3
+ * that ends it. Result: the records. */
 uint64_t zones_read(const uint8_t *records, size_t records_len, uint32_t *plan, size_t plan_len, uint32_t *areas,
                     size_t areas_len, uint32_t *xs, size_t xs_len, uint32_t *ys, size_t ys_len);
 
@@ -42,12 +44,13 @@ uint64_t zones_open(ZONES_DRAWING, ZONES_TREE);
 /* Splits a cell in four. Result: the first of the four. */
 uint64_t zones_split(ZONES_DRAWING, ZONES_TREE, uint32_t cell);
 
-/* Splits every leaf with more lines than the threshold and a depth below the limit (0 to 16), lowest number first, until there is none (done) or
+/* Splits every leaf with more lines and curves than the threshold and a depth below the limit (0 to 16), lowest number first, until there is none (done) or
  * no room (full). Result: the splits made, and ZONES_FULL more where it is full. */
 #define ZONES_FULL 0x80000000u
 uint64_t zones_grow(ZONES_DRAWING, ZONES_TREE, uint32_t threshold, uint32_t limit);
 
-/* Finds the leaf that holds (x, y). Seven words of out: cell, x, y, side, steps, entries, lines. Result: the cell. */
+/* Finds the leaf that holds (x, y). Seven words of out: cell, x, y, side, steps, entries, lines (curves
+ * among them). Result: the cell. */
 uint64_t zones_find_leaf(ZONES_DRAWING, ZONES_CONST_TREE, uint32_t x, uint32_t y, uint32_t *out, size_t out_len);
 
 /* What shows at (x, y). Six words of out: the low and the high half of the shown set (bit n is area n), material, red, green, blue.
