@@ -43,6 +43,7 @@ On Q k (group l r t) = On Q clip l × On Q k r × On Q k t
 
 module _ (D : Drawing) where
   -- "F0, C0, F1, C1 are areas with no line or shortcut, whose start number fails or passes; F1 also has alpha 255."
+  -- Nor has one a curve, document 02: "In cells, streams, their grammar and pruning a curve goes as an edge or line does".
   abbrev pub passing : Kind → ℕ → Class
   passing paint n = cond (isOpaque D n) passes other
   passing clip n = passes

@@ -3,12 +3,12 @@ use mathlib.Core.Path.{_≡_, sym, ap, ap₂, _∙_}
 use Prim.Native.Nat.{ℕ, suc, _+_, _*_}
 use native.Mathlib.Omega.{arith}
 use lib.IntN.{ℤ, pos, negsuc, negℤ, subℕ, _-ℤ_, _*ℤ_}
-use Rattle.laws.proofs.Differences.{sub-eq, pos-sub, negsuc-sub, mul-sub}
+use Rattle.laws.proofs.Differences.{sub-eq, pos-sub, negsuc-sub, neg-sub, sub-sub, mul-sub}
 use Rattle.curves.specs.Lines.{product}
 use Rattle.curves.specs.Curves.{implicit}
 use Rattle.curves.proofs.Products.{plus, minus, product-is}
 use Rattle.curves.proofs.Sides.{formP, formN}
-use Rattle.curves.proofs.Tests.{neg-sub, sub-sub, implicit-is}
+use Rattle.curves.proofs.Tests.{implicit-is}
 
 -- ---- affine functions of a position: whole coefficients of x, of y, and a number, each given as a difference
 

@@ -1,39 +1,19 @@
 -- The quick test in integers is the side in naturals; so, in the rows of a curve in order, it is the sentence's case: `not-falling` where its x do not fall,
 -- and `falling`, by mirroring, where they fall.
-use mathlib.Core.Path.{_≡_, refl, sym, ap, ap₂, _∙_, subst}
+use mathlib.Core.Path.{_≡_, refl, ap, ap₂, _∙_, subst}
 use mathlib.Core.Bool.{Bool, true, false, cond, _&&_, _||_}
-use Prim.Native.Nat.{ℕ, zero, suc, _+_, _*_, _-_, _≤_, _<_}
+use Prim.Native.Nat.{ℕ, _+_, _*_, _-_, _≤_, _<_}
 use native.Mathlib.Omega.{arith}
 use lib.Dec.{T, ltb}
-use lib.IntN.{ℤ, pos, negℤ, subℕ, _+ℤ_, _-ℤ_, _*ℤ_, *ℤ-comm}
-use lib.Signed.{ltZ}
+use lib.IntN.{ℤ, subℕ, _-ℤ_, _*ℤ_, *ℤ-comm}
 use borrow.Author.Tests.{lt-ltb, le-ltb, ltb-true, ltb-false}
 use Rattle.laws.proofs.Booleans.{true-T, or-right}
-use Rattle.laws.proofs.Differences.{sub-pos, sub-cases, sub-eq, pos-sub, negsuc-sub, add-sub, mul-sub, above-zero}
+use Rattle.laws.proofs.Differences.{sub-eq, pos-sub, sub-sub, mul-sub, above-zero, below-zero}
 use Rattle.curves.specs.Lines.{product}
 use Rattle.curves.specs.Curves.{square, weighed, Under, Above, implicit, sideBy, side}
 use Rattle.curves.proofs.Products.{plus, minus, product-is}
 use Rattle.curves.proofs.Sides.{formP, formN, Side, straight, left-of, chord, right-of}
 use Rattle.curves.proofs.Fractions.{under-sound, under-complete}
-
--- ---- laws of differences
-
-neg-pos : (n : ℕ) → negℤ (pos n) ≡ subℕ 0 n
-neg-pos zero = pos-sub 0
-neg-pos (suc n) = negsuc-sub n
-
-pub neg-sub : (c d : ℕ) → negℤ (subℕ c d) ≡ subℕ d c
-neg-sub c d =
-    sub-cases (λ z. negℤ z ≡ subℕ d c) c d (λ n h. neg-pos n ∙ sub-eq 0 n d c (omega arith)) (λ n h. sym (sub-pos d c (suc n) (omega arith)))
-
-pub sub-sub : (a b c d : ℕ) → subℕ a b -ℤ subℕ c d ≡ subℕ (a + d) (b + c)
-sub-sub a b c d = ap (λ z. subℕ a b +ℤ z) (neg-sub c d) ∙ add-sub a b d c
-
-below-zero : (a b : ℕ) → ltZ (subℕ a b) (pos 0) ≡ ltb a b
-below-zero a b =
-    sub-cases (λ z. ltZ z (pos 0) ≡ ltb a b) a b
-    (λ n h. le-ltb n 0 (omega arith) ∙ sym (le-ltb a b (omega arith)))
-    (λ n h. sym (lt-ltb a b (omega arith)))
 
 pub implicit-is : (cp cn fp fn sp sn : ℕ) → implicit (subℕ cp cn) (subℕ fp fn) (subℕ sp sn) ≡ subℕ (formP cp cn fp fn sp sn) (formN cp cn fp fn sp sn)
 implicit-is cp cn fp fn sp sn =

@@ -1,15 +1,15 @@
 -- A drawn curve that a drawing may have counts where document 02's sentence says, taken from its lower end.
 use mathlib.Core.Path.{_≡_, subst, sym, _∙_}
-use mathlib.Core.Bool.{Bool, true, false, cond}
+use mathlib.Core.Bool.{true}
 use Prim.Native.Nat.{ℕ, _≤_, _<_}
 use native.Mathlib.Omega.{arith}
 use native.Mathlib.Decide.{decLe}
-use lib.Dec.{T, leb}
+use lib.Dec.{T}
 use borrow.Author.Tests.{lt-leb, le-leb}
 use Rattle.curves.specs.Curves.{CountsBy, curveFits, curveCounts}
 use Rattle.curves.proofs.Sentences.{order-up, rise-of, sentence}
 use Rattle.curves.proofs.Boxes.{fits-says, fits-turn}
-use Rattle.geometry.specs.Edges.{bentCounts, counts}
+use Rattle.geometry.specs.Edges.{counts}
 use Rattle.geometry.specs.code.Reach.{CurveIn}
 use Rattle.geometry.specs.declared.edge.Edge.{Edge}
 

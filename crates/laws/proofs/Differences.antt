@@ -83,6 +83,13 @@ mul-sub a b c d =
 pub pos-pos : (a b : ℕ) → pos a -ℤ pos b ≡ subℕ a b
 pos-pos a b = rw (neg-pos b, pos-sub a) (add-sub a 0 0 b ∙ sub-eq (a + 0) (0 + b) a b (omega arith))
 
+pub neg-sub : (c d : ℕ) → negℤ (subℕ c d) ≡ subℕ d c
+neg-sub c d =
+    sub-cases (λ z. negℤ z ≡ subℕ d c) c d (λ n h. neg-pos n ∙ sub-eq 0 n d c (omega arith)) (λ n h. sym (sub-pos d c (suc n) (omega arith)))
+
+pub sub-sub : (a b c d : ℕ) → subℕ a b -ℤ subℕ c d ≡ subℕ (a + d) (b + c)
+sub-sub a b c d = ap (λ z. subℕ a b +ℤ z) (neg-sub c d) ∙ add-sub a b d c
+
 -- the order
 pub above-zero : (a b : ℕ) → ltZ (pos 0) (subℕ a b) ≡ ltb b a
 above-zero a b =
@@ -93,6 +100,12 @@ above-zero a b =
     test : (n a b : ℕ) → a ≡ b + n → ltb 0 n ≡ ltb b a
     test zero a b h = sym (le-ltb b a (omega arith))
     test (suc n) a b h = lt-ltb 0 (suc n) (omega arith) ∙ sym (lt-ltb b a (omega arith))
+
+pub below-zero : (a b : ℕ) → ltZ (subℕ a b) (pos 0) ≡ ltb a b
+below-zero a b =
+    sub-cases (λ z. ltZ z (pos 0) ≡ ltb a b) a b
+    (λ n h. le-ltb n 0 (omega arith) ∙ sym (le-ltb a b (omega arith)))
+    (λ n h. sym (lt-ltb a b (omega arith)))
 
 -- the magnitude
 pub mag-sub : (a b m : ℕ) → a < m → b ≤ m → mag (subℕ a b) < m

@@ -3,7 +3,7 @@ use mathlib.Core.Path.{_≡_, refl, sym, ap, subst, _∙_}
 use mathlib.Core.List.{List, [], _∷_, _++_, map}
 use Prim.Native.Nat.{ℕ, _+_, _*_, _≤_, _<_}
 use native.Mathlib.Omega.{arith}
-use lib.ListN.{length, getD, drop}
+use lib.ListN.{length, drop}
 use lib.IntN.{ℤ}
 use Rattle.geometry.specs.declared.class.Class.{Class}
 use Rattle.geometry.specs.declared.class.Square.{Square}

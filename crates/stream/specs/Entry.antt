@@ -23,14 +23,14 @@ pub data Entry : Type 0 where
   -- a kind that is none of these
   bad : Entry
 
--- the kind of a curve; document 02: "a kept curve is one entry that the lister and growing count as a line": the kind of a line or of a curve; the kind of a
--- line, a curve or a shortcut
 abbrev pub isCurve : (kind : ℕ) → Bool
 isCurve k = eqb k 8
 
+-- a line or a curve, document 02: "a kept curve is one entry that the lister and growing count as a line"
 abbrev pub isLine : (kind : ℕ) → Bool
 isLine k = eqb k 5 || isCurve k
 
+-- a line, a curve or a shortcut
 abbrev pub isSegment : (kind : ℕ) → Bool
 isSegment k = isLine k || eqb k 6
 
