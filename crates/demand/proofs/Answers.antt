@@ -12,6 +12,7 @@ use Rattle.refusals.specs.declared.Refusal.the-variants as Refusals
 use Rattle.refusals.specs.Refusals.{numberOf}
 use Rattle.cells.specs.Cells.{at, level}
 use Rattle.cells.specs.Drawings.{Drawing}
+use Rattle.stream.specs.Entry.{linesIn}
 use Rattle.ranges.proofs.Streams.{words-length}
 use Rattle.celltable.specs.Descent.{leafOf}
 use Rattle.split.specs.declared.Answer as Splitting
@@ -25,7 +26,7 @@ use Rattle.grow.specs.Grow.{Ending, none-left, no-room, not-passed, grown, answ
 use Rattle.find_leaf.specs.declared.FoundLeaf.{FoundLeaf}
 use Rattle.find_leaf.specs.declared.Answer as Finding
 use Rattle.find_leaf.specs.declared.Answer.the-variants as Finds
-use Rattle.find_leaf.specs.Leaf.{positionRange, linesIn, reportOf, foundBy, leafIn, findAnswer}
+use Rattle.find_leaf.specs.Leaf.{positionRange, reportOf, foundBy, leafIn, findAnswer}
 use Rattle.find_leaf.proofs.Landing.{on-grid}
 use Rattle.position.specs.declared.Spot.{Spot}
 use Rattle.position.specs.declared.Answer as Reading

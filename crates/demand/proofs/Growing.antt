@@ -12,6 +12,7 @@ use borrow.Author.Tests.{eqb-true, eqb-false, ltb-true, lt-ltb}
 use Rattle.laws.proofs.Booleans.{and-left, and-right, and-both, clash}
 use Rattle.cells.specs.Cells.{level}
 use Rattle.cells.specs.Drawings.{Drawing}
+use Rattle.stream.specs.Entry.{linesIn}
 use Rattle.stream.specs.Grammar.{checkStream}
 use Rattle.split.specs.declared.Answer as Splitting
 use Rattle.tables.specs.Tables.{Tree, cellsUsed, entriesUsed}
@@ -19,7 +20,6 @@ use Rattle.split.specs.Split.{words, against, stream, splitAnswer}
 use Rattle.split_laws.specs.After.{splitTree}
 use Rattle.split_laws.proofs.Counts.{used-most}
 use Rattle.open.specs.Open.{drawingTables}
-use Rattle.find_leaf.specs.Leaf.{linesIn}
 use Rattle.grow.specs.declared.Tried.{Tried}
 use Rattle.grow.specs.declared.Tried.the-variants.{Bad, Past, Wanted}
 use Rattle.grow.specs.Grow.{

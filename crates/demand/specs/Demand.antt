@@ -7,6 +7,7 @@ use lib.ListN.{length}
 use Rattle.refusals.specs.declared.Refusal.the-variants as Refusals
 use Rattle.cells.specs.Cells.{at, left, low, side, level}
 use Rattle.cells.specs.Drawings.{Drawing}
+use Rattle.stream.specs.Entry.{linesIn}
 use Rattle.tables.specs.Tables.{Tree}
 use Rattle.split.specs.declared.Answer as Splitting
 use Rattle.split.specs.declared.Answer.the-variants as Splits
@@ -19,7 +20,7 @@ use Rattle.grow.specs.Grow.{growAnswer, growTree}
 use Rattle.find_leaf.specs.declared.FoundLeaf.{FoundLeaf}
 use Rattle.find_leaf.specs.declared.Answer as Finding
 use Rattle.find_leaf.specs.declared.Answer.the-variants as Finds
-use Rattle.find_leaf.specs.Leaf.{positionRange, linesIn}
+use Rattle.find_leaf.specs.Leaf.{positionRange}
 use Rattle.answers.specs.Answers.{findRoom, outFound}
 use Rattle.demand.specs.History.{Node, begun, afterSplits, cellIn, Leaf, LeafAt}
 use Rattle.demand.specs.Stands.{drawingOf, wordsOfCell, Stands}

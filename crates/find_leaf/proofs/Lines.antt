@@ -5,10 +5,9 @@ use mathlib.Core.List.{List}
 use Prim.Native.Nat.{ℕ, _+_, _-_, _≤_, _<_}
 use native.Mathlib.Omega.{arith}
 use Rattle.stream.specs.declared.Words.{Words}
-use Rattle.stream.specs.Entry.{isLine}
+use Rattle.stream.specs.Entry.{isLine, linesIn}
 use Rattle.stream.specs.Table.{wordsAt, wordsFrom}
 use Rattle.stream.proofs.Table.{words-step, words-none}
-use Rattle.find_leaf.specs.Leaf.{linesIn}
 
 -- entry i is the next, of those from f to e, n of the ones before it are lines, and whole are all of them
 pub record Counting (t : List ℕ) (f e i n whole : ℕ) : Type 0 where

@@ -1,13 +1,13 @@
 -- Document 01, "Cells" and "From the state": the leaf that holds a position, in a tree in lent tables.
 use mathlib.Core.Bool.{Bool, cond, _&&_}
-use mathlib.Core.List.{List, [], _∷_}
-use Prim.Native.Nat.{ℕ, _+_}
+use mathlib.Core.List.{List}
+use Prim.Native.Nat.{ℕ}
 use lib.Dec.{eqb, ltb}
 use lib.ListN.{length, getD}
 use Rattle.refusals.specs.declared.Refusal.the-variants as Refusals
 use Rattle.stream.specs.declared.Bounds.{Bounds}
 use Rattle.stream.specs.declared.Words.{Words}
-use Rattle.stream.specs.Entry.{isLine}
+use Rattle.stream.specs.Entry.{linesIn}
 use Rattle.stream.specs.Table.{wordsFrom}
 use Rattle.stream.specs.Grammar.{env, bounds, checkStream}
 use Rattle.celltable.specs.declared.Leaf.{Leaf}
@@ -22,11 +22,6 @@ use Rattle.find_leaf.specs.declared.Answer.the-variants as Answers
 -- "Positions are whole x, y from 0 to 65,535."; 7: "position ... out of range"
 abbrev pub positionRange : (x y : ℕ) → Bool
 positionRange x y = ltb x 65536 && ltb y 65536
-
--- how many entries are lines: a shortcut is none; document 02: "a kept curve is one entry that the lister and growing count as a line"
-abbrev pub linesIn : List Words → ℕ
-linesIn [] = 0
-linesIn (w ∷ ws) = cond (isLine (w .kind)) (1 + linesIn ws) (linesIn ws)
 
 -- "finding a leaf reports as many steps as the leaf's depth, at most 16": its number, low corner, side, steps, entries and lines; document 01 leaves all but
 -- the steps free

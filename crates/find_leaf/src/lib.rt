@@ -6,11 +6,11 @@ ghost use mathlib.Core.Path.{_≡_};
 ghost use mathlib.Core.Bool.{cond};
 ghost use Prim.Native.Nat.{_+_, _*_, _≤_};
 ghost use lib.ListN.{length, getD};
-ghost use Rattle.stream.specs.Entry.{isLine};
+ghost use Rattle.stream.specs.Entry.{isLine, linesIn};
 ghost use Rattle.stream.specs.Table.{wordsFrom};
 ghost use Rattle.stream.specs.Grammar.{env, bounds, checkStream};
 ghost use Rattle.tables.specs.Tables.{treeLent, countsIn};
-ghost use Rattle.find_leaf.specs.Leaf.{positionRange, linesIn, leafIn, reportOf, foundBy, findAnswer};
+ghost use Rattle.find_leaf.specs.Leaf.{positionRange, leafIn, reportOf, foundBy, findAnswer};
 
 // A leaf as it is reported: its number, low corner, side, depth, and how many entries and lines it has.
 pub struct FoundLeaf {

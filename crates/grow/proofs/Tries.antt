@@ -10,6 +10,7 @@ use lib.ListN.{length}
 use borrow.Author.Tests.{eqb-true, ltb-true, ne-eqb}
 use Rattle.laws.proofs.Booleans.{clash, and-right}
 use Rattle.refusals.specs.declared.Refusal.the-variants.{Room}
+use Rattle.stream.specs.Entry.{linesIn}
 use Rattle.stream.specs.Table.{wordsFrom}
 use Rattle.stream.specs.Grammar.{Env, env, checkStream}
 use Rattle.celltable.specs.declared.CellWords.{CellWords}
@@ -27,7 +28,6 @@ use Rattle.split_laws.proofs.Trees.{tree-keeps-cell, tree-cell, tree-stream}
 use Rattle.split_laws.proofs.Passing.{tree-range, tree-range-split, tree-check}
 use Rattle.grow.specs.declared.Tried.{Tried}
 use Rattle.grow.specs.declared.Tried.the-variants.{Bad, Past, Wanted}
-use Rattle.find_leaf.specs.Leaf.{linesIn}
 use Rattle.grow.specs.Grow.{depthAt, isWanted, triedCell, tried}
 
 -- ---- the four tests

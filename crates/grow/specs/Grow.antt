@@ -7,6 +7,7 @@ use lib.ListN.{length}
 use Rattle.refusals.specs.Refusals.{numberOf}
 use Rattle.refusals.specs.declared.Refusal.the-variants.{Argument, Broken}
 use Rattle.stream.specs.declared.Words.{Words}
+use Rattle.stream.specs.Entry.{linesIn}
 use Rattle.stream.specs.Table.{wordsFrom}
 use Rattle.stream.specs.Grammar.{Env, checkStream}
 use Rattle.celltable.specs.declared.CellWords.{CellWords}
@@ -16,7 +17,6 @@ use Rattle.split.specs.declared.Answer.the-variants as split
 use Rattle.tables.specs.Tables.{Tree, cellsUsed, entriesUsed, countsIn}
 use Rattle.split.specs.Split.{words, against, splitAnswer}
 use Rattle.split_laws.specs.After.{splitTree}
-use Rattle.find_leaf.specs.Leaf.{linesIn}
 use Rattle.grow.specs.declared.Answer.{Answer}
 use Rattle.grow.specs.declared.Answer.the-variants.{Done, Full, Not}
 use Rattle.grow.specs.declared.Tried.{Tried}

@@ -10,6 +10,7 @@ use borrow.Author.Tests.{eqb-true, eqb-false, ltb-true, ltb-false}
 use Rattle.laws.proofs.Booleans.{and-right}
 use Rattle.refusals.specs.Refusals.{numberOf}
 use Rattle.cells.specs.Cells.{cell, side, Quarter, child}
+use Rattle.stream.specs.Entry.{linesIn}
 use Rattle.stream.specs.Table.{wordsFrom}
 use Rattle.stream.specs.Grammar.{checkStream}
 use Rattle.celltable.specs.declared.CellWords.{CellWords}
@@ -52,7 +53,7 @@ use Rattle.grow.specs.Grow.{
 }
 use Rattle.find_leaf.specs.declared.FoundLeaf.{FoundLeaf}
 use Rattle.find_leaf.specs.declared.Answer.the-variants.{Found}
-use Rattle.find_leaf.specs.Leaf.{linesIn, findAnswer}
+use Rattle.find_leaf.specs.Leaf.{findAnswer}
 use Rattle.listing.specs.Listed.{lineOf, listed, Among}
 use Rattle.listing.proofs.Every.{every-leaf, found-cell}
 use Rattle.demand.specs.code.Opened.{openedBy}

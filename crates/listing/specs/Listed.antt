@@ -6,12 +6,13 @@ use mathlib.Core.List.{List, [], _∷_, _++_}
 use Prim.Native.Nat.{ℕ, zero, suc, _+_, _*_, _/_, _%_, _≤_, _<_}
 use lib.Dec.{eqb}
 use Rattle.geometry.specs.Keys.{keyOf}
+use Rattle.stream.specs.Entry.{linesIn}
 use Rattle.tables.specs.Tables.{Tree, cellsUsed}
 use Rattle.split.specs.Split.{words, stream}
 use Rattle.find_leaf.specs.declared.FoundLeaf.{FoundLeaf}
 use Rattle.find_leaf.specs.declared.Answer.{Answer}
 use Rattle.find_leaf.specs.declared.Answer.the-variants.{Found, Not}
-use Rattle.find_leaf.specs.Leaf.{linesIn, findAnswer}
+use Rattle.find_leaf.specs.Leaf.{findAnswer}
 use Rattle.listing.specs.declared.Line.{Line}
 use Rattle.listing.specs.declared.Corner.{Corner}
 use Rattle.listing.specs.declared.Corner.the-variants.{Low, Other}

@@ -1,6 +1,7 @@
 -- Document 01, "Cells", and document 02, Item 2: an entry of a stream, and what the four words say that hold it.
-use Prim.Native.Nat.{ℕ}
+use Prim.Native.Nat.{ℕ, _+_}
 use mathlib.Core.Bool.{Bool, cond, _||_}
+use mathlib.Core.List.{List, [], _∷_}
 use lib.Dec.{eqb, leb}
 use Rattle.stream.specs.declared.Words.{Words}
 
@@ -29,6 +30,11 @@ isCurve k = eqb k 8
 -- a line or a curve, document 02: "a kept curve is one entry that the lister and growing count as a line"
 abbrev pub isLine : (kind : ℕ) → Bool
 isLine k = eqb k 5 || isCurve k
+
+-- how many entries are lines: a shortcut is none
+abbrev pub linesIn : List Words → ℕ
+linesIn [] = 0
+linesIn (w ∷ ws) = cond (isLine (w .kind)) (1 + linesIn ws) (linesIn ws)
 
 -- a line, a curve or a shortcut
 abbrev pub isSegment : (kind : ℕ) → Bool

@@ -2,8 +2,8 @@ use borrow.Author.Needs.{needs}
 use Rattle.find_leaf.proofs.lines_in.Statement.{statement}
 use Rattle.find_leaf.proofs.lines_in.Tie as tie
 use Prim.Native.Nat.{_-_}
+use Rattle.stream.specs.Entry.{linesIn}
 use Rattle.stream.specs.Table.{wordsFrom}
-use Rattle.find_leaf.specs.Leaf.{linesIn}
 use Rattle.find_leaf.proofs.Lines.{Counting, counting-start, counting-turn, counting-done}
 
 abbrev Inv-loop : tie.InvT-loop
