@@ -46,7 +46,7 @@ length-filled zero l = refl
 length-filled (suc n) [] = ap suc (length-filled n [])
 length-filled (suc n) (z ∷ l) = ap suc (length-filled n l)
 
-filled-at : (n : ℕ) (l : List ℤ) (i : ℕ) → i < n → getD (filled n l) i (pos 0) ≡ getD l i (pos 0)
+pub filled-at : (n : ℕ) (l : List ℤ) (i : ℕ) → i < n → getD (filled n l) i (pos 0) ≡ getD l i (pos 0)
 unfolding filled
 filled-at zero l i h = absurd (not-suc-le-zero h)
 filled-at (suc n) [] zero h = refl

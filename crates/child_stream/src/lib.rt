@@ -21,30 +21,29 @@ ghost use Rattle.child_stream.specs.code.Numbers.{starts, notedN, firstO
 
 // ---- the start numbers of the areas
 // How many, and the numbers, with zeros behind them: the `starts` of document 01's "child tallies (entries, lines, starts)". They are proved to be those
-// of the child's stream (`count_child`: `startsIn`), which is written from its parent's stream and not from them.
+// of the child's stream (`count_child`: `startsIn`), which is written from its parent's stream and not from them. 16 bits hold each.
 pub struct Starts {
     pub count: usize,
-    pub at: [i64; records::MOST_AREAS],
+    pub at: [i16; records::MOST_AREAS],
 }
 
 // The start number of the area that waits, behind those of the areas that stand. An area that goes again makes place for the next.
-fn note(at: &mut [i64], p: Pruner, a: Waiting)
+fn note(at: &mut [i16], p: Pruner, a: Waiting)
     requires { ⌜ length (now at) ≡ 64 ⌝ }
     requires { ⌜ natAbs (a .start) ≤ 8192 ⌝ }
     ensures at { λ _. ⌜ now (at .exit) ≡ notedN (now (at .entry)) p a ⌝ }
 {
     let k = (p.weight / 4294967296) as usize;
-    let z = a.start;
+    let z = a.start as i16;
     if k < records::MOST_AREAS {
         at[k] = z;
     }
 }
 
 // The first `count` of them, with zeros behind them.
-fn ended(zs: [i64; records::MOST_AREAS], count: usize) -> Starts
-    ensures answer { λ r. ⌜ r ≡ starts count (firstOf count zs) ⌝ }
+fn ended(mut at: [i16; records::MOST_AREAS], count: usize) -> Starts
+    ensures answer { λ r. ⌜ r ≡ starts count (firstOf count at) ⌝ }
 {
-    let mut at = zs;
     let mut i = count;
     while i < records::MOST_AREAS {
         at[i] = 0;
@@ -85,7 +84,7 @@ pub fn count_child(
     let end = first + count;
     let mut p = pruner::begun();
     let mut a = making::rest();
-    let mut at = [0i64; records::MOST_AREAS];
+    let mut at = [0i16; records::MOST_AREAS];
     let mut i = first;
     while i < end {
         let w = stream::read_entry(entries, i);

@@ -13,7 +13,7 @@ abbrev μ-loop : tie.MeasureT-loop
 μ-loop count at₀ i₀ at i = 64 - i
 
 loop-holds : tie.Need-loop-holds Inv-loop μ-loop
-loop-holds c = let a = c .args in clear-begin (a .zs) (c .good .0 .1 .0 .1) (a .count)
+loop-holds c = let a = c .args in clear-begin (a .t1) (c .good .0 .1 .0 .1) (a .count)
 
 mul-at : tie.Need-mul-at Inv-loop μ-loop
 mul-at c = search needs
@@ -32,7 +32,7 @@ loop-again c =
     let at-loop = c .before in
     let at-entry = at-loop .before in
     let a = at-entry .args in
-    clear-turn (a .zs) (at-entry .good .0 .1 .0 .1) (a .count) (at-loop .loop .i) (at-loop .loop .at) (at-loop .loop .inv)
+    clear-turn (a .t1) (at-entry .good .0 .1 .0 .1) (a .count) (at-loop .loop .i) (at-loop .loop .at) (at-loop .loop .inv)
     (c .loop-test .taken)
 
 returns : tie.Need-returns Inv-loop μ-loop
@@ -41,7 +41,7 @@ returns c =
     let at-entry = at-loop .before in
     let a = at-entry .args in
     ap (starts (a .count))
-    (clear-end (a .zs) (at-entry .good .0 .1 .0 .1) (a .count) (at-loop .loop .i) (at-loop .loop .at) (at-loop .loop .inv)
+    (clear-end (a .t1) (at-entry .good .0 .1 .0 .1) (a .count) (at-loop .loop .i) (at-loop .loop .at) (at-loop .loop .inv)
     (c .loop-test .left))
 
 pub ended-spec : {M : Type 1} → statement M
