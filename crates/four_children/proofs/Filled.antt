@@ -15,8 +15,9 @@ use Rattle.stream.specs.Grammar.{Env, accepts, Passed}
 use Rattle.stream.proofs.Table.{from-agree, written-nil, written-append, written-keeps, length-written}
 use Rattle.making.proofs.Made.{made-length}
 use Rattle.four_children.specs.declared.Tally.{Tally}
-use Rattle.four_children.specs.Children.{cellOfChild, elementsOfChild, wordsOfChild, entriesOfChild, streamsTo}
-use Rattle.four_children.specs.code.Numbers.{tally, fourTallies, noTally}
+use Rattle.four_children.specs.Children.{cellOfChild, wordsOfChild, entriesOfChild, streamsTo}
+use Rattle.four_children.specs.code.Numbers.{noTally, workedTo}
+use Rattle.four_children.proofs.Worked.{worked-done}
 
 pub length-child : (D : Drawing) (c : Cell) (ws : List Words) (q : ℕ) → length (wordsOfChild D c ws q) ≡ entriesOfChild D c ws q
 length-child D c ws q = made-length D (cellOfChild D c ws q) ws
@@ -27,22 +28,12 @@ pub streams-more : (D : Drawing) (c : Cell) (ws : List Words) (n : ℕ)
 unfolding streamsTo
 streams-more D c ws n = length-append (streamsTo D c ws n) (wordsOfChild D c ws n) ∙ ap (λ (k : ℕ). length (streamsTo D c ws n) + k) (length-child D c ws n)
 
--- the tally of child q
-tally-at : (D : Drawing) (c : Cell) (ws : List Words) (ts : List Tally) (q : ℕ)
-    → q < 4
-    → ts ≡ fourTallies D c ws
-    → getD ts q noTally ≡ tally (elementsOfChild D c ws q)
-tally-at D c ws ts zero h e = rw e
-tally-at D c ws ts (suc zero) h e = rw e
-tally-at D c ws ts (suc (suc zero)) h e = rw e
-tally-at D c ws ts (suc (suc (suc zero))) h e = rw e
-tally-at D c ws ts (suc (suc (suc (suc q)))) h e = absurd (omega arith)
-
+-- the entries of child q, by the four tallies
 pub entries-at : (D : Drawing) (c : Cell) (ws : List Words) (ts : List Tally) (q : ℕ)
     → q < 4
-    → ts ≡ fourTallies D c ws
+    → ts ≡ workedTo D c ws 4
     → getD ts q noTally .entries ≡ entriesOfChild D c ws q
-entries-at D c ws ts q h e = ap (λ (x : Tally). x .entries) (tally-at D c ws ts q h e)
+entries-at D c ws ts q h e = rw e (ap (λ (t : Tally). t .entries) (worked-done D c ws 4 q (omega arith) h))
 
 -- after q children, with the next at entry `at`
 pub record Filled (D : Drawing) (c : Cell) (t₀ : List ℕ) (first count free q at : ℕ) (t : List ℕ) : Type 0 where

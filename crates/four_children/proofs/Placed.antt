@@ -14,7 +14,7 @@ use Rattle.celltable.specs.Descent.{quarterAt}
 use Rattle.celltable.proofs.Table.{length-put-cell}
 use Rattle.four_children.specs.declared.Tally.{Tally}
 use Rattle.four_children.specs.Children.{wordsWith, cellOfChild, streamsTo, cellsTo}
-use Rattle.four_children.specs.code.Numbers.{noTally, firstBy, cellsBy, fourTallies, FewEach}
+use Rattle.four_children.specs.code.Numbers.{noTally, firstBy, cellsBy, workedTo, FewEach}
 use Rattle.four_children.proofs.Filled.{entries-at, streams-more}
 
 -- after q children, the stream of the next begins at `at`
@@ -55,18 +55,18 @@ module _ (c : Cell) (ts : List Tally) (t₀ : List ℕ) (used free : ℕ) (few :
 
 -- ---- by the tallies of the four children the table is that of document 01
 module _ (D : Drawing) (c : Cell) (ws : List Words) (t : List ℕ) (used free : ℕ) where
-  first-is : (q : ℕ) → q ≤ 4 → firstBy (fourTallies D c ws) free q ≡ free + length (streamsTo D c ws q)
+  first-is : (q : ℕ) → q ≤ 4 → firstBy (workedTo D c ws 4) free q ≡ free + length (streamsTo D c ws q)
   unfolding streamsTo
   first-is zero h = omega arith
-  first-is (suc q) h = omega (arith, first-is q (omega arith), entries-at D c ws (fourTallies D c ws) q (omega arith) refl, streams-more D c ws q)
+  first-is (suc q) h = omega (arith, first-is q (omega arith), entries-at D c ws (workedTo D c ws 4) q (omega arith) refl, streams-more D c ws q)
 
-  by-is-to : (n : ℕ) → n ≤ 4 → cellsBy c (fourTallies D c ws) t used free n ≡ cellsTo D c ws t used free n
+  by-is-to : (n : ℕ) → n ≤ 4 → cellsBy c (workedTo D c ws 4) t used free n ≡ cellsTo D c ws t used free n
   unfolding cellsBy cellsTo
   by-is-to zero h = refl
   by-is-to (suc n) h =
       λ d.
       putCellAt (by-is-to n (omega arith) d) (used + n)
-      (wordsWith (cellOfChild D c ws n) (first-is n (omega arith) d) (entries-at D c ws (fourTallies D c ws) n (omega arith) refl d))
+      (wordsWith (cellOfChild D c ws n) (first-is n (omega arith) d) (entries-at D c ws (workedTo D c ws 4) n (omega arith) refl d))
 
-  pub cells-by-four : (ts : List Tally) → ts ≡ fourTallies D c ws → cellsBy c ts t used free 4 ≡ cellsTo D c ws t used free 4
+  pub cells-by-four : (ts : List Tally) → ts ≡ workedTo D c ws 4 → cellsBy c ts t used free 4 ≡ cellsTo D c ws t used free 4
   cells-by-four ts e = ap (λ (x : List Tally). cellsBy c x t used free 4) e ∙ by-is-to 4 (omega arith)

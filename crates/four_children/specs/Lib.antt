@@ -1,3 +1,4 @@
 -- The four children of a cell.
 pub mod Children
+pub mod Worked
 pub mod code

@@ -1,10 +1,11 @@
-// The four children of a cell: their streams counted together before any is written, then written child by child, and their cells.
+// The four children of a cell: their streams counted, child after child, before any is written, then written child by child, and their cells.
 use celltable::CellWords;
 use child_stream::Count;
 use child_stream::Starts;
 use stream::Bounds;
 ghost use mathlib.Core.Path.{_≡_};
 ghost use mathlib.Core.Bool.{true};
+ghost use mathlib.Core.List.{[], _∷_};
 ghost use Prim.Native.Nat.{_+_, _*_, _≤_, _<_};
 ghost use lib.ListN.{length};
 ghost use Rattle.stream.specs.Table.{wordsFrom, written};
@@ -12,13 +13,13 @@ ghost use Rattle.stream.specs.Grammar.{env, Passed};
 ghost use Rattle.celltable.specs.Ranges.{squareRange, cellOf};
 ghost use Rattle.ranges.specs.Held.{lent};
 ghost use Rattle.four_children.specs.Children.{elementsOfChild, wordsOfChild, entriesOfChild, streamsTo, wordsWith};
-ghost use Rattle.four_children.specs.code.Numbers.{tally, tallyN, fourTallies, cellsBy, FewEach};
+ghost use Rattle.four_children.specs.code.Numbers.{tally, tallyN, emptyTally, workedTo, cellsBy, FewEach};
 ghost use Rattle.cells.specs.Cells.{child};
 ghost use Rattle.celltable.specs.Descent.{quarterAt};
 
 // What a child's stream has; document 01 asks for an "array of four child tallies (entries, lines, starts) passed and returned by value". `entries`
-// decides 11 and where the child's stream begins. `lines` and `starts` are proved to be those of that stream (`count_four`: `fourTallies`). No call
-// reads them today: a word for a cell's lines would be taken from here.
+// decides 11 and where the child's stream begins. `lines` and `starts` are those of that stream too (`EachPass`). No call reads them today: a word for
+// a cell's lines would be taken from here.
 pub struct Tally {
     pub entries: usize,
     pub lines: usize,
@@ -60,8 +61,25 @@ fn count_one(
     tally_of(n)
 }
 
-// The tallies of all four children.
-pub fn count_four(
+// The tallies before any child's pass.
+fn no_tallies() -> [Tally; 4]
+    ensures answer { λ r. ⌜ r ≡ emptyTally ∷ emptyTally ∷ emptyTally ∷ emptyTally ∷ [] ⌝ }
+{
+    let none = Tally {
+        entries: 0,
+        lines: 0,
+        starts: Starts {
+            count: 0,
+            at: [0i16; records::MOST_AREAS],
+        },
+    };
+    [none; 4]
+}
+
+// Child q's pass: the whole of its parent's stream, before the next child's. The children before it have their tallies, those after it none.
+fn count_next(
+    mut ts: [Tally; 4],
+    q: u32,
     entries: &[u32],
     first: usize,
     count: usize,
@@ -71,17 +89,47 @@ pub fn count_four(
     b: Bounds,
     w: CellWords,
 ) -> [Tally; 4]
+    requires { ⌜ q < 4 ⌝ }
     requires { ⌜ Passed (now entries) first count (env (now areas) (now xs) (now ys) b) ⌝ }
     requires { ⌜ squareRange w ≡ true ⌝ }
     requires { ⌜ 1 < w .side ⌝ }
-    ensures answer { λ r. ⌜ r ≡
-        fourTallies (lent (now (areas .entry)) (now (xs .entry)) (now (ys .entry)) b) (cellOf w) (wordsFrom (now (entries .entry)) first count) ⌝ }
+    requires { ⌜ ts ≡ workedTo (lent (now areas) (now xs) (now ys) b) (cellOf w) (wordsFrom (now entries) first count) q ⌝ }
+    ensures answer { λ r. ⌜ r ≡ workedTo
+        (lent (now (areas .entry)) (now (xs .entry)) (now (ys .entry)) b) (cellOf w) (wordsFrom (now (entries .entry)) first count) (q + 1) ⌝ }
 {
-    let t0 = count_one(entries, first, count, areas, xs, ys, b, w, 0);
-    let t1 = count_one(entries, first, count, areas, xs, ys, b, w, 1);
-    let t2 = count_one(entries, first, count, areas, xs, ys, b, w, 2);
-    let t3 = count_one(entries, first, count, areas, xs, ys, b, w, 3);
-    [t0, t1, t2, t3]
+    let t = count_one(entries, first, count, areas, xs, ys, b, w, q);
+    let k = q as usize;
+    ts[k] = t;
+    ts
+}
+
+// The tallies after the passes of the first n children, one child after another.
+pub fn count_to(
+    entries: &[u32],
+    first: usize,
+    count: usize,
+    areas: &[u32],
+    xs: &[u32],
+    ys: &[u32],
+    b: Bounds,
+    w: CellWords,
+    n: u32,
+) -> [Tally; 4]
+    requires { ⌜ Passed (now entries) first count (env (now areas) (now xs) (now ys) b) ⌝ }
+    requires { ⌜ squareRange w ≡ true ⌝ }
+    requires { ⌜ 1 < w .side ⌝ }
+    requires { ⌜ n ≤ 4 ⌝ }
+    ensures answer { λ r. ⌜ r ≡ workedTo
+        (lent (now (areas .entry)) (now (xs .entry)) (now (ys .entry)) b) (cellOf w) (wordsFrom (now (entries .entry)) first count) n ⌝ }
+{
+    let mut ts = no_tallies();
+    let mut q: u32 = 0;
+    while q < n {
+        let next = count_next(ts, q, entries, first, count, areas, xs, ys, b, w);
+        ts = next;
+        q += 1;
+    }
+    ts
 }
 
 // Writes the stream of child q, which has `made` entries, from entry `free` on.
@@ -128,7 +176,7 @@ pub fn write_four(
     requires { ⌜ squareRange w ≡ true ⌝ }
     requires { ⌜ 1 < w .side ⌝ }
     requires { ⌜ first + count ≤ free ⌝ }
-    requires { ⌜ ts ≡ fourTallies (lent (now areas) (now xs) (now ys) b) (cellOf w) (wordsFrom (now entries) first count) ⌝ }
+    requires { ⌜ ts ≡ workedTo (lent (now areas) (now xs) (now ys) b) (cellOf w) (wordsFrom (now entries) first count) 4 ⌝ }
     requires { ⌜ (free + length (streamsTo (lent (now areas) (now xs) (now ys) b) (cellOf w) (wordsFrom (now entries) first count) 4)) * 4
         ≤ length (now entries) ⌝ }
     ensures entries { λ _. ⌜ now (entries .exit) ≡ written (now (entries .entry)) free (streamsTo

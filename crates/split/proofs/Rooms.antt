@@ -18,13 +18,13 @@ use Rattle.split.specs.declared.Answer.the-variants.{Split, Not}
 use Rattle.split.specs.Split.{roomAnswer}
 use Rattle.four_children.specs.declared.Tally.{Tally}
 use Rattle.four_children.specs.Children.{cellOfChild, wordsOfChild, entriesOfChild, streamsTo}
-use Rattle.four_children.specs.code.Numbers.{noTally, fourTallies, FewEach}
+use Rattle.four_children.specs.code.Numbers.{noTally, workedTo, FewEach}
 use Rattle.four_children.proofs.Filled.{length-child, entries-at}
 use Rattle.four_children.proofs.Made.{few-elements}
 
 pub few-each : (t areas xs ys : List ℕ) (b : Bounds) (first count : ℕ) (c : Cell) (ts : List Tally)
     → Passed t first count (env areas xs ys b)
-    → ts ≡ fourTallies (lent areas xs ys b) c (wordsFrom t first count)
+    → ts ≡ workedTo (lent areas xs ys b) c (wordsFrom t first count) 4
     → FewEach ts
 few-each t areas xs ys b first count c ts p e =
     record {
@@ -52,7 +52,7 @@ sum-four D c ws =
       length-child D c ws 3,
     )
 
-pub sum-is : (D : Drawing) (c : Cell) (ws : List Words) (ts : List Tally) (n : ℕ) → ts ≡ fourTallies D c ws
+pub sum-is : (D : Drawing) (c : Cell) (ws : List Words) (ts : List Tally) (n : ℕ) → ts ≡ workedTo D c ws 4
     → n ≡ getD ts 0 noTally .entries + getD ts 1 noTally .entries + getD ts 2 noTally .entries + getD ts 3 noTally .entries → n ≡ length (streamsTo D c ws 4)
 sum-is D c ws ts n e h =
     omega (

@@ -13,7 +13,7 @@ ghost use Rattle.celltable.specs.Table.{putChildAt};
 ghost use Rattle.celltable.specs.Ranges.{squareRange, cellOf};
 ghost use Rattle.ranges.specs.Held.{lent};
 ghost use Rattle.four_children.specs.Children.{streamsTo};
-ghost use Rattle.four_children.specs.code.Numbers.{noTally, fourTallies, cellsBy, FewEach};
+ghost use Rattle.four_children.specs.code.Numbers.{noTally, workedTo, cellsBy, FewEach};
 ghost use Rattle.tables.specs.Tables.{treeLent, cellsUsed, entriesUsed};
 ghost use Rattle.split.specs.Split.{roomAnswer, leafAnswer, cellAnswer, headBy, cellsOf, entriesBy, drawingSplit, countsSplit};
 ghost use Rattle.split.specs.Split.{splitAnswer, headAfter, cellsAfter, entriesAfter};
@@ -71,7 +71,7 @@ fn put_split(
     requires { ⌜ squareRange w ≡ true ⌝ }
     requires { ⌜ 1 < w .side ⌝ }
     requires { ⌜ w .first + w .count ≤ free ⌝ }
-    requires { ⌜ ts ≡ fourTallies (lent (now areas) (now xs) (now ys) b) (cellOf w) (wordsFrom (now entries) (w .first) (w .count)) ⌝ }
+    requires { ⌜ ts ≡ workedTo (lent (now areas) (now xs) (now ys) b) (cellOf w) (wordsFrom (now entries) (w .first) (w .count)) 4 ⌝ }
     requires { ⌜ (free + length (streamsTo (lent (now areas) (now xs) (now ys) b) (cellOf w) (wordsFrom (now entries) (w .first) (w .count)) 4)) * 4
         ≤ length (now entries) ⌝ }
     requires { ⌜ FewEach ts ⌝ }
@@ -130,7 +130,17 @@ pub fn split_in_room(
 {
     let first = w.first as usize;
     let count = w.count as usize;
-    let ts = four_children::count_four(entries, first, count, areas, xs, ys, b, w);
+    let ts = four_children::count_to(
+        entries,
+        first,
+        count,
+        areas,
+        xs,
+        ys,
+        b,
+        w,
+        celltable::CHILDREN,
+    );
     let n = entries_of(ts);
     let all = (free as usize) + n;
     if tables::cells_held(used + celltable::CHILDREN, cells.len()) {

@@ -1,6 +1,8 @@
 -- The four children as the numbers that the code holds: document 01 asks for an "array of four child tallies".
+use mathlib.Core.Bool.{cond}
 use mathlib.Core.List.{List, [], _∷_}
 use Prim.Native.Nat.{ℕ, zero, suc, _+_, _/_, _%_, _≤_, _<_}
+use lib.Dec.{ltb}
 use lib.ListN.{length, getD}
 use Rattle.cells.specs.Cells.{Cell, child}
 use Rattle.cells.specs.Segments.{drawn, shortcut}
@@ -36,8 +38,13 @@ tally rs = record { entries = length rs; lines = sumOf lineOne rs; starts = star
 abbrev pub tallyN : Count → Tally
 tallyN k = record { entries = k .weight % 65536; lines = k .weight / 65536 % 65536; starts = k .starts }
 
+-- what the array has past its end
 abbrev pub noTally : Tally
 noTally = record { entries = 0; lines = 0; starts = record { count = 0; at = [] } }
+
+-- what a child has before its pass
+abbrev pub emptyTally : Tally
+emptyTally = tally []
 
 -- where the stream of child n begins, by the tallies
 abbrev pub firstBy : List Tally → (free n : ℕ) → ℕ
@@ -54,7 +61,10 @@ cellsBy c ts t used free (suc n) =
 pub record FewEach (ts : List Tally) : Type 0 where
   pub few : (n : ℕ) → n < 4 → getD ts n noTally .entries ≤ 4096
 
--- the tallies of the children of cell c with the stream that ws say
-abbrev pub fourTallies : (D : Drawing) (c : Cell) (ws : List Words) → List Tally
-fourTallies D c ws =
-    tally (elementsOfChild D c ws 0) ∷ tally (elementsOfChild D c ws 1) ∷ tally (elementsOfChild D c ws 2) ∷ tally (elementsOfChild D c ws 3) ∷ []
+-- the tallies after the passes of the first q children of cell c with the stream that ws say: those of the first q, the others as they were
+module _ (D : Drawing) (c : Cell) (ws : List Words) where
+  abbrev pub workedAt : (q k : ℕ) → Tally
+  workedAt q k = cond (ltb k q) (tally (elementsOfChild D c ws k)) emptyTally
+
+  abbrev pub workedTo : (q : ℕ) → List Tally
+  workedTo q = workedAt q 0 ∷ workedAt q 1 ∷ workedAt q 2 ∷ workedAt q 3 ∷ []

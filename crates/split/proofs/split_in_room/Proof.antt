@@ -22,8 +22,10 @@ cast-first c = search needs
 cast-count : tie.Need-cast-count
 cast-count c = search needs
 
-count-four-requires : tie.Need-count-four-requires
-count-four-requires c κs = search needs
+count-to-requires : tie.Need-count-to-requires
+count-to-requires c κs =
+    let p = c .before .before .before .before .before .before .before .before .before .pre in
+    (p .0, (p .1 .0, (p .1 .1 .0, omega arith)))
 
 entries-of-requires : tie.Need-entries-of-requires
 entries-of-requires c κs =
@@ -31,20 +33,20 @@ entries-of-requires c κs =
     let a = at-entry .args in
     let p = at-entry .pre in
     let K = cellOf (a .w) in
-    few-each (now (a .entries)) (now (a .areas)) (now (a .xs)) (now (a .ys)) (a .b) (a .w .first) (a .w .count) K (c .count-four .result)
-    (p .0) (c .count-four .ensures)
+    few-each (now (a .entries)) (now (a .areas)) (now (a .xs)) (now (a .ys)) (a .b) (a .w .first) (a .w .count) K (c .count-to .result)
+    (p .0) (c .count-to .ensures)
 
 add-all : tie.Need-add-all
 add-all c =
-    let after-count-four = c .before in
-    let at-entry = after-count-four .before .before .before .before .before .before .before .before .before .before in
+    let after-count-to = c .before in
+    let at-entry = after-count-to .before .before .before .before .before .before .before .before .before .before in
     let a = at-entry .args in
     let p = at-entry .pre in
     let D = lent (now (a .areas)) (now (a .xs)) (now (a .ys)) (a .b) in
     let ws = wordsFrom (now (a .entries)) (a .w .first) (a .w .count) in
     let K = cellOf (a .w) in
     let f = few-each (now (a .entries)) (now (a .areas)) (now (a .xs)) (now (a .ys)) (a .b) (a .w .first) (a .w .count) K
-    (after-count-four .count-four .result) (p .0) (after-count-four .count-four .ensures) in
+    (after-count-to .count-to .result) (p .0) (after-count-to .count-to .ensures) in
     record {
       fits = omega (
         arith,
@@ -69,15 +71,15 @@ entries-held-requires c κs = search needs
 cast-put-split : tie.Need-cast-put-split
 cast-put-split c =
     let after-entries-of = c .before .before .before .before .before .before .before in
-    let after-count-four = after-entries-of .before in
-    let at-entry = after-count-four .before .before .before .before .before .before .before .before .before .before in
+    let after-count-to = after-entries-of .before in
+    let at-entry = after-count-to .before .before .before .before .before .before .before .before .before .before in
     let a = at-entry .args in
     let p = at-entry .pre in
     let D = lent (now (a .areas)) (now (a .xs)) (now (a .ys)) (a .b) in
     let ws = wordsFrom (now (a .entries)) (a .w .first) (a .w .count) in
     let K = cellOf (a .w) in
     let f = few-each (now (a .entries)) (now (a .areas)) (now (a .xs)) (now (a .ys)) (a .b) (a .w .first) (a .w .count) K
-    (after-count-four .count-four .result) (p .0) (after-count-four .count-four .ensures) in
+    (after-count-to .count-to .result) (p .0) (after-count-to .count-to .ensures) in
     record {
       fits = omega (
         arith,
@@ -96,15 +98,15 @@ put-split-requires c κs =
     let at-if1 = after-entries-held .before in
     let after-cells-held = at-if1 .before in
     let after-entries-of = after-cells-held .before in
-    let after-count-four = after-entries-of .before in
-    let at-entry = after-count-four .before .before .before .before .before .before .before .before .before .before in
+    let after-count-to = after-entries-of .before in
+    let at-entry = after-count-to .before .before .before .before .before .before .before .before .before .before in
     let a = at-entry .args in
     let p = at-entry .pre in
     let D = lent (now (a .areas)) (now (a .xs)) (now (a .ys)) (a .b) in
     let ws = wordsFrom (now (a .entries)) (a .w .first) (a .w .count) in
     let K = cellOf (a .w) in
-    let n = sum-is D K ws (after-count-four .count-four .result) (after-entries-of .entries-of .result)
-    (after-count-four .count-four .ensures) (after-entries-of .entries-of .ensures) in
+    let n = sum-is D K ws (after-count-to .count-to .result) (after-entries-of .entries-of .result)
+    (after-count-to .count-to .ensures) (after-entries-of .entries-of .ensures) in
     let e = entries-room (a .free + after-entries-of .entries-of .result) (length (now (a .entries)))
     (sym (after-entries-held .entries-held .ensures) ∙ at-if2 .if2 .taken) in
     let k = cells-room (a .used + 4) (length (now (a .cells))) (sym (after-cells-held .cells-held .ensures) ∙ at-if1 .if1 .taken) in (
@@ -116,13 +118,13 @@ put-split-requires c κs =
           (
             p .1 .1 .1 .0,
             (
-              after-count-four .count-four .ensures,
+              after-count-to .count-to .ensures,
               (
                 omega (arith, e .0, n),
                 (
                   few-each (now (a .entries)) (now (a .areas)) (now (a .xs)) (now (a .ys)) (a .b) (a .w .first)
-                      (a .w .count) K (after-count-four .count-four .result) (p .0)
-                      (after-count-four .count-four .ensures),
+                      (a .w .count) K (after-count-to .count-to .result) (p .0)
+                      (after-count-to .count-to .ensures),
                   (
                     k .0,
                     (
@@ -155,14 +157,14 @@ returns c =
     let at-if1 = after-entries-held .before in
     let after-cells-held = at-if1 .before in
     let after-entries-of = after-cells-held .before in
-    let after-count-four = after-entries-of .before in
-    let at-entry = after-count-four .before .before .before .before .before .before .before .before .before .before in
+    let after-count-to = after-entries-of .before in
+    let at-entry = after-count-to .before .before .before .before .before .before .before .before .before .before in
     let a = at-entry .args in
     let D = lent (now (a .areas)) (now (a .xs)) (now (a .ys)) (a .b) in
     let ws = wordsFrom (now (a .entries)) (a .w .first) (a .w .count) in
     let K = cellOf (a .w) in
-    let n = sum-is D K ws (after-count-four .count-four .result) (after-entries-of .entries-of .result)
-    (after-count-four .count-four .ensures) (after-entries-of .entries-of .ensures) in
+    let n = sum-is D K ws (after-count-to .count-to .result) (after-entries-of .entries-of .result)
+    (after-count-to .count-to .ensures) (after-entries-of .entries-of .ensures) in
     let s = after-put-split .put-split .ensures in (
       has-room (length (now (a .cells))) (length (now (a .entries))) (a .used) (a .free) (after-entries-of .entries-of .result)
           (madeBy (now (a .areas)) (now (a .xs)) (now (a .ys)) (a .b) (a .w) (now (a .entries)))
@@ -173,8 +175,8 @@ returns c =
         (
           s .1 .0
               ∙ ap (λ (u : List ℕ). putChildAt u (a .i) (a .used))
-              (cells-by-four D K ws (now (a .cells)) (a .used) (a .free) (after-count-four .count-four .result)
-              (after-count-four .count-four .ensures)),
+              (cells-by-four D K ws (now (a .cells)) (a .used) (a .free) (after-count-to .count-to .result)
+              (after-count-to .count-to .ensures)),
           s .1 .1,
         ),
       ),
@@ -189,8 +191,8 @@ returns-2 c =
     let at-if1 = after-entries-held .before in
     let after-cells-held = at-if1 .before in
     let after-entries-of = after-cells-held .before in
-    let after-count-four = after-entries-of .before in
-    let at-entry = after-count-four .before .before .before .before .before .before .before .before .before .before in
+    let after-count-to = after-entries-of .before in
+    let at-entry = after-count-to .before .before .before .before .before .before .before .before .before .before in
     let a = at-entry .args in
     let D = lent (now (a .areas)) (now (a .xs)) (now (a .ys)) (a .b) in
     let ws = wordsFrom (now (a .entries)) (a .w .first) (a .w .count) in
@@ -199,8 +201,8 @@ returns-2 c =
           (madeBy (now (a .areas)) (now (a .xs)) (now (a .ys)) (a .b) (a .w) (now (a .entries)))
           (sym (after-cells-held .cells-held .ensures) ∙ at-if1 .if1 .taken)
           (sym (after-entries-held .entries-held .ensures) ∙ c .if2 .left)
-          (sum-is D K ws (after-count-four .count-four .result) (after-entries-of .entries-of .result)
-          (after-count-four .count-four .ensures) (after-entries-of .entries-of .ensures)),
+          (sum-is D K ws (after-count-to .count-to .result) (after-entries-of .entries-of .result)
+          (after-count-to .count-to .ensures) (after-entries-of .entries-of .ensures)),
       (refl, (refl, refl)),
     )
 
@@ -224,7 +226,7 @@ split-in-room-spec =
     (tie.spec
     cast-first
     cast-count
-    count-four-requires
+    count-to-requires
     entries-of-requires
     add-all
     add-cells-held
