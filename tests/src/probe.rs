@@ -1,5 +1,6 @@
 //! Calls of the library for the tests only: the check of a lent stream, its reading at a position,
-//! and the making of a child's stream. Their C functions, and safe functions on slices over them.
+//! the making of a child's stream, and the tallies of the children after each pass. Their C
+//! functions, and safe functions on slices over them.
 
 use crate::class::Square;
 use crate::samples::Tables;
@@ -64,6 +65,28 @@ extern "C" {
         y: u32,
         half: u32,
     ) -> u64;
+
+    fn probe_tally(
+        entries: *const u32,
+        entries_len: usize,
+        first: usize,
+        count: usize,
+        used: usize,
+        areas: *const u32,
+        areas_len: usize,
+        xs: *const u32,
+        xs_len: usize,
+        ys: *const u32,
+        ys_len: usize,
+        areas_used: usize,
+        corners_used: usize,
+        low: u32,
+        side: u32,
+        x: u32,
+        passes: u32,
+        child: u32,
+        number: usize,
+    ) -> i64;
 }
 
 /// A lent stream: where its entries stand in their table, what is in use, the tables of the drawing
@@ -124,5 +147,13 @@ impl Lent<'_> {
         let Square { x, y, side } = square;
         let answer = on_stream!(probe_child, self, as_mut_ptr entries, x, y, side);
         (answer as usize).checked_sub(1)
+    }
+
+    /// A number of the tally of a child, after the passes of the first so many children: 0 its
+    /// entries, 1 its lines, 2 how many start numbers it has, 3 and on the start numbers. 0 if the
+    /// stream does not pass, its square has no children, or there is no such child or number.
+    pub fn tally(&self, entries: &[u32], passes: u32, child: u32, number: usize) -> i64 {
+        let x = self.square.x;
+        on_stream!(probe_tally, self, as_ptr entries, x, passes, child, number)
     }
 }

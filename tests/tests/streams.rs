@@ -608,3 +608,95 @@ fn the_streams_on_the_way_down() {
     tally.print("down");
     tally.reached("side 1", 1_200);
 }
+
+// ---- the tallies of the children ----
+
+/// The numbers of a tally, one after another: entries, lines, how many start numbers, and these.
+fn numbers(stream: &[Entry]) -> Vec<i64> {
+    let starts = stream.iter().filter_map(|entry| match *entry {
+        Entry::Area { start, .. } => Some(i64::from(start)),
+        _ => None,
+    });
+    let starts: Vec<i64> = starts.collect();
+    let mut numbers = vec![
+        stream.len() as i64,
+        i64::from(stream::lines(stream)),
+        starts.len() as i64,
+    ];
+    numbers.extend(starts);
+    numbers
+}
+
+/// After each child's pass its entries, lines and start numbers are those of its stream, and the
+/// children to come have none.
+#[track_caller]
+fn expect_tallies(random: &mut Random, sample: &Sample, stream: &[Entry], tally: &mut Tally) {
+    let drawing = Drawing::of(&sample.tables);
+    let lent = sample.lent();
+    let entries = &sample.tree.entries;
+    let Some(quarters) = sample.square.quarters() else {
+        let (passes, child) = (random.below(5) as u32, random.below(4) as u32);
+        assert_eq!(lent.tally(entries, passes, child, random.below(4)), 0);
+        tally.note("no children".to_string());
+        return;
+    };
+    let expected = quarters.map(|square| {
+        let child = prune(drawing, &stream::in_square(drawing, stream, square));
+        numbers(&child)
+    });
+    for passes in 0..=4 {
+        for (k, child) in (0..).zip(&expected) {
+            // All its numbers and one behind them; behind the last of 64 places too.
+            let more = child.len() + random.below(3 + MOST_AREAS);
+            for number in (0..child.len()).chain([more, 3 + MOST_AREAS, usize::MAX]) {
+                let of_child = child.get(number).copied().unwrap_or(0);
+                let told = if k < passes { of_child } else { 0 };
+                let found = lent.tally(entries, passes, k, number);
+                assert_eq!(found, told, "after {passes} passes child {k}, {number}");
+            }
+        }
+    }
+    for child in &expected {
+        tally.note(if child[1] > 0 { "lines" } else { "no line" }.to_string());
+        tally.note(match child[3..].iter().any(|&start| start != 0) {
+            true => "starts that are not 0".to_string(),
+            false => format!("{} areas", child[2].min(1)),
+        });
+    }
+    // Too many passes, and no such child.
+    assert_eq!(lent.tally(entries, 5, 0, 0), 0);
+    assert_eq!(lent.tally(entries, u32::MAX, 0, 0), 0);
+    assert_eq!(lent.tally(entries, 4, 4, 0), 0);
+    assert_eq!(lent.tally(entries, 4, u32::MAX, 0), 0);
+}
+
+#[test]
+fn the_tallies_after_each_pass() {
+    let random = &mut Random::for_test(85);
+    let mut tally = Tally::default();
+    each_stream(random, 20_000, |random, sample, stream| {
+        expect_tallies(random, &sample, &stream, &mut tally);
+        // A stream that does not pass.
+        if !stream.is_empty() {
+            let mut broken = sample.clone();
+            let at = random.below(stream.len());
+            break_entry(random, &mut broken, at);
+            let found = broken.lent().tally(&broken.tree.entries, 4, 0, 0);
+            assert_eq!(found, 0);
+        }
+    });
+    // The fullest drawings, as cell 0 has them: up to 64 start numbers.
+    for _ in 0..3 {
+        let tables = samples::tables(&samples::fullest(random));
+        let drawing = Drawing::of(&tables);
+        let stream = prune(drawing, &stream::of_drawing(drawing));
+        let words = stream::words(&stream);
+        let sample = Sample::new(random, tables, &words, Square::WHOLE);
+        expect_tallies(random, &sample, &stream, &mut tally);
+    }
+    tally.print("tallies");
+    tally.reached("no children", 100);
+    tally.reached("lines", 1_000);
+    tally.reached("no line", 1_000);
+    tally.reached("starts that are not 0", 1_000);
+}

@@ -8,6 +8,9 @@ use native.Mathlib.Omega.{arith}
 use native.Mathlib.Nat.{one-le-pow, pow-le-pow-right}
 use lib.Dec.{eqb, leb, ltb}
 use lib.ListN.{length}
+use lib.IntN.{ℤ}
+use mir.Syntax.{w16, w64}
+use mir.Val.{SFits}
 use borrow.Author.Tests.{leb-true, ltb-true, le-leb, lt-leb}
 use Rattle.laws.proofs.Booleans.{clash, and-left, and-right, and-true}
 use Rattle.curves.specs.code.Reach.{PositionIn}
@@ -126,3 +129,18 @@ room-left used n made all e h = le-leb (used + made) all (omega arith)
 
 pub room-out : (used n made all : ℕ) → n ≡ made → all < used + n → leb (used + made) all ≡ false
 room-out used n made all e h = lt-leb (used + made) all (omega arith)
+
+-- ---- the tallies
+
+-- a square with children, so many passes, and one of the children
+pub children-in : (side q k : ℕ) → (ltb 1 side && leb q 4) && ltb k 4 ≡ true → (1 < side) × (q ≤ 4) × (k < 4)
+children-in side q k h =
+    let a = and-left (ltb 1 side && leb q 4) (ltb k 4) h in (
+      ltb-true 1 side (and-left (ltb 1 side) (leb q 4) a),
+      leb-true q 4 (and-right (ltb 1 side) (leb q 4) a),
+      ltb-true k 4 (and-right (ltb 1 side && leb q 4) (ltb k 4) h),
+    )
+
+-- a number of 16 bits in 64
+pub wider : (z : ℤ) → SFits w16 z → SFits w64 z
+wider z f = record { sfits = omega (arith, f .sfits) }
