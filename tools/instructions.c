@@ -5,7 +5,7 @@
 #include <stdlib.h>
 #include <string.h>
 
-enum { RUN = 2000, ROUNDS = 5, ROWS = 9, PIXELS = 4096 };
+enum { RUN = 2000, ROUNDS = 5, ROWS = 9, PIXELS = 4096, SPLITS = 100 };
 
 static uint8_t records[4096 * 16 + 1], pixels[3 * PIXELS];
 static uint32_t plan[3 + 4096], areas[8 * 64], xs[2048], ys[2048];
@@ -33,10 +33,56 @@ static void grow(uint32_t threshold, uint32_t limit) {
     accepted("grow", zones_grow(DRAWING, TREE, threshold, limit));
 }
 
+static uint64_t next(uint64_t *seed) {
+    return *seed = *seed * 6364136223846793005u + 1442695040888963407u;
+}
+
+static void put_entry(uint32_t n, uint32_t kind, uint32_t p, uint32_t q) {
+    const uint32_t entry[4] = {kind, p, q, 0};
+    memcpy(entries + 4 * n, entry, sizeof entry);
+}
+
+/* A tree of cell 0 alone: its stream has so many groups, each of "passes" so many times and of a paint area with so many lines all over the grid. */
+static void lay_stream(uint32_t groups, uint32_t passes, uint32_t lines) {
+    uint64_t seed = 1;
+    uint32_t n = 0;
+    for (uint32_t g = 0; g < groups; g++) {
+        const uint32_t area[8] = {0, 0, 255, 10, 20, 30, g + 1, 0};
+        memcpy(areas + 8 * g, area, sizeof area);
+        put_entry(n++, 1, 0, 0);
+        for (uint32_t k = 0; k < passes; k++) put_entry(n++, 7, 0, 0);
+        put_entry(n++, 2, 0, 0);
+        put_entry(n++, 4, g, 0);
+        for (uint32_t k = 0; k < lines; k++) {
+            xs[g * lines + k] = (uint32_t)(next(&seed) >> 33) & 65535;
+            ys[g * lines + k] = (uint32_t)(seed >> 48) & 65535;
+            put_entry(n++, 5, g * lines + k, g * lines + (k + 1) % lines);
+        }
+        put_entry(n++, 3, 0, 0);
+    }
+    plan[1] = groups;
+    plan[2] = groups * lines;
+    head[1] = n;
+    const uint32_t cell[8] = {0, 0, 65536, 0, 0, n, 0, 0};
+    memcpy(cells, cell, sizeof cell);
+}
+
+/* Splits cell 0 of such a tree, each time anew. */
+static void split_often(uint32_t groups, uint32_t passes, uint32_t lines) {
+    lay_stream(groups, passes, lines);
+    const uint32_t n = head[1];
+    for (int k = 0; k < SPLITS; k++) {
+        head[0] = 1;
+        head[1] = n;
+        cells[3] = 0;
+        accepted("split", zones_split(DRAWING, TREE, 0));
+    }
+}
+
 /* Positions all over the grid, the same in every run of the program. */
 static void spread_positions(uint64_t *seed) {
     for (int k = 0; k < RUN; k++) {
-        *seed = *seed * 6364136223846793005u + 1442695040888963407u;
+        next(seed);
         px[k] = (uint32_t)(*seed >> 33) & 65535;
         py[k] = (uint32_t)(*seed >> 48) & 65535;
     }
@@ -45,7 +91,7 @@ static void spread_positions(uint64_t *seed) {
 int main(int argc, char **argv) {
     FILE *file = argc == 3 ? fopen(argv[1], "rb") : NULL;
     if (file == NULL) {
-        fprintf(stderr, "usage: instructions DRAWING read|grow|position|row|log|none\n");
+        fprintf(stderr, "usage: instructions DRAWING read|grow|position|row|log|split16|split256|split4096|none\n");
         return 2;
     }
     length = fread(records, 1, sizeof records, file);
@@ -64,5 +110,8 @@ int main(int argc, char **argv) {
     }
     for (uint32_t row = 0; row < ROWS && strcmp(job, "row") == 0; row++)
         accepted("row", zones_pixel_row(DRAWING, TREE, row * (PIXELS / ROWS), 0, pixels, sizeof pixels));
+    if (strcmp(job, "split16") == 0) split_often(1, 4, 8);
+    if (strcmp(job, "split256") == 0) split_often(4, 28, 32);
+    if (strcmp(job, "split4096") == 0) split_often(64, 28, 32);
     return 0;
 }
