@@ -10,7 +10,7 @@ use Rattle.cells.specs.Elements.{Element, opens, bar, closes, bare, named, segm
 use Rattle.cells.specs.code.Making.{elementSize}
 use Rattle.child_stream.specs.declared.Count.{Count}
 use Rattle.child_stream.specs.code.Numbers.{startsIn}
-use Rattle.four_children.specs.code.Numbers.{lineOne, sumOf, tally, tallyN}
+use Rattle.four_children.specs.code.Numbers.{lineOne, tally, tallyN}
 
 abbrev areaOne : Element → ℕ
 areaOne opens = 0
@@ -29,7 +29,7 @@ element-is (named n z) = (refl, omega arith)
 element-is (segment (drawn l)) = (refl, omega arith)
 element-is (segment (shortcut z lo hi)) = (refl, omega arith)
 
-total-is : (rs : List Element) → (total elementSize rs ≡ length rs + 65536 * sumOf lineOne rs + 4294967296 * sumOf areaOne rs) × (sumOf lineOne rs ≤ length rs)
+total-is : (rs : List Element) → (total elementSize rs ≡ length rs + 65536 * total lineOne rs + 4294967296 * total areaOne rs) × (total lineOne rs ≤ length rs)
 total-is [] = (refl, omega arith)
 total-is (r ∷ rs) =
     let a = element-is r in
@@ -43,5 +43,5 @@ tally-is rs k h e z = λ d. record { entries = x d; lines = y d; starts = z d }
     x : k .weight % 65536 ≡ length rs
     x = omega (arith, total-is rs .0, e)
 
-    y : k .weight / 65536 % 65536 ≡ sumOf lineOne rs
+    y : k .weight / 65536 % 65536 ≡ total lineOne rs
     y = omega (arith, total-is rs .0, total-is rs .1, e)

@@ -4,7 +4,7 @@ use mathlib.Core.List.{List, [], _∷_, _++_}
 use Prim.Native.Nat.{ℕ, _+_, _≤_, _<_}
 use lib.ListN.{length, getD}
 use lib.IntN.{ℤ, pos}
-use Rattle.pruning.specs.Sides.{paint, Entry, item, push, activate, pop, flat}
+use Rattle.pruning.specs.Sides.{paint, Side, Entry, item, push, activate, pop, flat}
 use Rattle.cells.specs.Cells.{Cell}
 use Rattle.cells.specs.Segments.{Segment, drawn, shortcut}
 use Rattle.cells.specs.Drawings.{Drawing}
@@ -16,38 +16,20 @@ use Rattle.stream.specs.Table.{wordsFrom}
 use Rattle.stream.specs.Grammar.{env, Passed}
 use Rattle.evaluate.specs.Reading.{elementsIn}
 use Rattle.ranges.specs.Held.{lent}
+use Rattle.ranges.specs.code.Valid.{weigh, elements}
 use Rattle.four_children.specs.declared.Tally.{Tally}
 use Rattle.four_children.specs.Children.{cellOfChild}
 use Rattle.four_children.specs.code.Numbers.{noTally, workedTo}
 
--- "A stream holds one entry for each delimiter, each area (with its start number), line and shortcut": how many
-abbrev pub itemEntries : Item → ℕ
-itemEntries always = 1
-itemEntries (area n z gs) = 1 + length gs
-
-abbrev pub entryCount : List (Entry Item) → ℕ
-entryCount [] = 0
-entryCount (item k a ∷ es) = itemEntries a + entryCount es
-entryCount (push ∷ es) = 1 + entryCount es
-entryCount (activate ∷ es) = 1 + entryCount es
-entryCount (pop ∷ es) = 1 + entryCount es
-
--- how many of them are lines, document 02: "a kept curve is one entry that the lister and growing count as a line"
-abbrev pub linesOf : List Segment → ℕ
-linesOf [] = 0
-linesOf (drawn l ∷ gs) = 1 + linesOf gs
-linesOf (shortcut z lo hi ∷ gs) = linesOf gs
+-- how many of an item's are lines, document 02: "a kept curve is one entry that the lister and growing count as a line"
+abbrev pub linesAmong : List Segment → ℕ
+linesAmong [] = 0
+linesAmong (drawn l ∷ gs) = 1 + linesAmong gs
+linesAmong (shortcut z lo hi ∷ gs) = linesAmong gs
 
 abbrev pub itemLines : Item → ℕ
 itemLines always = 0
-itemLines (area n z gs) = linesOf gs
-
-abbrev pub lineCount : List (Entry Item) → ℕ
-lineCount [] = 0
-lineCount (item k a ∷ es) = itemLines a + lineCount es
-lineCount (push ∷ es) = lineCount es
-lineCount (activate ∷ es) = lineCount es
-lineCount (pop ∷ es) = lineCount es
+itemLines (area n z gs) = linesAmong gs
 
 -- the areas that a stream names, in its order, each with its start number
 pub record Started : Type 0 where
@@ -68,18 +50,19 @@ areasNamed (pop ∷ es) = areasNamed es
 abbrev pub noArea : Started
 noArea = record { number = 0; start = pos 0 }
 
--- a tally has the entries, lines and starts of a stream; start j is that of the area that the stream names after j others
-pub record Tallied (es : List (Entry Item)) (t : Tally) : Type 0 where
-  pub entries : t .entries ≡ entryCount es
-  pub lines : t .lines ≡ lineCount es
-  pub areas : t .starts .count ≡ length (areasNamed es)
-  pub starts : (j : ℕ) → j < length (areasNamed es) → getD (t .starts .at) j (pos 0) ≡ getD (areasNamed es) j noArea .start
+-- a tally has the entries, lines and starts of a stream: "A stream holds one entry for each delimiter, each area (with its start number), line and shortcut";
+-- start j is that of the area that the stream names after j others
+pub record Tallied (y : Side Item) (t : Tally) : Type 0 where
+  pub entries : t .entries ≡ weigh elements 1 y
+  pub lines : t .lines ≡ weigh itemLines 0 y
+  pub areas : t .starts .count ≡ length (areasNamed (flat paint y))
+  pub starts : (j : ℕ) → j < length (areasNamed (flat paint y)) → getD (t .starts .at) j (pos 0) ≡ getD (areasNamed (flat paint y)) j noArea .start
 
 -- of cell c with the stream that ws say
 module _ (D : Drawing) (c : Cell) (ws : List Words) where
   -- "A child is made from its parent's stream by this rule, orders kept. ... It is then pruned"
-  abbrev pub streamOfChild : ℕ → List (Entry Item)
-  streamOfChild k = flat paint (made D (cellOfChild D c ws k) (streamOf (roleIn D) (elementsIn ws)))
+  abbrev pub streamOfChild : ℕ → Side Item
+  streamOfChild k = made D (cellOfChild D c ws k) (streamOf (roleIn D) (elementsIn ws))
 
   -- so many passes after the tallies of before: the children that passed have theirs, those of the others are untouched
   pub record AfterPasses (before : List Tally) (q : ℕ) (ts : List Tally) : Type 0 where

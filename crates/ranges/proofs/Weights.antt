@@ -18,7 +18,7 @@ use Rattle.cells.specs.Drawings.{Drawing}
 use Rattle.cells.specs.Streams.{Item, always, area, items, within, whole, source, made}
 use Rattle.cells.specs.Elements.{Element, bar, closes, segment, itemElements, entryElements, elementsOf}
 use Rattle.cells.proofs.Streams.{made-normal}
-use Rattle.ranges.specs.code.Valid.{Valid, weigh, lines}
+use Rattle.ranges.specs.code.Valid.{Valid, weigh, elements, lines}
 
 pub weigh-map : {A B : Type 0} (f : A → B) (v : B → ℕ) (u : A → ℕ) (d : ℕ) → ((a : A) → v (f a) ≤ u a) → (s : Side A) → weigh v d (mapSide f s) ≤ weigh u d s
 weigh-map f v u d h end = omega arith
@@ -74,10 +74,6 @@ oneArea (area n z gs) = 1
 abbrev pub segments : Item → ℕ
 segments always = 0
 segments (area n z gs) = length gs
-
-abbrev pub elements : Item → ℕ
-elements always = 1
-elements (area n z gs) = suc (length gs)
 
 module _ (D : Drawing) (c : Cell) where
   kept-by : (k : Class) (g : Segment) (gs : List Segment) → length (keptBy (D .xs) (D .ys) k g gs) ≤ suc (length gs)

@@ -4,6 +4,7 @@ use mathlib.Core.List.{List, [], _∷_}
 use Prim.Native.Nat.{ℕ, zero, suc, _+_, _/_, _%_, _≤_, _<_}
 use lib.Dec.{ltb}
 use lib.ListN.{length, getD}
+use Rattle.pruning.specs.code.Weights.{total}
 use Rattle.cells.specs.Cells.{Cell, child}
 use Rattle.cells.specs.Segments.{drawn, shortcut}
 use Rattle.cells.specs.Drawings.{Drawing}
@@ -26,13 +27,9 @@ lineOne (named n z) = 0
 lineOne (segment (drawn l)) = 1
 lineOne (segment (shortcut z lo hi)) = 0
 
-abbrev pub sumOf : (Element → ℕ) → List Element → ℕ
-sumOf f [] = 0
-sumOf f (r ∷ rs) = f r + sumOf f rs
-
 -- the tally of a stream: its entries, its lines, and the start numbers of its areas
 abbrev pub tally : List Element → Tally
-tally rs = record { entries = length rs; lines = sumOf lineOne rs; starts = startsIn rs }
+tally rs = record { entries = length rs; lines = total lineOne rs; starts = startsIn rs }
 
 -- the same from the stream's weight: 1 for each entry, 65,536 more for a line, 4,294,967,296 more for an area
 abbrev pub tallyN : Count → Tally

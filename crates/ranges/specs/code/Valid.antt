@@ -9,7 +9,7 @@ use Rattle.geometry.specs.code.Reach.{CurveIn, LineBelow}
 use Rattle.records.specs.Record.{areaRange, cornerRange}
 use Rattle.pruning.specs.Sides.{paint, Side, end, leaf, group}
 use Rattle.cells.specs.Drawings.{Drawing, fieldsOf}
-use Rattle.cells.specs.Streams.{On}
+use Rattle.cells.specs.Streams.{Item, always, area, On}
 use Rattle.cells.specs.Elements.{Fitted}
 
 -- how many groups are open at once
@@ -23,6 +23,11 @@ abbrev pub weigh : {A : Type 0} → (A → ℕ) → (d : ℕ) → Side A → ℕ
 weigh v d end = 0
 weigh v d (leaf a t) = v a + weigh v d t
 weigh v d (group l r t) = 3 * d + (weigh v d l + weigh v d r + weigh v d t)
+
+-- the elements of an item: "passes", or an area and each of its lines, curves and shortcuts
+abbrev pub elements : Item → ℕ
+elements always = 1
+elements (area n z gs) = suc (length gs)
 
 -- the corners of these lines are below n
 abbrev pub CornersBelow : ℕ → List Line → Type 0
