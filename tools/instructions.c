@@ -20,7 +20,7 @@ static size_t length;
 /* Ends the program where a call is refused. */
 static void accepted(const char *call, uint64_t answer) {
     if (zones_refusal(answer) == 0) return;
-    fprintf(stderr, "%s refused %u at %u\n", call, zones_refusal(answer), zones_low(answer));
+    fprintf(stderr, "%s refused %u at %u\n", call, zones_refusal(answer), zones_place(answer));
     exit(1);
 }
 

@@ -13,7 +13,7 @@
 #define CELLS 9
 
 static void say(const char *what, uint64_t answer, const uint32_t *words, size_t count) {
-    printf("%s: %u %u", what, (unsigned)zones_refusal(answer), (unsigned)zones_low(answer));
+    printf("%s: %u %u", what, (unsigned)zones_refusal(answer), (unsigned)zones_place(answer));
     for (size_t i = 0; i < count; i++) printf("%s%u", i == 0 ? "; " : " ", (unsigned)words[i]);
     printf("\n");
 }

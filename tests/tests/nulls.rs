@@ -48,7 +48,7 @@ a run: 0 1; 0
 #[test]
 fn null_pointers_of_length_0() {
     let source = Path::new(env!("CARGO_MANIFEST_DIR")).join("tests/nulls.c");
-    let program = compiled(&source, Path::new(env!("CARGO_TARGET_TMPDIR")));
+    let program = compiled(&[&source], Path::new(env!("CARGO_TARGET_TMPDIR")));
     let output = Command::new(program).output().expect("the program runs");
     assert!(output.status.success(), "{}", output.status);
     let printed = String::from_utf8(output.stdout).expect("text");

@@ -1,0 +1,7 @@
+/* The header twice, and nothing of it used. */
+#include "zones.h"
+#include "zones.h"
+
+int nothing(void);
+
+int nothing(void) { return 0; }
