@@ -18,7 +18,6 @@ pub mod lister;
 pub mod machine;
 pub mod meaning;
 pub mod pages;
-pub mod png;
 #[allow(unsafe_code)]
 pub mod probe;
 pub mod prune;
@@ -35,6 +34,4 @@ pub mod stream;
 pub mod tally;
 pub mod tree;
 pub mod tree_damage;
-pub mod words;
-#[allow(unsafe_code)]
 pub mod zones;

@@ -34,8 +34,8 @@ use zones_tests::stream::{self, Entry, InUse, ENTRY_WORDS};
 use zones_tests::tally::Tally;
 use zones_tests::tree::{self, TreeTables};
 use zones_tests::tree_damage::{damage_tree, TREE_DAMAGES};
-use zones_tests::words;
 use zones_tests::zones::{Answer, FULL};
+use zones_tools::words;
 
 // ---- where a curve counts ----
 

@@ -9,7 +9,7 @@ use std::process::Command;
 use zones_tests::c_program::compiled;
 use zones_tests::meaning::{Drawing, Scene};
 use zones_tests::samples;
-use zones_tests::words;
+use zones_tools::words;
 
 fn top() -> PathBuf {
     Path::new(env!("CARGO_MANIFEST_DIR")).join("..")

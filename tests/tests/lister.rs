@@ -15,7 +15,7 @@ use zones_tests::random::Random;
 use zones_tests::record::letters;
 use zones_tests::scenes::{self, Look};
 use zones_tests::tally::Tally;
-use zones_tests::words;
+use zones_tools::words;
 
 /// The program, in ZONES_BIN_DIR or in ../target/bin: `rt check lister` makes it.
 fn program() -> PathBuf {

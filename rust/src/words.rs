@@ -1,0 +1,191 @@
+//! What the words of the tables and of the answers say.
+
+use crate::limits::{AREA_WORDS, CELL_WORDS, HEAD_WORDS, LEAF_WORDS, MOST_CELLS, POSITION_WORDS};
+use crate::{Drawing, Tree};
+
+/// What a growing that is full adds to the splits made.
+pub const FULL: u32 = 1 << 31;
+
+/// What a growing did.
+#[derive(Clone, Copy, PartialEq, Eq, Hash, Debug)]
+pub struct Growth {
+    /// The splits made.
+    pub splits: u32,
+    /// Whether there was no room for the next split. A tree that is full answers as well as one that is done.
+    pub full: bool,
+}
+
+impl Growth {
+    /// The result of an accepted growing.
+    pub const fn of(result: u32) -> Growth {
+        Growth {
+            splits: result & !FULL,
+            full: result & FULL != 0,
+        }
+    }
+}
+
+/// A leaf that was found.
+#[derive(Clone, Copy, PartialEq, Eq, Hash, Debug)]
+pub struct Leaf {
+    pub cell: u32,
+    /// Its low corner.
+    pub x: u32,
+    pub y: u32,
+    pub side: u32,
+    /// The steps down to it, which are its depth.
+    pub steps: u32,
+    pub entries: u32,
+    /// How many of its entries are lines or curves.
+    pub lines: u32,
+}
+
+impl Leaf {
+    /// The words of a leaf.
+    pub const fn of(words: &[u32; LEAF_WORDS]) -> Leaf {
+        let [cell, x, y, side, steps, entries, lines] = *words;
+        Leaf {
+            cell,
+            x,
+            y,
+            side,
+            steps,
+            entries,
+            lines,
+        }
+    }
+}
+
+/// What shows at a position.
+#[derive(Clone, Copy, PartialEq, Eq, Hash, Debug)]
+pub struct Position {
+    /// The shown set: bit n is area n.
+    pub shown: u64,
+    /// The material of the front area that shows, 0 if none does.
+    pub material: u32,
+    /// Red, green, blue.
+    pub colour: [u8; 3],
+}
+
+impl Position {
+    /// The words of a position.
+    pub const fn of(words: &[u32; POSITION_WORDS]) -> Position {
+        let [low, high, material, red, green, blue] = *words;
+        Position {
+            shown: (high as u64) << 32 | low as u64,
+            material,
+            colour: [red as u8, green as u8, blue as u8],
+        }
+    }
+
+    /// Whether an area shows.
+    pub const fn shows(&self, area: u32) -> bool {
+        area < u64::BITS && self.shown >> area & 1 == 1
+    }
+
+    /// The areas that show, front first.
+    pub fn areas(&self) -> impl Iterator<Item = u32> + '_ {
+        (0..u64::BITS).filter(|area| self.shows(*area))
+    }
+}
+
+/// Whether an area is painted or clips.
+#[derive(Clone, Copy, PartialEq, Eq, Hash, Debug)]
+pub enum Role {
+    Paint,
+    Clip,
+}
+
+/// Which windings pass: those that are not 0, or those that are odd.
+#[derive(Clone, Copy, PartialEq, Eq, Hash, Debug)]
+pub enum FillRule {
+    NonZero,
+    EvenOdd,
+}
+
+/// An area of a drawing.
+#[derive(Clone, Copy, PartialEq, Eq, Hash, Debug)]
+pub struct Area {
+    pub role: Role,
+    pub fill: FillRule,
+    pub alpha: u8,
+    /// Red, green, blue.
+    pub colour: [u8; 3],
+    /// 1 to 65,535; 0 for a clip area.
+    pub material: u16,
+}
+
+impl Area {
+    /// The words of an area. Words out of range are cut.
+    pub const fn of(words: &[u32; AREA_WORDS]) -> Area {
+        let [role, fill, alpha, red, green, blue, material, _] = *words;
+        Area {
+            role: if role == 0 { Role::Paint } else { Role::Clip },
+            fill: if fill == 0 {
+                FillRule::NonZero
+            } else {
+                FillRule::EvenOdd
+            },
+            alpha: alpha as u8,
+            colour: [red as u8, green as u8, blue as u8],
+            material: material as u16,
+        }
+    }
+}
+
+/// A cell of a tree.
+#[derive(Clone, Copy, PartialEq, Eq, Hash, Debug)]
+pub struct Cell {
+    /// Its low corner.
+    pub x: u32,
+    pub y: u32,
+    pub side: u32,
+    /// The first of its four children, 0 for a leaf.
+    pub child: u32,
+    /// Its first entry.
+    pub first: u32,
+    pub entries: u32,
+}
+
+impl Cell {
+    /// The words of a cell.
+    pub const fn of(words: &[u32; CELL_WORDS]) -> Cell {
+        let [x, y, side, child, first, entries, _, _] = *words;
+        Cell {
+            x,
+            y,
+            side,
+            child,
+            first,
+            entries,
+        }
+    }
+
+    pub const fn is_leaf(&self) -> bool {
+        self.child == 0
+    }
+}
+
+impl<'a> Drawing<'a> {
+    /// The areas in use, in order.
+    pub fn each_area(self) -> impl Iterator<Item = Area> + 'a {
+        let areas = self.plan.get(1).copied().unwrap_or(0) as usize;
+        let rows = self.areas.as_chunks::<AREA_WORDS>().0;
+        rows.iter().take(areas).map(Area::of)
+    }
+}
+
+impl<'a> Tree<'a> {
+    /// Cells and entries in use.
+    pub fn in_use(self) -> [u32; HEAD_WORDS] {
+        let word = |at: usize| self.head.get(at).copied().unwrap_or(0);
+        [word(0), word(1)]
+    }
+
+    /// The cells in use, in order.
+    pub fn each_cell(self) -> impl Iterator<Item = Cell> + 'a {
+        let cells = (self.in_use()[0] as usize).min(MOST_CELLS);
+        let rows = self.cells.as_chunks::<CELL_WORDS>().0;
+        rows.iter().take(cells).map(Cell::of)
+    }
+}
