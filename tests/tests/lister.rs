@@ -61,6 +61,7 @@ fn the_samples() {
         ("berms", "84 4227858432 8192 0 0\n"),
         ("quarter", "4 3221225472 32768 0 0\n"),
         ("full", "\nfull\n"),
+        ("mine", "\nfull\n"),
         ("refused", "refused 5 at 7\n"),
     ] {
         let read = |kind| fs::read(samples.join(name).with_extension(kind)).expect("a sample");
