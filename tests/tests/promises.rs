@@ -80,7 +80,14 @@ fn each_edit_is_named_and_is_there() {
 /// The sources, each with its path from the top on and its words, among them the parts of the path.
 fn sources() -> Vec<(PathBuf, BTreeSet<String>)> {
     let top = pages::top();
-    let folders = ["crates", "tests/src", "tests/tests"];
+    let folders = [
+        "crates",
+        "include",
+        "rust/src",
+        "tools",
+        "tests/src",
+        "tests/tests",
+    ];
     let files = folders
         .iter()
         .flat_map(|folder| pages::files_below(&top.join(folder)));
