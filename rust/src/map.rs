@@ -47,13 +47,39 @@ use crate::{Drawing, DrawingMut, Tree, TreeMut};
 /// ```
 #[derive(Clone, PartialEq, Eq)]
 pub struct Map {
+    tables: Tables,
+    head: [u32; HEAD_WORDS],
+    cells: Vec<u32>,
+    entries: Vec<u32>,
+}
+
+/// The four tables of a drawing.
+#[derive(Clone, PartialEq, Eq)]
+struct Tables {
     plan: Vec<u32>,
     areas: Vec<u32>,
     xs: Vec<u32>,
     ys: Vec<u32>,
-    head: [u32; HEAD_WORDS],
-    cells: Vec<u32>,
-    entries: Vec<u32>,
+}
+
+impl Tables {
+    fn view(&self) -> Drawing<'_> {
+        Drawing {
+            plan: &self.plan,
+            areas: &self.areas,
+            xs: &self.xs,
+            ys: &self.ys,
+        }
+    }
+
+    fn lend(&mut self) -> DrawingMut<'_> {
+        DrawingMut {
+            plan: &mut self.plan,
+            areas: &mut self.areas,
+            xs: &mut self.xs,
+            ys: &mut self.ys,
+        }
+    }
 }
 
 impl Map {
@@ -68,23 +94,19 @@ impl Map {
         // No drawing has more areas or corners than records.
         let most = (records.len() / RECORD_BYTES).min(MOST_RECORDS);
         let corners = most.min(MOST_CORNERS);
-        let mut map = Map {
+        let mut tables = Tables {
             plan: vec![0; PLAN_COUNTS + most],
             areas: vec![0; AREA_WORDS * most.min(MOST_AREAS)],
             xs: vec![0; corners],
             ys: vec![0; corners],
+        };
+        crate::read(records, tables.lend())?;
+        Ok(Map {
+            tables,
             head: [0; HEAD_WORDS],
             cells: vec![0; CELL_WORDS * cells.min(MOST_CELLS)],
             entries: vec![0; ENTRY_WORDS * entries.min(MOST_ENTRIES)],
-        };
-        let into = DrawingMut {
-            plan: &mut map.plan,
-            areas: &mut map.areas,
-            xs: &mut map.xs,
-            ys: &mut map.ys,
-        };
-        crate::read(records, into)?;
-        Ok(map)
+        })
     }
 
     /// Reads a file of records, opens a tree over the drawing and grows it. A tree that is full answers as well as one that is done.
@@ -97,12 +119,7 @@ impl Map {
 
     /// The drawing's tables.
     pub fn drawing(&self) -> Drawing<'_> {
-        Drawing {
-            plan: &self.plan,
-            areas: &self.areas,
-            xs: &self.xs,
-            ys: &self.ys,
-        }
+        self.tables.view()
     }
 
     /// The tree's tables.
@@ -116,23 +133,17 @@ impl Map {
 
     /// The drawing to be read and the tree to be written.
     fn lend(&mut self) -> (Drawing<'_>, TreeMut<'_>) {
-        let drawing = Drawing {
-            plan: &self.plan,
-            areas: &self.areas,
-            xs: &self.xs,
-            ys: &self.ys,
-        };
         let tree = TreeMut {
             head: &mut self.head,
             cells: &mut self.cells,
             entries: &mut self.entries,
         };
-        (drawing, tree)
+        (self.tables.view(), tree)
     }
 
     /// The file of records that was read.
     pub fn write(&self) -> Result<Vec<u8>, Refused> {
-        let mut out = vec![0; RECORD_BYTES * (self.plan.len() - PLAN_COUNTS)];
+        let mut out = vec![0; RECORD_BYTES * (self.tables.plan.len() - PLAN_COUNTS)];
         let bytes = crate::write(self.drawing(), &mut out)?;
         out.truncate(bytes as usize);
         Ok(out)
@@ -232,7 +243,8 @@ impl Map {
 /// How much of each table is in use, not the words.
 impl fmt::Debug for Map {
     fn fmt(&self, out: &mut fmt::Formatter<'_>) -> fmt::Result {
-        let [records, areas, corners] = [self.plan[0], self.plan[1], self.plan[2]];
+        let plan = &self.tables.plan;
+        let [records, areas, corners] = [plan[0], plan[1], plan[2]];
         let [cells, entries] = self.head;
         out.debug_struct("Map")
             .field("records", &records)

@@ -44,6 +44,11 @@ pub fn top() -> PathBuf {
     tests.parent().expect("a folder around").to_path_buf()
 }
 
+/// A file of samples/.
+pub fn sample(file: &str) -> PathBuf {
+    top().join("samples").join(file)
+}
+
 /// Every file below a folder, in the order of the names.
 pub fn files_below(folder: &Path) -> Vec<PathBuf> {
     let entries = fs::read_dir(folder).expect("a folder");

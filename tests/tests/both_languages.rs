@@ -6,6 +6,7 @@ use std::process::Command;
 
 use zones::Refusal;
 use zones_tests::c_program::compiled;
+use zones_tests::pages;
 
 /// Each constant of the package by its name, which the header has with ZONES_ before it.
 macro_rules! constants {
@@ -16,7 +17,7 @@ macro_rules! constants {
 
 /// What the constants of rust/src/limits.rs are called.
 fn names_in_the_package() -> Vec<String> {
-    let path = Path::new(env!("CARGO_MANIFEST_DIR")).join("../rust/src/limits.rs");
+    let path = pages::top().join("rust/src/limits.rs");
     let text = fs::read_to_string(path).expect("the constants of the package");
     let name = |line: &str| {
         Some(

@@ -8,22 +8,15 @@ use std::process::Command;
 
 use zones_tests::c_program::compiled;
 use zones_tests::meaning::{Drawing, Scene};
+use zones_tests::pages::{sample, top};
 use zones_tests::samples;
 use zones_tools::words;
-
-fn top() -> PathBuf {
-    Path::new(env!("CARGO_MANIFEST_DIR")).join("..")
-}
 
 /// samples/where.c, in a folder of its own.
 fn where_program(name: &str) -> PathBuf {
     let folder = Path::new(env!("CARGO_TARGET_TMPDIR")).join(name);
     fs::create_dir_all(&folder).expect("a folder for the test");
-    compiled(&[&top().join("samples/where.c")], &folder)
-}
-
-fn sample(name: &str) -> PathBuf {
-    top().join("samples").join(name)
+    compiled(&[&sample("where.c")], &folder)
 }
 
 /// What the program prints of a drawing at a position, what it says of an error, and its exit status.
@@ -177,7 +170,7 @@ fn calls_whose_instructions_are_counted() {
     let program = compiled(&[&top().join("tools/instructions.c")], tmp);
     let run = |job: &str| {
         let mut command = Command::new(&program);
-        command.arg(top().join("samples/pit.zones")).arg(job);
+        command.arg(sample("pit.zones")).arg(job);
         command.status().expect("the program runs").success()
     };
     for job in ["none", "read", "grow", "position", "log", "row"] {

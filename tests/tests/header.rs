@@ -7,7 +7,7 @@ use std::path::{Path, PathBuf};
 use std::process::{Command, Output};
 
 use zones_tests::c_program::{archive, checked, compiled, ends_well, has, include, Compiler};
-use zones_tests::pages::top;
+use zones_tests::pages::{sample, top};
 
 /// A folder for one test.
 fn folder(name: &str) -> PathBuf {
@@ -36,8 +36,8 @@ fn printed(command: &mut Command) -> String {
     said
 }
 
-fn sample(name: &str) -> PathBuf {
-    top().join("samples").join(name).with_extension("zones")
+fn drawing(name: &str) -> PathBuf {
+    sample(&format!("{name}.zones"))
 }
 
 /// The names of the header's macros and of its enumerators.
@@ -184,7 +184,7 @@ fn the_wrappers_answer_as_the_calls() {
     let sources = [source("wrappers.c"), source("nothing.c")];
     let program = compiled(&[&sources[0], &sources[1]], &folder("wrappers"));
     for name in ["pit", "berms"] {
-        let said = printed(Command::new(&program).arg(sample(name)));
+        let said = printed(Command::new(&program).arg(drawing(name)));
         assert!(said.ends_with(" refused\n"), "{said}");
         print!("{name}: {said}");
     }
@@ -227,7 +227,7 @@ fn a_program_from_the_header_alone() {
     assert!(lines.lines().count() <= 30);
     let said = printed(
         Command::new(&program)
-            .arg(sample("pit"))
+            .arg(drawing("pit"))
             .args(["40000", "30000"]),
     );
     assert_eq!(said, "material 42, colour 206 196 180\n");
@@ -299,8 +299,8 @@ fn the_memory_of_the_samples() {
     let program = compiled(&[&source("figures.c")], &folder("figures"));
     let mut command = Command::new(program);
     for name in DRAWINGS {
-        if sample(name).exists() {
-            command.arg(name).arg(sample(name));
+        if drawing(name).exists() {
+            command.arg(name).arg(drawing(name));
         }
     }
     for line in printed(&mut command).lines() {
@@ -367,9 +367,9 @@ fn cells_and_entries_over_thresholds() {
     for (column, name) in DRAWINGS
         .iter()
         .enumerate()
-        .filter(|(_, name)| sample(name).exists())
+        .filter(|(_, name)| drawing(name).exists())
     {
-        let said = printed(Command::new(&program).arg(sample(name)));
+        let said = printed(Command::new(&program).arg(drawing(name)));
         let lines: Vec<Vec<&str>> = said.lines().map(|l| l.split(' ').collect()).collect();
         for ((threshold, limit), drawings) in &rows {
             let begin = [threshold.to_string(), limit.to_string()];
@@ -389,7 +389,7 @@ fn cells_and_entries_over_thresholds() {
 #[test]
 fn the_stack_of_the_calls() {
     let program = compiled(&[&top().join("tools/stack.c")], &folder("stack"));
-    let said = printed(Command::new(program).arg(sample("berms")).arg("limits"));
+    let said = printed(Command::new(program).arg(drawing("berms")).arg("limits"));
     let rows: Vec<Vec<&str>> = said
         .lines()
         .map(|l| l.split_whitespace().collect())
@@ -472,7 +472,7 @@ fn built(output: &Output) -> bool {
 fn tells_the_pit_floor(program: &Path) {
     let said = printed(
         Command::new(program)
-            .arg(sample("pit"))
+            .arg(drawing("pit"))
             .args(["40000", "30000"]),
     );
     assert_eq!(said, "material 42, colour 206 196 180\n");
@@ -498,7 +498,7 @@ fn through_pkg_config() {
     let mut shell = Command::new("sh");
     let shell = shell
         .args(["-c", &line])
-        .arg(top().join("samples/where.c"))
+        .arg(sample("where.c"))
         .arg(&program);
     assert!(built(&shell.output().expect("a shell")));
     tells_the_pit_floor(&program);
@@ -527,10 +527,7 @@ fn through_cmake() {
         let mut command = Command::new("cmake");
         command.arg("-S").arg(&folder).arg("-B").arg(&build);
         command.arg(format!("-DCMAKE_PREFIX_PATH={}", moved.display()));
-        command.arg(format!(
-            "-DSOURCE={}",
-            top().join("samples/where.c").display()
-        ));
+        command.arg(format!("-DSOURCE={}", sample("where.c").display()));
         let output = command.arg(format!("-DASKED={version}")).output();
         (output.expect("cmake runs").status.success(), build)
     };

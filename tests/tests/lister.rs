@@ -11,6 +11,7 @@ use std::time::Duration;
 use zones_tests::damage;
 use zones_tests::drawing::{MOST_RECORDS, RECORD_BYTES};
 use zones_tests::lister;
+use zones_tests::pages::sample;
 use zones_tests::random::Random;
 use zones_tests::record::letters;
 use zones_tests::scenes::{self, Look};
@@ -55,7 +56,6 @@ fn expect_same(input: &[u8]) -> String {
 
 #[test]
 fn the_samples() {
-    let samples = Path::new(env!("CARGO_MANIFEST_DIR")).join("../samples");
     for (name, last) in [
         ("pit", "84 4227858432 8192 0 0\n"),
         ("berms", "84 4227858432 8192 0 0\n"),
@@ -64,7 +64,7 @@ fn the_samples() {
         ("mine", "\nfull\n"),
         ("refused", "refused 5 at 7\n"),
     ] {
-        let read = |kind| fs::read(samples.join(name).with_extension(kind)).expect("a sample");
+        let read = |kind| fs::read(sample(name).with_extension(kind)).expect("a sample");
         let text = |kind| String::from_utf8(read(kind)).expect("text");
         let records = words::records(&text("txt")).expect("the words of a drawing");
         assert_eq!(read("zones"), records.concat(), "{name}");

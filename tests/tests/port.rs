@@ -3,7 +3,7 @@
 //! whole comparison; `tools/port-compare` runs them over the library of another processor too.
 
 use std::fs;
-use std::path::{Path, PathBuf};
+use std::path::PathBuf;
 
 use zones_tests::compare::{self, LEAF_WORDS};
 use zones_tests::damage::{self, damage_tables, DAMAGES};
@@ -11,6 +11,7 @@ use zones_tests::drawing;
 use zones_tests::foreign;
 use zones_tests::lent::{any_bytes, lent_bytes, lent_words, Lent, LentTables};
 use zones_tests::meaning::PIXEL;
+use zones_tests::pages;
 use zones_tests::query::{CHANNELS, PIXELS};
 use zones_tests::random::Random;
 use zones_tests::readings::SPOT_WORDS;
@@ -87,8 +88,7 @@ fn tree(random: &mut Random, sample: &mut Sample, times: usize, tally: &mut Tall
 }
 
 fn sample_files() -> Vec<PathBuf> {
-    let folder = Path::new(env!("CARGO_MANIFEST_DIR")).join("../samples");
-    let files = fs::read_dir(folder).expect("the folder of samples");
+    let files = fs::read_dir(pages::top().join("samples")).expect("the folder of samples");
     let paths = files.map(|file| file.expect("a sample").path());
     let mut paths: Vec<_> = paths
         .filter(|path| path.extension().is_some_and(|kind| kind == "zones"))

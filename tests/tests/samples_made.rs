@@ -1,21 +1,17 @@
 //! The sample `mine` is what its script writes, and has the size that docs/SAMPLES.md says.
 
 use std::fs;
-use std::path::PathBuf;
 use std::process::Command;
 
 use zones_tests::drawing::{AREA, CLOSE, CONTROL, FIRST, MOST_AREAS, MOST_CORNERS, NEXT, OPEN};
 use zones_tests::meaning::Drawing;
+use zones_tests::pages::{self, sample};
 use zones_tests::record::Record;
 use zones_tests::stream::Entry;
 use zones_tests::tree::{TreeTables, MOST_CELLS, MOST_ENTRIES};
 use zones_tests::zones::{self, Answer, FULL};
-use zones_tests::{lister, pages, samples};
+use zones_tests::{lister, samples};
 use zones_tools::words;
-
-fn sample(file: &str) -> PathBuf {
-    pages::top().join("samples").join(file)
-}
 
 fn text(file: &str) -> String {
     fs::read_to_string(sample(file)).expect("a sample")

@@ -7,18 +7,12 @@ use std::io::Write;
 use std::path::{Path, PathBuf};
 use std::process::{Command, Stdio};
 
+use zones::{ADVISED_DEPTH, ADVISED_THRESHOLD};
 use zones_tests::meaning::{Drawing, Scene};
+use zones_tests::pages::{sample, top};
 use zones_tests::samples::{self, Tables};
 use zones_tests::tree::{self, TreeTables, MOST_CELLS, MOST_ENTRIES};
 use zones_tools::words;
-
-/// The page's numbers for growing.
-const THRESHOLD: u32 = 2;
-const LIMIT: u32 = 8;
-
-fn top() -> PathBuf {
-    Path::new(env!("CARGO_MANIFEST_DIR")).join("..")
-}
 
 fn module() -> PathBuf {
     top().join("target/port/wasm32/zones.wasm")
@@ -105,17 +99,17 @@ fn refusals_have_the_texts_of_the_header() {
 fn numbers_are_those_of_the_header() {
     let script = fs::read_to_string(top().join("web/zones.js")).expect("the script");
     for (name, number) in [
-        ("    fileBytes: ", ::zones::FILE_BYTES),
-        ("    plan: ", ::zones::PLAN_LENGTH),
-        ("    areas: ", ::zones::AREAS_LENGTH),
-        ("    corners: ", ::zones::CORNERS_LENGTH),
-        ("    cells: ", ::zones::CELLS_LENGTH),
-        ("    entries: ", ::zones::ENTRIES_LENGTH),
-        ("    pixels: ", ::zones::PIXELS as usize),
-        ("const AREA_WORDS = ", ::zones::AREA_WORDS),
-        ("const CELL_WORDS = ", ::zones::CELL_WORDS),
-        ("const POSITION_WORDS = ", ::zones::POSITION_WORDS),
-        ("const LEAF_WORDS = ", ::zones::LEAF_WORDS),
+        ("    fileBytes: ", zones::FILE_BYTES),
+        ("    plan: ", zones::PLAN_LENGTH),
+        ("    areas: ", zones::AREAS_LENGTH),
+        ("    corners: ", zones::CORNERS_LENGTH),
+        ("    cells: ", zones::CELLS_LENGTH),
+        ("    entries: ", zones::ENTRIES_LENGTH),
+        ("    pixels: ", zones::PIXELS as usize),
+        ("const AREA_WORDS = ", zones::AREA_WORDS),
+        ("const CELL_WORDS = ", zones::CELL_WORDS),
+        ("const POSITION_WORDS = ", zones::POSITION_WORDS),
+        ("const LEAF_WORDS = ", zones::LEAF_WORDS),
     ] {
         let mut said = script.lines().filter_map(|line| line.strip_prefix(name));
         let said = said.next().map(|rest| rest.trim_end_matches([',', ';']));
@@ -163,13 +157,13 @@ struct Sample {
 
 impl Sample {
     fn new(name: &str) -> Sample {
-        let text = fs::read_to_string(top().join(format!("samples/{name}.txt")));
+        let text = fs::read_to_string(sample(&format!("{name}.txt")));
         let records = words::records(&text.expect("the sample")).expect("a drawing");
         let tables = samples::tables(&records);
         let mut tree = TreeTables::new(MOST_CELLS, MOST_ENTRIES);
         let drawing = Drawing::of(&tables);
         tree::open(drawing, &mut tree.lend()).expect("it opens");
-        tree::grow(drawing, &mut tree.lend(), THRESHOLD, LIMIT).expect("it grows");
+        tree::grow(drawing, &mut tree.lend(), ADVISED_THRESHOLD, ADVISED_DEPTH).expect("it grows");
         Sample { tables, tree }
     }
 
@@ -229,7 +223,7 @@ fn answers_in_a_browser() {
         eprintln!("skipped: there is no chromium on the PATH (Debian: apt-get install chromium)");
         return;
     };
-    let refused = top().join("samples/refused.zones");
+    let refused = sample("refused.zones");
     let steps = format!(
         "size 1280 900\nopen #click=40000,30000\ntext position\ntext state\n\
          click 300 300\ntext position\nwheel 300 300 -900\nwheel 300 300 -900\nwheel 300 300 -900\nwheel 300 300 -900\ntext state\ncolour 20 30\ncolour 600 50\ncolour 300 500\nclick 410 222\ntext position\n\
