@@ -17,7 +17,7 @@ use Rattle.stream.specs.Entry.{decode, startRange, isSegment}
 use Rattle.stream.specs.Table.{wordsAt, wordsFrom}
 use Rattle.records.specs.Record.{isGood}
 use Rattle.stream.specs.Grammar.{Env, areaMet, inRange, Passed}
-use Rattle.stream.specs.code.Machine.{segmentsIn}
+use Rattle.stream.specs.code.Machine.{runLength}
 use Rattle.stream.proofs.Table.{words-none}
 use Rattle.stream.proofs.Runs.{words-first, few-segments}
 use Rattle.stream.proofs.Passed.{in-range}
@@ -95,7 +95,7 @@ module _ (areas xs ys : List ℕ) (x y : ℕ) (t : List ℕ) (i e : ℕ) (v : En
       ≡ onItem (roleAt areas (w .p)) (passAt areas (w .p) sum) (opaqueAt areas (w .p)) (λ s. withArea s (w .p)) (meant m)
       → r .machine .depth ≡ m .depth
       → sum ≡ toZ w32 (w .q) +ℤ segmentsSum xs ys x y (wordsFrom t (i + 1) (e - (i + 1)))
-      → r .next ≡ i + 1 + segmentsIn (wordsFrom t (i + 1) (e - (i + 1)))
+      → r .next ≡ i + 1 + runLength (wordsFrom t (i + 1) (e - (i + 1)))
       → Onward areas xs ys x y t i e m r
   area-onward r sum k g d z n =
       record {

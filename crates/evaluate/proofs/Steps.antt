@@ -22,7 +22,7 @@ use Rattle.stream.specs.Entry.{Entry, decode, startRange, isSegment}
 use Rattle.stream.specs.Table.{wordsAt, wordsFrom}
 use Rattle.records.specs.Record.{isGood}
 use Rattle.stream.specs.Grammar.{Env, areaMet, inRange}
-use Rattle.stream.specs.code.Machine.{segmentsIn}
+use Rattle.stream.specs.code.Machine.{runLength}
 use Rattle.stream.proofs.Table.{words-step, words-none}
 use Rattle.stream.proofs.Entries.{byTests, decode-is}
 use Rattle.evaluate.specs.Reading.{roleAt, passAt, opaqueAt, elementFor, elementsIn}
@@ -110,9 +110,9 @@ module _ (areas xs ys : List ℕ) (x y : ℕ) where
   pub winding-step : (v : Env) (t : List ℕ) (g : Registers ℕ) (m k i : ℕ) (z : ℤ)
       → ((j : ℕ) → i ≤ j → j < i + k → inRange v (decode (wordsAt t j)) ≡ true)
       → From (state (afterArea g m (z +ℤ segmentsSum xs ys x y (wordsFrom t i k))) settled)
-      (wordsFrom t (i + segmentsIn (wordsFrom t i k)) (k - segmentsIn (wordsFrom t i k)))
+      (wordsFrom t (i + runLength (wordsFrom t i k)) (k - runLength (wordsFrom t i k)))
       ≡ From (state g (waits m z)) (wordsFrom t i k)
-  unfolding wordsFrom segmentsIn segmentsSum elementsIn
+  unfolding wordsFrom runLength segmentsSum elementsIn
   winding-step v t g m zero i z h = ap (λ u. From (state (afterArea g m u) settled) []) (+ℤ-idr z)
   winding-step v t g m (suc k) i z h =
       go (isSegment (wordsAt t i .kind)) refl
@@ -127,16 +127,16 @@ module _ (areas xs ys : List ℕ) (x y : ℕ) where
       go : (b : Bool)
           → isSegment (wordsAt t i .kind) ≡ b
           → From (state (afterArea g m ((z +ℤ a) +ℤ segmentsSum xs ys x y ws)) settled)
-          (wordsFrom t (i + 1 + segmentsIn ws) (k - segmentsIn ws))
+          (wordsFrom t (i + 1 + runLength ws) (k - runLength ws))
           ≡ From (state g (waits m (z +ℤ a))) ws
           → From (state (afterArea g m (z +ℤ cond b (a +ℤ segmentsSum xs ys x y ws) (pos 0))) settled)
-          (wordsFrom t (i + cond b (suc (segmentsIn ws)) 0) (suc k - cond b (suc (segmentsIn ws)) 0))
+          (wordsFrom t (i + cond b (suc (runLength ws)) 0) (suc k - cond b (suc (runLength ws)) 0))
           ≡ From (state g (waits m z)) (wordsAt t i ∷ ws)
       go true e ih =
-          let p : i + suc (segmentsIn ws) ≡ i + 1 + segmentsIn ws = omega arith in
-          let q : suc k - suc (segmentsIn ws) ≡ k - segmentsIn ws = omega arith in
+          let p : i + suc (runLength ws) ≡ i + 1 + runLength ws = omega arith in
+          let q : suc k - suc (runLength ws) ≡ k - runLength ws = omega arith in
           ap₂ (λ n r. From (state (afterArea g m (z +ℤ (a +ℤ segmentsSum xs ys x y ws))) settled) (wordsFrom t n r)) p q
-          ∙ (ap (λ u. From (state (afterArea g m u) settled) (wordsFrom t (i + 1 + segmentsIn ws) (k - segmentsIn ws)))
+          ∙ (ap (λ u. From (state (afterArea g m u) settled) (wordsFrom t (i + 1 + runLength ws) (k - runLength ws)))
           (sym (+ℤ-assoc z a (segmentsSum xs ys x y ws)))
           ∙ (ih ∙ sym (segment-step (wordsAt t i) ws g m z e)))
       go false e ih =
@@ -161,12 +161,12 @@ module _ (areas xs ys : List ℕ) (x y : ℕ) where
       → i < e
       → ((j : ℕ) → i ≤ j → j < e → inRange v (decode (wordsAt t j)) ≡ true)
       → From (state (afterArea g (w .p) (toZ w32 (w .q) +ℤ segmentsSum xs ys x y (wordsFrom t (i + 1) (e - (i + 1))))) settled)
-      (wordsFrom t (i + 1 + segmentsIn (wordsFrom t (i + 1) (e - (i + 1)))) (e - (i + 1 + segmentsIn (wordsFrom t (i + 1) (e - (i + 1))))))
+      (wordsFrom t (i + 1 + runLength (wordsFrom t (i + 1) (e - (i + 1)))) (e - (i + 1 + runLength (wordsFrom t (i + 1) (e - (i + 1))))))
       ≡ From (state g settled) (wordsFrom t i (e - i))
   area-step v t g i e w q a l h =
       let ws = wordsFrom t (i + 1) (e - (i + 1)) in
-      let r : e - (i + 1 + segmentsIn ws) ≡ e - (i + 1) - segmentsIn ws = omega arith in
-      ap (λ k. From (state (afterArea g (w .p) (toZ w32 (w .q) +ℤ segmentsSum xs ys x y ws)) settled) (wordsFrom t (i + 1 + segmentsIn ws) k)) r
+      let r : e - (i + 1 + runLength ws) ≡ e - (i + 1) - runLength ws = omega arith in
+      ap (λ k. From (state (afterArea g (w .p) (toZ w32 (w .q) +ℤ segmentsSum xs ys x y ws)) settled) (wordsFrom t (i + 1 + runLength ws) k)) r
       ∙ (winding-step v t g (w .p) (e - (i + 1)) (i + 1) (toZ w32 (w .q)) (λ j c d. h j (omega arith) (omega arith))
       ∙ (sym (named-step w ws g a) ∙ first-step (state g settled) t i e w q l))
 

@@ -24,7 +24,7 @@ ghost use Rattle.machine.specs.code.Registers.{meant};
 ghost use Rattle.stream.specs.Entry.{startRange, signRange};
 ghost use Rattle.stream.specs.Table.{wordsAt, wordsFrom};
 ghost use Rattle.stream.specs.Grammar.{env, Passed};
-ghost use Rattle.stream.specs.code.Machine.{segmentsIn};
+ghost use Rattle.stream.specs.code.Machine.{runLength};
 ghost use Rattle.evaluate.specs.Reading.{roleAt, passAt, opaqueAt, setAt};
 ghost use Rattle.evaluate.specs.code.Numbers.{lineOf, segmentRange, segmentAdds, segmentsSum, movedBy, SegmentsIn, Ranged, Onward};
 
@@ -139,7 +139,7 @@ fn winding_from(
     requires { ⌜ PositionIn x y ⌝ }
     requires { ⌜ natAbs start ≤ 2048 ⌝ }
     ensures sum { λ r. ⌜ r .sum ≡ start +ℤ segmentsSum (now (xs .entry)) (now (ys .entry)) x y (wordsFrom (now (entries .entry)) from (end - from)) ⌝ }
-    ensures next { λ r. ⌜ r .next ≡ from + segmentsIn (wordsFrom (now (entries .entry)) from (end - from)) ⌝ }
+    ensures next { λ r. ⌜ r .next ≡ from + runLength (wordsFrom (now (entries .entry)) from (end - from)) ⌝ }
 {
     let mut sum = start;
     let mut i = from;

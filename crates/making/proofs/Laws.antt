@@ -49,12 +49,12 @@ by-kind w P p₁ p₂ p₃ p₄ pₛ p₇ p₈ = subst P (sym (decode-is w)) (te
         go false s = g
 
 -- the place behind a line, a curve or a shortcut
-pub after-segment : (p : Place) (w : Words) → isSegment (w .kind) ≡ true → after p (decode w) ≡ place (p .groups) true (p .areas) (p .lines + 1)
+pub after-segment : (p : Place) (w : Words) → isSegment (w .kind) ≡ true → after p (decode w) ≡ place (p .groups) true (p .areas) (p .segments + 1)
 after-segment p w s = ap (after p) (decode-segment w s) ∙ go (isLine (w .kind)) (isCurve (w .kind))
   where
     go : (l c : Bool)
         → after p (cond l (cond c (Entries.curve (w .p)) (Entries.line (w .p) (w .q))) (Entries.shortcut (w .p) (w .q) (w .r)))
-        ≡ place (p .groups) true (p .areas) (p .lines + 1)
+        ≡ place (p .groups) true (p .areas) (p .segments + 1)
     go true true = refl
     go true false = refl
     go false c = refl

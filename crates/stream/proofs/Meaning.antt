@@ -35,8 +35,8 @@ use Rattle.stream.specs.code.Machine.{
 }
 use Rattle.stream.proofs.Entries.{segmentEntry, decode-is, segment-range}
 
-abbrev enc : Course → Scan
-enc (at p) = mk (num (p .groups)) (p .held) (p .areas) (p .lines)
+abbrev pub enc : Course → Scan
+enc (at p) = mk (num (p .groups)) (p .held) (p .areas) (p .segments)
 enc off = offN
 
 -- a choice on both sides of an equation
@@ -60,14 +60,14 @@ module _ (v : Env) (p : Place) where
     where
       go : (b : Bool) → onRight (p .groups) ≡ b
           → cond b (inGroups (enc (at p)) (closeN (num (p .groups)))) offN
-          ≡ enc (cond b (at (place (toOuter (p .groups)) false (p .areas) (p .lines))) off)
+          ≡ enc (cond b (at (place (toOuter (p .groups)) false (p .areas) (p .segments))) off)
       go true h = rw (close-is (p .groups) h)
       go false h = refl
 
   after-passes-is : afterPassesN (enc (at p)) ≡ enc (next v p passes)
   after-passes-is = rw (paint-is (p .groups)) (go (isPaint (p .groups)))
     where
-      go : (b : Bool) → cond b offN (inGroups (enc (at p)) (num (p .groups))) ≡ enc (cond (not b) (at (place (p .groups) false (p .areas) (p .lines))) off)
+      go : (b : Bool) → cond b offN (inGroups (enc (at p)) (num (p .groups))) ≡ enc (cond (not b) (at (place (p .groups) false (p .areas) (p .segments))) off)
       go true = refl
       go false = refl
 
@@ -76,14 +76,14 @@ module _ (v : Env) (p : Place) where
   area-is w = rw (paint-is (p .groups)) (go (areaMet v (w .p)) (isPaint (p .groups)) (startRange (w .q)))
     where
       limited : (b : Bool)
-          → cond b (mk (num (p .groups)) true (p .areas + 1) (p .lines)) offN
-          ≡ enc (cond b (at (place (p .groups) true (p .areas + 1) (p .lines))) off)
+          → cond b (mk (num (p .groups)) true (p .areas + 1) (p .segments)) offN
+          ≡ enc (cond b (at (place (p .groups) true (p .areas + 1) (p .segments))) off)
       limited true = refl
       limited false = refl
 
       pick : (a b : Bool)
           → withAreaN (enc (at p)) (a && b)
-          ≡ enc (cond (true && b) (cond a (cond (ltb (p .areas) 64) (at (place (p .groups) true (p .areas + 1) (p .lines))) off) off) off)
+          ≡ enc (cond (true && b) (cond a (cond (ltb (p .areas) 64) (at (place (p .groups) true (p .areas + 1) (p .segments))) off) off) off)
       pick true true = limited (ltb (p .areas) 64)
       pick true false = refl
       pick false true = refl
@@ -91,18 +91,18 @@ module _ (v : Env) (p : Place) where
 
       go : (d : Decoded) (paint b : Bool)
           → withAreaN (enc (at p)) (roleFits d paint && b)
-          ≡ enc (cond (isGood d && b) (cond (roleFits d paint) (cond (ltb (p .areas) 64) (at (place (p .groups) true (p .areas + 1) (p .lines))) off) off) off)
+          ≡ enc (cond (isGood d && b) (cond (roleFits d paint) (cond (ltb (p .areas) 64) (at (place (p .groups) true (p .areas + 1) (p .segments))) off) off) off)
       go (Good r) paint b = pick (roleFits (Good r) paint) b
       go (Bad x) paint b = refl
 
   line-is : (b : Bool)
       → withLineN (enc (at p)) b
-      ≡ enc (cond b (cond (p .held) (cond (ltb (p .lines) 2048) (at (place (p .groups) true (p .areas) (p .lines + 1))) off) off) off)
-  line-is b = go b (p .held) (ltb (p .lines) 2048)
+      ≡ enc (cond b (cond (p .held) (cond (ltb (p .segments) 2048) (at (place (p .groups) true (p .areas) (p .segments + 1))) off) off) off)
+  line-is b = go b (p .held) (ltb (p .segments) 2048)
     where
       go : (b h l : Bool)
-          → cond b (cond h (cond l (mk (num (p .groups)) true (p .areas) (p .lines + 1)) offN) offN) offN
-          ≡ enc (cond b (cond h (cond l (at (place (p .groups) true (p .areas) (p .lines + 1))) off) off) off)
+          → cond b (cond h (cond l (mk (num (p .groups)) true (p .areas) (p .segments + 1)) offN) offN) offN
+          ≡ enc (cond b (cond h (cond l (at (place (p .groups) true (p .areas) (p .segments + 1))) off) off) off)
       go true true true = refl
       go true true false = refl
       go true false l = refl
@@ -135,7 +135,7 @@ step-is : (v : Env) (c : Course) (w : Words) → stepN v (enc c) w ≡ enc (met 
 step-is v (at p) w = at-is v p w
 step-is v off w = refl
 
-course-is : (v : Env) (c : Course) (ws : List Words) → scanN v (enc c) ws ≡ enc (course v c ws)
+pub course-is : (v : Env) (c : Course) (ws : List Words) → scanN v (enc c) ws ≡ enc (course v c ws)
 unfolding scanN course
 course-is v c [] = refl
 course-is v c (w ∷ ws) = rw (step-is v c w) (course-is v (met v c (decode w)) ws)

@@ -13,9 +13,10 @@ use Rattle.stream.specs.declared.Scan.{Scan}
 use Rattle.stream.specs.declared.Scanned.{Scanned}
 use Rattle.stream.specs.Table.{wordsAt, wordsFrom}
 use Rattle.stream.specs.Grammar.{Env}
-use Rattle.stream.specs.Entry.{isSegment}
+use Rattle.stream.specs.Entry.{isSegment, linesIn}
 use Rattle.stream.specs.code.Machine.{mk, offN, afterOpenN, afterBarN, afterCloseN, withAreaN, areaFitsN, stepN, scanN, segmentFits}
-use Rattle.stream.specs.code.Machine.{segmentsIn, runFits, afterRunN, otherN, withLineN, afterPassesN, Apart, Onward}
+use Rattle.stream.specs.code.Machine.{runLength, runFits, afterRunN, otherN, withLineN, afterPassesN, Apart, Onward}
+use Rattle.stream.proofs.Counts.{alive-before, alive-lines}
 use Rattle.stream.proofs.Entries.{segment-ne}
 use Rattle.stream.proofs.Table.{words-step, words-none}
 
@@ -25,24 +26,24 @@ module _ (t : List ℕ) (i e : ℕ) (w : Words) (q : w ≡ wordsAt t i) (l : i <
   pub words-first : wordsFrom t i (e - i) ≡ w ∷ wordsFrom t (i + 1) (e - (i + 1))
   words-first = words-step t i e l ∙ ap (λ u. u ∷ wordsFrom t (i + 1) (e - (i + 1))) (sym q)
 
-  pub count-more : isSegment (w .kind) ≡ true → segmentsIn (wordsFrom t i (e - i)) ≡ suc (segmentsIn (wordsFrom t (i + 1) (e - (i + 1))))
-  unfolding segmentsIn
-  count-more s = ap segmentsIn words-first ∙ ap (λ b. cond b (suc (segmentsIn (wordsFrom t (i + 1) (e - (i + 1))))) 0) s
+  pub count-more : isSegment (w .kind) ≡ true → runLength (wordsFrom t i (e - i)) ≡ suc (runLength (wordsFrom t (i + 1) (e - (i + 1))))
+  unfolding runLength
+  count-more s = ap runLength words-first ∙ ap (λ b. cond b (suc (runLength (wordsFrom t (i + 1) (e - (i + 1))))) 0) s
 
-  pub count-stop : isSegment (w .kind) ≡ false → segmentsIn (wordsFrom t i (e - i)) ≡ 0
-  unfolding segmentsIn
-  count-stop s = ap segmentsIn words-first ∙ ap (λ b. cond b (suc (segmentsIn (wordsFrom t (i + 1) (e - (i + 1))))) 0) s
+  pub count-stop : isSegment (w .kind) ≡ false → runLength (wordsFrom t i (e - i)) ≡ 0
+  unfolding runLength
+  count-stop s = ap runLength words-first ∙ ap (λ b. cond b (suc (runLength (wordsFrom t (i + 1) (e - (i + 1))))) 0) s
 
-pub count-last : (t : List ℕ) (i e : ℕ) → e ≤ i → segmentsIn (wordsFrom t i (e - i)) ≡ 0
-unfolding segmentsIn
-count-last t i e h = ap segmentsIn (words-none t i e h)
+pub count-last : (t : List ℕ) (i e : ℕ) → e ≤ i → runLength (wordsFrom t i (e - i)) ≡ 0
+unfolding runLength
+count-last t i e h = ap runLength (words-none t i e h)
 
-pub few-segments : (t : List ℕ) (n i : ℕ) → segmentsIn (wordsFrom t i n) ≤ n
-unfolding segmentsIn wordsFrom
+pub few-segments : (t : List ℕ) (n i : ℕ) → runLength (wordsFrom t i n) ≤ n
+unfolding runLength wordsFrom
 few-segments t zero i = omega arith
 few-segments t (suc n) i = go (isSegment (wordsAt t i .kind)) (few-segments t n (i + 1))
   where
-    go : (b : Bool) → segmentsIn (wordsFrom t (i + 1) n) ≤ n → cond b (suc (segmentsIn (wordsFrom t (i + 1) n))) 0 ≤ suc n
+    go : (b : Bool) → runLength (wordsFrom t (i + 1) n) ≤ n → cond b (suc (runLength (wordsFrom t (i + 1) n))) 0 ≤ suc n
     go true h = omega arith
     go false h = omega arith
 
@@ -70,8 +71,8 @@ module _ (xs ys : List ℕ) (b : Bounds) where
   fits-last t i e n h = ap (runFits xs ys b n) (words-none t i e h)
 
   -- a run that fits makes no more than 2,048
-  pub fits-few : (t : List ℕ) (k i n : ℕ) → runFits xs ys b n (wordsFrom t i k) ≡ true → n < 4294967296 → n + segmentsIn (wordsFrom t i k) < 4294967296
-  unfolding runFits segmentsIn wordsFrom
+  pub fits-few : (t : List ℕ) (k i n : ℕ) → runFits xs ys b n (wordsFrom t i k) ≡ true → n < 4294967296 → n + runLength (wordsFrom t i k) < 4294967296
+  unfolding runFits runLength wordsFrom
   fits-few t zero i n h l = omega arith
   fits-few t (suc k) i n h l = go (isSegment (wordsAt t i .kind)) h (fits-few t k (i + 1) (n + 1))
     where
@@ -81,8 +82,8 @@ module _ (xs ys : List ℕ) (b : Bounds) where
       r : Bool
       r = runFits xs ys b (n + 1) (wordsFrom t (i + 1) k)
 
-      go : (c : Bool) → cond c ((f && ltb n 2048) && r) true ≡ true → (r ≡ true → n + 1 < 4294967296 → n + 1 + segmentsIn (wordsFrom t (i + 1) k) < 4294967296)
-          → n + cond c (suc (segmentsIn (wordsFrom t (i + 1) k))) 0 < 4294967296
+      go : (c : Bool) → cond c ((f && ltb n 2048) && r) true ≡ true → (r ≡ true → n + 1 < 4294967296 → n + 1 + runLength (wordsFrom t (i + 1) k) < 4294967296)
+          → n + cond c (suc (runLength (wordsFrom t (i + 1) k))) 0 < 4294967296
       go true e ih =
           let p = and-left (f && ltb n 2048) r e in
           let m = ltb-true n 2048 (and-right f (ltb n 2048) p) in
@@ -118,10 +119,10 @@ module _ (v : Env) (t : List ℕ) (n a : ℕ) (some : n ≡ 0 → ⊥) where
       (both-fit (segmentFits (v .xs) (v .ys) (v .used) w) (ltb l 2048) (mk n true a (l + 1)) offN)
 
   pub run-step : (k i l : ℕ)
-      → scanN v (cond (runFits (v .xs) (v .ys) (v .used) l (wordsFrom t i k)) (mk n true a (l + segmentsIn (wordsFrom t i k))) offN)
-      (wordsFrom t (i + segmentsIn (wordsFrom t i k)) (k - segmentsIn (wordsFrom t i k)))
+      → scanN v (cond (runFits (v .xs) (v .ys) (v .used) l (wordsFrom t i k)) (mk n true a (l + runLength (wordsFrom t i k))) offN)
+      (wordsFrom t (i + runLength (wordsFrom t i k)) (k - runLength (wordsFrom t i k)))
       ≡ scanN v (mk n true a l) (wordsFrom t i k)
-  unfolding runFits segmentsIn wordsFrom scanN
+  unfolding runFits runLength wordsFrom scanN
   run-step zero i l = let e : l + 0 ≡ l = omega arith in ap (λ m. mk n true a m) e
   run-step (suc k) i l = go (isSegment (wordsAt t i .kind)) refl (run-step k (i + 1) (l + 1))
     where
@@ -129,7 +130,7 @@ module _ (v : Env) (t : List ℕ) (n a : ℕ) (some : n ≡ 0 → ⊥) where
       ws = wordsFrom t (i + 1) k
 
       m : ℕ
-      m = segmentsIn ws
+      m = runLength ws
 
       r : Bool
       r = runFits (v .xs) (v .ys) (v .used) (l + 1) ws
@@ -204,13 +205,26 @@ module _ (v : Env) (t : List ℕ) (i e : ℕ) (s : Scan) (w : Words) (q : w ≡ 
   unfolding scanN
   scan-step = sym (ap (scanN v s) (words-first t i e w q l))
 
-  pub one-onward : (r : Scanned) → r .scan ≡ otherN (v .areas) (v .used .areas) s w → r .next ≡ i + 1 → Apart t (r .next) e (r .scan) → Onward v t i e s r
-  one-onward r g n h =
+  pub one-onward : (r : Scanned)
+      → r .scan ≡ otherN (v .areas) (v .used .areas) s w
+      → r .next ≡ i + 1
+      → r .lines ≡ 0
+      → Apart t (r .next) e (r .scan)
+      → Onward v t i e s r
+  one-onward r g n o h =
       record {
         later = omega (arith, n);
         inside = omega (arith, n, l);
         apart = h;
         same = ap₂ (λ (u : Scan) j. scanN v u (wordsFrom t j (e - j))) (g ∙ stepped) n ∙ scan-step;
+        few = omega (arith, n, o);
+        before = λ a. alive-before (v .areas) (v .used .areas) s w (λ z. a (ap (λ (u : Scan). u .stack) g ∙ z));
+        lines = λ a.
+            omega (
+              arith,
+              ap₂ (λ k j. k + linesIn (wordsFrom t j (e - j))) o n,
+              alive-lines (v .areas) (v .used .areas) s w (λ z. a (ap (λ (u : Scan). u .stack) g ∙ z)) t i e q l,
+            );
       }
 
   pub run-onward : (n : Scan)
@@ -218,15 +232,17 @@ module _ (v : Env) (t : List ℕ) (i e : ℕ) (s : Scan) (w : Words) (q : w ≡ 
       → (n .stack ≡ 0 → ⊥)
       → n .held ≡ true
       → (r : Scanned) (fits : Bool) (lines : ℕ)
-      → fits ≡ runFits (v .xs) (v .ys) (v .used) (n .lines) (wordsFrom t (i + 1) (e - (i + 1)))
-      → lines ≡ n .lines + segmentsIn (wordsFrom t (i + 1) (e - (i + 1)))
+      → fits ≡ runFits (v .xs) (v .ys) (v .used) (n .segments) (wordsFrom t (i + 1) (e - (i + 1)))
+      → lines ≡ n .segments + runLength (wordsFrom t (i + 1) (e - (i + 1)))
       → r .scan ≡ afterRunN n fits lines
-      → r .next ≡ i + 1 + segmentsIn (wordsFrom t (i + 1) (e - (i + 1)))
+      → r .next ≡ i + 1 + runLength (wordsFrom t (i + 1) (e - (i + 1)))
       → (r .next < e → isSegment (wordsAt t (r .next) .kind) ≡ false)
+      → i + 1 + r .lines ≤ r .next
+      → r .lines + linesIn (wordsFrom t (r .next) (e - r .next)) ≡ linesIn (wordsFrom t (i + 1) (e - (i + 1)))
       → Onward v t i e s r
-  run-onward n g some held r fits lines f m h k o =
+  run-onward n g some held r fits lines f m h k o x y =
       let ws = wordsFrom t (i + 1) (e - (i + 1)) in
-      let z : e - (i + 1 + segmentsIn ws) ≡ e - (i + 1) - segmentsIn ws = omega arith in
+      let z : e - (i + 1 + runLength ws) ≡ e - (i + 1) - runLength ws = omega arith in
       record {
         later = omega (arith, k);
         inside = omega (arith, k, few-segments t (e - (i + 1)) (i + 1), l);
@@ -235,9 +251,12 @@ module _ (v : Env) (t : List ℕ) (i e : ℕ) (s : Scan) (w : Words) (q : w ≡ 
             k
             ∙ (ap
             (λ j.
-            scanN v (cond (runFits (v .xs) (v .ys) (v .used) (n .lines) ws) (mk (n .stack) true (n .areas) (n .lines + segmentsIn ws)) offN)
-            (wordsFrom t (i + 1 + segmentsIn ws) j))
+            scanN v (cond (runFits (v .xs) (v .ys) (v .used) (n .segments) ws) (mk (n .stack) true (n .areas) (n .segments + runLength ws)) offN)
+            (wordsFrom t (i + 1 + runLength ws) j))
             z
-            ∙ (run-step v t (n .stack) (n .areas) some (e - (i + 1)) (i + 1) (n .lines)
-            ∙ (ap (λ b. scanN v (mk (n .stack) b (n .areas) (n .lines)) ws) (sym held) ∙ (ap (λ (u : Scan). scanN v u ws) (g ∙ stepped) ∙ scan-step))));
+            ∙ (run-step v t (n .stack) (n .areas) some (e - (i + 1)) (i + 1) (n .segments)
+            ∙ (ap (λ b. scanN v (mk (n .stack) b (n .areas) (n .segments)) ws) (sym held) ∙ (ap (λ (u : Scan). scanN v u ws) (g ∙ stepped) ∙ scan-step))));
+        few = omega (arith, x);
+        before = λ a. alive-before (v .areas) (v .used .areas) s w (λ z. some (ap (λ (u : Scan). u .stack) g ∙ z));
+        lines = λ a. y ∙ alive-lines (v .areas) (v .used .areas) s w (λ z. some (ap (λ (u : Scan). u .stack) g ∙ z)) t i e q l;
       }

@@ -1,6 +1,7 @@
--- Document 01, "Cells", and document 02, Item 2: an entry of a stream, and what the four words say that hold it.
+-- Document 01, "Cells", and document 02, Items 2 and 4: an entry of a stream, and what the four words say that hold it.
 use Prim.Native.Nat.{ℕ, _+_}
-use mathlib.Core.Bool.{Bool, cond, _||_}
+use mathlib.Core.Path.{_≡_}
+use mathlib.Core.Bool.{Bool, true, cond, _||_}
 use mathlib.Core.List.{List, [], _∷_}
 use lib.Dec.{eqb, leb}
 use Rattle.stream.specs.declared.Words.{Words}
@@ -39,6 +40,20 @@ linesIn (w ∷ ws) = cond (isLine (w .kind)) (1 + linesIn ws) (linesIn ws)
 -- a line, a curve or a shortcut
 abbrev pub isSegment : (kind : ℕ) → Bool
 isSegment k = isLine k || eqb k 6
+
+-- how many entries are lines, curves or shortcuts
+abbrev pub segmentsIn : List Words → ℕ
+segmentsIn [] = 0
+segmentsIn (w ∷ ws) = cond (isSegment (w .kind)) (1 + segmentsIn ws) (segmentsIn ws)
+
+-- one of the entries is a line, a curve or a shortcut
+pub data HoldsSegment : List Words → Type 0 where
+  here : (w : Words) (ws : List Words) → isSegment (w .kind) ≡ true → HoldsSegment (w ∷ ws)
+  behind : (w : Words) (ws : List Words) → HoldsSegment ws → HoldsSegment (w ∷ ws)
+
+-- document 02: "yes exactly when the leaf's stream holds no line, curve or shortcut"; `Rattle.stream.proofs.Uniform` says both ways
+abbrev pub isUniform : List Words → Bool
+isUniform ws = eqb (segmentsIn ws) 0
 
 -- four words an entry: kind, p, q, r. Kinds: 1 `(`, 2 `|`, 3 `)`, 4 area (p, q), 5 line (p, q), 6 shortcut (p, q, r), 7 passes, 8 curve (p); the
 -- other words of an entry, which the documents leave free, are not looked at

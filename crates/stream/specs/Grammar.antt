@@ -74,10 +74,10 @@ pub record Place : Type 0 where
   pub groups : List Frame
   pub held : Bool
   pub areas : ℕ
-  pub lines : ℕ
+  pub segments : ℕ
 
 abbrev pub place : List Frame → Bool → ℕ → ℕ → Place
-place g h a l = record { groups = g; held = h; areas = a; lines = l }
+place g h a l = record { groups = g; held = h; areas = a; segments = l }
 
 -- "An area's role fits its side": "role (0 paint, 1 clip)"
 abbrev pub recordFits : Record → Bool → Bool
@@ -114,21 +114,21 @@ inLimit p opens = ltb (length (p .groups)) 8
 inLimit p bar = true
 inLimit p closes = true
 inLimit p (area n q) = ltb (p .areas) 64
-inLimit p (line a b) = ltb (p .lines) 2048
-inLimit p (curve a) = ltb (p .lines) 2048
-inLimit p (shortcut s a b) = ltb (p .lines) 2048
+inLimit p (line a b) = ltb (p .segments) 2048
+inLimit p (curve a) = ltb (p .segments) 2048
+inLimit p (shortcut s a b) = ltb (p .segments) 2048
 inLimit p passes = true
 inLimit p bad = false
 
 abbrev pub after : Place → Entry → Place
-after p opens = place (opening (p .groups)) false (p .areas) (p .lines)
-after p bar = place (toRight (p .groups)) false (p .areas) (p .lines)
-after p closes = place (toOuter (p .groups)) false (p .areas) (p .lines)
-after p (area n q) = place (p .groups) true (p .areas + 1) (p .lines)
-after p (line a b) = place (p .groups) true (p .areas) (p .lines + 1)
-after p (curve a) = place (p .groups) true (p .areas) (p .lines + 1)
-after p (shortcut s a b) = place (p .groups) true (p .areas) (p .lines + 1)
-after p passes = place (p .groups) false (p .areas) (p .lines)
+after p opens = place (opening (p .groups)) false (p .areas) (p .segments)
+after p bar = place (toRight (p .groups)) false (p .areas) (p .segments)
+after p closes = place (toOuter (p .groups)) false (p .areas) (p .segments)
+after p (area n q) = place (p .groups) true (p .areas + 1) (p .segments)
+after p (line a b) = place (p .groups) true (p .areas) (p .segments + 1)
+after p (curve a) = place (p .groups) true (p .areas) (p .segments + 1)
+after p (shortcut s a b) = place (p .groups) true (p .areas) (p .segments + 1)
+after p passes = place (p .groups) false (p .areas) (p .segments)
 after p bad = p
 
 -- ---- the fold

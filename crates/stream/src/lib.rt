@@ -2,14 +2,15 @@
 use records::Decoded;
 use records::Record;
 ghost use mathlib.Core.Path.{_≡_};
-ghost use mathlib.Core.Bool.{true, false};
+ghost use mathlib.Core.Bool.{true, false, cond};
 ghost use Prim.Native.Nat.{_+_, _*_, _-_, _≤_, _<_};
 ghost use lib.ListN.{length};
 ghost use Rattle.stream.specs.Table.{wordsAt, wordsFrom, putAt};
-ghost use Rattle.stream.specs.Grammar.{env, cornerMet, lineRange, curveRange, shortcutRange, recordFits, roleFits, usedRange, Ready, checkStream};
-ghost use Rattle.stream.specs.Entry.{isCurve, isLine, isSegment};
-ghost use Rattle.stream.specs.code.Machine.{offN, startN, inGroups, afterOpenN, afterBarN, afterCloseN, afterPassesN, withAreaN, areaFitsN, otherN};
-ghost use Rattle.stream.specs.code.Machine.{scanN, lineFits, segmentFits, segmentsIn, runFits, afterRunN, Apart, Onward};
+ghost use Rattle.stream.specs.Grammar.{env, cornerMet, lineRange, curveRange, shortcutRange, recordFits, roleFits, usedRange, Ready, accepts};
+ghost use Rattle.stream.specs.Entry.{isCurve, isLine, isSegment, linesIn};
+ghost use Rattle.stream.specs.code.Machine.{offN, inGroups, afterOpenN, afterBarN, afterCloseN, afterPassesN, withAreaN, areaFitsN, otherN};
+ghost use Rattle.stream.specs.code.Machine.{lineFits, segmentFits, runLength, runFits, afterRunN, Apart, Onward};
+ghost use Rattle.stream.specs.code.Checks.{unfit, told, toldAt, checked};
 
 // How many words an entry has, and the kinds, its first word.
 pub const ENTRY_WORDS: usize = 4;
@@ -67,12 +68,12 @@ pub struct Bounds {
 }
 
 // Where a reader of a stream stands. `stack`: the open groups (crate `groups`), or 0 where an entry was out of range or did not fit. `held`: an
-// area, a line, a curve or a shortcut stands straight before. `areas`, `lines`: how many areas, and how many lines, curves and shortcuts, so far.
+// area, a line, a curve or a shortcut stands straight before. `areas`, `segments`: how many areas, and how many lines, curves and shortcuts, so far.
 pub struct Scan {
     pub stack: u32,
     pub held: bool,
     pub areas: u32,
-    pub lines: u32,
+    pub segments: u32,
 }
 
 // ---- the table of entries
@@ -123,6 +124,17 @@ pub fn is_segment(kind: u32) -> bool
 {
     let line = is_line(kind);
     line | (kind == ENTRY_SHORTCUT)
+}
+
+// 1 for a line or a curve, or 0.
+fn line_of(kind: u32) -> usize
+    ensures answer { λ r. ⌜ r ≡ cond (isLine kind) 1 0 ⌝ }
+    ensures range { λ r. ⌜ r ≤ 1 ⌝ }
+{
+    if is_line(kind) {
+        return 1;
+    }
+    0
 }
 
 // ---- the numbers of an entry
@@ -246,7 +258,7 @@ fn off() -> Scan
         stack: OFF,
         held: false,
         areas: 0,
-        lines: 0,
+        segments: 0,
     }
 }
 
@@ -258,7 +270,7 @@ fn in_groups(s: Scan, n: u32) -> Scan
         stack: n,
         held: false,
         areas: s.areas,
-        lines: s.lines,
+        segments: s.segments,
     }
 }
 
@@ -311,7 +323,7 @@ fn with_area(s: Scan, ok: bool) -> Scan
                 stack: s.stack,
                 held: true,
                 areas: s.areas + 1,
-                lines: s.lines,
+                segments: s.segments,
             };
         }
         return off();
@@ -342,14 +354,15 @@ fn step(areas: &[u32], used: usize, s: Scan, w: Words) -> Scan
 }
 
 // ---- lines, curves and shortcuts in a row
-// Whether they are in range and at most 2,048; how many there are with those before; and the entry behind them.
+// Whether they are in range and at most 2,048; how many there are with those before; how many of them are lines or curves; and the entry behind them.
 pub struct Run {
     pub fits: bool,
+    pub segments: usize,
     pub lines: usize,
     pub next: usize,
 }
 
-// The lines, curves and shortcuts from entry `from` on, where `lines` stand before.
+// The lines, curves and shortcuts from entry `from` on, where `before` stand before.
 fn scan_run(
     entries: &[u32],
     from: usize,
@@ -357,62 +370,78 @@ fn scan_run(
     xs: &[u32],
     ys: &[u32],
     b: Bounds,
-    lines: usize,
+    before: usize,
 ) -> Run
     requires { ⌜ (from ≤ end) × (end ≤ from + 4096) × (end * 4 ≤ length (now entries)) ⌝ }
     requires { ⌜ (b .corners ≤ length (now xs)) × (b .corners ≤ length (now ys)) ⌝ }
-    requires { ⌜ lines < 4294967296 ⌝ }
-    ensures fits { λ r. ⌜ r .fits ≡ runFits (now (xs .entry)) (now (ys .entry)) b lines (wordsFrom (now (entries .entry)) from (end - from)) ⌝ }
-    ensures lines { λ r. ⌜ r .lines ≡ lines + segmentsIn (wordsFrom (now (entries .entry)) from (end - from)) ⌝ }
-    ensures next { λ r. ⌜ r .next ≡ from + segmentsIn (wordsFrom (now (entries .entry)) from (end - from)) ⌝ }
+    requires { ⌜ before < 4294967296 ⌝ }
+    ensures fits { λ r. ⌜ r .fits ≡ runFits (now (xs .entry)) (now (ys .entry)) b before (wordsFrom (now (entries .entry)) from (end - from)) ⌝ }
+    ensures segments { λ r. ⌜ r .segments ≡ before + runLength (wordsFrom (now (entries .entry)) from (end - from)) ⌝ }
+    ensures next { λ r. ⌜ r .next ≡ from + runLength (wordsFrom (now (entries .entry)) from (end - from)) ⌝ }
     ensures behind { λ r. ⌜ (r .next < end → isSegment (wordsAt (now (entries .entry)) (r .next) .kind) ≡ false) ⌝ }
+    ensures few { λ r. ⌜ from + r .lines ≤ r .next ⌝ }
+    ensures lines { λ r. ⌜ r .lines + linesIn (wordsFrom (now (entries .entry)) (r .next) (end - r .next))
+        ≡ linesIn (wordsFrom (now (entries .entry)) from (end - from)) ⌝ }
 {
     let mut fits = true;
-    let mut n = lines;
+    let mut n = before;
+    let mut lines: usize = 0;
     let mut i = from;
     while i < end {
         let w = read_entry(entries, i);
         if is_segment(w.kind) {
             let g = segment_fits(xs, ys, b, w);
+            let line = line_of(w.kind);
             fits = fits & (g & (n < records::MOST_CORNERS));
             n += 1;
+            lines = lines + line;
             i += 1;
         } else {
             return Run {
                 fits: fits,
-                lines: n,
+                segments: n,
+                lines: lines,
                 next: i,
             };
         }
     }
     Run {
         fits: fits,
-        lines: n,
+        segments: n,
+        lines: lines,
         next: i,
     }
 }
 
 // After a run of lines, curves and shortcuts that stands straight after an area or another of them.
 fn after_run(s: Scan, r: Run) -> Scan
-    requires { ⌜ (r .fits ≡ true → r .lines < 4294967296) ⌝ }
-    ensures answer { λ t. ⌜ t ≡ afterRunN s (r .fits) (r .lines) ⌝ }
+    requires { ⌜ (r .fits ≡ true → r .segments < 4294967296) ⌝ }
+    ensures answer { λ t. ⌜ t ≡ afterRunN s (r .fits) (r .segments) ⌝ }
 {
     if r.fits {
         return Scan {
             stack: s.stack,
             held: true,
             areas: s.areas,
-            lines: r.lines as u32,
+            segments: r.segments as u32,
         };
     }
     off()
 }
 
 // ---- a stream
-// Where a reader stands, and the entry from which it goes on.
+// Where a reader stands, how many lines and curves it has passed, and the entry from which it goes on.
 pub struct Scanned {
     pub scan: Scan,
+    pub lines: usize,
     pub next: usize,
+}
+
+// What the check of a stream says: whether it passes; and where it does, how many lines and curves, and how many lines, curves and shortcuts, it holds.
+pub struct Checked {
+    pub fits: bool,
+    pub lines: u32,
+    pub segments: u32,
 }
 
 // Entry i, and the lines, curves and shortcuts that stand behind it.
@@ -436,21 +465,50 @@ fn scan_next(
     if n.stack == OFF {
         return Scanned {
             scan: n,
+            lines: 0,
             next: i + 1,
         };
     }
     if n.held {
-        let r = scan_run(entries, i + 1, end, xs, ys, b, n.lines as usize);
+        let r = scan_run(entries, i + 1, end, xs, ys, b, n.segments as usize);
         let m = after_run(n, r);
         return Scanned {
             scan: m,
+            lines: r.lines,
             next: r.next,
         };
     }
     Scanned {
         scan: n,
+        lines: 0,
         next: i + 1,
     }
+}
+
+// A stream that does not pass.
+fn unfit_stream() -> Checked
+    ensures answer { λ r. ⌜ r ≡ unfit ⌝ }
+{
+    Checked {
+        fits: false,
+        lines: 0,
+        segments: 0,
+    }
+}
+
+// What a reader says that has read all the entries of a stream.
+fn tell(s: Scan, lines: usize) -> Checked
+    requires { ⌜ lines ≤ 4096 ⌝ }
+    ensures answer { λ r. ⌜ r ≡ toldAt s lines ⌝ }
+{
+    if s.stack == groups::NONE_OPEN {
+        return Checked {
+            fits: true,
+            lines: lines as u32,
+            segments: s.segments,
+        };
+    }
+    unfit_stream()
 }
 
 // All the entries of a stream.
@@ -462,27 +520,31 @@ fn scan_all(
     xs: &[u32],
     ys: &[u32],
     b: Bounds,
-) -> Scan
+) -> Checked
     requires { ⌜ (first + count) * 4 ≤ length (now entries) ⌝ }
     requires { ⌜ count ≤ 4096 ⌝ }
     requires { ⌜ Ready (now areas) (now xs) (now ys) b ⌝ }
-    ensures answer { λ r. ⌜ r ≡ scanN (env (now (areas .entry)) (now (xs .entry)) (now (ys .entry)) b) startN (wordsFrom (now (entries .entry)) first count) ⌝ }
+    ensures answer { λ r. ⌜ r ≡
+        told (accepts (env (now (areas .entry)) (now (xs .entry)) (now (ys .entry)) b) (wordsFrom (now (entries .entry)) first count))
+        (wordsFrom (now (entries .entry)) first count) ⌝ }
 {
     let end = first + count;
     let mut s = Scan {
         stack: groups::NONE_OPEN,
         held: false,
         areas: 0,
-        lines: 0,
+        segments: 0,
     };
+    let mut lines: usize = 0;
     let mut i = first;
     while i < end {
         let r = scan_next(entries, i, end, areas, xs, ys, b, s);
         let n = r.scan;
         s = n;
+        lines = lines + r.lines;
         i = r.next;
     }
-    s
+    tell(s, lines)
 }
 
 // ---- the check
@@ -502,7 +564,8 @@ pub fn used_range(
             & ((b.corners <= xs) & ((b.corners <= ys) & (b.corners <= records::MOST_CORNERS))))
 }
 
-// Whether the count entries from first on are a stream of the cell with this low row and this side. Any tables and numbers may be handed in.
+// Whether the count entries from first on are a stream of the cell with this low row and this side, and how many lines and segments it holds.
+// Any tables and numbers may be handed in.
 pub fn check_stream(
     entries: &[u32],
     first: usize,
@@ -512,22 +575,21 @@ pub fn check_stream(
     xs: &[u32],
     ys: &[u32],
     b: Bounds,
-) -> bool
-    ensures answer { λ r. ⌜ r ≡ checkStream (now (entries .entry)) first count used (env (now (areas .entry)) (now (xs .entry)) (now (ys .entry)) b) ⌝ }
+) -> Checked
+    ensures answer { λ r. ⌜ r ≡ checked (now (entries .entry)) first count used (env (now (areas .entry)) (now (xs .entry)) (now (ys .entry)) b) ⌝ }
 {
     let u = used_range(entries.len(), used, areas.len(), xs.len(), ys.len(), b);
     if u {
         if count <= used {
             if first <= used - count {
                 if count <= MOST_IN_STREAM {
-                    let s = scan_all(entries, first, count, areas, xs, ys, b);
-                    return s.stack == groups::NONE_OPEN;
+                    return scan_all(entries, first, count, areas, xs, ys, b);
                 }
-                return false;
+                return unfit_stream();
             }
-            return false;
+            return unfit_stream();
         }
-        return false;
+        return unfit_stream();
     }
-    false
+    unfit_stream()
 }

@@ -10,7 +10,7 @@ use borrow.Author.Needs.{needs}
 use Rattle.laws.proofs.Signed.{Running, running-fits, running-more, running-from, running-done}
 use Rattle.stream.specs.Table.{wordsFrom}
 use Rattle.evaluate.specs.code.Numbers.{segmentAdds, segmentsSum}
-use Rattle.stream.specs.code.Machine.{segmentsIn}
+use Rattle.stream.specs.code.Machine.{runLength}
 use Rattle.stream.proofs.Runs.{count-more, count-stop, count-last}
 use Rattle.evaluate.proofs.Laws.{small-back}
 use Rattle.evaluate.proofs.Loop.{sum-more, sum-stop, sum-last}
@@ -23,7 +23,7 @@ Inv-loop entries from end xs ys b start x y sum₀ i₀ sum i =
     × (i ≤ end)
     × Running (2048 + (i - from)) sum (segmentsSum xs ys x y (wordsFrom entries i (end - i)))
     (toZ w64 start +ℤ segmentsSum xs ys x y (wordsFrom entries from (end - from)))
-    × (i + segmentsIn (wordsFrom entries i (end - i)) ≡ from + segmentsIn (wordsFrom entries from (end - from)))
+    × (i + runLength (wordsFrom entries i (end - i)) ≡ from + runLength (wordsFrom entries from (end - from)))
 
 abbrev μ-loop : tie.MeasureT-loop
 μ-loop entries from end xs ys b start x y sum₀ i₀ sum i = end - i

@@ -31,7 +31,7 @@ returns c =
     let a = at-entry .args in
     let w = after-read-entry .read-entry in
     one-onward (env (now (a .areas)) (now (a .xs)) (now (a .ys)) (a .b)) (now (a .entries)) (a .i) (a .end) (a .s) (w .result) (w .ensures)
-    (at-entry .pre .0 .0) (at-entry .pre .1 .1) _ (after-step .step .ensures) refl (λ _ some _. absurd (some (c .if1 .taken)))
+    (at-entry .pre .0 .0) (at-entry .pre .1 .1) _ (after-step .step .ensures) refl refl (λ _ some _. absurd (some (c .if1 .taken)))
 
 add-scan-run : tie.Need-add-scan-run
 add-scan-run c = search needs
@@ -59,7 +59,7 @@ after-run-requires c κs =
     omega (
       arith,
       r .ensures .1 .0,
-      fits-few (now (a .xs)) (now (a .ys)) (a .b) (now (a .entries)) (a .end - (a .i + 1)) (a .i + 1) (n .result .lines)
+      fits-few (now (a .xs)) (now (a .ys)) (a .b) (now (a .entries)) (a .end - (a .i + 1)) (a .i + 1) (n .result .segments)
           (sym (r .ensures .0) ∙ h) (omega (arith, n .ok .1 .1 .1 .1 .1 .0 .1)),
     )
 
@@ -76,8 +76,9 @@ returns-2 c =
     let n = after-step .step in
     let r = after-scan-run .scan-run in
     run-onward (env (now (a .areas)) (now (a .xs)) (now (a .ys)) (a .b)) (now (a .entries)) (a .i) (a .end) (a .s) (w .result) (w .ensures)
-    (at-entry .pre .0 .0) (at-entry .pre .1 .1) (n .result) (n .ensures) (at-if1 .if1 .left) (at-if2 .if2 .taken) _ (r .result .fits) (r .result .lines)
-    (r .ensures .0) (r .ensures .1 .0) (c .after-run .ensures) (r .ensures .1 .1 .0) (r .ensures .1 .1 .1)
+    (at-entry .pre .0 .0) (at-entry .pre .1 .1) (n .result) (n .ensures) (at-if1 .if1 .left) (at-if2 .if2 .taken) _ (r .result .fits) (r .result .segments)
+    (r .ensures .0) (r .ensures .1 .0) (c .after-run .ensures) (r .ensures .1 .1 .0) (r .ensures .1 .1 .1 .0)
+    (r .ensures .1 .1 .1 .1 .0) (r .ensures .1 .1 .1 .1 .1)
 
 add-t17 : tie.Need-add-t17
 add-t17 c = search needs
@@ -90,7 +91,7 @@ returns-3 c =
     let a = at-entry .args in
     let w = after-read-entry .read-entry in
     one-onward (env (now (a .areas)) (now (a .xs)) (now (a .ys)) (a .b)) (now (a .entries)) (a .i) (a .end) (a .s) (w .result) (w .ensures)
-    (at-entry .pre .0 .0) (at-entry .pre .1 .1) _ (after-step .step .ensures) refl (λ _ _ h. clash (sym (c .if2 .left) ∙ h))
+    (at-entry .pre .0 .0) (at-entry .pre .1 .1) _ (after-step .step .ensures) refl refl (λ _ _ h. clash (sym (c .if2 .left) ∙ h))
 
 pub scan-next-spec : {M : Type 1} → statement M
 scan-next-spec =

@@ -8,28 +8,31 @@ use denote.Ref.{now}
 use borrow.Author.Needs.{needs}
 use Rattle.stream.specs.declared.Words.{Words}
 use Rattle.stream.specs.Table.{wordsFrom}
-use Rattle.stream.specs.Entry.{isSegment}
-use Rattle.stream.specs.code.Machine.{segmentsIn, runFits}
+use Rattle.stream.specs.Entry.{isSegment, linesIn}
+use Rattle.stream.specs.code.Machine.{runLength, runFits}
 use Rattle.laws.proofs.Booleans.{and-assoc, and-true}
+use Rattle.stream.proofs.Counts.{lines-more}
 use Rattle.stream.proofs.Runs.{count-more, count-stop, count-last, fits-more, fits-stop, fits-last}
 use Rattle.stream.proofs.scan_run.Statement.{statement}
 use Rattle.stream.proofs.scan_run.Tie as tie
 
 abbrev Inv-loop : tie.InvT-loop
-Inv-loop entries from end xs ys b lines fits₀ n₀ i₀ fits n i =
+Inv-loop entries from end xs ys b before fits₀ n₀ lines₀ i₀ fits n lines i =
     (from ≤ i)
     × (i ≤ end)
-    × (n ≡ lines + (i - from))
-    × ((fits && runFits xs ys b n (wordsFrom entries i (end - i))) ≡ runFits xs ys b lines (wordsFrom entries from (end - from)))
-    × (i + segmentsIn (wordsFrom entries i (end - i)) ≡ from + segmentsIn (wordsFrom entries from (end - from)))
+    × (n ≡ before + (i - from))
+    × ((fits && runFits xs ys b n (wordsFrom entries i (end - i))) ≡ runFits xs ys b before (wordsFrom entries from (end - from)))
+    × (i + runLength (wordsFrom entries i (end - i)) ≡ from + runLength (wordsFrom entries from (end - from)))
+    × (from + lines ≤ i)
+    × (lines + linesIn (wordsFrom entries i (end - i)) ≡ linesIn (wordsFrom entries from (end - from)))
 
 abbrev μ-loop : tie.MeasureT-loop
-μ-loop entries from end xs ys b lines fits₀ n₀ i₀ fits n i = end - i
+μ-loop entries from end xs ys b before fits₀ n₀ lines₀ i₀ fits n lines i = end - i
 
 loop-holds : tie.Need-loop-holds Inv-loop μ-loop
 loop-holds c =
     let at-entry = c .before .before .before in
-    (omega arith, at-entry .pre .0 .0, omega arith, refl, refl)
+    (omega arith, at-entry .pre .0 .0, omega arith, refl, refl, omega arith, omega arith)
 
 read-entry-requires : tie.Need-read-entry-requires Inv-loop μ-loop
 read-entry-requires c κs =
@@ -44,14 +47,26 @@ segment-fits-requires c κs =
     let at-entry = c .before .before .before .before .before .before .before .before in
     at-entry .pre .1 .0
 
+line-of-requires : tie.Need-line-of-requires Inv-loop μ-loop
+line-of-requires c κs = search needs
+
 add-n : tie.Need-add-n Inv-loop μ-loop
 add-n c =
-    let at-loop-test = c .before .before .before .before in
+    let at-loop-test = c .before .before .before .before .before in
     let at-loop = at-loop-test .before in
     let at-entry = at-loop .before .before .before .before in
     let p = at-entry .pre in
     let l = at-loop .loop in
     record { fits = omega (arith, p .0 .1, p .1 .1, l .inv .2, l .inv .0, at-loop-test .loop-test .taken) }
+
+add-lines : tie.Need-add-lines Inv-loop μ-loop
+add-lines c =
+    let at-loop-test = c .before .before .before .before .before in
+    let at-loop = at-loop-test .before in
+    let at-entry = at-loop .before .before .before .before in
+    let p = at-entry .pre in
+    let l = at-loop .loop in
+    record { fits = omega (arith, p .0 .1, l .inv .5, c .line-of .ensures .1, at-loop-test .loop-test .taken) }
 
 add-i : tie.Need-add-i Inv-loop μ-loop
 add-i c = search needs
@@ -61,7 +76,8 @@ loop-less c = search needs
 
 loop-again : tie.Need-loop-again Inv-loop μ-loop
 loop-again c =
-    let at-if1 = c .before in
+    let after-segment-fits = c .before in
+    let at-if1 = after-segment-fits .before in
     let after-is-segment = at-if1 .before in
     let after-read-entry = after-is-segment .before in
     let at-loop-test = after-read-entry .before in
@@ -75,16 +91,18 @@ loop-again c =
       omega arith,
       omega (arith, t),
       omega (arith, l .inv .0, l .inv .2),
-      and-assoc (l .fits) (c .segment-fits .result && ltb (l .n) 2048) _
+      and-assoc (l .fits) (after-segment-fits .segment-fits .result && ltb (l .n) 2048) _
           ∙ (ap (λ r. l .fits && r)
           (ap
           (λ g.
           (g && ltb (l .n) 2048)
           && runFits (now (a .xs)) (now (a .ys)) (a .b) (l .n + 1) (wordsFrom (now (a .entries)) (l .i + 1) (a .end - (l .i + 1))))
-          (c .segment-fits .ensures)
+          (after-segment-fits .segment-fits .ensures)
           ∙ sym (fits-more (now (a .xs)) (now (a .ys)) (a .b) (now (a .entries)) (l .i) (a .end) (w .result) (w .ensures) t (l .n) s))
           ∙ l .inv .3),
       omega (arith, count-more (now (a .entries)) (l .i) (a .end) (w .result) (w .ensures) t s, l .inv .4),
+      omega (arith, c .line-of .ensures .1, l .inv .5),
+      omega (arith, c .line-of .ensures .0, lines-more (now (a .entries)) (l .i) (a .end) (w .result) (w .ensures) t, l .inv .6),
     )
 
 returns : tie.Need-returns Inv-loop μ-loop
@@ -107,7 +125,7 @@ returns c =
         omega (arith, l .inv .0, l .inv .2, l .inv .4, count-stop (now (a .entries)) (l .i) (a .end) (w .result) (w .ensures) t s),
         (
           omega (arith, l .inv .4, count-stop (now (a .entries)) (l .i) (a .end) (w .result) (w .ensures) t s),
-          λ _. ap (λ (u : Words). isSegment (u .kind)) (sym (w .ensures)) ∙ s,
+          (λ _. ap (λ (u : Words). isSegment (u .kind)) (sym (w .ensures)) ∙ s, (l .inv .5, l .inv .6)),
         ),
       ),
     )
@@ -123,11 +141,14 @@ returns-2 c =
           ∙ (ap (λ r. l .fits && r)
           (sym (fits-last (now (a .xs)) (now (a .ys)) (a .b) (now (a .entries)) (l .i) (a .end) (l .n) (c .loop-test .left)))
           ∙ l .inv .3),
-      (omega (arith, l .inv .0, l .inv .2, l .inv .4, k), (omega (arith, l .inv .4, k), λ p. absurd (omega (arith, p, c .loop-test .left)))),
+      (
+        omega (arith, l .inv .0, l .inv .2, l .inv .4, k),
+        (omega (arith, l .inv .4, k), (λ p. absurd (omega (arith, p, c .loop-test .left)), (l .inv .5, l .inv .6))),
+      ),
     )
 
 pub scan-run-spec : {M : Type 1} → statement M
 scan-run-spec =
     tie.close
-    (tie.spec Inv-loop μ-loop loop-holds read-entry-requires is-segment-requires segment-fits-requires add-n add-i loop-less loop-again
+    (tie.spec Inv-loop μ-loop loop-holds read-entry-requires is-segment-requires segment-fits-requires line-of-requires add-n add-lines add-i loop-less loop-again
     returns returns-2)

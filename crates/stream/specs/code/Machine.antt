@@ -11,11 +11,11 @@ use Rattle.stream.specs.declared.Bounds.{Bounds}
 use Rattle.stream.specs.declared.Scan.{Scan}
 use Rattle.stream.specs.declared.Scanned.{Scanned}
 use Rattle.stream.specs.Table.{wordsAt, wordsFrom}
-use Rattle.stream.specs.Entry.{isCurve, isLine, isSegment, startRange}
+use Rattle.stream.specs.Entry.{isCurve, isLine, isSegment, linesIn, startRange}
 use Rattle.stream.specs.Grammar.{Env, lineRange, curveRange, shortcutRange, roleFits}
 
 abbrev pub mk : ℕ → Bool → ℕ → ℕ → Scan
-mk n h a l = record { stack = n; held = h; areas = a; lines = l }
+mk n h a l = record { stack = n; held = h; areas = a; segments = l }
 
 -- a stack of 0 says that the stream is out of range or out of the grammar
 abbrev pub offN : Scan
@@ -26,7 +26,7 @@ startN = mk 1 false 0 0
 
 -- only the open groups are other
 abbrev pub inGroups : Scan → ℕ → Scan
-inGroups s n = mk n false (s .areas) (s .lines)
+inGroups s n = mk n false (s .areas) (s .segments)
 
 abbrev pub afterOpenN : Scan → Scan
 afterOpenN s = cond (roomN (s .stack)) (inGroups s (openN (s .stack))) offN
@@ -42,7 +42,7 @@ afterPassesN s = cond (paintN (s .stack)) offN (inGroups s (s .stack))
 
 -- an area whose numbers are in range and whose role fits
 abbrev pub withAreaN : Scan → Bool → Scan
-withAreaN s ok = cond ok (cond (ltb (s .areas) 64) (mk (s .stack) true (s .areas + 1) (s .lines)) offN) offN
+withAreaN s ok = cond ok (cond (ltb (s .areas) 64) (mk (s .stack) true (s .areas + 1) (s .segments)) offN) offN
 
 abbrev pub areaFitsN : List ℕ → ℕ → ℕ → Words → Bool
 areaFitsN areas used stack w = roleFits (areaRow areas used (w .p)) (paintN stack) && startRange (w .q)
@@ -56,7 +56,7 @@ segmentFits xs ys b w = cond (isLine (w .kind)) (lineFits xs ys (b .corners) w) 
 
 -- a line, a curve or a shortcut whose numbers are in range
 abbrev pub withLineN : Scan → Bool → Scan
-withLineN s ok = cond ok (cond (s .held) (cond (ltb (s .lines) 2048) (mk (s .stack) true (s .areas) (s .lines + 1)) offN) offN) offN
+withLineN s ok = cond ok (cond (s .held) (cond (ltb (s .segments) 2048) (mk (s .stack) true (s .areas) (s .segments + 1)) offN) offN) offN
 
 abbrev pub stepN : Env → Scan → Words → Scan
 stepN v s w =
@@ -85,9 +85,9 @@ scanN v s (w ∷ ws) = scanN v (stepN v s w) ws
 -- ---- lines, curves and shortcuts in a row
 
 -- how many stand in front
-unfoldable pub segmentsIn : List Words → ℕ
-segmentsIn [] = 0
-segmentsIn (w ∷ ws) = cond (isSegment (w .kind)) (suc (segmentsIn ws)) 0
+unfoldable pub runLength : List Words → ℕ
+runLength [] = 0
+runLength (w ∷ ws) = cond (isSegment (w .kind)) (suc (runLength ws)) 0
 
 -- they are in range, and at most 2,048 with those before
 unfoldable pub runFits : (xs ys : List ℕ) → Bounds → (lines : ℕ) → List Words → Bool
@@ -101,9 +101,13 @@ afterRunN s fits lines = cond fits (mk (s .stack) true (s .areas) lines) offN
 abbrev pub Apart : List ℕ → (i end : ℕ) → Scan → Type 0
 Apart t i end s = i < end → (s .stack ≡ 0 → ⊥) → s .held ≡ true → isSegment (wordsAt t i .kind) ≡ false
 
--- from entry i the scan s has come to another entry, behind a whole run: what is left gives the same
+-- from entry i the scan s has come to another entry, behind a whole run: what is left gives the same, and while nothing has stopped the scan the lines
+-- that were passed and those that are left are all its lines
 pub record Onward (v : Env) (t : List ℕ) (i end : ℕ) (s : Scan) (r : Scanned) : Type 0 where
   pub later : i < r .next
   pub inside : r .next ≤ end
   pub apart : Apart t (r .next) end (r .scan)
   pub same : scanN v (r .scan) (wordsFrom t (r .next) (end - r .next)) ≡ scanN v s (wordsFrom t i (end - i))
+  pub few : i + r .lines ≤ r .next
+  pub before : (r .scan .stack ≡ 0 → ⊥) → s .stack ≡ 0 → ⊥
+  pub lines : (r .scan .stack ≡ 0 → ⊥) → r .lines + linesIn (wordsFrom t (r .next) (end - r .next)) ≡ linesIn (wordsFrom t i (end - i))
