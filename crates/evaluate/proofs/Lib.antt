@@ -4,3 +4,4 @@ mod Steps
 mod Idle
 mod Loop
 pub mod Words
+pub mod Uniform

@@ -1,7 +1,7 @@
 -- The answer of finding a leaf, test by test.
-use mathlib.Core.Path.{_≡_, refl, sym, ap, subst, _∙_}
-use mathlib.Core.Bool.{true, false, cond}
-use Prim.Native.Nat.{ℕ, _+_, _*_, _≤_}
+use mathlib.Core.Path.{_≡_, refl, sym, ap, _∙_}
+use mathlib.Core.Bool.{Bool, true, false, cond}
+use Prim.Native.Nat.{ℕ}
 use lib.Dec.{eqb}
 use lib.ListN.{length}
 use borrow.Author.Tests.{eq-eqb, ne-eqb}
@@ -14,19 +14,27 @@ use Rattle.laws.proofs.Choices.{pick-true, pick-false}
 use Rattle.find_leaf.specs.declared.FoundLeaf.{FoundLeaf}
 use Rattle.find_leaf.specs.declared.Answer.{Answer}
 use Rattle.find_leaf.specs.declared.Answer.the-variants as Answers
-use Rattle.find_leaf.specs.Leaf.{positionRange, leafIn, reportOf, foundBy, findAnswer}
-use Rattle.find_leaf.proofs.Landing.{leaf-passed}
+use Rattle.find_leaf.specs.declared.LeafRead.{LeafRead}
+use Rattle.find_leaf.specs.declared.LeafRead.the-variants as Reads
+use Rattle.find_leaf.specs.Leaf.{positionRange, leafIn, foundBy, findAnswer}
+use Rattle.find_leaf.specs.code.Numbers.{reportN, readBy, leafRead}
 
 module _ (t : Tree) (x y : ℕ) where
-  module _ (f : Found) (h : f ≡ leafIn t x y) where
-    pub found-passed : (l : Leaf) → f ≡ At l → ((l .first + l .count) * 4 ≤ length (t .entries)) × (l .count ≤ 4096)
-    found-passed l e = let p = leaf-passed t x y l (sym h ∙ e) in (p .within, p .few)
+  -- a leaf that was read, as it is reported
+  abbrev answerOf : LeafRead → Answer
+  answerOf (Reads.At l n u) = Answers.Found (reportN l n u)
+  answerOf Reads.Broken = Answers.Not Refusals.Broken
 
-    pub found-yes : (l : Leaf) (r : FoundLeaf) → f ≡ At l → r ≡ reportOf (t .entries) l → Answers.Found r ≡ foundBy t (leafIn t x y)
-    found-yes l r e q = subst (λ (k : Found). Answers.Found r ≡ foundBy t k) (sym e ∙ h) (ap (λ (k : FoundLeaf). Answers.Found k) q)
+  answer-is : (g : Found) → answerOf (readBy t g) ≡ foundBy t g
+  answer-is (At l) = refl
+  answer-is Broken = refl
 
-    pub found-no : f ≡ Broken → Answers.Not Refusals.Broken ≡ foundBy t (leafIn t x y)
-    found-no e = subst (λ (k : Found). Answers.Not Refusals.Broken ≡ foundBy t k) (sym e ∙ h) refl
+  module _ (f : LeafRead) (h : f ≡ leafRead t x y) where
+    pub found-yes : (l : Leaf) (n : ℕ) (u : Bool) (r : FoundLeaf) → f ≡ Reads.At l n u → r ≡ reportN l n u → Answers.Found r ≡ foundBy t (leafIn t x y)
+    found-yes l n u r e q = ap (λ (k : FoundLeaf). Answers.Found k) q ∙ (ap answerOf (sym e ∙ h) ∙ answer-is (leafIn t x y))
+
+    pub found-no : f ≡ Reads.Broken → Answers.Not Refusals.Broken ≡ foundBy t (leafIn t x y)
+    found-no e = ap answerOf (sym e ∙ h) ∙ answer-is (leafIn t x y)
 
   abbrev inRange : Answer
   inRange = cond (positionRange x y) (foundBy t (leafIn t x y)) (Answers.Not Refusals.Argument)

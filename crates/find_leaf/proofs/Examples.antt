@@ -1,5 +1,6 @@
 -- Small trees, and the answers of finding a leaf in them, computed from the definitions.
 use mathlib.Core.Path.{_≡_, refl}
+use mathlib.Core.Bool.{Bool, true, false}
 use mathlib.Core.List.{List, [], _∷_, _++_}
 use Prim.Native.Nat.{ℕ}
 use Rattle.refusals.specs.declared.Refusal.the-variants.{Argument, Broken}
@@ -24,8 +25,9 @@ corners = 0 ∷ 0 ∷ 10 ∷ []
 abbrev row : (x y side child first count : ℕ) → List ℕ
 row x y side child first count = x ∷ y ∷ side ∷ child ∷ first ∷ count ∷ 0 ∷ 0 ∷ []
 
-abbrev report : (cell x y side steps entries lines : ℕ) → Answer
-report cell x y side steps entries lines = Found (record { cell = cell; x = x; y = y; side = side; steps = steps; entries = entries; lines = lines })
+abbrev report : (cell x y side steps entries lines : ℕ) → (uniform : Bool) → Answer
+report cell x y side steps entries lines uniform =
+    Found (record { cell = cell; x = x; y = y; side = side; steps = steps; entries = entries; lines = lines; uniform = uniform })
 
 -- an area, two lines and a shortcut
 abbrev stream : List ℕ
@@ -35,7 +37,7 @@ stream = (4 ∷ 0 ∷ 0 ∷ 0 ∷ []) ++ (5 ∷ 1 ∷ 2 ∷ 0 ∷ []) ++ (6 ∷ 
 abbrev alone : Tree
 alone = drawn corners (1 ∷ 4 ∷ []) (row 0 0 65536 0 0 4) stream
 
-found-root : findAnswer alone 100 65535 ≡ report 0 0 0 65536 0 4 2
+found-root : findAnswer alone 100 65535 ≡ report 0 0 0 65536 0 4 2 false
 unfolding leafIn countsIn headRange usedRange descendIn downFrom cellRange powerUpTo areaRange areaRow wordsFrom course accepts
 found-root = refl
 
@@ -57,11 +59,11 @@ split =
     (row 0 0 65536 1 0 4 ++ row 0 0 32768 0 0 4 ++ row 32768 0 32768 0 4 0 ++ row 0 32768 32768 0 4 1 ++ row 32768 32768 32768 0 4 0)
     (stream ++ (5 ∷ 2 ∷ 0 ∷ 0 ∷ []))
 
-low-low : findAnswer split 32767 0 ≡ report 1 0 0 32768 1 4 2
+low-low : findAnswer split 32767 0 ≡ report 1 0 0 32768 1 4 2 false
 unfolding leafIn countsIn headRange usedRange descendIn downFrom cellRange powerUpTo areaRange areaRow wordsFrom course accepts
 low-low = refl
 
-high-low : findAnswer split 32768 0 ≡ report 2 32768 0 32768 1 0 0
+high-low : findAnswer split 32768 0 ≡ report 2 32768 0 32768 1 0 0 true
 unfolding leafIn countsIn headRange usedRange descendIn downFrom cellRange powerUpTo areaRange areaRow wordsFrom course accepts
 high-low = refl
 

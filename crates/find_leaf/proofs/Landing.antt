@@ -1,14 +1,17 @@
 -- The way to a leaf, test by test; and what the leaf that is found says: 12 has passed over it, and it holds the position.
-use mathlib.Core.Path.{_≡_, refl, sym, subst, _∙_}
+use mathlib.Core.Path.{_≡_, refl, sym, ap, ap₂, subst, _∙_}
 use mathlib.Core.Bool.{Bool, true, false, cond}
 use Prim.Native.Nat.{ℕ, _+_, _≤_}
-use lib.Dec.{ltb}
+use lib.Dec.{eqb, ltb}
 use lib.ListN.{getD}
 use borrow.Author.Tests.{ltb-true}
 use Rattle.laws.proofs.Booleans.{and-left, and-right}
 use Rattle.cells.specs.Cells.{at, OnGrid}
-use Rattle.stream.specs.Grammar.{env, checkStream, Passed}
+use Rattle.stream.specs.declared.Checked.{Checked}
+use Rattle.stream.specs.Grammar.{Env, env, Passed}
+use Rattle.stream.specs.code.Checks.{checked}
 use Rattle.stream.proofs.Passed.{passed}
+use Rattle.stream.proofs.Uniform.{fits-is, lines-is, uniform-is}
 use Rattle.celltable.specs.declared.Leaf.{Leaf}
 use Rattle.celltable.specs.declared.Found.{Found}
 use Rattle.celltable.specs.declared.Found.the-variants.{At, Broken}
@@ -17,9 +20,11 @@ use Rattle.celltable.specs.Descent.{descendIn}
 use Rattle.celltable.proofs.Ranges.{passes-range}
 use Rattle.celltable.proofs.Grid.{passes-east, passes-north}
 use Rattle.celltable.proofs.Landing.{LeafFound, leaf-found, broken-not}
-use Rattle.tables.specs.Tables.{Tree, cellsUsed, entriesUsed, countsIn}
+use Rattle.tables.specs.Tables.{Tree, cellsUsed, entriesUsed, countsIn, leafPasses}
 use Rattle.laws.proofs.Choices.{pick-true, pick-false}
+use Rattle.find_leaf.specs.declared.LeafRead.the-variants as Reads
 use Rattle.find_leaf.specs.Leaf.{positionRange, leafBounds, streamFound, leafIn}
+use Rattle.find_leaf.specs.code.Numbers.{readBy, leafRead}
 use Rattle.find_leaf.proofs.Counts.{counts-fit}
 
 pub on-grid : (x y : ℕ) → positionRange x y ≡ true → OnGrid (at x y)
@@ -31,7 +36,7 @@ module _ (t : Tree) where
   wayIn x y = descendIn (t .cells) (cellsUsed (t .head)) (entriesUsed (t .head)) x y
 
   abbrev pub passesIn : Leaf → Bool
-  passesIn l = checkStream (t .entries) (l .first) (l .count) (entriesUsed (t .head)) (env (t .areas) (t .xs) (t .ys) (leafBounds t l))
+  passesIn l = leafPasses (t .entries) (l .first) (l .count) (entriesUsed (t .head)) (env (t .areas) (t .xs) (t .ys) (leafBounds t l))
 
   module _ (x y : ℕ) where
     -- ---- the tests
@@ -100,6 +105,9 @@ module _ (t : Tree) where
         subst (λ (k : Leaf). (k .x + k .side ≤ 65536) × (k .y + k .side ≤ 65536)) (sym (m .words)) (passes-east w r, passes-north w r)
 
     -- ---- with the numbers in use as the code reads them
+    pub read-uncounted : countsIn t ≡ false → Reads.Broken ≡ leafRead t x y
+    read-uncounted h = ap (readBy t) (leaf-uncounted h)
+
     module _ (used free : ℕ) (f : Found) (h : countsIn t ≡ true) (eu : used ≡ getD (t .head) 0 0) (ef : free ≡ getD (t .head) 1 0)
         (w : f ≡ descendIn (t .cells) used free x y) where
       way-is : f ≡ wayIn x y
@@ -107,16 +115,25 @@ module _ (t : Tree) where
           let u : used ≡ cellsUsed (t .head) = eu ∙ counts-fit t h .cells-are in
           rw (u, ef) at w
 
-      pub read-astray : f ≡ Broken → Broken ≡ leafIn t x y
-      read-astray e = leaf-astray h (sym e ∙ way-is)
+      pub read-astray : f ≡ Broken → Reads.Broken ≡ leafRead t x y
+      read-astray e = ap (readBy t) (leaf-astray h (sym e ∙ way-is))
 
-      module _ (l : Leaf) (p : Bool) (e : f ≡ At l)
-          (q : p ≡ checkStream (t .entries) (l .first) (l .count) free (env (t .areas) (t .xs) (t .ys) (leafBounds t l))) where
-        passes-is : p ≡ passesIn l
-        passes-is = rw ef at q
+      module _ (l : Leaf) (c : Checked) (e : f ≡ At l)
+          (q : c ≡ checked (t .entries) (l .first) (l .count) free (env (t .areas) (t .xs) (t .ys) (leafBounds t l))) where
+        abbrev v : Env
+        v = env (t .areas) (t .xs) (t .ys) (leafBounds t l)
 
-        pub read-unfit : p ≡ false → Broken ≡ leafIn t x y
-        read-unfit g = leaf-unfit l h (sym e ∙ way-is) (sym passes-is ∙ g)
+        checked-is : c ≡ checked (t .entries) (l .first) (l .count) (entriesUsed (t .head)) v
+        checked-is = rw ef at q
 
-        pub read-met : p ≡ true → At l ≡ leafIn t x y
-        read-met g = leaf-met l h (sym e ∙ way-is) (sym passes-is ∙ g)
+        passes-is : c .fits ≡ passesIn l
+        passes-is = fits-is (t .entries) (l .first) (l .count) (entriesUsed (t .head)) v c checked-is
+
+        pub read-unfit : c .fits ≡ false → Reads.Broken ≡ leafRead t x y
+        read-unfit g = ap (readBy t) (leaf-unfit l h (sym e ∙ way-is) (sym passes-is ∙ g))
+
+        pub read-met : c .fits ≡ true → Reads.At l (c .lines) (eqb (c .segments) 0) ≡ leafRead t x y
+        read-met g =
+            ap₂ (Reads.At l) (lines-is (t .entries) (l .first) (l .count) (entriesUsed (t .head)) v c checked-is g)
+            (uniform-is (t .entries) (l .first) (l .count) (entriesUsed (t .head)) v c checked-is g)
+            ∙ ap (readBy t) (leaf-met l h (sym e ∙ way-is) (sym passes-is ∙ g))

@@ -1,4 +1,4 @@
--- Document 01, "Cells" and "From the state": the leaf that holds a position, in a tree in lent tables.
+-- Document 01, "Cells" and "From the state", and document 02, Item 4: the leaf that holds a position, in a tree in lent tables.
 use mathlib.Core.Bool.{Bool, cond, _&&_}
 use mathlib.Core.List.{List}
 use Prim.Native.Nat.{ℕ}
@@ -7,14 +7,14 @@ use lib.ListN.{length, getD}
 use Rattle.refusals.specs.declared.Refusal.the-variants as Refusals
 use Rattle.stream.specs.declared.Bounds.{Bounds}
 use Rattle.stream.specs.declared.Words.{Words}
-use Rattle.stream.specs.Entry.{linesIn}
+use Rattle.stream.specs.Entry.{linesIn, isUniform}
 use Rattle.stream.specs.Table.{wordsFrom}
-use Rattle.stream.specs.Grammar.{env, bounds, checkStream}
+use Rattle.stream.specs.Grammar.{env, bounds}
 use Rattle.celltable.specs.declared.Leaf.{Leaf}
 use Rattle.celltable.specs.declared.Found.{Found}
 use Rattle.celltable.specs.declared.Found.the-variants.{At, Broken}
 use Rattle.celltable.specs.Descent.{descendIn}
-use Rattle.tables.specs.Tables.{Tree, cellsUsed, entriesUsed, countsIn}
+use Rattle.tables.specs.Tables.{Tree, cellsUsed, entriesUsed, countsIn, leafPasses}
 use Rattle.find_leaf.specs.declared.FoundLeaf.{FoundLeaf}
 use Rattle.find_leaf.specs.declared.Answer.{Answer}
 use Rattle.find_leaf.specs.declared.Answer.the-variants as Answers
@@ -24,7 +24,7 @@ abbrev pub positionRange : (x y : ℕ) → Bool
 positionRange x y = ltb x 65536 && ltb y 65536
 
 -- "finding a leaf reports as many steps as the leaf's depth, at most 16": its number, low corner, side, steps, entries and lines; document 01 leaves all but
--- the steps free
+-- the steps free. document 02: "The leaf reading shall also say yes or no: yes exactly when the leaf's stream holds no line, curve or shortcut."
 abbrev pub reportOf : (entries : List ℕ) → Leaf → FoundLeaf
 reportOf entries l =
     record {
@@ -35,6 +35,7 @@ reportOf entries l =
       steps = l .steps;
       entries = l .count;
       lines = linesIn (wordsFrom entries (l .first) (l .count));
+      uniform = isUniform (wordsFrom entries (l .first) (l .count));
     }
 
 module _ (t : Tree) where
@@ -48,7 +49,7 @@ module _ (t : Tree) where
   -- 12: "a number met in ... the whole leaf when answering ... is outside its range, or that ... stream breaks the grammar"
   abbrev pub streamFound : Found → Found
   streamFound (At l) =
-      cond (checkStream (t .entries) (l .first) (l .count) (entriesUsed (t .head)) (env (t .areas) (t .xs) (t .ys) (leafBounds l))) (At l) Broken
+      cond (leafPasses (t .entries) (l .first) (l .count) (entriesUsed (t .head)) (env (t .areas) (t .xs) (t .ys) (leafBounds l))) (At l) Broken
   streamFound Broken = Broken
 
   -- 12 over the numbers in use, then "the path down and the whole leaf when answering"

@@ -1,2 +1,3 @@
 -- Finding the leaf that holds a position.
 pub mod Leaf
+pub mod code

@@ -2,17 +2,17 @@
 use celltable::Found;
 use celltable::Leaf;
 use refusals::Refusal;
+use stream::Checked;
 ghost use mathlib.Core.Path.{_≡_};
-ghost use mathlib.Core.Bool.{cond};
-ghost use Prim.Native.Nat.{_+_, _*_, _≤_};
+ghost use Prim.Native.Nat.{_≤_};
 ghost use lib.ListN.{length, getD};
-ghost use Rattle.stream.specs.Entry.{isLine, linesIn};
-ghost use Rattle.stream.specs.Table.{wordsFrom};
-ghost use Rattle.stream.specs.Grammar.{env, bounds, checkStream};
+ghost use Rattle.stream.specs.Grammar.{env, bounds};
+ghost use Rattle.stream.specs.code.Checks.{checked};
 ghost use Rattle.tables.specs.Tables.{treeLent, countsIn};
-ghost use Rattle.find_leaf.specs.Leaf.{positionRange, leafIn, reportOf, foundBy, findAnswer};
+ghost use Rattle.find_leaf.specs.Leaf.{positionRange, leafIn, foundBy, findAnswer};
+ghost use Rattle.find_leaf.specs.code.Numbers.{leafRead, reportN};
 
-// A leaf as it is reported: its number, low corner, side, depth, and how many entries and lines it has.
+// A leaf as it is reported: its number, low corner, side, depth, how many entries and lines it has, and whether it has no line, curve or shortcut.
 pub struct FoundLeaf {
     pub cell: u32,
     pub x: u32,
@@ -21,6 +21,14 @@ pub struct FoundLeaf {
     pub steps: u32,
     pub entries: u32,
     pub lines: u32,
+    pub uniform: bool,
+}
+
+// A leaf that was found and whose stream has passed: the leaf, how many lines and curves its stream holds, and whether it holds no line, curve or
+// shortcut; or 12.
+pub enum LeafRead {
+    At(Leaf, u32, bool),
+    Broken,
 }
 
 // The leaf, or why the call was refused.
@@ -53,37 +61,8 @@ pub fn counts_fit(
     false
 }
 
-// 1 for a line or a curve, or 0.
-fn line_of(kind: u32) -> u32
-    ensures answer { λ r. ⌜ r ≡ cond (isLine kind) 1 0 ⌝ }
-    ensures range { λ r. ⌜ r ≤ 1 ⌝ }
-{
-    if stream::is_line(kind) {
-        return 1;
-    }
-    0
-}
-
-// How many of the count entries from first on are lines or curves.
-pub fn lines_in(entries: &[u32], first: usize, count: usize) -> u32
-    requires { ⌜ (first + count) * 4 ≤ length (now entries) ⌝ }
-    requires { ⌜ count ≤ 4096 ⌝ }
-    ensures answer { λ r. ⌜ r ≡ linesIn (wordsFrom (now (entries .entry)) first count) ⌝ }
-{
-    let end = first + count;
-    let mut n: u32 = 0;
-    let mut i = first;
-    while i < end {
-        let w = stream::read_entry(entries, i);
-        let more = line_of(w.kind);
-        n = n + more;
-        i += 1;
-    }
-    n
-}
-
 // 12 over the stream of a leaf.
-fn leaf_passes(
+fn check_leaf(
     plan: &[u32],
     areas: &[u32],
     xs: &[u32],
@@ -91,10 +70,10 @@ fn leaf_passes(
     entries: &[u32],
     free: usize,
     l: Leaf,
-) -> bool
+) -> Checked
     requires { ⌜ 3 ≤ length (now plan) ⌝ }
     ensures answer { λ r. ⌜ r ≡
-        checkStream (now (entries .entry)) (l .first) (l .count) free
+        checked (now (entries .entry)) (l .first) (l .count) free
         (env (now (areas .entry)) (now (xs .entry)) (now (ys .entry))
         (bounds (getD (now (plan .entry)) 1 0) (getD (now (plan .entry)) 2 0) (l .y) (l .side))) ⌝ }
 {
@@ -104,8 +83,8 @@ fn leaf_passes(
     stream::check_stream(entries, first, count, free, areas, xs, ys, b)
 }
 
-// The leaf that holds (x, y). 12 over the numbers in use, the cells on the way, and the leaf's stream.
-pub fn leaf_at(
+// The leaf that holds (x, y), with what its stream holds. 12 over the numbers in use, the cells on the way, and the leaf's stream.
+pub fn read_leaf(
     plan: &[u32],
     areas: &[u32],
     xs: &[u32],
@@ -115,8 +94,8 @@ pub fn leaf_at(
     entries: &[u32],
     x: u32,
     y: u32,
-) -> Found
-    ensures answer { λ r. ⌜ r ≡ leafIn (treeLent plan areas xs ys head cells entries) x y ⌝ }
+) -> LeafRead
+    ensures answer { λ r. ⌜ r ≡ leafRead (treeLent plan areas xs ys head cells entries) x y ⌝ }
 {
     if counts_fit(plan, areas, xs, ys, head, cells, entries) {
         let used = laws::wide(head[celltable::CELLS]);
@@ -124,28 +103,24 @@ pub fn leaf_at(
         let f = celltable::descend(cells, used, free, x, y);
         match f {
             Found::At(l) => {
-                if leaf_passes(plan, areas, xs, ys, entries, free, l) {
-                    return Found::At(l);
+                let c = check_leaf(plan, areas, xs, ys, entries, free, l);
+                if c.fits {
+                    return LeafRead::At(l, c.lines, c.segments == 0);
                 }
-                return Found::Broken;
+                return LeafRead::Broken;
             }
             Found::Broken => {
-                return Found::Broken;
+                return LeafRead::Broken;
             }
         }
     }
-    Found::Broken
+    LeafRead::Broken
 }
 
 // A leaf that is found, as it is reported.
-fn report(entries: &[u32], l: Leaf) -> FoundLeaf
-    requires { ⌜ (l .first + l .count) * 4 ≤ length (now entries) ⌝ }
-    requires { ⌜ l .count ≤ 4096 ⌝ }
-    ensures answer { λ r. ⌜ r ≡ reportOf (now (entries .entry)) l ⌝ }
+fn report(l: Leaf, lines: u32, uniform: bool) -> FoundLeaf
+    ensures answer { λ r. ⌜ r ≡ reportN l lines uniform ⌝ }
 {
-    let first = l.first as usize;
-    let count = l.count as usize;
-    let lines = lines_in(entries, first, count);
     FoundLeaf {
         cell: l.cell,
         x: l.x,
@@ -153,7 +128,8 @@ fn report(entries: &[u32], l: Leaf) -> FoundLeaf
         side: l.side,
         steps: l.steps,
         entries: l.count,
-        lines,
+        lines: lines,
+        uniform: uniform,
     }
 }
 
@@ -171,13 +147,13 @@ fn find_within(
 ) -> Answer
     ensures answer { λ r. ⌜ r ≡ foundBy (treeLent plan areas xs ys head cells entries) (leafIn (treeLent plan areas xs ys head cells entries) x y) ⌝ }
 {
-    let f = leaf_at(plan, areas, xs, ys, head, cells, entries, x, y);
+    let f = read_leaf(plan, areas, xs, ys, head, cells, entries, x, y);
     match f {
-        Found::At(l) => {
-            let r = report(entries, l);
+        LeafRead::At(l, lines, uniform) => {
+            let r = report(l, lines, uniform);
             return Answer::Found(r);
         }
-        Found::Broken => {
+        LeafRead::Broken => {
             return Answer::Not(Refusal::Broken);
         }
     }

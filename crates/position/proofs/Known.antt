@@ -1,5 +1,5 @@
 -- A leaf that is found: what is read there, and which positions it serves.
-use mathlib.Core.Path.{_≡_, refl, sym, ap, ap₂, _∙_}
+use mathlib.Core.Path.{_≡_, refl, sym, ap, ap₂, subst, _∙_}
 use mathlib.Core.Bool.{Bool, true, false, cond}
 use Prim.Native.Nat.{ℕ, _+_, _-_, _≤_, _<_}
 use native.Mathlib.Omega.{arith}
@@ -10,24 +10,29 @@ use Rattle.laws.proofs.Booleans.{clash}
 use Rattle.refusals.specs.declared.Refusal.the-variants as Refusals
 use Rattle.cells.specs.Cells.{at}
 use Rattle.paint.specs.Areas.{Painted}
+use Rattle.stream.specs.Entry.{isUniform}
 use Rattle.stream.specs.Grammar.{env, Passed}
 use Rattle.celltable.specs.declared.Leaf.{Leaf}
 use Rattle.celltable.specs.declared.Found.{Found}
 use Rattle.celltable.specs.declared.Found.the-variants.{At, Broken}
 use Rattle.evaluate.specs.Reading.{setAt}
+use Rattle.evaluate.proofs.Uniform.{set-uniform}
 use Rattle.making.proofs.Meaning.{lent-meaning}
 use Rattle.tables.specs.Tables.{Tree}
-use Rattle.laws.proofs.Choices.{pick-true, pick-false}
+use Rattle.laws.proofs.Choices.{pick-true}
+use Rattle.find_leaf.specs.declared.LeafRead.{LeafRead}
+use Rattle.find_leaf.specs.declared.LeafRead.the-variants as Reads
 use Rattle.find_leaf.specs.Leaf.{positionRange, leafStream, leafBounds, leafIn}
+use Rattle.find_leaf.specs.code.Numbers.{readBy, leafRead}
 use Rattle.find_leaf.proofs.Counts.{counts-fit}
 use Rattle.find_leaf.proofs.Landing.{leaf-landed, leaf-passed}
 use Rattle.find_leaf.proofs.Same.{LeafHolds, leaf-same}
 use Rattle.position.specs.declared.Answer.the-variants as Answers
 use Rattle.position.specs.declared.Shown.{Shown}
-use Rattle.position.specs.declared.Shown.the-variants.{Set}
+use Rattle.position.specs.declared.Shown.the-variants.{In}
 use Rattle.position.specs.declared.Shown.the-variants as Seen
-use Rattle.position.specs.Spots.{isFound, spotOf, setBy, setMeant, known, setIn, spotIn, positionAnswer}
-use Rattle.position.specs.code.Numbers.{between, inSquare, LeafIn, LastIn, shownThere}
+use Rattle.position.specs.Spots.{isFound, spotOf, setBy, spotBy, setMeant, known, setIn, spotIn, positionAnswer}
+use Rattle.position.specs.code.Numbers.{between, inSquare, shownBy, shownThere, WasShown, LastIn}
 use Rattle.position.proofs.Painted.{set-painted, none-painted}
 
 -- ---- the square of a leaf
@@ -40,7 +45,7 @@ is-in low side v h = go (leb low v) (ltb (v - low) side) refl refl h
     go true false p q t = clash t
     go false b p q t = clash t
 
-inside-holds : (l : Leaf) (x y : ℕ) → inSquare l x y ≡ true → LeafHolds l (at x y)
+pub inside-holds : (l : Leaf) (x y : ℕ) → inSquare l x y ≡ true → LeafHolds l (at x y)
 inside-holds l x y h = go (between (l .x) (l .side) x) (between (l .y) (l .side) y) refl refl h
   where
     go : (a b : Bool) → between (l .x) (l .side) x ≡ a → between (l .y) (l .side) y ≡ b → cond a b false ≡ true → LeafHolds l (at x y)
@@ -52,15 +57,7 @@ inside-holds l x y h = go (between (l .x) (l .side) x) (between (l .y) (l .side)
     go false b p q t = clash t
 
 module _ (t : Tree) where
-  -- a leaf that was found is found from each position of its square
-  pub leaf-again : (l : Leaf) (x y : ℕ) → LeafIn t l → inSquare l x y ≡ true → At l ≡ leafIn t x y
-  leaf-again l x y k h = sym (leaf-same t (k .x) (k .y) x y l (inside-holds l x y h) (k .found))
-
   module _ (x y : ℕ) where
-    pub last-in : (f : Found) → f ≡ leafIn t x y → LastIn t f
-    last-in (At l) e = record { x = x; y = y; found = sym e }
-    last-in Broken e = tt
-
     module _ (l : Leaf) (e : leafIn t x y ≡ At l) where
       pub leaf-plan : 3 ≤ length (t .plan)
       leaf-plan = counts-fit t (leaf-landed t x y l e .counts) .plan-long
@@ -80,48 +77,66 @@ module _ (t : Tree) where
       pub leaf-meaning : setIn t x y ≡ setMeant t x y l
       leaf-meaning = sym leaf-set ∙ lent-meaning (t .areas) (t .xs) (t .ys) (leafBounds t l) x y (leafStream t l) (leaf-stream .grammar)
 
+      pub leaf-shown : shownThere t x y ≡ In l (isUniform (leafStream t l)) (setAt (t .areas) (t .xs) (t .ys) x y (leafStream t l))
+      unfolding shownThere
+      leaf-shown = ap (shownBy t x y) e
+
     pub broken-known : leafIn t x y ≡ Broken → known t x y ≡ false
     unfolding known
     broken-known e = ap isFound e
 
-    -- ---- the answer at a position
-    pub spot-known : (l : Leaf) → leafIn t x y ≡ At l → Answers.At (spotOf (t .areas) (setAt (t .areas) (t .xs) (t .ys) x y (leafStream t l))) ≡ spotIn t x y
-    spot-known l e =
-        ap (λ (s : ℕ). Answers.At (spotOf (t .areas) s)) (leaf-set l e)
-        ∙ pick-true (known t x y) (Answers.At (spotOf (t .areas) (setIn t x y))) (Answers.Not Refusals.Broken) (leaf-known l e)
+    -- ---- what is read there
+    module _ (f : LeafRead) (h : f ≡ leafRead t x y) where
+      -- the leaf that the code has found
+      pub read-leaf : (l : Leaf) (n : ℕ) (u : Bool) → f ≡ Reads.At l n u → (leafIn t x y ≡ At l) × (u ≡ isUniform (leafStream t l))
+      read-leaf l n u e = go (leafIn t x y) refl (sym h ∙ e)
+        where
+          go : (g : Found) → leafIn t x y ≡ g → readBy t g ≡ Reads.At l n u → (leafIn t x y ≡ At l) × (u ≡ isUniform (leafStream t l))
+          go (At m) k q = let z : m ≡ l = cc in let w : isUniform (leafStream t m) ≡ u = cc in
+              (k ∙ ap At z, sym w ∙ ap (λ (j : Leaf). isUniform (leafStream t j)) z)
+          go Broken k q = absurd (let z : _≡_ {A = ℕ} 0 1 = cc in omega arith)
 
-    pub spot-broken : leafIn t x y ≡ Broken → Answers.Not Refusals.Broken ≡ spotIn t x y
-    spot-broken e = pick-false (known t x y) (Answers.At (spotOf (t .areas) (setIn t x y))) (Answers.Not Refusals.Broken) (broken-known e)
+      pub anew-known : (l : Leaf) (n : ℕ) (u : Bool) (s : ℕ)
+          → f ≡ Reads.At l n u
+          → s ≡ setAt (t .areas) (t .xs) (t .ys) x y (leafStream t l)
+          → In l u s ≡ shownThere t x y
+      anew-known l n u s e g =
+          let r = read-leaf l n u e in
+          ap₂ (In l) (r .1) g ∙ sym (leaf-shown l (r .0))
 
-    -- ---- the shown set with the leaf
-    pub shown-known : (l : Leaf) (s : ℕ) → leafIn t x y ≡ At l → s ≡ setAt (t .areas) (t .xs) (t .ys) x y (leafStream t l) → Set s (At l) ≡ shownThere t x y
-    shown-known l s e g =
-        ap₂ Set (g ∙ leaf-set l e) (sym e)
-        ∙ pick-true (known t x y) (Set (setIn t x y) (leafIn t x y)) Seen.Broken (leaf-known l e)
+      pub anew-broken : f ≡ Reads.Broken → Seen.Broken ≡ shownThere t x y
+      unfolding shownThere
+      anew-broken e = go (leafIn t x y) (sym h ∙ e)
+        where
+          go : (g : Found) → readBy t g ≡ Reads.Broken → Seen.Broken ≡ shownBy t x y g
+          go (At m) q = absurd (let z : _≡_ {A = ℕ} 0 1 = cc in omega arith)
+          go Broken q = refl
 
-    pub shown-broken : leafIn t x y ≡ Broken → Seen.Broken ≡ shownThere t x y
-    shown-broken e = pick-false (known t x y) (Set (setIn t x y) (leafIn t x y)) Seen.Broken (broken-known e)
+    -- what a shown set says of the leaf
+    pub record ShownIn (l : Leaf) (u : Bool) (s : ℕ) : Type 0 where
+      pub is-leaf : leafIn t x y ≡ At l
+      pub is-flag : u ≡ isUniform (leafStream t l)
+      pub is-read : s ≡ setAt (t .areas) (t .xs) (t .ys) x y (leafStream t l)
 
-    -- what a shown set, or 12, says
-    pub record Known (s : ℕ) (f : Found) : Type 0 where
-      pub is-known : known t x y ≡ true
-      pub is-set : s ≡ setIn t x y
-      pub is-found : f ≡ leafIn t x y
-      pub is-leaf : LastIn t f
-
-    pub known-set : (r : Shown) (s : ℕ) (f : Found) → r ≡ shownThere t x y → r ≡ Set s f → Known s f
-    known-set r s f e g = go (known t x y) refl (sym e ∙ g)
+    pub shown-in : (l : Leaf) (u : Bool) (s : ℕ) → In l u s ≡ shownThere t x y → ShownIn l u s
+    unfolding shownThere
+    shown-in l u s e = go (leafIn t x y) refl (sym e)
       where
-        go : (b : Bool) → known t x y ≡ b → cond b (Set (setIn t x y) (leafIn t x y)) Seen.Broken ≡ Set s f → Known s f
-        go true k h = record { is-known = k; is-set = cc; is-found = cc; is-leaf = last-in f cc }
-        go false k h = absurd (let z : _≡_ {A = ℕ} 0 1 = cc in omega arith)
+        go : (g : Found) → leafIn t x y ≡ g → shownBy t x y g ≡ In l u s → ShownIn l u s
+        go (At m) k q =
+            let z : m ≡ l = cc in
+            let v : isUniform (leafStream t m) ≡ u = cc in
+            let w : setAt (t .areas) (t .xs) (t .ys) x y (leafStream t m) ≡ s = cc in
+            record {
+              is-leaf = k ∙ ap At z;
+              is-flag = sym v ∙ ap (λ (j : Leaf). isUniform (leafStream t j)) z;
+              is-read = sym w ∙ ap (λ (j : Leaf). setAt (t .areas) (t .xs) (t .ys) x y (leafStream t j)) z;
+            }
+        go Broken k q = absurd (let z : _≡_ {A = ℕ} 0 1 = cc in omega arith)
 
-    pub unknown-set : (r : Shown) → r ≡ shownThere t x y → r ≡ Seen.Broken → known t x y ≡ false
-    unknown-set r e g = go (known t x y) refl (sym e ∙ g)
-      where
-        go : (b : Bool) → known t x y ≡ b → cond b (Set (setIn t x y) (leafIn t x y)) Seen.Broken ≡ Seen.Broken → b ≡ false
-        go true k h = absurd (let z : _≡_ {A = ℕ} 0 1 = cc in omega arith)
-        go false k h = refl
+    pub last-in : (r : Shown) → r ≡ shownThere t x y → LastIn t r
+    last-in (In l u s) e = record { x = x; y = y; was = e }
+    last-in Seen.Broken e = tt
 
     -- ---- each area of the set has a row in range
     pub in-painted : Painted (t .areas) (setIn t x y)
@@ -132,17 +147,84 @@ module _ (t : Tree) where
         go (At l) e = set-painted (t .entries) (l .first) (l .count) (env (t .areas) (t .xs) (t .ys) (leafBounds t l)) x y (leaf-stream l e)
         go Broken e = none-painted (t .areas)
 
-    -- a position in range where 12 is not met
-    pub position-accepted : (s : ℕ)
+    -- ---- the answer at a position
+    pub spot-known : (r : Shown) (l : Leaf) (u : Bool) (s : ℕ) → r ≡ shownThere t x y → r ≡ In l u s → Answers.At (spotOf (t .areas) l u s) ≡ spotIn t x y
+    spot-known r l u s e g =
+        let k = shown-in l u s (sym g ∙ e) in
+        ap₂ (λ (v : Bool) (n : ℕ). Answers.At (spotOf (t .areas) l v n)) (k .is-flag) (k .is-read)
+        ∙ sym (ap (spotBy t x y) (k .is-leaf))
+
+    pub spot-painted : (r : Shown) (l : Leaf) (u : Bool) (s : ℕ) → r ≡ shownThere t x y → r ≡ In l u s → Painted (t .areas) s
+    spot-painted r l u s e g =
+        let k = shown-in l u s (sym g ∙ e) in
+        subst (λ (n : ℕ). Painted (t .areas) n) (sym (k .is-read ∙ leaf-set l (k .is-leaf))) in-painted
+
+    pub spot-broken : (r : Shown) → r ≡ shownThere t x y → r ≡ Seen.Broken → Answers.Not Refusals.Broken ≡ spotIn t x y
+    unfolding shownThere
+    spot-broken r e g = go (leafIn t x y) (sym e ∙ g)
+      where
+        go : (f : Found) → shownBy t x y f ≡ Seen.Broken → Answers.Not Refusals.Broken ≡ spotBy t x y f
+        go (At m) q = absurd (let z : _≡_ {A = ℕ} 0 1 = cc in omega arith)
+        go Broken q = refl
+
+    -- what a shown set, or 12, says
+    pub record Known (s : ℕ) (r : Shown) : Type 0 where
+      pub is-known : known t x y ≡ true
+      pub is-set : s ≡ setIn t x y
+      pub is-shown : r ≡ shownThere t x y
+      pub is-last : LastIn t r
+
+    pub known-set : (r : Shown) (l : Leaf) (u : Bool) (s : ℕ) → r ≡ shownThere t x y → r ≡ In l u s → Known s r
+    known-set r l u s e g =
+        let k = shown-in l u s (sym g ∙ e) in
+        record { is-known = leaf-known l (k .is-leaf); is-set = k .is-read ∙ leaf-set l (k .is-leaf); is-shown = e; is-last = last-in r e }
+
+    pub unknown-set : (r : Shown) → r ≡ shownThere t x y → r ≡ Seen.Broken → known t x y ≡ false
+    unfolding shownThere known
+    unknown-set r e g = go (leafIn t x y) (sym e ∙ g)
+      where
+        go : (f : Found) → shownBy t x y f ≡ Seen.Broken → isFound f ≡ false
+        go (At m) q = absurd (let z : _≡_ {A = ℕ} 0 1 = cc in omega arith)
+        go Broken q = refl
+
+    -- a position in range, of a leaf that was found
+    pub position-accepted : (l : Leaf) (s : ℕ)
         → length (t .xs) ≡ length (t .ys)
         → positionRange x y ≡ true
-        → known t x y ≡ true
+        → leafIn t x y ≡ At l
         → setIn t x y ≡ s
-        → positionAnswer t x y ≡ Answers.At (spotOf (t .areas) s)
-    position-accepted s e r k z =
+        → positionAnswer t x y ≡ Answers.At (spotOf (t .areas) l (isUniform (leafStream t l)) s)
+    position-accepted l s e r k z =
         let no = Answers.Not Refusals.Argument in
-        let a₁ = pick-true (known t x y) (Answers.At (spotOf (t .areas) (setIn t x y))) (Answers.Not Refusals.Broken) k in
-        let a₂ = pick-true (positionRange x y) (spotIn t x y) no r in
-        let a₃ = pick-true (eqb (length (t .xs)) (length (t .ys))) (cond (positionRange x y) (spotIn t x y) no) no
+        let a₁ = pick-true (positionRange x y) (spotIn t x y) no r in
+        let a₂ = pick-true (eqb (length (t .xs)) (length (t .ys))) (cond (positionRange x y) (spotIn t x y) no) no
         (eq-eqb (length (t .xs)) (length (t .ys)) e) in
-        sym (a₁ ∙ (a₂ ∙ a₃)) ∙ ap (λ (v : ℕ). Answers.At (spotOf (t .areas) v)) z
+        sym (a₁ ∙ a₂)
+        ∙ (ap (spotBy t x y) k
+        ∙ ap (λ (v : ℕ). Answers.At (spotOf (t .areas) l (isUniform (leafStream t l)) v)) (leaf-set l k ∙ z))
+
+  -- ---- how far it reaches
+
+  -- a leaf that was read is found from each position of its square, and where it is uniform the same set is read there
+  module _ (x y : ℕ) (l : Leaf) (u : Bool) (s : ℕ) (e : In l u s ≡ shownThere t x y) (x′ y′ : ℕ) (h : LeafHolds l (at x′ y′)) where
+    pub leaf-again : leafIn t x′ y′ ≡ At l
+    leaf-again = leaf-same t x y x′ y′ l h (shown-in x y l u s e .is-leaf)
+
+    pub set-again : (s′ : ℕ) → s′ ≡ setAt (t .areas) (t .xs) (t .ys) x′ y′ (leafStream t l) → In l u s′ ≡ shownThere t x′ y′
+    set-again s′ g = ap₂ (In l) (shown-in x y l u s e .is-flag) g ∙ sym (leaf-shown x′ y′ l leaf-again)
+
+    pub shown-again : u ≡ true → In l u s ≡ shownThere t x′ y′
+    shown-again g =
+        let k = shown-in x y l u s e in
+        set-again s (k .is-read ∙ set-uniform (t .areas) (t .xs) (t .ys) x y x′ y′ (leafStream t l) (sym (k .is-flag) ∙ g))
+
+  -- as the code tests it
+  module _ (l : Leaf) (u : Bool) (s x y : ℕ) (k : WasShown t (In l u s)) (h : inSquare l x y ≡ true) where
+    pub last-leaf : leafIn t x y ≡ At l
+    last-leaf = leaf-again (k .x) (k .y) l u s (k .was) x y (inside-holds l x y h)
+
+    pub last-read : (s′ : ℕ) → s′ ≡ setAt (t .areas) (t .xs) (t .ys) x y (leafStream t l) → In l u s′ ≡ shownThere t x y
+    last-read s′ g = set-again (k .x) (k .y) l u s (k .was) x y (inside-holds l x y h) s′ g
+
+    pub last-serves : u ≡ true → In l u s ≡ shownThere t x y
+    last-serves g = shown-again (k .x) (k .y) l u s (k .was) x y (inside-holds l x y h) g

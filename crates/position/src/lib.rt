@@ -1,6 +1,6 @@
 // The calls that answer from a tree at one position.
-use celltable::Found;
 use celltable::Leaf;
+use find_leaf::LeafRead;
 use paint::area;
 use paint::colour;
 use refusals::Refusal;
@@ -12,17 +12,21 @@ ghost use Rattle.stream.specs.Table.{wordsFrom};
 ghost use Rattle.stream.specs.Grammar.{env, bounds, Passed};
 ghost use Rattle.evaluate.specs.Reading.{setAt};
 ghost use Rattle.tables.specs.Tables.{tree, treeLent};
-ghost use Rattle.find_leaf.specs.Leaf.{leafIn};
 ghost use Rattle.position.specs.Spots.{spotOf, spotIn, positionAnswer};
 ghost use Rattle.position.specs.code.Numbers.{between, inSquare, LastIn, shownThere};
 
-// What shows at a position: the set of areas, the material of the front one, and the colour.
+// What shows at a position: the set of areas, the material of the front one, and the colour. And how far that reaches: whether the leaf's stream holds no
+// line, curve or shortcut, and the leaf's low corner and its side.
 pub struct Spot {
     pub set: u64,
     pub material: u32,
     pub red: u32,
     pub green: u32,
     pub blue: u32,
+    pub uniform: bool,
+    pub x: u32,
+    pub y: u32,
+    pub side: u32,
 }
 
 // What shows, or why the call was refused.
@@ -31,9 +35,9 @@ pub enum Answer {
     Not(Refusal),
 }
 
-// A shown set, with the leaf that it was read from; or 12.
+// A leaf, whether it is uniform, and the shown set that was read from it; or 12.
 pub enum Shown {
-    Set(u64, Found),
+    In(Leaf, bool, u64),
     Broken,
 }
 
@@ -62,10 +66,10 @@ fn set_in(
     evaluate::read_stream(entries, first, count, areas, xs, ys, b, x, y)
 }
 
-// A set with its material and its colour.
-fn spot_of(areas: &[u32], set: u64) -> Spot
+// A set with its material and its colour, and the leaf from which it was read.
+fn spot_of(areas: &[u32], l: Leaf, uniform: bool, set: u64) -> Spot
     requires { ⌜ Painted (now areas) set ⌝ }
-    ensures answer { λ r. ⌜ r ≡ spotOf (now (areas .entry)) set ⌝ }
+    ensures answer { λ r. ⌜ r ≡ spotOf (now (areas .entry)) l uniform set ⌝ }
 {
     let material = area::material_of(areas, set);
     let c = colour::colour_of(areas, set);
@@ -75,6 +79,10 @@ fn spot_of(areas: &[u32], set: u64) -> Spot
         red: c.red,
         green: c.green,
         blue: c.blue,
+        uniform: uniform,
+        x: l.x,
+        y: l.y,
+        side: l.side,
     }
 }
 
@@ -89,7 +97,7 @@ fn is_between(low: u32, side: u32, v: u32) -> bool
 }
 
 // Whether (x, y) lies in the square of a leaf.
-fn is_inside(l: Leaf, x: u32, y: u32) -> bool
+pub fn is_inside(l: Leaf, x: u32, y: u32) -> bool
     ensures answer { λ r. ⌜ r ≡ inSquare l x y ⌝ }
 {
     if is_between(l.x, l.side, x) {
@@ -98,8 +106,8 @@ fn is_inside(l: Leaf, x: u32, y: u32) -> bool
     false
 }
 
-// The leaf that holds (x, y). It is looked for only where (x, y) lies outside the square of the leaf that was found last.
-fn leaf_for(
+// What shows at (x, y), or 12: the leaf is looked for and its stream is tried.
+fn shown_anew(
     plan: &[u32],
     areas: &[u32],
     xs: &[u32],
@@ -107,25 +115,23 @@ fn leaf_for(
     head: &[u32],
     cells: &[u32],
     entries: &[u32],
-    last: Found,
     x: u32,
     y: u32,
-) -> Found
-    requires { ⌜ LastIn (tree (now plan) (now areas) (now xs) (now ys) (now head) (now cells) (now entries)) last ⌝ }
-    ensures answer { λ r. ⌜ r ≡ leafIn (treeLent plan areas xs ys head cells entries) x y ⌝ }
+) -> Shown
+    requires { ⌜ (x < 65536) × (y < 65536) ⌝ }
+    ensures answer { λ r. ⌜ r ≡ shownThere (treeLent plan areas xs ys head cells entries) x y ⌝ }
 {
-    match last {
-        Found::At(l) => {
-            if is_inside(l, x, y) {
-                return last;
-            }
-            find_leaf::leaf_at(plan, areas, xs, ys, head, cells, entries, x, y)
+    let f = find_leaf::read_leaf(plan, areas, xs, ys, head, cells, entries, x, y);
+    match f {
+        LeafRead::At(l, lines, uniform) => {
+            let set = set_in(plan, areas, xs, ys, entries, l, x, y);
+            Shown::In(l, uniform, set)
         }
-        Found::Broken => find_leaf::leaf_at(plan, areas, xs, ys, head, cells, entries, x, y),
+        LeafRead::Broken => Shown::Broken,
     }
 }
 
-// The shown set at (x, y), or 12, where `last` is the leaf that was found last.
+// What shows at (x, y), or 12, where `last` was read last. In the square of that leaf no leaf is looked for, and where it is uniform no stream is read.
 pub fn shown_at(
     plan: &[u32],
     areas: &[u32],
@@ -134,7 +140,7 @@ pub fn shown_at(
     head: &[u32],
     cells: &[u32],
     entries: &[u32],
-    last: Found,
+    last: Shown,
     x: u32,
     y: u32,
 ) -> Shown
@@ -142,13 +148,18 @@ pub fn shown_at(
     requires { ⌜ (x < 65536) × (y < 65536) ⌝ }
     ensures answer { λ r. ⌜ r ≡ shownThere (treeLent plan areas xs ys head cells entries) x y ⌝ }
 {
-    let f = leaf_for(plan, areas, xs, ys, head, cells, entries, last, x, y);
-    match f {
-        Found::At(l) => {
-            let set = set_in(plan, areas, xs, ys, entries, l, x, y);
-            Shown::Set(set, f)
+    match last {
+        Shown::In(l, uniform, set) => {
+            if is_inside(l, x, y) {
+                if uniform {
+                    return last;
+                }
+                let there = set_in(plan, areas, xs, ys, entries, l, x, y);
+                return Shown::In(l, uniform, there);
+            }
+            shown_anew(plan, areas, xs, ys, head, cells, entries, x, y)
         }
-        Found::Broken => Shown::Broken,
+        Shown::Broken => shown_anew(plan, areas, xs, ys, head, cells, entries, x, y),
     }
 }
 
@@ -168,18 +179,18 @@ fn spot_at(
     requires { ⌜ (x < 65536) × (y < 65536) ⌝ }
     ensures answer { λ r. ⌜ r ≡ spotIn (treeLent plan areas xs ys head cells entries) x y ⌝ }
 {
-    let f = find_leaf::leaf_at(plan, areas, xs, ys, head, cells, entries, x, y);
-    match f {
-        Found::At(l) => {
-            let set = set_in(plan, areas, xs, ys, entries, l, x, y);
-            let s = spot_of(areas, set);
-            Answer::At(s)
+    let s = shown_anew(plan, areas, xs, ys, head, cells, entries, x, y);
+    match s {
+        Shown::In(l, uniform, set) => {
+            let spot = spot_of(areas, l, uniform, set);
+            Answer::At(spot)
         }
-        Found::Broken => Answer::Not(Refusal::Broken),
+        Shown::Broken => Answer::Not(Refusal::Broken),
     }
 }
 
-// What shows at (x, y): the set of areas, the material of the front one, and the colour. Any tables may be handed in, and none is changed.
+// What shows at (x, y): the set of areas, the material of the front one, and the colour; and how far that reaches. Any tables may be handed in, and none
+// is changed.
 // Refusals, in this order: 7, 12.
 pub fn position(
     plan: &[u32],

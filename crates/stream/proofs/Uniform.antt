@@ -119,13 +119,22 @@ told-is v ws s l e h = go (eqb (s .stack) 1) refl (sym (ap (λ (x : Scan). eqb (
     go false q r = ap (λ b. told b ws) (sym q ∙ (sym r ∙ accepts-is v ws))
 
 -- ---- the check, part by part
-module _ (t : List ℕ) (first count used : ℕ) (v : Env) where
-  pub checked-fits : checked t first count used v .fits ≡ checkStream t first count used v
-  checked-fits = go (checkStream t first count used v)
-    where
-      go : (b : Bool) → told b (wordsFrom t first count) .fits ≡ b
-      go true = refl
-      go false = refl
+module _ (t : List ℕ) (first count used : ℕ) (v : Env) (r : Checked) (e : r ≡ checked t first count used v) where
+  parts : (b : Bool)
+      → r ≡ told b (wordsFrom t first count)
+      → (r .fits ≡ b) × (r .fits ≡ true → (r .lines ≡ linesIn (wordsFrom t first count)) × (r .segments ≡ segmentsIn (wordsFrom t first count)))
+  parts true q = (ap (λ (x : Checked). x .fits) q, λ _. (ap (λ (x : Checked). x .lines) q, ap (λ (x : Checked). x .segments) q))
+  parts false q = (ap (λ (x : Checked). x .fits) q, λ h. clash (sym (ap (λ (x : Checked). x .fits) q) ∙ h))
+
+  pub fits-is : r .fits ≡ checkStream t first count used v
+  fits-is = parts (checkStream t first count used v) e .0
+
+  module _ (h : r .fits ≡ true) where
+    pub lines-is : r .lines ≡ linesIn (wordsFrom t first count)
+    lines-is = parts (checkStream t first count used v) e .1 h .0
+
+    pub uniform-is : eqb (r .segments) 0 ≡ isUniform (wordsFrom t first count)
+    uniform-is = ap (λ n. eqb n 0) (parts (checkStream t first count used v) e .1 h .1)
 
 -- ---- uniform, both ways
 

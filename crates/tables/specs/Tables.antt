@@ -7,7 +7,7 @@ use lib.ListN.{length, getD}
 use denote.Triple.Both.{Both}
 use denote.Ref.{RefT, now}
 use Rattle.stream.specs.declared.Bounds.{Bounds}
-use Rattle.stream.specs.Grammar.{bounds, usedRange}
+use Rattle.stream.specs.Grammar.{Env, bounds, usedRange, checkStream}
 use Rattle.celltable.specs.declared.CellWords.{CellWords}
 use Rattle.celltable.specs.Ranges.{headRange}
 
@@ -51,3 +51,8 @@ countsIn t =
     (bounds (getD (t .plan) 1 0) (getD (t .plan) 2 0) 0 0))
     false)
     false
+
+-- 12 over a leaf, its first entry and how many it has: "the whole leaf when answering", "the cell and, if it is a leaf, its stream when splitting"; `free`
+-- entries are in use
+abbrev pub leafPasses : (entries : List ℕ) → (first count free : ℕ) → Env → Bool
+leafPasses entries first count free v = checkStream entries first count free v

@@ -1,51 +1,85 @@
-use Rattle.position.proofs.Known.{leaf-plan, leaf-stream, shown-known, shown-broken}
-use mathlib.Core.Path.{sym, _∙_}
+use Rattle.position.proofs.Known.{leaf-plan, leaf-stream, last-leaf, last-read, last-serves}
+use Rattle.position.specs.code.Numbers.{LastIn}
+use Rattle.position.specs.declared.Shown.{Shown}
+use mathlib.Core.Path.{sym, subst, _∙_}
 use Rattle.tables.specs.Tables.{tree}
 use denote.Ref.{now}
 use borrow.Author.Needs.{needs}
 use Rattle.position.proofs.shown_at.Statement.{statement}
 use Rattle.position.proofs.shown_at.Tie as tie
 
-leaf-for-requires : tie.Need-leaf-for-requires
-leaf-for-requires c κs = search needs
+enum-known-last : tie.Need-enum-known-last
+enum-known-last c = search needs
 
-enum-known-f : tie.Need-enum-known-f
-enum-known-f c = search needs
+is-inside-requires : tie.Need-is-inside-requires
+is-inside-requires c κs = search needs
+
+returns : tie.Need-returns
+returns c =
+    let at-if1 = c .before in
+    let after-is-inside = at-if1 .before in
+    let after-last = after-is-inside .before .before in
+    let at-entry = after-last .before .before .before .before .before .before .before .before .before in
+    let a = at-entry .args in
+    let T = tree (now (a .plan)) (now (a .areas)) (now (a .xs)) (now (a .ys)) (now (a .head)) (now (a .cells)) (now (a .entries)) in
+    let v = after-last .last .given .0 in
+    let k = subst (λ (f : Shown). LastIn T f) (after-last .last .given .1) (at-entry .pre .0) in
+    let h = sym (after-is-inside .is-inside .ensures) ∙ at-if1 .if1 .taken in
+    last-serves T (v .0) (v .1 .0) (v .1 .1 .0) (a .x) (a .y) k h (c .if2 .taken)
 
 set-in-requires : tie.Need-set-in-requires
 set-in-requires c κs =
-    let after-f = c .before in
-    let after-leaf-for = after-f .before .before in
-    let at-entry = after-leaf-for .before .before .before .before .before .before .before .before in
+    let at-if1 = c .before in
+    let after-is-inside = at-if1 .before in
+    let after-last = after-is-inside .before .before in
+    let at-entry = after-last .before .before .before .before .before .before .before .before .before in
     let a = at-entry .args in
-    let p = at-entry .pre in
     let T = tree (now (a .plan)) (now (a .areas)) (now (a .xs)) (now (a .ys)) (now (a .head)) (now (a .cells)) (now (a .entries)) in
-    let l = after-f .f .given .0 .0 in
-    let e = sym (after-leaf-for .leaf-for .ensures) ∙ after-f .f .given .1 in
-    (leaf-plan T (a .x) (a .y) l e, (leaf-stream T (a .x) (a .y) l e, p .1))
+    let v = after-last .last .given .0 in
+    let k = subst (λ (f : Shown). LastIn T f) (after-last .last .given .1) (at-entry .pre .0) in
+    let h = sym (after-is-inside .is-inside .ensures) ∙ at-if1 .if1 .taken in
+    let e = last-leaf T (v .0) (v .1 .0) (v .1 .1 .0) (a .x) (a .y) k h in
+    (leaf-plan T (a .x) (a .y) (v .0) e, (leaf-stream T (a .x) (a .y) (v .0) e, at-entry .pre .1))
+
+returns-2 : tie.Need-returns-2
+returns-2 c =
+    let at-if1 = c .before .before in
+    let after-is-inside = at-if1 .before in
+    let after-last = after-is-inside .before .before in
+    let at-entry = after-last .before .before .before .before .before .before .before .before .before in
+    let a = at-entry .args in
+    let T = tree (now (a .plan)) (now (a .areas)) (now (a .xs)) (now (a .ys)) (now (a .head)) (now (a .cells)) (now (a .entries)) in
+    let v = after-last .last .given .0 in
+    let k = subst (λ (f : Shown). LastIn T f) (after-last .last .given .1) (at-entry .pre .0) in
+    let h = sym (after-is-inside .is-inside .ensures) ∙ at-if1 .if1 .taken in
+    last-read T (v .0) (v .1 .0) (v .1 .1 .0) (a .x) (a .y) k h (c .set-in .result) (c .set-in .ensures .0)
+
+shown-anew-requires : tie.Need-shown-anew-requires
+shown-anew-requires c κs = search needs
 
 enum-told : tie.Need-enum-told
 enum-told c = search needs
 
-returns : tie.Need-returns
-returns c =
-    let after-f = c .before .before in
-    let after-leaf-for = after-f .before .before in
-    let at-entry = after-leaf-for .before .before .before .before .before .before .before .before in
-    let a = at-entry .args in
-    let T = tree (now (a .plan)) (now (a .areas)) (now (a .xs)) (now (a .ys)) (now (a .head)) (now (a .cells)) (now (a .entries)) in
-    let l = after-f .f .given .0 .0 in
-    let e = sym (after-leaf-for .leaf-for .ensures) ∙ after-f .f .given .1 in
-    shown-known T (a .x) (a .y) l (c .set-in .result) e (c .set-in .ensures .0)
+shown-anew-requires-2 : tie.Need-shown-anew-requires-2
+shown-anew-requires-2 c κs = search needs
 
-returns-2 : tie.Need-returns-2
-returns-2 c =
-    let after-leaf-for = c .before .before in
-    let at-entry = after-leaf-for .before .before .before .before .before .before .before .before in
-    let a = at-entry .args in
-    let T = tree (now (a .plan)) (now (a .areas)) (now (a .xs)) (now (a .ys)) (now (a .head)) (now (a .cells)) (now (a .entries)) in
-    shown-broken T (a .x) (a .y) (sym (after-leaf-for .leaf-for .ensures) ∙ c .enum-told .given .1)
+returns-3 : tie.Need-returns-3
+returns-3 c = search needs
+
+returns-4 : tie.Need-returns-4
+returns-4 c = search needs
 
 pub shown-at-spec : {M : Type 1} → statement M
 shown-at-spec =
-    tie.close (tie.spec leaf-for-requires enum-known-f set-in-requires enum-told returns returns-2)
+    tie.close
+    (tie.spec
+    enum-known-last
+    is-inside-requires
+    returns
+    set-in-requires
+    returns-2
+    shown-anew-requires
+    enum-told
+    shown-anew-requires-2
+    returns-3
+    returns-4)

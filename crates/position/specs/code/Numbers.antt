@@ -1,17 +1,18 @@
--- What a run of positions keeps: the leaf that was found last, which serves the next position where that lies in its square.
+-- What a run of positions keeps: the leaf that was read last and the set that was read there, which serve the next position where that lies in its square.
 use mathlib.Core.Path.{_≡_}
 use mathlib.Core.Bool.{Bool, false, cond}
 use Prim.Native.Nat.{ℕ, _-_}
 use lib.Dec.{ltb, leb}
+use Rattle.stream.specs.Entry.{isUniform}
 use Rattle.celltable.specs.declared.Leaf.{Leaf}
 use Rattle.celltable.specs.declared.Found.{Found}
 use Rattle.celltable.specs.declared.Found.the-variants.{At, Broken}
 use Rattle.tables.specs.Tables.{Tree}
-use Rattle.find_leaf.specs.Leaf.{leafIn}
+use Rattle.find_leaf.specs.Leaf.{leafStream, leafIn}
 use Rattle.position.specs.declared.Shown.{Shown}
-use Rattle.position.specs.declared.Shown.the-variants.{Set}
+use Rattle.position.specs.declared.Shown.the-variants.{In}
 use Rattle.position.specs.declared.Shown.the-variants as Seen
-use Rattle.position.specs.Spots.{known, setIn}
+use Rattle.position.specs.Spots.{setBy}
 
 -- v is one of the side's numbers from low on
 abbrev pub between : (low side v : ℕ) → Bool
@@ -21,17 +22,21 @@ between low side v = cond (leb low v) (ltb (v - low) side) false
 abbrev pub inSquare : Leaf → (x y : ℕ) → Bool
 inSquare l x y = cond (between (l .x) (l .side) x) (between (l .y) (l .side) y) false
 
--- the leaf was found at some position
-pub record LeafIn (t : Tree) (l : Leaf) : Type 0 where
+-- the shown set with the leaf that it is read from, and whether that is uniform; or 12
+abbrev pub shownBy : Tree → (x y : ℕ) → Found → Shown
+shownBy t x y (At l) = In l (isUniform (leafStream t l)) (setBy t x y (At l))
+shownBy t x y Broken = Seen.Broken
+
+unfoldable pub shownThere : Tree → (x y : ℕ) → Shown
+shownThere t x y = shownBy t x y (leafIn t x y)
+
+-- it was read at some position
+pub record WasShown (t : Tree) (s : Shown) : Type 0 where
   pub x : ℕ
   pub y : ℕ
-  pub found : leafIn t x y ≡ At l
+  pub was : s ≡ shownThere t x y
 
--- what a run keeps: a leaf that was found, or none yet
-abbrev pub LastIn : Tree → Found → Type 0
-LastIn t (At l) = LeafIn t l
-LastIn t Broken = Unit {0}
-
--- the shown set with the leaf that it is read from
-abbrev pub shownThere : Tree → (x y : ℕ) → Shown
-shownThere t x y = cond (known t x y) (Set (setIn t x y) (leafIn t x y)) Seen.Broken
+-- what a run keeps: what was read last, or nothing yet
+abbrev pub LastIn : Tree → Shown → Type 0
+LastIn t (In l u s) = WasShown t (In l u s)
+LastIn t Seen.Broken = Unit {0}

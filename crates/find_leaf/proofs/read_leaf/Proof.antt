@@ -1,12 +1,12 @@
 use borrow.Author.Needs.{needs}
-use Rattle.find_leaf.proofs.leaf_at.Statement.{statement}
-use Rattle.find_leaf.proofs.leaf_at.Tie as tie
+use Rattle.find_leaf.proofs.read_leaf.Statement.{statement}
+use Rattle.find_leaf.proofs.read_leaf.Tie as tie
 use mathlib.Core.Bool.{true, false}
 use native.Mathlib.Omega.{arith}
 use denote.Ref.{now}
 use Rattle.tables.specs.Tables.{tree, countsIn}
 use Rattle.find_leaf.proofs.Counts.{counts-fit, counts-cells, told}
-use Rattle.find_leaf.proofs.Landing.{leaf-uncounted, read-astray, read-unfit, read-met}
+use Rattle.find_leaf.proofs.Landing.{read-uncounted, read-astray, read-unfit, read-met}
 
 counts-fit-requires : tie.Need-counts-fit-requires
 counts-fit-requires c κs = search needs
@@ -51,8 +51,8 @@ descend-requires c κs =
 enum-known-f : tie.Need-enum-known-f
 enum-known-f c = search needs
 
-leaf-passes-requires : tie.Need-leaf-passes-requires
-leaf-passes-requires c κs =
+check-leaf-requires : tie.Need-check-leaf-requires
+check-leaf-requires c κs =
     let at-if1 = c .before .before .before .before .before .before .before .before in
     let after-counts-fit = at-if1 .before in
     let at-entry = after-counts-fit .before .before .before .before .before .before .before .before in
@@ -63,8 +63,9 @@ leaf-passes-requires c κs =
 
 returns : tie.Need-returns
 returns c =
-    let after-leaf-passes = c .before in
-    let after-f = after-leaf-passes .before .before in
+    let at-if2 = c .before in
+    let after-check-leaf = at-if2 .before in
+    let after-f = after-check-leaf .before .before in
     let after-descend = after-f .before .before in
     let after-wide2 = after-descend .before in
     let after-wide = after-wide2 .before .before in
@@ -75,13 +76,13 @@ returns c =
     let T = tree (now (a .plan)) (now (a .areas)) (now (a .xs)) (now (a .ys)) (now (a .head)) (now (a .cells)) (now (a .entries)) in
     let h = told (after-counts-fit .counts-fit .result) (countsIn T) true (after-counts-fit .counts-fit .ensures) (at-if1 .if1 .taken) in
     read-met T (a .x) (a .y) (after-wide .wide .result) (after-wide2 .wide2 .result) (after-descend .descend .result) h
-    (after-wide .wide .ensures) (after-wide2 .wide2 .ensures) (after-descend .descend .ensures) _ (after-leaf-passes .leaf-passes .result)
-    (after-f .f .given .1) (after-leaf-passes .leaf-passes .ensures) (c .if2 .taken)
+    (after-wide .wide .ensures) (after-wide2 .wide2 .ensures) (after-descend .descend .ensures) _ (after-check-leaf .check-leaf .result)
+    (after-f .f .given .1) (after-check-leaf .check-leaf .ensures) (at-if2 .if2 .taken)
 
 returns-2 : tie.Need-returns-2
 returns-2 c =
-    let after-leaf-passes = c .before in
-    let after-f = after-leaf-passes .before .before in
+    let after-check-leaf = c .before in
+    let after-f = after-check-leaf .before .before in
     let after-descend = after-f .before .before in
     let after-wide2 = after-descend .before in
     let after-wide = after-wide2 .before .before in
@@ -92,8 +93,8 @@ returns-2 c =
     let T = tree (now (a .plan)) (now (a .areas)) (now (a .xs)) (now (a .ys)) (now (a .head)) (now (a .cells)) (now (a .entries)) in
     let h = told (after-counts-fit .counts-fit .result) (countsIn T) true (after-counts-fit .counts-fit .ensures) (at-if1 .if1 .taken) in
     read-unfit T (a .x) (a .y) (after-wide .wide .result) (after-wide2 .wide2 .result) (after-descend .descend .result) h
-    (after-wide .wide .ensures) (after-wide2 .wide2 .ensures) (after-descend .descend .ensures) _ (after-leaf-passes .leaf-passes .result)
-    (after-f .f .given .1) (after-leaf-passes .leaf-passes .ensures) (c .if2 .left)
+    (after-wide .wide .ensures) (after-wide2 .wide2 .ensures) (after-descend .descend .ensures) _ (after-check-leaf .check-leaf .result)
+    (after-f .f .given .1) (after-check-leaf .check-leaf .ensures) (c .if2 .left)
 
 enum-told : tie.Need-enum-told
 enum-told c = search needs
@@ -118,11 +119,11 @@ returns-4 c =
     let at-entry = after-counts-fit .before .before .before .before .before .before .before .before in
     let a = at-entry .args in
     let T = tree (now (a .plan)) (now (a .areas)) (now (a .xs)) (now (a .ys)) (now (a .head)) (now (a .cells)) (now (a .entries)) in
-    leaf-uncounted T (a .x) (a .y)
+    read-uncounted T (a .x) (a .y)
     (told (after-counts-fit .counts-fit .result) (countsIn T) false (after-counts-fit .counts-fit .ensures) (c .if1 .left))
 
-pub leaf-at-spec : {M : Type 1} → statement M
-leaf-at-spec =
+pub read-leaf-spec : {M : Type 1} → statement M
+read-leaf-spec =
     tie.close
     (tie.spec
     counts-fit-requires
@@ -132,7 +133,7 @@ leaf-at-spec =
     wide-requires-2
     descend-requires
     enum-known-f
-    leaf-passes-requires
+    check-leaf-requires
     returns
     returns-2
     enum-told

@@ -1,6 +1,6 @@
 use borrow.Author.Needs.{needs}
-use Rattle.find_leaf.proofs.leaf_passes.Statement.{statement}
-use Rattle.find_leaf.proofs.leaf_passes.Tie as tie
+use Rattle.find_leaf.proofs.check_leaf.Statement.{statement}
+use Rattle.find_leaf.proofs.check_leaf.Tie as tie
 
 cast-first : tie.Need-cast-first
 cast-first c = search needs
@@ -17,8 +17,8 @@ check-stream-requires c κs = search needs
 returns : tie.Need-returns
 returns c = rw (c .before .bounds-in .ensures) at (c .check-stream .ensures)
 
-pub leaf-passes-spec : {M : Type 1} → statement M
-leaf-passes-spec =
+pub check-leaf-spec : {M : Type 1} → statement M
+check-leaf-spec =
     tie.close
     (tie.spec
     cast-first
