@@ -174,10 +174,11 @@ module _ (t : Tree) where
       pub is-shown : r ≡ shownThere t x y
       pub is-last : LastIn t r
 
-    pub known-set : (r : Shown) (l : Leaf) (u : Bool) (s : ℕ) → r ≡ shownThere t x y → r ≡ In l u s → Known s r
+    pub known-set : (r : Shown) (l : Leaf) (u : Bool) (s : ℕ) → r ≡ shownThere t x y → r ≡ In l u s → Known s (In l u s)
     known-set r l u s e g =
-        let k = shown-in l u s (sym g ∙ e) in
-        record { is-known = leaf-known l (k .is-leaf); is-set = k .is-read ∙ leaf-set l (k .is-leaf); is-shown = e; is-last = last-in r e }
+        let h = sym g ∙ e in
+        let k = shown-in l u s h in
+        record { is-known = leaf-known l (k .is-leaf); is-set = k .is-read ∙ leaf-set l (k .is-leaf); is-shown = h; is-last = last-in (In l u s) h }
 
     pub unknown-set : (r : Shown) → r ≡ shownThere t x y → r ≡ Seen.Broken → known t x y ≡ false
     unfolding shownThere known

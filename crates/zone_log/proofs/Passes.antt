@@ -12,9 +12,9 @@ use borrow.Author.Tests.{ltb-true}
 use Rattle.laws.proofs.Booleans.{clash, and-true}
 use Rattle.evaluate.proofs.Laws.{both}
 use Rattle.paint.specs.Areas.{paintAt, materialOf}
-use Rattle.celltable.specs.declared.Found.{Found}
 use Rattle.tables.specs.Tables.{Tree}
 use Rattle.laws.proofs.Choices.{pick-true, pick-false}
+use Rattle.position.specs.declared.Shown.{Shown}
 use Rattle.position.specs.Spots.{known}
 use Rattle.position.specs.code.Numbers.{LastIn}
 use Rattle.position.proofs.Known.{Known}
@@ -105,10 +105,10 @@ module _ (t : Tree) (px py : List ℕ) where
     abbrev after : List ℕ
     after = cond written (sets out₀ 0 (zoneLog t px py)) out₀
 
-    -- where a pass stands: the leaf that was found last, the material of the index before; what is counted and what is left make the whole,
+    -- where a pass stands: what was read last, the material of the index before; what is counted and what is left make the whole,
     -- and so do what is written and what is left
-    pub record Passing (i : ℕ) (last : Found) (before : ℕ) (c : Tally) (out : List ℕ) : Type 0 where
-      pub leaf : LastIn t last
+    pub record Passing (i : ℕ) (last : Shown) (before : ℕ) (c : Tally) (out : List ℕ) : Type 0 where
+      pub prior-read : LastIn t last
       pub prior : (i ≡ 0 → ⊥) → before ≡ at (i - 1)
       pub few : c .count ≤ i
       pub knows : knownFrom t px py i (length px - i) ≡ knownFrom t px py 0 (length px)
@@ -117,12 +117,12 @@ module _ (t : Tree) (px py : List ℕ) where
       pub size : length out ≡ length out₀
       pub rest : cond written (sets out (c .count) (left i)) out ≡ after
 
-    pub passing-begin : (before : ℕ) (last : Found) → LastIn t last → Passing 0 last before (tally 0 true) out₀
+    pub passing-begin : (before : ℕ) (last : Shown) → LastIn t last → Passing 0 last before (tally 0 true) out₀
     unfolding zoneLog
     passing-begin before last h =
         let z = less-none (length px) in
         record {
-          leaf = h;
+          prior-read = h;
           prior = λ e. absurd (e refl);
           few = omega arith;
           knows = rw z;
@@ -132,7 +132,7 @@ module _ (t : Tree) (px py : List ℕ) where
           rest = rw z;
         }
 
-    pub passing-done : (i : ℕ) (last : Found) (before : ℕ) (c : Tally) (out : List ℕ)
+    pub passing-done : (i : ℕ) (last : Shown) (before : ℕ) (c : Tally) (out : List ℕ)
         → length px ≤ i
         → Passing i last before c out
         → (Counts.Known (c .count) (c .fits) ≡ countIn t px py) × (out ≡ after)
@@ -152,7 +152,7 @@ module _ (t : Tree) (px py : List ℕ) where
         same false = refl
 
     -- no position of a run that is written is met by 12
-    pub passing-broken : (i : ℕ) (last : Found) (before : ℕ) (c : Tally) (out : List ℕ)
+    pub passing-broken : (i : ℕ) (last : Shown) (before : ℕ) (c : Tally) (out : List ℕ)
         → i < length px
         → (written ≡ true → Accepted t px py (length out₀))
         → Passing i last before c out
@@ -173,7 +173,7 @@ module _ (t : Tree) (px py : List ℕ) where
         go k false e r = r
 
     -- ---- one index
-    module _ (i set : ℕ) (last f : Found) (before now : ℕ) (b : Bool) (c : Tally) (out : List ℕ) (h : i < length px)
+    module _ (i set : ℕ) (last f : Shown) (before now : ℕ) (b : Bool) (c : Tally) (out : List ℕ) (h : i < length px)
         (p : Passing i last before c out) (g : Known t (getD px i 0) (getD py i 0) set f)
         (e : now ≡ materialOf (paintAt (t .areas)) set) (q : b ≡ loggedN i before now) where
       next : left i ≡ cond b (i ∷ left (i + 1)) (left (i + 1))
@@ -201,7 +201,7 @@ module _ (t : Tree) (px py : List ℕ) where
           let u = tally-turn c i b (left i) (left (i + 1)) next in
           subst (λ (d : Tally). Passing (i + 1) f now d out′) (sym r)
           (record {
-            leaf = g .is-leaf;
+            prior-read = g .is-last;
             prior = λ _. e ∙ (ap (materialOf (paintAt (t .areas))) (g .is-set) ∙ ap at z);
             few = omega (arith, p .few, u .0);
             knows = sym (known-turn i true h (g .is-known)) ∙ p .knows;

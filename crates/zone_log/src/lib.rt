@@ -1,5 +1,4 @@
 // Zone logs over a run of positions.
-use celltable::Found;
 use paint::area;
 use position::Shown;
 use refusals::Refusal;
@@ -107,7 +106,7 @@ fn log_pass(
         (now (out .entry)) ⌝ }
 {
     let n = px.len();
-    let mut last = Found::Broken;
+    let mut last = Shown::Broken;
     let mut prior: u32 = 0;
     let mut c = Tally {
         count: 0,
@@ -128,13 +127,13 @@ fn log_pass(
             py[i],
         );
         match s {
-            Shown::Set(shown, f) => {
+            Shown::In(l, uniform, shown) => {
                 let m = area::material_of(areas, shown);
                 let logged = is_logged(i, prior, m);
                 put_logged(out, c.count, i, logged & written);
                 c = tallied(c, i, logged);
                 prior = m;
-                last = f;
+                last = s;
                 i += 1;
             }
             Shown::Broken => {

@@ -1,5 +1,5 @@
 use Rattle.zone_log.proofs.Passes.{Passing, passing-begin, passing-room, passing-turn, passing-done, passing-broken}
-use Rattle.celltable.specs.declared.Found.the-variants.{Broken}
+use Rattle.position.specs.declared.Shown.the-variants.{Broken}
 use Rattle.position.proofs.Known.{known-set, unknown-set, in-painted}
 use Rattle.tables.specs.Tables.{tree}
 use lib.ListN.{getD}
@@ -63,7 +63,7 @@ shown-at-requires c κs =
     let p = at-entry .pre in
     let i = at-loop .loop .i in
     let k = at-loop-test .loop-test .taken in
-    (at-loop .loop .inv .leaf, p .0 .inside i k)
+    (at-loop .loop .inv .prior-read, p .0 .inside i k)
 
 enum-known-s : tie.Need-enum-known-s Inv-loop μ-loop
 enum-known-s c = search needs
@@ -81,7 +81,7 @@ material-of-requires c κs =
     let py = now (a .py) in
     let i = at-loop .loop .i in
     let g = known-set T (getD px i 0) (getD py i 0) (after-shown-at .shown-at .result) (after-s .s .given .0 .0)
-    (after-s .s .given .0 .1 .0) (after-shown-at .shown-at .ensures) (after-s .s .given .1) in
+    (after-s .s .given .0 .1 .0) (after-s .s .given .0 .1 .1 .0) (after-shown-at .shown-at .ensures) (after-s .s .given .1) in
     rw (g .is-set) (in-painted T (getD px i 0) (getD py i 0))
 
 is-logged-requires : tie.Need-is-logged-requires Inv-loop μ-loop
@@ -102,8 +102,8 @@ put-logged-requires c κs =
     let py = now (a .py) in
     let i = at-loop .loop .i in
     let g = known-set T (getD px i 0) (getD py i 0) (after-shown-at .shown-at .result) (after-s .s .given .0 .0)
-    (after-s .s .given .0 .1 .0) (after-shown-at .shown-at .ensures) (after-s .s .given .1) in
-    passing-room T px py (a .written) (now (a .out)) i (after-s .s .given .0 .0) (at-loop .loop .last) (after-s .s .given .0 .1 .0)
+    (after-s .s .given .0 .1 .0) (after-s .s .given .0 .1 .1 .0) (after-shown-at .shown-at .ensures) (after-s .s .given .1) in
+    passing-room T px py (a .written) (now (a .out)) i (after-s .s .given .0 .1 .1 .0) (at-loop .loop .last) _
     (at-loop .loop .prior) (after-material-of .material-of .result) (after-is-logged .is-logged .result) (at-loop .loop .c) (at-loop .loop .out)
     (at-loop-test .loop-test .taken) (at-loop .loop .inv) g (after-material-of .material-of .ensures) (after-is-logged .is-logged .ensures)
     (at-entry .pre .1)
@@ -142,8 +142,8 @@ loop-again c =
     let py = now (a .py) in
     let i = at-loop .loop .i in
     let g = known-set T (getD px i 0) (getD py i 0) (after-shown-at .shown-at .result) (after-s .s .given .0 .0)
-    (after-s .s .given .0 .1 .0) (after-shown-at .shown-at .ensures) (after-s .s .given .1) in
-    passing-turn T px py (a .written) (now (a .out)) i (after-s .s .given .0 .0) (at-loop .loop .last) (after-s .s .given .0 .1 .0)
+    (after-s .s .given .0 .1 .0) (after-s .s .given .0 .1 .1 .0) (after-shown-at .shown-at .ensures) (after-s .s .given .1) in
+    passing-turn T px py (a .written) (now (a .out)) i (after-s .s .given .0 .1 .1 .0) (at-loop .loop .last) _
     (at-loop .loop .prior) (after-material-of .material-of .result) (after-is-logged .is-logged .result) (at-loop .loop .c) (at-loop .loop .out)
     (at-loop-test .loop-test .taken) (at-loop .loop .inv) g (after-material-of .material-of .ensures) (after-is-logged .is-logged .ensures)
     (c .tallied .result) _ (after-put-logged .put-logged .ensures) (c .tallied .ensures)
