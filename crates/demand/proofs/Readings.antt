@@ -87,18 +87,6 @@ module _ (t : Tree) (H : List Node) (s : Sound t H) where
       go false e = refl
 
 -- ---- a pixel
-abbrev allSmall : List ℕ → Bool
-allSmall [] = true
-allSmall (n ∷ ns) = ltb n 16 && allSmall ns
-
-below-small : (ns : List ℕ) (i : ℕ) → allSmall ns ≡ true → getD ns i 0 < 16
-below-small [] i e = omega arith
-below-small (n ∷ ns) zero e = ltb-true n 16 (and-left (ltb n 16) (allSmall ns) e)
-below-small (n ∷ ns) (suc i) e = below-small ns i (and-right (ltb n 16) (allSmall ns) e)
-
-offset-small : (i : ℕ) → rowOffset i < 16
-offset-small i = below-small rowOffsets i refl
-
 pub sample-on-grid : (row pixel i : ℕ) → row ≤ 4095 → pixel ≤ 4095 → i < 16 → OnGrid (at (sampleX pixel i) (sampleY row i))
 sample-on-grid row pixel i h k l = record { x-below = omega arith; y-below = omega (arith, offset-small i) }
 

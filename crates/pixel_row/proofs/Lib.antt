@@ -1,4 +1,4 @@
 -- Laws of rows of pixels.
+pub mod Agree
 pub mod Sampling
 pub mod Filling
-pub mod Agree

@@ -1,5 +1,5 @@
 // Rows of pixels.
-use celltable::Found;
+use celltable::Leaf;
 use paint::colour;
 use paint::colour::Channels;
 use paint::colour::Colour;
@@ -13,13 +13,16 @@ ghost use Rattle.paint.specs.Colours.{ColourIn};
 ghost use Rattle.tables.specs.Tables.{tree, treeLent};
 ghost use Rattle.position.specs.code.Numbers.{LastIn};
 ghost use Rattle.pixel_row.specs.Rows.{putPixel, fillFrom, rowSpan, rowFilled};
-ghost use Rattle.pixel_row.specs.code.Numbers.{pixelTold, PixelBytes};
+ghost use Rattle.pixel_row.specs.code.Numbers.{holdsPixel, Sampling, pixelTold, PixelBytes};
 
 // The last row of pixels.
 const LAST_ROW: u32 = 4095;
 
 // The pixels of a row.
 const PIXELS: usize = 4096;
+
+// How far the last column and the last row of a pixel lie from its first.
+const PIXEL_END: u32 = pixel::PIXEL_SIDE - 1;
 
 // The bytes of a pixel: red, green, blue.
 const CHANNELS: usize = 3;
@@ -30,15 +33,27 @@ pub enum RowAnswer {
     Not(Refusal, usize),
 }
 
-// A pixel, with the leaf of its last sample; or 12.
+// A pixel, with what was read at its last sample; or 12.
 pub enum Pixel {
-    Known(Colour, Found),
+    Known(Colour, Shown),
     Broken,
 }
 
 // ---- one pixel
-// The pixel of a row, where `before` is the leaf that was found last.
-fn pixel_at(
+// Whether the square of a leaf holds the whole pixel.
+fn holds_pixel(l: Leaf, row: u32, column: u32) -> bool
+    requires { ⌜ (row ≤ 4095) × (column ≤ 4095) ⌝ }
+    ensures answer { λ r. ⌜ r ≡ holdsPixel l row column ⌝ }
+{
+    let x = pixel::PIXEL_SIDE * column;
+    let y = pixel::PIXEL_SIDE * row;
+    let low = position::is_inside(l, x, y);
+    let high = position::is_inside(l, x + PIXEL_END, y + PIXEL_END);
+    low & high
+}
+
+// The pixel of a row whose first sample is `first`, with these channel sums: the other fifteen samples.
+fn pixel_from(
     plan: &[u32],
     areas: &[u32],
     xs: &[u32],
@@ -46,30 +61,27 @@ fn pixel_at(
     head: &[u32],
     cells: &[u32],
     entries: &[u32],
-    before: Found,
+    first: Shown,
+    sums: Channels,
     row: u32,
     column: u32,
 ) -> Pixel
-    requires { ⌜ LastIn (tree (now plan) (now areas) (now xs) (now ys) (now head) (now cells) (now entries)) before ⌝ }
+    requires { ⌜ Sampling (tree (now plan) (now areas) (now xs) (now ys) (now head) (now cells) (now entries)) row column 16 1 first sums ⌝ }
     requires { ⌜ (row ≤ 4095) × (column ≤ 4095) ⌝ }
     ensures answer { λ r. ⌜ r ≡ pixelTold (treeLent plan areas xs ys head cells entries) row column ⌝ }
     ensures range { λ r. ⌜ PixelBytes r ⌝ }
 {
-    let mut last = before;
-    let mut sum = Channels {
-        red: 0,
-        green: 0,
-        blue: 0,
-    };
-    let mut i: u32 = 0;
+    let mut last = first;
+    let mut sum = sums;
+    let mut i: u32 = 1;
     while i < pixel::SAMPLES {
         let p = pixel::sample_at(row, column, i);
         let s = position::shown_at(plan, areas, xs, ys, head, cells, entries, last, p.x, p.y);
         match s {
-            Shown::Set(shown, f) => {
+            Shown::In(l, uniform, shown) => {
                 let c = colour::channel_sums(areas, shown);
                 sum = pixel::add_sample(sum, c);
-                last = f;
+                last = s;
                 i += 1;
             }
             Shown::Broken => {
@@ -79,6 +91,54 @@ fn pixel_at(
     }
     let c = pixel::pixel_of(sum);
     Pixel::Known(c, last)
+}
+
+// The pixel of a row, where `before` was read last. One sample is enough for a pixel that lies in a uniform leaf.
+fn pixel_at(
+    plan: &[u32],
+    areas: &[u32],
+    xs: &[u32],
+    ys: &[u32],
+    head: &[u32],
+    cells: &[u32],
+    entries: &[u32],
+    before: Shown,
+    row: u32,
+    column: u32,
+) -> Pixel
+    requires { ⌜ LastIn (tree (now plan) (now areas) (now xs) (now ys) (now head) (now cells) (now entries)) before ⌝ }
+    requires { ⌜ (row ≤ 4095) × (column ≤ 4095) ⌝ }
+    ensures answer { λ r. ⌜ r ≡ pixelTold (treeLent plan areas xs ys head cells entries) row column ⌝ }
+    ensures range { λ r. ⌜ PixelBytes r ⌝ }
+{
+    let p = pixel::sample_at(row, column, 0);
+    let s = position::shown_at(plan, areas, xs, ys, head, cells, entries, before, p.x, p.y);
+    match s {
+        Shown::In(l, uniform, shown) => {
+            let inside = holds_pixel(l, row, column);
+            if uniform & inside {
+                let c = colour::colour_of(areas, shown);
+                return Pixel::Known(c, s);
+            }
+            let sums = colour::channel_sums(areas, shown);
+            return pixel_from(
+                plan,
+                areas,
+                xs,
+                ys,
+                head,
+                cells,
+                entries,
+                s,
+                sums,
+                row,
+                column,
+            );
+        }
+        Shown::Broken => {
+            return Pixel::Broken;
+        }
+    }
 }
 
 // Writes the three bytes of pixel i.
@@ -114,7 +174,7 @@ fn fill_row(
         fillFrom (treeLent plan areas xs ys head cells entries) row first 0 (length (now (out .entry)) / 3) (now (out .entry)) .bytes ⌝ }
 {
     let n = out.len() / CHANNELS;
-    let mut last = Found::Broken;
+    let mut last = Shown::Broken;
     let mut i: usize = 0;
     while i < n {
         let column = first + (i as u32);

@@ -1,7 +1,7 @@
 use Rattle.pixel_row.proofs.Filling.{Filling, pixel-told, pixel-broken, filling-begin, filling-turn, filling-done, filling-broken}
 use Rattle.pixel_row.specs.Rows.{Filled}
 use Rattle.tables.specs.Tables.{tree}
-use Rattle.celltable.specs.declared.Found.the-variants.{Broken}
+use Rattle.position.specs.declared.Shown.the-variants.{Broken}
 use lib.ListN.{length}
 use denote.Ref.{now}
 use native.Mathlib.Omega.{arith}
@@ -49,7 +49,7 @@ pixel-at-requires c κs =
     let p = at-entry .pre in
     let k = c .loop-test .taken in
     let v = at-loop .loop .inv .1 in
-    (v .leaf, (p .0, omega (arith, k, p .1)))
+    (v .read, (p .0, omega (arith, k, p .1)))
 
 enum-known-p : tie.Need-enum-known-p Inv-loop μ-loop
 enum-known-p c = search needs

@@ -1,155 +1,140 @@
-use Rattle.pixel_row.proofs.Sampling.{Sampling, fewer-in, known-at, unknown-at, sampling-begin, sampling-turn, sampling-done, sampling-broken}
+use Rattle.pixel_row.proofs.Sampling.{plus-none, shown-named, unknown-at, uniform-told, sampling-begin, sampling-turn, sampling-broken}
 use Rattle.position.proofs.Known.{known-set, unknown-set, in-painted}
 use Rattle.tables.specs.Tables.{tree}
 use Rattle.paint.specs.Pixels.{sampleX, sampleY}
+use Rattle.pixel_row.specs.code.Numbers.{holdsPixel, noChannels}
+use Rattle.laws.proofs.Booleans.{and-left, and-right}
+use mathlib.Core.Path.{sym, _∙_}
 use denote.Ref.{now}
 use native.Mathlib.Omega.{arith}
-use Prim.Native.Nat.{_-_}
 use borrow.Author.Needs.{needs}
 use Rattle.pixel_row.proofs.pixel_at.Statement.{statement}
 use Rattle.pixel_row.proofs.pixel_at.Tie as tie
 
-abbrev Inv-loop : tie.InvT-loop
-Inv-loop plan areas xs ys head cells entries row column last₀ sum₀ i₀ last sum i = Sampling (tree plan areas xs ys head cells entries) row column 16 i last sum
+sample-at-requires : tie.Need-sample-at-requires
+sample-at-requires c κs = search needs
 
-abbrev μ-loop : tie.MeasureT-loop
-μ-loop plan areas xs ys head cells entries row column last₀ sum₀ i₀ last sum i = 16 - i
-
-loop-holds : tie.Need-loop-holds Inv-loop μ-loop
-loop-holds c =
-    let at-entry = c .before .before .before .before .before .before .before in
-    let a = at-entry .args in
-    let p = at-entry .pre in
-    let T = tree (now (a .plan)) (now (a .areas)) (now (a .xs)) (now (a .ys)) (now (a .head)) (now (a .cells)) (now (a .entries)) in
-    sampling-begin T (a .row) (a .column) 16 (a .before) (p .0)
-
-sample-at-requires : tie.Need-sample-at-requires Inv-loop μ-loop
-sample-at-requires c κs =
-    let at-loop = c .before in
-    let at-entry = at-loop .before .before .before .before .before .before .before .before in
-    let p = at-entry .pre in
-    let k = c .loop-test .taken in
-    omega (arith, p .1, k)
-
-shown-at-requires : tie.Need-shown-at-requires Inv-loop μ-loop
+shown-at-requires : tie.Need-shown-at-requires
 shown-at-requires c κs =
-    let at-loop-test = c .before in
-    let at-loop = at-loop-test .before in
+    let at-entry = c .before .before .before .before .before .before .before .before in
     let e = c .sample-at .ensures in
-    (at-loop .loop .inv .leaf, (e .1 .1 .0, e .1 .1 .1))
+    (at-entry .pre .0, (e .1 .1 .0, e .1 .1 .1))
 
-enum-known-s : tie.Need-enum-known-s Inv-loop μ-loop
+enum-known-s : tie.Need-enum-known-s
 enum-known-s c = search needs
 
-channel-sums-requires : tie.Need-channel-sums-requires Inv-loop μ-loop
-channel-sums-requires c κs =
-    let after-s = c .before in
+holds-pixel-requires : tie.Need-holds-pixel-requires
+holds-pixel-requires c κs = search needs
+
+colour-of-requires : tie.Need-colour-of-requires
+colour-of-requires c κs =
+    let after-s = c .before .before .before in
     let after-shown-at = after-s .before .before in
     let after-sample-at = after-shown-at .before in
-    let at-entry = after-sample-at .before .before .before .before .before .before .before .before .before .before in
+    let at-entry = after-sample-at .before .before .before .before .before .before .before .before in
     let a = at-entry .args in
     let T = tree (now (a .plan)) (now (a .areas)) (now (a .xs)) (now (a .ys)) (now (a .head)) (now (a .cells)) (now (a .entries)) in
-    let q = after-sample-at .sample-at .result in
-    let g = known-set T (q .x) (q .y) (after-shown-at .shown-at .result) (after-s .s .given .0 .0) (after-s .s .given .0 .1 .0)
-    (after-shown-at .shown-at .ensures) (after-s .s .given .1) in
-    rw (g .is-set) (in-painted T (q .x) (q .y))
-
-add-sample-requires : tie.Need-add-sample-requires Inv-loop μ-loop
-add-sample-requires c κs =
-    let at-loop-test = c .before .before .before .before .before .before in
-    let at-loop = at-loop-test .before in
-    let i = at-loop .loop .i in
-    let k = at-loop-test .loop-test .taken in
-    (fewer-in i 15 (at-loop .loop .sum) (omega (arith, k)) (at-loop .loop .inv .small), c .channel-sums .ensures .1)
-
-add-i : tie.Need-add-i Inv-loop μ-loop
-add-i c =
-    let at-loop-test = c .before .before .before .before .before .before .before in
-    omega (arith, at-loop-test .loop-test .taken)
-
-loop-less : tie.Need-loop-less Inv-loop μ-loop
-loop-less c =
-    let at-loop-test = c .before .before .before .before .before .before .before in
-    omega (arith, at-loop-test .loop-test .taken)
-
-loop-again : tie.Need-loop-again Inv-loop μ-loop
-loop-again c =
-    let after-channel-sums = c .before in
-    let after-s = after-channel-sums .before .before in
-    let after-shown-at = after-s .before .before in
-    let after-sample-at = after-shown-at .before in
-    let at-loop-test = after-sample-at .before in
-    let at-loop = at-loop-test .before in
-    let at-entry = at-loop .before .before .before .before .before .before .before .before in
-    let a = at-entry .args in
-    let T = tree (now (a .plan)) (now (a .areas)) (now (a .xs)) (now (a .ys)) (now (a .head)) (now (a .cells)) (now (a .entries)) in
-    let i = at-loop .loop .i in
-    let k = at-loop-test .loop-test .taken in
     let q = after-sample-at .sample-at .result in
     let e = after-sample-at .sample-at .ensures in
-    let g = known-at T (q .x) (q .y) (sampleX (a .column) i) (sampleY (a .row) i) (after-s .s .given .0 .0) (after-s .s .given .0 .1 .0)
-    (e .0) (e .1 .0)
-    (known-set T (q .x) (q .y) (after-shown-at .shown-at .result) (after-s .s .given .0 .0) (after-s .s .given .0 .1 .0)
-    (after-shown-at .shown-at .ensures) (after-s .s .given .1)) in
-    sampling-turn T (a .row) (a .column) 16 i (after-s .s .given .0 .0) (at-loop .loop .last) (after-s .s .given .0 .1 .0)
-    (at-loop .loop .sum) (c .add-sample .result) (after-channel-sums .channel-sums .result) k (at-loop .loop .inv) g
-    (after-channel-sums .channel-sums .ensures .0) (after-channel-sums .channel-sums .ensures .1) (c .add-sample .ensures)
+    let v = after-s .s .given .0 in
+    let r = shown-named T (q .x) (q .y) (sampleX (a .column) 0) (sampleY (a .row) 0) (after-shown-at .shown-at .result) (e .0) (e .1 .0)
+    (after-shown-at .shown-at .ensures) in
+    let k = known-set T (sampleX (a .column) 0) (sampleY (a .row) 0) (after-shown-at .shown-at .result) (v .0) (v .1 .0) (v .1 .1 .0) r (after-s .s .given .1) in
+    rw (k .is-set) (in-painted T (sampleX (a .column) 0) (sampleY (a .row) 0))
 
-enum-told : tie.Need-enum-told Inv-loop μ-loop
-enum-told c = search needs
-
-returns : tie.Need-returns Inv-loop μ-loop
+returns : tie.Need-returns
 returns c =
-    let after-shown-at = c .before .before in
+    let at-if1 = c .before in
+    let after-holds-pixel = at-if1 .before in
+    let after-s = after-holds-pixel .before .before in
+    let after-shown-at = after-s .before .before in
     let after-sample-at = after-shown-at .before in
-    let at-loop-test = after-sample-at .before in
-    let at-loop = at-loop-test .before in
-    let at-entry = at-loop .before .before .before .before .before .before .before .before in
+    let at-entry = after-sample-at .before .before .before .before .before .before .before .before in
     let a = at-entry .args in
     let T = tree (now (a .plan)) (now (a .areas)) (now (a .xs)) (now (a .ys)) (now (a .head)) (now (a .cells)) (now (a .entries)) in
-    let i = at-loop .loop .i in
-    let k = at-loop-test .loop-test .taken in
     let q = after-sample-at .sample-at .result in
-    let e = after-sample-at .sample-at .ensures in (
-      sampling-broken T (a .row) (a .column) i (at-loop .loop .last) (at-loop .loop .sum) k (at-loop .loop .inv)
-          (unknown-at T (q .x) (q .y) (sampleX (a .column) i) (sampleY (a .row) i) (e .0) (e .1 .0)
-          (unknown-set T (q .x) (q .y) (after-shown-at .shown-at .result) (after-shown-at .shown-at .ensures) (c .enum-told .given .1))),
-      tt,
+    let e = after-sample-at .sample-at .ensures in
+    let v = after-s .s .given .0 in
+    let r = shown-named T (q .x) (q .y) (sampleX (a .column) 0) (sampleY (a .row) 0) (after-shown-at .shown-at .result) (e .0) (e .1 .0)
+    (after-shown-at .shown-at .ensures) in
+    let k = known-set T (sampleX (a .column) 0) (sampleY (a .row) 0) (after-shown-at .shown-at .result) (v .0) (v .1 .0) (v .1 .1 .0) r (after-s .s .given .1) in
+    let yes = and-left (v .1 .0) (after-holds-pixel .holds-pixel .result) (at-if1 .if1 .taken) in
+    let holds = and-right (v .1 .0) (after-holds-pixel .holds-pixel .result) (at-if1 .if1 .taken) in (
+      uniform-told T (a .row) (a .column) (v .0) (v .1 .0) (v .1 .1 .0) (k .is-shown) yes (sym (after-holds-pixel .holds-pixel .ensures) ∙ holds)
+          (c .colour-of .result) (c .colour-of .ensures .0),
+      c .colour-of .ensures .1,
     )
 
-pixel-of-requires : tie.Need-pixel-of-requires Inv-loop μ-loop
-pixel-of-requires c κs =
-    let at-loop = c .before in
-    fewer-in (at-loop .loop .i) 16 (at-loop .loop .sum) (at-loop .loop .inv .to) (at-loop .loop .inv .small)
-
-returns-2 : tie.Need-returns-2 Inv-loop μ-loop
-returns-2 c =
-    let at-loop-test = c .before in
-    let at-loop = at-loop-test .before in
-    let at-entry = at-loop .before .before .before .before .before .before .before .before in
+channel-sums-requires : tie.Need-channel-sums-requires
+channel-sums-requires c κs =
+    let after-s = c .before .before .before in
+    let after-shown-at = after-s .before .before in
+    let after-sample-at = after-shown-at .before in
+    let at-entry = after-sample-at .before .before .before .before .before .before .before .before in
     let a = at-entry .args in
-    let T = tree (now (a .plan)) (now (a .areas)) (now (a .xs)) (now (a .ys)) (now (a .head)) (now (a .cells)) (now (a .entries)) in (
-      sampling-done T (a .row) (a .column) (at-loop .loop .i) (at-loop .loop .last) (at-loop .loop .sum) (c .pixel-of .result)
-          (at-loop-test .loop-test .left) (at-loop .loop .inv) (c .pixel-of .ensures .0),
-      c .pixel-of .ensures .1,
+    let T = tree (now (a .plan)) (now (a .areas)) (now (a .xs)) (now (a .ys)) (now (a .head)) (now (a .cells)) (now (a .entries)) in
+    let q = after-sample-at .sample-at .result in
+    let e = after-sample-at .sample-at .ensures in
+    let v = after-s .s .given .0 in
+    let r = shown-named T (q .x) (q .y) (sampleX (a .column) 0) (sampleY (a .row) 0) (after-shown-at .shown-at .result) (e .0) (e .1 .0)
+    (after-shown-at .shown-at .ensures) in
+    let k = known-set T (sampleX (a .column) 0) (sampleY (a .row) 0) (after-shown-at .shown-at .result) (v .0) (v .1 .0) (v .1 .1 .0) r (after-s .s .given .1) in
+    rw (k .is-set) (in-painted T (sampleX (a .column) 0) (sampleY (a .row) 0))
+
+pixel-from-requires : tie.Need-pixel-from-requires
+pixel-from-requires c κs =
+    let after-s = c .before .before .before .before in
+    let after-shown-at = after-s .before .before in
+    let after-sample-at = after-shown-at .before in
+    let at-entry = after-sample-at .before .before .before .before .before .before .before .before in
+    let a = at-entry .args in
+    let T = tree (now (a .plan)) (now (a .areas)) (now (a .xs)) (now (a .ys)) (now (a .head)) (now (a .cells)) (now (a .entries)) in
+    let q = after-sample-at .sample-at .result in
+    let e = after-sample-at .sample-at .ensures in
+    let v = after-s .s .given .0 in
+    let r = shown-named T (q .x) (q .y) (sampleX (a .column) 0) (sampleY (a .row) 0) (after-shown-at .shown-at .result) (e .0) (e .1 .0)
+    (after-shown-at .shown-at .ensures) in
+    let k = known-set T (sampleX (a .column) 0) (sampleY (a .row) 0) (after-shown-at .shown-at .result) (v .0) (v .1 .0) (v .1 .1 .0) r (after-s .s .given .1) in
+    let g = c .channel-sums .ensures in (
+      sampling-turn T (a .row) (a .column) 16 0 (v .1 .1 .0) (a .before) _ noChannels (c .channel-sums .result) (c .channel-sums .result) (omega arith)
+          (sampling-begin T (a .row) (a .column) 16 (a .before) (at-entry .pre .0)) k (g .0) (g .1) (plus-none (c .channel-sums .result)),
+      at-entry .pre .1,
+    )
+
+returns-2 : tie.Need-returns-2
+returns-2 c = search needs
+
+enum-told : tie.Need-enum-told
+enum-told c = search needs
+
+returns-3 : tie.Need-returns-3
+returns-3 c =
+    let after-shown-at = c .before .before in
+    let after-sample-at = after-shown-at .before in
+    let at-entry = after-sample-at .before .before .before .before .before .before .before .before in
+    let a = at-entry .args in
+    let T = tree (now (a .plan)) (now (a .areas)) (now (a .xs)) (now (a .ys)) (now (a .head)) (now (a .cells)) (now (a .entries)) in
+    let q = after-sample-at .sample-at .result in
+    let e = after-sample-at .sample-at .ensures in
+    let u = unknown-set T (q .x) (q .y) (after-shown-at .shown-at .result) (after-shown-at .shown-at .ensures) (c .enum-told .given .1) in (
+      sampling-broken T (a .row) (a .column) 0 (a .before) noChannels (omega arith)
+          (sampling-begin T (a .row) (a .column) 16 (a .before) (at-entry .pre .0))
+          (unknown-at T (q .x) (q .y) (sampleX (a .column) 0) (sampleY (a .row) 0) (e .0) (e .1 .0) u),
+      tt,
     )
 
 pub pixel-at-spec : {M : Type 1} → statement M
 pixel-at-spec =
     tie.close
     (tie.spec
-    Inv-loop
-    μ-loop
-    loop-holds
     sample-at-requires
     shown-at-requires
     enum-known-s
-    channel-sums-requires
-    add-sample-requires
-    add-i
-    loop-less
-    loop-again
-    enum-told
+    holds-pixel-requires
+    colour-of-requires
     returns
-    pixel-of-requires
-    returns-2)
+    channel-sums-requires
+    pixel-from-requires
+    returns-2
+    enum-told
+    returns-3)
