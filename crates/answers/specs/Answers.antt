@@ -1,5 +1,5 @@
 -- An answer as one number: the refusal's number times 2^32 and its place; the result where nothing is refused.
-use mathlib.Core.Bool.{cond}
+use mathlib.Core.Bool.{Bool, cond}
 use mathlib.Core.List.{List}
 use Prim.Native.Nat.{ℕ, _+_, _*_}
 use lib.Dec.{leb}
@@ -49,9 +49,9 @@ growNumber (growth.Done splits) = packed 0 splits
 growNumber (growth.Full splits) = packed 0 (2147483648 + splits)
 growNumber (growth.Not r) = packed (numberOf r) 0
 
--- finding a leaf: 11, "another output table too short for the whole result", which is seven words; out is how many words the table has
+-- finding a leaf: 11, "another output table too short for the whole result", which is eight words; out is how many words the table has
 abbrev pub findRoom : leaf-answer.Answer → (out : ℕ) → leaf-answer.Answer
-findRoom (leaf.Found l) out = cond (leb 7 out) (leaf.Found l) (leaf.Not Room)
+findRoom (leaf.Found l) out = cond (leb 8 out) (leaf.Found l) (leaf.Not Room)
 findRoom (leaf.Not r) out = leaf.Not r
 
 -- the number of the leaf; document 01 leaves free which number of the leaf is the result
@@ -59,9 +59,15 @@ abbrev pub findNumber : leaf-answer.Answer → ℕ
 findNumber (leaf.Found l) = packed 0 (l .cell)
 findNumber (leaf.Not r) = packed (numberOf r) 0
 
--- the seven words of a leaf
+-- "yes or no" as a word: 1 or 0
+abbrev pub wordOf : Bool → ℕ
+wordOf yes = cond yes 1 0
+
+-- the eight words of a leaf
 abbrev pub leafPut : FoundLeaf → List ℕ → List ℕ
-leafPut l out = set (set (set (set (set (set (set out 0 (l .cell)) 1 (l .x)) 2 (l .y)) 3 (l .side)) 4 (l .steps)) 5 (l .entries)) 6 (l .lines)
+leafPut l out =
+    set (set (set (set (set (set (set (set out 0 (l .cell)) 1 (l .x)) 2 (l .y)) 3 (l .side)) 4 (l .steps)) 5 (l .entries)) 6 (l .lines)) 7
+    (wordOf (l .uniform))
 
 -- "nothing lent changed" on a refusal; "An accepted call leaves the rest of a longer output untouched."
 abbrev pub outFound : leaf-answer.Answer → List ℕ → List ℕ

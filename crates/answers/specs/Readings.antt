@@ -13,11 +13,11 @@ use Rattle.pixel_row.specs.declared.RowAnswer.the-variants as pixels
 use Rattle.position.specs.declared.Spot.{Spot}
 use Rattle.position.specs.declared.Answer as query-answer
 use Rattle.position.specs.declared.Answer.the-variants as query
-use Rattle.answers.specs.Answers.{packed}
+use Rattle.answers.specs.Answers.{packed, wordOf}
 
--- a position: 11, "another output table too short for the whole result", which is six words; out is how many words the table has
+-- a position: 11, "another output table too short for the whole result", which is ten words; out is how many words the table has
 abbrev pub spotRoom : query-answer.Answer → (out : ℕ) → query-answer.Answer
-spotRoom (query.At s) out = cond (leb 6 out) (query.At s) (query.Not Room)
+spotRoom (query.At s) out = cond (leb 10 out) (query.At s) (query.Not Room)
 spotRoom (query.Not r) out = query.Not r
 
 -- the material; document 01 leaves free which number of the position is the result; refusals of a position have place 0
@@ -26,8 +26,12 @@ spotNumber (query.At s) = packed 0 (s .material)
 spotNumber (query.Not r) = packed (numberOf r) 0
 
 -- the six words of what shows: the low and the high half of the set, the material, the colour
+abbrev pub shownPut : Spot → List ℕ → List ℕ
+shownPut s out = set (set (set (set (set (set out 0 (s .set % 4294967296)) 1 (s .set / 4294967296)) 2 (s .material)) 3 (s .red)) 4 (s .green)) 5 (s .blue)
+
+-- and the four words of how far that reaches: whether the leaf is uniform, its low corner, its side
 abbrev pub spotPut : Spot → List ℕ → List ℕ
-spotPut s out = set (set (set (set (set (set out 0 (s .set % 4294967296)) 1 (s .set / 4294967296)) 2 (s .material)) 3 (s .red)) 4 (s .green)) 5 (s .blue)
+spotPut s out = set (set (set (set (shownPut s out) 6 (wordOf (s .uniform))) 7 (s .x)) 8 (s .y)) 9 (s .side)
 
 -- "nothing lent changed" on a refusal; "An accepted call leaves the rest of a longer output untouched."
 abbrev pub outSpot : query-answer.Answer → List ℕ → List ℕ

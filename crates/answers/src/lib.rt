@@ -14,14 +14,14 @@ ghost use Prim.Native.Nat.{_≤_};
 ghost use lib.ListN.{length};
 ghost use Rattle.refusals.specs.Refusals.{numberOf};
 ghost use Rattle.answers.specs.Answers.{packed, readNumber, writeNumber, readLow, writeLow, openNumber, splitNumber, growSplits, growNumber};
-ghost use Rattle.answers.specs.Answers.{leafPut, findRoom, findNumber, leafWritten};
+ghost use Rattle.answers.specs.Answers.{wordOf, leafPut, findRoom, findNumber, leafWritten};
 ghost use Rattle.answers.specs.Readings.{spotPut, spotRoom, spotNumber, spotWritten, lowHalf, logNumber, rowPlace, rowNumber};
 
 // The words of a leaf that is found.
-const LEAF_WORDS: usize = 7;
+const LEAF_WORDS: usize = 8;
 
-// The words of what shows at a position.
-const SHOWN_WORDS: usize = 6;
+// The words of what shows at a position and of how far that reaches.
+const SPOT_WORDS: usize = 10;
 
 // The refusal's number, or 0, and what goes with it.
 fn pack(number: u32, low: usize) -> u64
@@ -92,9 +92,19 @@ pub fn pack_grow(a: grow::Answer) -> u64
     }
 }
 
-// Writes the seven words of a leaf.
+// "yes" or "no" as a word.
+fn word_of(yes: bool) -> u32
+    ensures answer { λ r. ⌜ r ≡ wordOf yes ⌝ }
+{
+    if yes {
+        return 1;
+    }
+    0
+}
+
+// Writes the eight words of a leaf.
 fn put_leaf(out: &mut [u32], l: FoundLeaf)
-    requires { ⌜ 7 ≤ length (now out) ⌝ }
+    requires { ⌜ 8 ≤ length (now out) ⌝ }
     ensures out { λ _. ⌜ now (out .exit) ≡ leafPut l (now (out .entry)) ⌝ }
 {
     out[0] = l.cell;
@@ -104,6 +114,7 @@ fn put_leaf(out: &mut [u32], l: FoundLeaf)
     out[4] = l.steps;
     out[5] = l.entries;
     out[6] = l.lines;
+    out[7] = word_of(l.uniform);
 }
 
 // A leaf that was found, or 11.
@@ -126,9 +137,9 @@ pub fn put_found(out: &mut [u32], a: find_leaf::Answer) -> u64
 }
 
 // ---- a position
-// Writes the six words of what shows.
+// Writes the six words of what shows, and the four of how far that reaches.
 fn put_spot(out: &mut [u32], s: Spot)
-    requires { ⌜ 6 ≤ length (now out) ⌝ }
+    requires { ⌜ 10 ≤ length (now out) ⌝ }
     ensures out { λ _. ⌜ now (out .exit) ≡ spotPut s (now (out .entry)) ⌝ }
 {
     out[0] = (s.set % 4294967296) as u32;
@@ -137,6 +148,10 @@ fn put_spot(out: &mut [u32], s: Spot)
     out[3] = s.red;
     out[4] = s.green;
     out[5] = s.blue;
+    out[6] = word_of(s.uniform);
+    out[7] = s.x;
+    out[8] = s.y;
+    out[9] = s.side;
 }
 
 // What shows, or 11.
@@ -146,7 +161,7 @@ pub fn put_shown(out: &mut [u32], a: position::Answer) -> u64
 {
     match a {
         position::Answer::At(s) => {
-            if SHOWN_WORDS <= out.len() {
+            if SPOT_WORDS <= out.len() {
                 put_spot(out, s);
                 return pack(0, s.material as usize);
             }

@@ -24,7 +24,7 @@ returns c =
     let after-put-leaf = c .before .before .before .before in
     let at-if1 = after-put-leaf .before .before in
     let after-a = at-if1 .before .before in
-    rw (after-a .a .given .1, le-leb 7 _ (at-if1 .if1 .taken)) (c .pack .ensures, after-put-leaf .put-leaf .ensures)
+    rw (after-a .a .given .1, le-leb 8 _ (at-if1 .if1 .taken)) (c .pack .ensures, after-put-leaf .put-leaf .ensures)
 
 refused-requires : tie.Need-refused-requires
 refused-requires c κs = search needs
@@ -33,7 +33,7 @@ returns-2 : tie.Need-returns-2
 returns-2 c =
     let at-if1 = c .before in
     let after-a = at-if1 .before .before in
-    rw (after-a .a .given .1, lt-leb 7 _ (at-if1 .if1 .left)) (c .refused .ensures, refl)
+    rw (after-a .a .given .1, lt-leb 8 _ (at-if1 .if1 .left)) (c .refused .ensures, refl)
 
 enum-known-a-2 : tie.Need-enum-known-a-2
 enum-known-a-2 c = search needs
