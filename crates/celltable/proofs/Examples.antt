@@ -62,7 +62,7 @@ child-beyond = refl
 abbrev swapped : List ℕ
 swapped = row 0 0 65536 1 0 3 ++ row 0 0 32768 0 3 1 ++ row 0 32768 32768 0 6 0 ++ row 32768 0 32768 0 4 2 ++ row 32768 32768 32768 0 6 1
 
-passes-alone : cellRange (words 0 32768 32768 0 6 0) 2 5 7 ≡ true
+passes-alone : cellRange swapped 2 5 7 ≡ true
 unfolding cellRange powerUpTo
 passes-alone = refl
 
@@ -88,11 +88,11 @@ no-power : sideRange 48 ≡ false
 unfolding powerUpTo
 no-power = refl
 
-off-grid : cellRange (words 16 8 16 0 0 0) 1 5 0 ≡ false
+off-grid : cellRange (row 0 0 65536 1 0 0 ++ row 16 8 16 0 0 0) 1 5 0 ≡ false
 unfolding cellRange powerUpTo
 off-grid = refl
 
-not-the-root : cellRange (words 0 0 32768 0 0 0) 0 5 0 ≡ false
+not-the-root : cellRange (row 0 0 32768 0 0 0) 0 5 0 ≡ false
 unfolding cellRange powerUpTo
 not-the-root = refl
 

@@ -2,6 +2,7 @@
 use Prim.Native.Nat.{ℕ, zero, suc, _+_, _*_, _-_, _/_, _%_, _^_, _≤_, _<_}
 use mathlib.Core.Path.{_≡_, refl, ap, _∙_}
 use mathlib.Core.Bool.{Bool, true, false, _&&_}
+use mathlib.Core.List.{List}
 use native.Mathlib.Omega.{arith}
 use native.Mathlib.Nat.{one-le-pow, two-pow-succ, div-add-mod', div-lt-iff-lt-mul, mul-le-mul-right, mul-mod-left}
 use lib.Dec.{eqb, ltb}
@@ -9,10 +10,11 @@ use borrow.Author.Tests.{eqb-true, eq-eqb, lt-ltb}
 use Rattle.laws.proofs.Booleans.{and-left, and-right, and-both, and-true}
 use Rattle.cells.specs.Cells.{Cell, cell, left, low, level, side, root, Quarter, lowLow, highLow, lowHigh, highHigh, alongX, alongY, child}
 use Rattle.celltable.specs.declared.CellWords.{CellWords}
-use Rattle.celltable.specs.Ranges.{gridRange, squareRange, rootRange, numbersRange, cellRange, levelOf, cellOf}
+use Rattle.celltable.specs.Table.{cellAt}
+use Rattle.celltable.specs.Ranges.{gridRange, squareRange, rootRange, childRange, entryRange, cellRange, levelOf, cellOf}
 use Rattle.celltable.specs.Descent.{onSquare}
 use Rattle.celltable.proofs.Powers.{level-most, power-of, pow-split}
-use Rattle.celltable.proofs.Ranges.{SquareFits, square-fits}
+use Rattle.celltable.proofs.Ranges.{SquareFits, square-fits, range-parts}
 
 -- a cell of the grid: of level 0 to 16, its low corner on the grid in multiples of its side, and all of it below 65,536
 pub record Gridded (c : Cell) : Type 0 where
@@ -127,20 +129,26 @@ gridded-passes w (cell x y k) g s =
     (grid-true y (2 ^ k) (g .y-multiple) (omega (arith, one-le-pow k 2 (omega arith)))))
 
 -- where the words say a cell of the grid, and cell 0 the root, only the other numbers decide whether they pass
-pub gridded-range : (w : CellWords) (c : Cell) (i used entries : ℕ) → Gridded c → (i ≡ 0 → c ≡ root) → onSquare w c ≡ true
-    → cellRange w i used entries ≡ numbersRange w used entries
-unfolding cellRange
-gridded-range w c i used entries g r h = rw (gridded-passes w c g s, own (eqb i 0) refl) (and-true (numbersRange w used entries))
+own-square : (w : CellWords) (c : Cell) (i : ℕ) → (i ≡ 0 → c ≡ root) → SaysCell w c → rootRange w i ≡ true
+own-square w c i r s = go (eqb i 0) refl
   where
-    s : SaysCell w c
-    s = says-cell w c h
-
-    own : (b : Bool) → eqb i 0 ≡ b → rootRange w i ≡ true
-    own true e =
+    go : (b : Bool) → eqb i 0 ≡ b → rootRange w i ≡ true
+    go true e =
         let q : c ≡ root = r (eqb-true i 0 e) in
         rw (e, s .same-x ∙ ap left q, s .same-y ∙ ap low q, s .same-side ∙ ap side q)
-    own false e = rw e
+    go false e = rw e
 
-pub gridded-cell : (w : CellWords) (c : Cell) (i used entries : ℕ) → Gridded c → (i ≡ 0 → c ≡ root) → SaysCell w c → numbersRange w used entries ≡ true
-    → cellRange w i used entries ≡ true
-gridded-cell w c i used entries g r s h = gridded-range w c i used entries g r (on-square w c s) ∙ h
+pub gridded-range : (t : List ℕ) (c : Cell) (i used entries : ℕ) → Gridded c → (i ≡ 0 → c ≡ root) → onSquare (cellAt t i) c ≡ true
+    → cellRange t i used entries ≡ (childRange (cellAt t i .child) used && entryRange (cellAt t i .first) (cellAt t i .count) entries)
+unfolding cellRange
+gridded-range t c i used entries g r h =
+    let s : SaysCell (cellAt t i) c = says-cell (cellAt t i) c h in
+    rw (gridded-passes (cellAt t i) c g s, own-square (cellAt t i) c i r s)
+    (ap (λ (b : Bool). childRange (cellAt t i .child) used && b) (and-true (entryRange (cellAt t i .first) (cellAt t i .count) entries)))
+
+pub gridded-cell : (t : List ℕ) (c : Cell) (i used entries : ℕ) → Gridded c → (i ≡ 0 → c ≡ root) → SaysCell (cellAt t i) c
+    → childRange (cellAt t i .child) used ≡ true
+    → entryRange (cellAt t i .first) (cellAt t i .count) entries ≡ true
+    → cellRange t i used entries ≡ true
+gridded-cell t c i used entries g r s a b =
+    range-parts t i used entries (gridded-passes (cellAt t i) c g s) a b (own-square (cellAt t i) c i r s)

@@ -25,7 +25,7 @@ leafCell l = cell (l .x) (l .y) (16 - l .steps)
 pub record LeafFound (t : List ℕ) (used entries : ℕ) (p : Position) (l : Leaf) : Type 0 where
   pub in-use : l .cell < used
   pub words : l ≡ leafOf (l .cell) (l .steps) (cellAt t (l .cell))
-  pub passes : cellRange (cellAt t (l .cell)) (l .cell) used entries ≡ true
+  pub passes : cellRange t (l .cell) used entries ≡ true
   pub whole : cellAt t (l .cell) .child ≡ 0
   pub depth : l .steps ≤ 16
   pub side-is : l .side ≡ 2 ^ (16 - l .steps)
@@ -34,7 +34,7 @@ pub record LeafFound (t : List ℕ) (used entries : ℕ) (p : Position) (l : Lea
 
 -- ---- one cell on the way: a leaf ends it, a cell that is split gives the child
 
-module _ (t : List ℕ) (used entries : ℕ) (p : Position) (n i steps : ℕ) (c : Cell) (f : cellRange (cellAt t i) i used entries ≡ true)
+module _ (t : List ℕ) (used entries : ℕ) (p : Position) (n i steps : ℕ) (c : Cell) (f : cellRange t i used entries ≡ true)
     (s : onSquare (cellAt t i) c ≡ true) where
   pub down-leaf : cellAt t i .child ≡ 0 → downFrom t used entries p (suc n) i steps c ≡ At (leafOf i steps (cellAt t i))
   unfolding downFrom
@@ -63,7 +63,7 @@ module _ (t : List ℕ) (used entries : ℕ) (p : Position) (l : Leaf) where
       → steps + k ≡ 16
       → i < used
       → Holds (cell x y k) p
-      → cellRange (cellAt t i) i used entries ≡ true
+      → cellRange t i used entries ≡ true
       → onSquare (cellAt t i) (cell x y k) ≡ true
       → cellAt t i .child ≡ 0
       → LeafFound t used entries p (leafOf i steps (cellAt t i))
@@ -98,7 +98,7 @@ module _ (t : List ℕ) (used entries : ℕ) (p : Position) (l : Leaf) where
       → downFrom t used entries p (suc n) i steps (cell x y k) ≡ At l
       → LeafFound t used entries p l
   unfolding downFrom
-  one-cell n i steps x y k d u h next e = go (cellRange w i used entries) (onSquare w c) (eqb (w .child) 0) refl refl refl e
+  one-cell n i steps x y k d u h next e = go (cellRange t i used entries) (onSquare w c) (eqb (w .child) 0) refl refl refl e
     where
       w : CellWords
       w = cellAt t i
@@ -107,7 +107,7 @@ module _ (t : List ℕ) (used entries : ℕ) (p : Position) (l : Leaf) where
       c = cell x y k
 
       go : (a b z : Bool)
-          → cellRange w i used entries ≡ a
+          → cellRange t i used entries ≡ a
           → onSquare w c ≡ b
           → eqb (w .child) 0 ≡ z
           → cond a
@@ -121,7 +121,7 @@ module _ (t : List ℕ) (used entries : ℕ) (p : Position) (l : Leaf) where
       go true true true f s z q =
           let r : leafOf i steps w ≡ l = cc in
           subst (λ (m : Leaf). LeafFound t used entries p m) r (landed i steps x y k d u h f s (eqb-true (w .child) 0 z))
-      go true true false f s z q = next (passes-child w i used entries f (eqb-false (w .child) 0 z)) q
+      go true true false f s z q = next (passes-child t i used entries f (eqb-false (w .child) 0 z)) q
       go true false z f s m q = broken-not l q
       go false b z f s m q = broken-not l q
 

@@ -1,7 +1,7 @@
 -- The path down over the code's numbers is that of document 01's cells and quarters.
 use Prim.Native.Nat.{ℕ, zero, suc, _+_, _*_, _/_, _^_, _≤_}
 use mathlib.Core.Path.{_≡_, refl, ap, _∙_}
-use mathlib.Core.Bool.{Bool, true, false, cond}
+use mathlib.Core.Bool.{Bool, true, false, cond, _&&_}
 use mathlib.Core.List.{List}
 use native.Mathlib.Omega.{arith}
 use native.Mathlib.Nat.{two-pow-succ}
@@ -14,7 +14,7 @@ use Rattle.celltable.specs.declared.Down.the-variants.{Deeper, AtLeaf, B
 use Rattle.celltable.specs.declared.Found.{Found}
 use Rattle.celltable.specs.declared.Found.the-variants.{At, Broken}
 use Rattle.celltable.specs.Table.{cellAt}
-use Rattle.celltable.specs.Ranges.{numbersRange, cellRange}
+use Rattle.celltable.specs.Ranges.{childRange, entryRange, cellRange}
 use Rattle.celltable.specs.Descent.{placeOf, onSquare, leafOf, downFrom, descendIn}
 use Rattle.celltable.specs.code.Numbers.{halfN, deeperN, metN, goOn, walkN, startN}
 use Rattle.celltable.proofs.Grid.{Gridded, root-gridded, child-gridded, gridded-range}
@@ -72,10 +72,13 @@ module _ (t : List ℕ) (used entries px py : ℕ) where
       ≡ downFrom t used entries (at px py) n (cellAt t i .child + placeOf (quarterOf c (at px py))) (steps + 1) (child c (quarterOf c (at px py))))
       → walkN t used entries px py (suc n) (cursorOf i steps c) ≡ downFrom t used entries (at px py) (suc n) i steps c
   unfolding walkN downFrom metN
-  one-cell n i steps c g o next = go (onSquare w c) (numbersRange w used entries) (eqb (w .child) 0) refl refl refl
+  one-cell n i steps c g o next = go (onSquare w c) numbers (eqb (w .child) 0) refl refl refl
     where
       w : CellWords
       w = cellAt t i
+
+      numbers : Bool
+      numbers = childRange (w .child) used && entryRange (w .first) (w .count) entries
 
       deeper : Found
       deeper = downFrom t used entries (at px py) n (w .child + placeOf (quarterOf c (at px py))) (steps + 1) (child c (quarterOf c (at px py)))
@@ -86,15 +89,15 @@ module _ (t : List ℕ) (used entries px py : ℕ) where
 
       go : (a b d : Bool)
           → onSquare w c ≡ a
-          → numbersRange w used entries ≡ b
+          → numbers ≡ b
           → eqb (w .child) 0 ≡ d
           → goOn (cond a (cond b (cond d (AtLeaf (leafOf i steps w)) (Deeper (deeperN (cursorOf i steps c) (w .child) px py))) Bad) Bad)
           (walkN t used entries px py n)
-          ≡ cond (cellRange w i used entries) (cond a (cond d (At (leafOf i steps w)) deeper) Broken) Broken
-      go true true true e f k = rw (gridded-range w c i used entries g o e, f)
-      go true true false e f k = rw (gridded-range w c i used entries g o e, f) (next (eqb-false (w .child) 0 k))
-      go true false d e f k = rw (gridded-range w c i used entries g o e, f)
-      go false b d e f k = astray (cellRange w i used entries)
+          ≡ cond (cellRange t i used entries) (cond a (cond d (At (leafOf i steps w)) deeper) Broken) Broken
+      go true true true e f k = rw (gridded-range t c i used entries g o e, f)
+      go true true false e f k = rw (gridded-range t c i used entries g o e, f) (next (eqb-false (w .child) 0 k))
+      go true false d e f k = rw (gridded-range t c i used entries g o e, f)
+      go false b d e f k = astray (cellRange t i used entries)
 
   walk-down : (n i steps : ℕ) (c : Cell)
       → n ≤ suc (level c)

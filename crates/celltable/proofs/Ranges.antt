@@ -1,6 +1,6 @@
 -- What it says that a cell passes, and that the numbers in use do: its square is that of a cell of document 01, and the other numbers are below what is in use.
 use Prim.Native.Nat.{ℕ, _+_, _*_, _/_, _%_, _^_, _≤_, _<_}
-use mathlib.Core.Path.{_≡_, refl, sym, _∙_}
+use mathlib.Core.Path.{_≡_, refl, sym, ap, _∙_}
 use mathlib.Core.Bool.{Bool, true, false, cond, _&&_, _||_}
 use mathlib.Core.List.{List}
 use native.Mathlib.Omega.{arith}
@@ -13,6 +13,7 @@ use Rattle.celltable.proofs.Powers.{level-is, level-most}
 use Rattle.geometry.specs.code.Reach.{SquareIn}
 use Rattle.cells.specs.Cells.{level, squareOf}
 use Rattle.celltable.specs.declared.CellWords.{CellWords}
+use Rattle.celltable.specs.Table.{cellAt}
 use Rattle.celltable.specs.Ranges.{
   sideRange,
   gridRange,
@@ -20,7 +21,6 @@ use Rattle.celltable.specs.Ranges.{
   rootRange,
   childRange,
   entryRange,
-  numbersRange,
   cellRange,
   cellsHeld,
   entriesHeld,
@@ -78,96 +78,109 @@ module _ (w : CellWords) (h : squareRange w ≡ true) where
 
 -- ---- the numbers that a cell holds
 
-module _ (w : CellWords) (used entries : ℕ) (h : numbersRange w used entries ≡ true) where
-  -- the four children of a cell that is split are in use
-  pub child-in-use : (w .child ≡ 0 → ⊥) → w .child + 3 < used
-  child-in-use f =
-      ltb-true (w .child + 3) used
-      (go (eqb (w .child) 0) refl (and-left (childRange (w .child) used) (entryRange (w .first) (w .count) entries) h))
-    where
-      go : (b : Bool) → eqb (w .child) 0 ≡ b → (b || ltb (w .child + 3) used) ≡ true → ltb (w .child + 3) used ≡ true
-      go true e q = absurd (f (eqb-true (w .child) 0 e))
-      go false e q = q
+-- the four children of a cell that is split are in use
+pub child-in-use : (child used : ℕ) → childRange child used ≡ true → (child ≡ 0 → ⊥) → child + 3 < used
+child-in-use child used h f = ltb-true (child + 3) used (go (eqb child 0) refl h)
+  where
+    go : (b : Bool) → eqb child 0 ≡ b → (b || ltb (child + 3) used) ≡ true → ltb (child + 3) used ≡ true
+    go true e q = absurd (f (eqb-true child 0 e))
+    go false e q = q
 
-  -- and so are its entries
-  pub entries-in-use : w .first + w .count ≤ entries
-  entries-in-use = leb-true (w .first + w .count) entries (and-right (childRange (w .child) used) (entryRange (w .first) (w .count) entries) h)
+-- such a child has a number far below what a word holds; f and g are the outcomes of the code's tests
+pub child-few : (t : List ℕ) (child used : ℕ) (f g : Bool) → CellsIn t used → f ≡ childRange child used → (f && g) ≡ true → (child ≡ 0 → ⊥) → child < 65536
+child-few t child used f g r q h z = omega (arith, child-in-use child used (sym q ∙ and-left f g h) z)
 
--- such a child has a number far below what a word holds; f is the outcome of the code's test
-pub child-few : (t : List ℕ) (w : CellWords) (used entries : ℕ) (f : Bool)
-    → CellsIn t used
-    → f ≡ numbersRange w used entries
-    → f ≡ true
-    → (w .child ≡ 0 → ⊥)
-    → w .child < 65536
-child-few t w used entries f r q h z = omega (arith, child-in-use w used entries (sym q ∙ h) z)
-
--- a leaf with entries in use
-pub leaf-numbers : (w : CellWords) (used entries : ℕ) → w .child ≡ 0 → w .first + w .count ≤ entries → numbersRange w used entries ≡ true
-leaf-numbers w used entries z h = rw (eq-eqb (w .child) 0 z, le-leb (w .first + w .count) entries h)
+-- a leaf has none
+pub leaf-child : (child used : ℕ) → child ≡ 0 → childRange child used ≡ true
+leaf-child child used z = rw (eq-eqb child 0 z)
 
 -- with more in use they are still in range
-pub numbers-more : (w : CellWords) (used entries used′ entries′ : ℕ)
-    → used ≤ used′
-    → entries ≤ entries′
-    → numbersRange w used entries ≡ true
-    → numbersRange w used′ entries′ ≡ true
-numbers-more w used entries used′ entries′ u n h =
-    and-both (childRange (w .child) used′) (entryRange (w .first) (w .count) entries′)
-    (go (eqb (w .child) 0) refl)
-    (le-leb (w .first + w .count) entries′ (omega (arith, entries-in-use w used entries h)))
+pub child-more : (child used used′ : ℕ) → used ≤ used′ → childRange child used ≡ true → childRange child used′ ≡ true
+child-more child used used′ u h = go (eqb child 0) refl
   where
-    go : (b : Bool) → eqb (w .child) 0 ≡ b → (b || ltb (w .child + 3) used′) ≡ true
+    go : (b : Bool) → eqb child 0 ≡ b → (b || ltb (child + 3) used′) ≡ true
     go true e = refl
-    go false e = lt-ltb (w .child + 3) used′ (omega (arith, child-in-use w used entries h (eqb-false (w .child) 0 e)))
+    go false e = lt-ltb (child + 3) used′ (omega (arith, child-in-use child used h (eqb-false child 0 e)))
+
+pub entries-more : (first count entries entries′ : ℕ) → entries ≤ entries′ → entryRange first count entries ≡ true → entryRange first count entries′ ≡ true
+entries-more first count entries entries′ n h = le-leb (first + count) entries′ (omega (arith, leb-true (first + count) entries h))
 
 -- ---- a cell that passes
 
-module _ (w : CellWords) (i used entries : ℕ) (h : cellRange w i used entries ≡ true) where
-  abbrev numbers : Bool
-  numbers = numbersRange w used entries
+module _ (t : List ℕ) (i used entries : ℕ) where
+  abbrev w : CellWords
+  w = cellAt t i
 
-  parts : (squareRange w && (numbers && rootRange w i)) ≡ true
+  abbrev inChild : Bool
+  inChild = childRange (w .child) used
+
+  abbrev inRun : Bool
+  inRun = entryRange (w .first) (w .count) entries
+
+  -- part by part
+  pub range-parts : squareRange (cellAt t i) ≡ true → childRange (cellAt t i .child) used ≡ true
+      → entryRange (cellAt t i .first) (cellAt t i .count) entries ≡ true → rootRange (cellAt t i) i ≡ true → cellRange t i used entries ≡ true
   unfolding cellRange
-  parts = h
+  range-parts a b d e =
+      and-both (squareRange w) (inChild && (inRun && rootRange w i)) a
+      (and-both inChild (inRun && rootRange w i) b (and-both inRun (rootRange w i) d e))
 
-  numbers-pass : numbers ≡ true
-  numbers-pass = and-left numbers (rootRange w i) (and-right (squareRange w) (numbers && rootRange w i) parts)
+  module _ (h : cellRange t i used entries ≡ true) where
+    parts : (squareRange w && (inChild && (inRun && rootRange w i))) ≡ true
+    unfolding cellRange
+    parts = h
 
-  pub passes-range : squareRange w ≡ true
-  passes-range = and-left (squareRange w) (numbers && rootRange w i) parts
+    past-square : (inChild && (inRun && rootRange w i)) ≡ true
+    past-square = and-right (squareRange w) (inChild && (inRun && rootRange w i)) parts
 
-  passes-fits : SquareFits w
-  passes-fits = square-fits w passes-range
+    past-child : (inRun && rootRange w i) ≡ true
+    past-child = and-right inChild (inRun && rootRange w i) past-square
 
-  passes-root : rootRange w i ≡ true
-  passes-root = and-right numbers (rootRange w i) (and-right (squareRange w) (numbers && rootRange w i) parts)
+    pub passes-range : squareRange (cellAt t i) ≡ true
+    passes-range = and-left (squareRange w) (inChild && (inRun && rootRange w i)) parts
 
-  -- its square is that of a cell, of level 0 to 16
-  pub passes-cell : squareOf (cellOf w) ≡ squareIn w
-  passes-cell = λ d. record { x = w .x; y = w .y; side = passes-fits .power d }
+    pub passes-children : childRange (cellAt t i .child) used ≡ true
+    passes-children = and-left inChild (inRun && rootRange w i) past-square
 
-  pub passes-level : level (cellOf w) ≤ 16
-  passes-level = level-most 16 (w .side)
+    pub passes-run : entryRange (cellAt t i .first) (cellAt t i .count) entries ≡ true
+    passes-run = and-left inRun (rootRange w i) past-child
 
-  -- the square is in reach of the code of `geometry`
-  pub passes-square : SquareIn (squareIn w)
-  passes-square = let f = passes-fits in record { some-side = omega arith; right = omega arith; top = omega arith }
+    pub passes-root : rootRange (cellAt t i) i ≡ true
+    passes-root = and-right inRun (rootRange w i) past-child
 
-  pub passes-child : (w .child ≡ 0 → ⊥) → w .child + 3 < used
-  passes-child f = child-in-use w used entries numbers-pass f
+    passes-fits : SquareFits w
+    passes-fits = square-fits w passes-range
 
-  pub passes-entries : w .first + w .count ≤ entries
-  passes-entries = entries-in-use w used entries numbers-pass
+    -- its square is that of a cell, of level 0 to 16
+    pub passes-cell : squareOf (cellOf (cellAt t i)) ≡ squareIn (cellAt t i)
+    passes-cell = λ d. record { x = w .x; y = w .y; side = passes-fits .power d }
 
-pub range-more : (w : CellWords) (i used entries used′ entries′ : ℕ)
+    pub passes-level : level (cellOf (cellAt t i)) ≤ 16
+    passes-level = level-most 16 (w .side)
+
+    -- the square is in reach of the code of `geometry`
+    pub passes-square : SquareIn (squareIn (cellAt t i))
+    passes-square = let f = passes-fits in record { some-side = omega arith; right = omega arith; top = omega arith }
+
+    pub passes-child : (cellAt t i .child ≡ 0 → ⊥) → cellAt t i .child + 3 < used
+    passes-child f = child-in-use (w .child) used passes-children f
+
+    pub passes-entries : cellAt t i .first + cellAt t i .count ≤ entries
+    passes-entries = leb-true (w .first + w .count) entries passes-run
+
+-- in a table with the same words there, with more in use
+pub range-more : (t t′ : List ℕ) (i used entries used′ entries′ : ℕ)
+    → cellAt t′ i ≡ cellAt t i
     → used ≤ used′
     → entries ≤ entries′
-    → cellRange w i used entries ≡ true
-    → cellRange w i used′ entries′ ≡ true
-unfolding cellRange
-range-more w i used entries used′ entries′ u n h =
-    rw (passes-range w i used entries h, numbers-more w used entries used′ entries′ u n (numbers-pass w i used entries h)) (passes-root w i used entries h)
+    → cellRange t i used entries ≡ true
+    → cellRange t′ i used′ entries′ ≡ true
+range-more t t′ i used entries used′ entries′ e u n h =
+    range-parts t′ i used′ entries′ (ap squareRange e ∙ passes-range t i used entries h)
+    (ap (λ (w : CellWords). childRange (w .child) used′) e ∙ child-more (cellAt t i .child) used used′ u (passes-children t i used entries h))
+    (ap (λ (w : CellWords). entryRange (w .first) (w .count) entries′) e
+    ∙ entries-more (cellAt t i .first) (cellAt t i .count) entries entries′ n (passes-run t i used entries h))
+    (ap (λ (w : CellWords). rootRange w i) e ∙ passes-root t i used entries h)
 
 -- ---- a head that passes
 

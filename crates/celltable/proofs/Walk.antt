@@ -1,7 +1,8 @@
 -- The steps of a path down and the loop over them, as plain laws.
 use Prim.Native.Nat.{ℕ, suc, _+_, _-_, _/_, _≤_, _<_}
 use mathlib.Core.Path.{_≡_, refl, sym, ap, _∙_, subst}
-use mathlib.Core.Bool.{Bool, true, false, cond}
+use mathlib.Core.Bool.{Bool, true, false, cond, _&&_}
+use Rattle.laws.proofs.Booleans.{and-left}
 use mathlib.Core.List.{List}
 use native.Mathlib.Omega.{arith}
 use lib.Dec.{eqb, leb}
@@ -14,12 +15,12 @@ use Rattle.celltable.specs.declared.Down.the-variants.{Deeper, AtLeaf, B
 use Rattle.celltable.specs.declared.Found.{Found}
 use Rattle.celltable.specs.declared.Found.the-variants.{At, Broken}
 use Rattle.celltable.specs.Table.{cellAt}
-use Rattle.celltable.specs.Ranges.{numbersRange}
+use Rattle.celltable.specs.Ranges.{childRange, entryRange}
 use Rattle.celltable.specs.Descent.{leafOf}
 use Rattle.celltable.specs.code.Numbers.{halfN, deeperN, standsN, metN, stepN, goOn, walkN, startN, CursorIn}
 use Rattle.celltable.proofs.Ranges.{child-in-use}
 
--- ---- what one step gives: w is the cell that was read, f and s are the outcomes of its two tests
+-- ---- what one step gives: w is the cell that was read, s, f and g are the outcomes of its tests
 module _ (t : List ℕ) (used entries : ℕ) (c : Cursor) (px py : ℕ) (w : CellWords) (s : Bool) (p : w ≡ cellAt t (c .cell)) (r : s ≡ standsN c w) where
   read-is : metN w used entries c px py ≡ stepN t used entries c px py
   read-is = ap (λ (v : CellWords). metN v used entries c px py) p
@@ -31,28 +32,28 @@ module _ (t : List ℕ) (used entries : ℕ) (c : Cursor) (px py : ℕ) (w : Cel
       met : Bad ≡ metN w used entries c px py
       met = rw (← r, k)
 
-  pub step-unfit : (f : Bool) → s ≡ true → f ≡ numbersRange w used entries → f ≡ false → Bad ≡ stepN t used entries c px py
+  pub step-unfit : (f g : Bool) → s ≡ true → f ≡ childRange (w .child) used → g ≡ entryRange (w .first) (w .count) entries → (f && g) ≡ false → Bad ≡ stepN t used entries c px py
   unfolding metN
-  step-unfit f k q h = met ∙ read-is
+  step-unfit f g k q u h = met ∙ read-is
     where
       met : Bad ≡ metN w used entries c px py
-      met = rw (← r, k, ← q, h)
+      met = rw (← r, k, ← q, ← u, h)
 
-  pub step-landed : (f : Bool) → s ≡ true → f ≡ numbersRange w used entries → f ≡ true → w .child ≡ 0
+  pub step-landed : (f g : Bool) → s ≡ true → f ≡ childRange (w .child) used → g ≡ entryRange (w .first) (w .count) entries → (f && g) ≡ true → w .child ≡ 0
       → AtLeaf (leafOf (c .cell) (c .steps) w) ≡ stepN t used entries c px py
   unfolding metN
-  step-landed f k q h l = met ∙ read-is
+  step-landed f g k q u h l = met ∙ read-is
     where
       met : AtLeaf (leafOf (c .cell) (c .steps) w) ≡ metN w used entries c px py
-      met = rw (← r, k, ← q, h, eq-eqb (w .child) 0 l)
+      met = rw (← r, k, ← q, ← u, h, eq-eqb (w .child) 0 l)
 
-  pub step-deeper : (f : Bool) (next : Cursor) → s ≡ true → f ≡ numbersRange w used entries → f ≡ true → (w .child ≡ 0 → ⊥) → next ≡ deeperN c (w .child) px py
+  pub step-deeper : (f g : Bool) (next : Cursor) → s ≡ true → f ≡ childRange (w .child) used → g ≡ entryRange (w .first) (w .count) entries → (f && g) ≡ true → (w .child ≡ 0 → ⊥) → next ≡ deeperN c (w .child) px py
       → Deeper next ≡ stepN t used entries c px py
   unfolding metN
-  step-deeper f next k q h l e = met ∙ read-is
+  step-deeper f g next k q u h l e = met ∙ read-is
     where
       met : Deeper next ≡ metN w used entries c px py
-      met = rw (← r, k, ← q, h, ne-eqb (w .child) 0 l, e)
+      met = rw (← r, k, ← q, ← u, h, ne-eqb (w .child) 0 l, e)
 
 -- ---- the loop: what is left gives what the whole gives
 module _ (t : List ℕ) (used entries px py n : ℕ) (c : Cursor) (r : Down) (whole : Found) where
@@ -120,16 +121,22 @@ deeper-follows used first px py c u =
 
 step-follows : (t : List ℕ) (used entries px py : ℕ) (c c′ : Cursor) (r : Down) → r ≡ stepN t used entries c px py → r ≡ Deeper c′ → Follows c c′ used
 unfolding metN
-step-follows t used entries px py c c′ r p q = go (standsN c w) (numbersRange w used entries) (eqb (w .child) 0) refl refl (sym p ∙ q)
+step-follows t used entries px py c c′ r p q = go (standsN c w) (inChild && inRun) (eqb (w .child) 0) refl refl (sym p ∙ q)
   where
     w : CellWords
     w = cellAt t (c .cell)
 
-    go : (a b d : Bool) → numbersRange w used entries ≡ b → eqb (w .child) 0 ≡ d
+    inChild : Bool
+    inChild = childRange (w .child) used
+
+    inRun : Bool
+    inRun = entryRange (w .first) (w .count) entries
+
+    go : (a b d : Bool) → (inChild && inRun) ≡ b → eqb (w .child) 0 ≡ d
         → cond a (cond b (cond d (AtLeaf (leafOf (c .cell) (c .steps) w)) (Deeper (deeperN c (w .child) px py))) Bad) Bad ≡ Deeper c′ → Follows c c′ used
     go true true false e f k =
         let s : deeperN c (w .child) px py ≡ c′ = cc in
-        subst (λ (v : Cursor). Follows c v used) s (deeper-follows used (w .child) px py c (child-in-use w used entries e (eqb-false (w .child) 0 f)))
+        subst (λ (v : Cursor). Follows c v used) s (deeper-follows used (w .child) px py c (child-in-use (w .child) used (and-left inChild inRun e) (eqb-false (w .child) 0 f)))
     go true true true e f k = absurd (let z : _≡_ {A = ℕ} 0 1 = cc in omega arith)
     go true false d e f k = absurd (let z : _≡_ {A = ℕ} 0 1 = cc in omega arith)
     go false b d e f k = absurd (let z : _≡_ {A = ℕ} 0 1 = cc in omega arith)

@@ -34,7 +34,7 @@ leafOf i steps w = record { cell = i; x = w .x; y = w .y; side = w .side; steps 
 unfoldable pub downFrom : List ℕ → (used entries : ℕ) → Position → (n i steps : ℕ) → Cell → Found
 downFrom t used entries p zero i steps c = Broken
 downFrom t used entries p (suc n) i steps c =
-    cond (cellRange (cellAt t i) i used entries)
+    cond (cellRange t i used entries)
     (cond (onSquare (cellAt t i) c)
     (cond (eqb (cellAt t i .child) 0) (At (leafOf i steps (cellAt t i)))
     (downFrom t used entries p n (cellAt t i .child + placeOf (quarterOf c p)) (steps + 1) (child c (quarterOf c p))))

@@ -7,6 +7,7 @@ use lib.Dec.{eqb, ltb, leb}
 use Rattle.geometry.specs.declared.class.Square.{Square}
 use Rattle.cells.specs.Cells.{Cell, cell}
 use Rattle.celltable.specs.declared.CellWords.{CellWords}
+use Rattle.celltable.specs.Table.{cellAt}
 
 -- ---- the square of a cell
 
@@ -40,12 +41,12 @@ childRange child used = eqb child 0 || ltb (child + 3) used
 abbrev pub entryRange : (first count used : ℕ) → Bool
 entryRange first count used = leb (first + count) used
 
-abbrev pub numbersRange : CellWords → (used entries : ℕ) → Bool
-numbersRange w used entries = childRange (w .child) used && entryRange (w .first) (w .count) entries
-
--- "a number met in the tables used (... the path down ...; the cell ... when splitting) is outside its range": cell i, with so many cells and entries in use
-unfoldable pub cellRange : CellWords → (i used entries : ℕ) → Bool
-cellRange w i used entries = squareRange w && (numbersRange w used entries && rootRange w i)
+-- "a number met in the tables used (... the path down ...; the cell ... when splitting) is outside its range": cell i of the table t, with so many
+-- cells and entries in use
+unfoldable pub cellRange : List ℕ → (i used entries : ℕ) → Bool
+cellRange t i used entries =
+    squareRange (cellAt t i)
+    && (childRange (cellAt t i .child) used && (entryRange (cellAt t i .first) (cellAt t i .count) entries && rootRange (cellAt t i) i))
 
 -- ---- the numbers in use
 

@@ -7,7 +7,7 @@ ghost use Prim.Native.Nat.{_+_, _*_, _≤_, _<_};
 ghost use lib.ListN.{length};
 ghost use Rattle.cells.specs.Cells.{squareOf, child};
 ghost use Rattle.celltable.specs.Table.{cellAt, putCellAt, putChildAt};
-ghost use Rattle.celltable.specs.Ranges.{sideRange, squareRange, rootRange, numbersRange, cellRange, headRange, CellsIn, cellOf};
+ghost use Rattle.celltable.specs.Ranges.{sideRange, squareRange, rootRange, childRange, entryRange, cellRange, headRange, CellsIn, cellOf};
 ghost use Rattle.celltable.specs.Descent.{quarterAt, descendIn};
 ghost use Rattle.celltable.specs.code.Numbers.{halfN, deeperN, standsN, stepN, CursorIn};
 
@@ -153,7 +153,7 @@ fn side_fits(s: u32) -> bool
 }
 
 // Whether a cell's side is a power of two, and its low corner is on the grid of that side.
-fn square_fits(w: CellWords) -> bool
+pub fn square_fits(w: CellWords) -> bool
     ensures answer { λ r. ⌜ r ≡ squareRange w ⌝ }
 {
     if side_fits(w.side) {
@@ -162,12 +162,18 @@ fn square_fits(w: CellWords) -> bool
     false
 }
 
-// Whether a cell's four children, where it has some, and its entries are in use.
-fn numbers_fit(w: CellWords, used: usize, entries: usize) -> bool
-    ensures answer { λ r. ⌜ r ≡ numbersRange w used entries ⌝ }
+// Whether a cell's four children, where it has some, are in use.
+fn children_fit(child: u32, used: usize) -> bool
+    ensures answer { λ r. ⌜ r ≡ childRange child used ⌝ }
 {
-    ((w.child == 0) | ((w.child as usize) + 3 < used))
-        & ((w.first as usize) + (w.count as usize) <= entries)
+    (child == 0) | ((child as usize) + 3 < used)
+}
+
+// Whether a cell's entries are in use.
+fn entries_fit(first: u32, count: u32, entries: usize) -> bool
+    ensures answer { λ r. ⌜ r ≡ entryRange first count entries ⌝ }
+{
+    (first as usize) + (count as usize) <= entries
 }
 
 // Whether cell i, where it is cell 0, is the whole grid.
@@ -181,13 +187,16 @@ fn root_fits(w: CellWords, i: usize) -> bool
 }
 
 // Whether the numbers of cell i are in range, with so many cells and entries in use.
-pub fn cell_fits(w: CellWords, i: usize, used: usize, entries: usize) -> bool
-    ensures answer { λ r. ⌜ r ≡ cellRange w i used entries ⌝ }
+pub fn cell_fits(cells: &[u32], i: usize, used: usize, entries: usize) -> bool
+    requires { ⌜ i * 8 + 8 ≤ length (now cells) ⌝ }
+    ensures answer { λ r. ⌜ r ≡ cellRange (now (cells .entry)) i used entries ⌝ }
 {
+    let w = read_cell(cells, i);
     let square = square_fits(w);
-    let numbers = numbers_fit(w, used, entries);
+    let children = children_fit(w.child, used);
+    let run = entries_fit(w.first, w.count, entries);
     let root = root_fits(w, i);
-    square & (numbers & root)
+    square & (children & (run & root))
 }
 
 // Whether the numbers in use, in the head, are in range for tables of cells and of entries of these lengths.
@@ -271,7 +280,9 @@ impl Cursor {
     {
         let w = read_cell(cells, self.cell as usize);
         if self.stands_on(w) {
-            if numbers_fit(w, used, entries) {
+            let children = children_fit(w.child, used);
+            let run = entries_fit(w.first, w.count, entries);
+            if children & run {
                 if w.child == 0 {
                     return Down::AtLeaf(Leaf {
                         cell: self.cell,

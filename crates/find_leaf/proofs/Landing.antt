@@ -101,7 +101,7 @@ module _ (t : Tree) where
     leaf-square l g e =
         let m = leaf-holds l g e in
         let w = cellAt (t .cells) (l .cell) in
-        let r = passes-range w (l .cell) (cellsUsed (t .head)) (entriesUsed (t .head)) (m .passes) in
+        let r = passes-range (t .cells) (l .cell) (cellsUsed (t .head)) (entriesUsed (t .head)) (m .passes) in
         subst (λ (k : Leaf). (k .x + k .side ≤ 65536) × (k .y + k .side ≤ 65536)) (sym (m .words)) (passes-east w r, passes-north w r)
 
     -- ---- with the numbers in use as the code reads them

@@ -46,7 +46,7 @@ module _ (t : List ℕ) (used entries : ℕ) (p p′ : Position) (l : Leaf) (h :
   unfolding downFrom
   down-holds zero i steps c e = broken-not l e
   down-holds (suc n) i steps c e =
-      go (cellRange w i used entries) (onSquare w c) (eqb (w .child) 0) refl
+      go (cellRange t i used entries) (onSquare w c) (eqb (w .child) 0) refl
       (λ q. down-holds n (w .child + placeOf (quarterOf c p)) (steps + 1) (child c (quarterOf c p)) q)
       e
     where
@@ -77,7 +77,7 @@ module _ (t : List ℕ) (used entries : ℕ) (p p′ : Position) (l : Leaf) (h :
   unfolding downFrom
   same-down zero i steps c e = broken-not l e
   same-down (suc n) i steps c e =
-      go (cellRange w i used entries) (onSquare w c) (eqb (w .child) 0)
+      go (cellRange t i used entries) (onSquare w c) (eqb (w .child) 0)
       (λ q. same-down n (w .child + placeOf (quarterOf c p)) (steps + 1) (child c (quarterOf c p)) q)
       e
     where

@@ -76,7 +76,7 @@ module _ (n l : ℕ) (t : Tree) (i k : ℕ) (e : splitAnswer t i ≡ Split k) wh
   -- the tables of the drawing stay
   tried-is : (j : ℕ)
       → tried t′ n l j
-      ≡ triedCell n l (t′ .entries) j used′ free′ (env (t .areas) (t .xs) (t .ys) (boundsOf (t .plan) (words t′ j))) (words t′ j)
+      ≡ triedCell n l (t′ .entries) (t′ .cells) j used′ free′ (env (t .areas) (t .xs) (t .ys) (boundsOf (t .plan) (words t′ j))) (words t′ j)
   unfolding tried splitTree
   tried-is j = refl
 
@@ -86,14 +86,14 @@ module _ (n l : ℕ) (t : Tree) (i k : ℕ) (e : splitAnswer t i ≡ Split k) wh
   past-keeps j h f p =
       tried-is j
       ∙ subst
-      (λ (w : CellWords). triedCell n l (t′ .entries) j used′ free′ (env (t .areas) (t .xs) (t .ys) (boundsOf (t .plan) w)) w ≡ Past)
+      (λ (w : CellWords). triedCell n l (t′ .entries) (t′ .cells) j used′ free′ (env (t .areas) (t .xs) (t .ys) (boundsOf (t .plan) w)) w ≡ Past)
       (sym (tree-keeps-cell t i k e j h f)) here
     where
       w : CellWords
       w = words t j
 
       R : Bool
-      R = cellRange w j (cellsUsed (t .head)) (entriesUsed (t .head))
+      R = cellRange (t .cells) j (cellsUsed (t .head)) (entriesUsed (t .head))
 
       C : Bool
       C = checkStream (t .entries) (w .first) (w .count) (entriesUsed (t .head)) (against t j)
@@ -104,17 +104,17 @@ module _ (n l : ℕ) (t : Tree) (i k : ℕ) (e : splitAnswer t i ≡ Split k) wh
       ranged : R ≡ true
       ranged = past-range R (eqb (w .child) 0) C W p
 
-      ranged′ : cellRange w j used′ free′ ≡ true
-      ranged′ = subst (λ (u : CellWords). cellRange u j used′ free′ ≡ true) (tree-keeps-cell t i k e j h f) (tree-range t i k e j h f ranged)
+      ranged′ : cellRange (t′ .cells) j used′ free′ ≡ true
+      ranged′ = tree-range t i k e j h f ranged
 
       same : isWanted n l w (wordsFrom (t′ .entries) (w .first) (w .count)) ≡ W
-      same = ap (isWanted n l w) (tree-stream t i k e (w .first) (w .count) (passes-entries w j (cellsUsed (t .head)) (entriesUsed (t .head)) ranged))
+      same = ap (isWanted n l w) (tree-stream t i k e (w .first) (w .count) (passes-entries (t .cells) j (cellsUsed (t .head)) (entriesUsed (t .head)) ranged))
 
-      here : triedCell n l (t′ .entries) j used′ free′ (against t j) w ≡ Past
+      here : triedCell n l (t′ .entries) (t′ .cells) j used′ free′ (against t j) w ≡ Past
       here =
-          ap (tests (cellRange w j used′ free′) (eqb (w .child) 0) (checkStream (t′ .entries) (w .first) (w .count) free′ (against t j)))
+          ap (tests (cellRange (t′ .cells) j used′ free′) (eqb (w .child) 0) (checkStream (t′ .entries) (w .first) (w .count) free′ (against t j)))
           same
-          ∙ past-more R (eqb (w .child) 0) C W (cellRange w j used′ free′)
+          ∙ past-more R (eqb (w .child) 0) C W (cellRange (t′ .cells) j used′ free′)
           (checkStream (t′ .entries) (w .first) (w .count) free′ (against t j)) ranged′
           (tree-check t i k e (w .first) (w .count) (against t j)) p
 
@@ -147,13 +147,13 @@ room-two false b u = inr refl
 
 module _ (n l : ℕ) (few : l ≤ 16) (t : Tree) (i : ℕ) (pair : length (t .xs) ≡ length (t .ys)) (counts : countsIn t ≡ true)
     (h : i < cellsUsed (t .head)) (e : tried t n l i ≡ Wanted) where
-  all : (cellRange (words t i) i (cellsUsed (t .head)) (entriesUsed (t .head)) ≡ true)
+  all : (cellRange (t .cells) i (cellsUsed (t .head)) (entriesUsed (t .head)) ≡ true)
       × (eqb (words t i .child) 0 ≡ true)
       × (checkStream (t .entries) (words t i .first) (words t i .count) (entriesUsed (t .head)) (against t i) ≡ true)
       × (isWanted n l (words t i) (wordsFrom (t .entries) (words t i .first) (words t i .count)) ≡ true)
   unfolding tried
   all =
-      wanted-all (cellRange (words t i) i (cellsUsed (t .head)) (entriesUsed (t .head))) (eqb (words t i .child) 0)
+      wanted-all (cellRange (t .cells) i (cellsUsed (t .head)) (entriesUsed (t .head))) (eqb (words t i .child) 0)
       (checkStream (t .entries) (words t i .first) (words t i .count) (entriesUsed (t .head)) (against t i))
       (isWanted n l (words t i) (wordsFrom (t .entries) (words t i .first) (words t i .count))) e
 
@@ -164,7 +164,7 @@ module _ (n l : ℕ) (few : l ≤ 16) (t : Tree) (i : ℕ) (pair : length (t .xs
       (all .3)) in
       let q : 1 ≤ levelOf (words t i .side) = omega arith in
       let p : 2 ≤ 2 ^ levelOf (words t i .side) = pow-le-pow-right {n = 2} (omega arith) {i = 1} {j = levelOf (words t i .side)} q in
-      omega (arith, p, square-fits (words t i) (passes-range (words t i) i (cellsUsed (t .head)) (entriesUsed (t .head)) (all .0)) .power)
+      omega (arith, p, square-fits (words t i) (passes-range (t .cells) i (cellsUsed (t .head)) (entriesUsed (t .head)) (all .0)) .power)
 
   pub wanted-able : Splittable t i
   wanted-able =

@@ -37,12 +37,12 @@ abbrev pub triedLeaf : (n l : ℕ) → (entries : List ℕ) → (free : ℕ) →
 triedLeaf n l entries free v w =
     cond (checkStream entries (w .first) (w .count) free v) (cond (isWanted n l w (wordsFrom entries (w .first) (w .count))) Wanted Past) Bad
 
-abbrev pub triedCell : (n l : ℕ) → (entries : List ℕ) → (i used free : ℕ) → Env → CellWords → Tried
-triedCell n l entries i used free v w = cond (cellRange w i used free) (cond (eqb (w .child) 0) (triedLeaf n l entries free v w) Past) Bad
+-- cell i, whose words are w
+abbrev pub triedCell : (n l : ℕ) → (entries cells : List ℕ) → (i used free : ℕ) → Env → CellWords → Tried
+triedCell n l entries cells i used free v w = cond (cellRange cells i used free) (cond (eqb (w .child) 0) (triedLeaf n l entries free v w) Past) Bad
 
--- cell i
 unfoldable pub tried : Tree → (n l i : ℕ) → Tried
-tried t n l i = triedCell n l (t .entries) i (cellsUsed (t .head)) (entriesUsed (t .head)) (against t i) (words t i)
+tried t n l i = triedCell n l (t .entries) (t .cells) i (cellsUsed (t .head)) (entriesUsed (t .head)) (against t i) (words t i)
 
 -- ---- "splits the lowest numbered leaf ...": "Growing reads cells from 0 upward, leaves with their streams, up to the one it splits"
 pub data Lowest : Type 0 where

@@ -8,6 +8,7 @@ ghost use Prim.Native.Nat.{_+_, _*_, _≤_, _<_};
 ghost use lib.ListN.{length};
 ghost use Rattle.stream.specs.Table.{wordsFrom};
 ghost use Rattle.stream.specs.Grammar.{env, Passed};
+ghost use Rattle.celltable.specs.Table.{cellAt};
 ghost use Rattle.celltable.specs.Ranges.{sideRange, squareRange};
 ghost use Rattle.ranges.specs.Held.{lent};
 ghost use Rattle.tables.specs.Tables.{tree, treeLent, cellsUsed, entriesUsed, countsIn};
@@ -102,6 +103,7 @@ fn try_leaf(
 
 // The next cell of the sweep, whose words are w.
 fn try_cell(
+    cells: &[u32],
     entries: &[u32],
     areas: &[u32],
     xs: &[u32],
@@ -112,11 +114,12 @@ fn try_cell(
     threshold: u32,
     limit: u32,
 ) -> Tried
+    requires { ⌜ (s .cell * 8 + 8 ≤ length (now cells)) × (w ≡ cellAt (now cells) (s .cell)) ⌝ }
     ensures answer { λ r. ⌜ r ≡
-        triedCell threshold limit (now (entries .entry)) (s .cell) (s .used) (s .free)
+        triedCell threshold limit (now (entries .entry)) (now (cells .entry)) (s .cell) (s .used) (s .free)
         (env (now (areas .entry)) (now (xs .entry)) (now (ys .entry)) b) w ⌝ }
 {
-    if celltable::cell_fits(w, s.cell as usize, s.used as usize, s.free as usize) {
+    if celltable::cell_fits(cells, s.cell as usize, s.used as usize, s.free as usize) {
         if w.child == 0 {
             return try_leaf(entries, areas, xs, ys, b, s.free, w, threshold, limit);
         }
@@ -230,7 +233,7 @@ fn take_turn(
     let i = s.cell as usize;
     let w = celltable::read_cell(cells, i);
     let b = tables::bounds_in(plan, w.y, w.side);
-    let t = try_cell(entries, areas, xs, ys, b, s, w, threshold, limit);
+    let t = try_cell(cells, entries, areas, xs, ys, b, s, w, threshold, limit);
     match t {
         Tried::Bad => {
             return Turn::Stopped;

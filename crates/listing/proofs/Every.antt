@@ -111,7 +111,7 @@ module _ (t : Tree) (x y : ℕ) (f : FoundLeaf) where
     words = cellAt (t .cells) (l .cell)
 
     fits : SquareFits words
-    fits = square-fits words (passes-range words (l .cell) (cellsUsed (t .head)) (entriesUsed (t .head)) (as-found .passes))
+    fits = square-fits words (passes-range (t .cells) (l .cell) (cellsUsed (t .head)) (entriesUsed (t .head)) (as-found .passes))
 
     x-is : l .x ≡ words .x
     x-is = ap (λ (m : Leaf). m .x) (as-found .words)

@@ -13,9 +13,11 @@ use Rattle.stream.specs.declared.Bounds.{Bounds}
 use Rattle.stream.specs.Table.{wordsFrom}
 use Rattle.stream.specs.Grammar.{env, bounds, Passed}
 use Rattle.stream.proofs.Table.{length-written, written-read}
+use Rattle.celltable.specs.declared.CellWords.{CellWords}
 use Rattle.celltable.specs.Table.{cellAt}
-use Rattle.celltable.specs.Ranges.{powerUpTo, headRange, cellRange}
+use Rattle.celltable.specs.Ranges.{powerUpTo, squareRange, rootRange, childRange, entryRange, headRange, cellRange}
 use Rattle.celltable.proofs.Table.{length-put-cell, put-cell-same}
+use Rattle.celltable.proofs.Ranges.{range-parts}
 use Rattle.root_stream.specs.Opened.{elementsOpened}
 use Rattle.root_stream.proofs.Opened.{accepted-opened, opened-passed}
 use Rattle.tables.specs.Tables.{Tree, cellsUsed, entriesUsed, boundsOf}
@@ -25,9 +27,12 @@ use Rattle.open.proofs.Rooms.{elements-words}
 use Rattle.open.proofs.Accepted.{Accepts}
 
 -- cell 0 alone, with n entries in use
-pub root-passes : (n : ℕ) → cellRange (rootWords n) 0 1 n ≡ true
-unfolding cellRange powerUpTo
-root-passes n = rw (le-leb (0 + n) n (omega arith))
+pub root-passes : (t : List ℕ) (n : ℕ) → cellAt t 0 ≡ rootWords n → cellRange t 0 1 n ≡ true
+unfolding powerUpTo
+root-passes t n e =
+    range-parts t 0 1 n (ap squareRange e) (ap (λ (w : CellWords). childRange (w .child) 1) e)
+    (ap (λ (w : CellWords). entryRange (w .first) (w .count) n) e ∙ le-leb (0 + n) n (omega arith))
+    (ap (λ (w : CellWords). rootRange w 0) e)
 
 module _ (t : Tree) (n : ℕ) (a : Accepts t n) where
   abbrev head′ : List ℕ

@@ -12,14 +12,14 @@ use lib.IntN.{ℤ}
 use mir.Syntax.{w16, w64}
 use mir.Val.{SFits}
 use borrow.Author.Tests.{leb-true, ltb-true, le-leb, lt-leb}
-use Rattle.laws.proofs.Booleans.{clash, and-left, and-right, and-true}
+use Rattle.laws.proofs.Booleans.{clash, and-left, and-right}
 use Rattle.curves.specs.code.Reach.{PositionIn}
 use Rattle.geometry.specs.code.Reach.{SquareIn}
 use Rattle.geometry.specs.declared.class.Square.{Square}
 use Rattle.pruning.specs.code.Weights.{total}
 use Rattle.cells.specs.Cells.{squareOf}
 use Rattle.cells.specs.code.Making.{elementSize}
-use Rattle.celltable.specs.Ranges.{sideRange, gridRange, squareRange, cellRange, levelUpTo}
+use Rattle.celltable.specs.Ranges.{sideRange, gridRange, levelUpTo}
 use Rattle.celltable.proofs.Powers.{level-is, level-most}
 use Rattle.stream.specs.declared.Bounds.{Bounds}
 use Rattle.stream.specs.Table.{wordsFrom}
@@ -42,11 +42,6 @@ position-in x y h =
     }
 
 -- ---- the square
-
--- a leaf on the square, with an empty stream, has no other number that could be out of range
-pub square-alone : (s : Square) → cellRange (leafOn s) 1 2 0 ≡ squareFits s
-unfolding cellRange squareFits
-square-alone s = and-true (squareRange (leafOn s))
 
 module _ (s : Square) (h : squareFits s ≡ true) where
   abbrev corner : Bool

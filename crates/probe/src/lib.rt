@@ -104,9 +104,8 @@ fn leaf_on(s: Square) -> CellWords
 fn square_fits(s: Square) -> bool
     ensures answer { λ r. ⌜ r ≡ squareFits s ⌝ }
 {
-    // a leaf that is not the first cell: the square alone is left to try
     let w = leaf_on(s);
-    celltable::cell_fits(w, 1, 2, 0)
+    celltable::square_fits(w)
 }
 
 // How many entries the child's stream has.

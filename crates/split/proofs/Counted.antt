@@ -29,7 +29,7 @@ module _ (t : Tree) (i used free : ℕ) (w : CellWords) (b : Bounds) (ew : w ≡
 
   module _ (r : Answer) where
     pub counted-yes : usedRange (length (t .entries)) free (length (t .areas)) (length (t .xs)) (length (t .ys)) b ≡ true
-        → r ≡ cellAnswer (t .areas) (t .xs) (t .ys) b w (t .entries) (length (t .cells)) i used free → r ≡ drawingSplit t i
+        → r ≡ cellAnswer (t .areas) (t .xs) (t .ys) b w (t .entries) (t .cells) i used free → r ≡ drawingSplit t i
     counted-yes h e = let e₁ : r ≡ cellSplit t i = rw (eb, ew, eu, ef) at e in e₁ ∙ pick-true test (cellSplit t i) (Not Broken) (range-is true h)
 
     pub counted-head : (x : List ℕ) → x ≡ headBy r (t .head) used free (madeBy (t .areas) (t .xs) (t .ys) b w (t .entries)) → x ≡ headAfter t i r

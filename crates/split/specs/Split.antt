@@ -35,10 +35,10 @@ leafAnswer areas xs ys b w entries cells used free =
     (cond (eqb (w .side) 1) (Not Smallest) (roomAnswer cells (length entries) used free (madeBy areas xs ys b w entries)))
     (Not Broken)
 
--- 12 over cell i, then 9: "cell already split"; of a leaf 12 over its stream comes first
-abbrev pub cellAnswer : (areas xs ys : List ℕ) → Bounds → CellWords → (entries : List ℕ) → (cells i used free : ℕ) → Answer
+-- 12 over cell i, whose words are w, then 9: "cell already split"; of a leaf 12 over its stream comes first
+abbrev pub cellAnswer : (areas xs ys : List ℕ) → Bounds → CellWords → (entries cells : List ℕ) → (i used free : ℕ) → Answer
 cellAnswer areas xs ys b w entries cells i used free =
-    cond (cellRange w i used free) (cond (eqb (w .child) 0) (leafAnswer areas xs ys b w entries cells used free) (Not AlreadySplit)) (Not Broken)
+    cond (cellRange cells i used free) (cond (eqb (w .child) 0) (leafAnswer areas xs ys b w entries (length cells) used free) (Not AlreadySplit)) (Not Broken)
 
 -- ---- the tables afterwards: "Nothing lent changes" on a refusal
 abbrev pub headBy : Answer → (head : List ℕ) → (used free : ℕ) → List Words → List ℕ
@@ -73,7 +73,7 @@ module _ (t : Tree) where
 
     abbrev pub cellSplit : Answer
     cellSplit =
-        cellAnswer (t .areas) (t .xs) (t .ys) (boundsOf (t .plan) words) words (t .entries) (length (t .cells)) i (cellsUsed (t .head))
+        cellAnswer (t .areas) (t .xs) (t .ys) (boundsOf (t .plan) words) words (t .entries) (t .cells) i (cellsUsed (t .head))
         (entriesUsed (t .head))
 
     -- 12 over the areas and corners in use: "areas, corners and entries in use at most what their tables and limits hold"

@@ -9,7 +9,7 @@ ghost use Prim.Native.Nat.{_+_, _*_, _≤_, _<_};
 ghost use lib.ListN.{length, getD, set};
 ghost use Rattle.stream.specs.Table.{wordsFrom, written};
 ghost use Rattle.stream.specs.Grammar.{env, Passed};
-ghost use Rattle.celltable.specs.Table.{putChildAt};
+ghost use Rattle.celltable.specs.Table.{cellAt, putChildAt};
 ghost use Rattle.celltable.specs.Ranges.{squareRange, cellOf};
 ghost use Rattle.ranges.specs.Held.{lent};
 ghost use Rattle.four_children.specs.Children.{streamsTo};
@@ -204,7 +204,7 @@ fn split_leaf(
     Answer::Not(Refusal::Broken)
 }
 
-// 12 over the cell, 9, and then the leaf.
+// 12 over cell i, whose words are w, 9, and then the leaf.
 fn split_cell(
     head: &mut [u32],
     cells: &mut [u32],
@@ -220,15 +220,16 @@ fn split_cell(
 ) -> Answer
     requires { ⌜ (used ≤ 4096) × (free ≤ 65536) ⌝ }
     requires { ⌜ (i < used) × (2 ≤ length (now head)) ⌝ }
+    requires { ⌜ (i * 8 + 8 ≤ length (now cells)) × (w ≡ cellAt (now cells) i) ⌝ }
     ensures answer { λ r. ⌜ r ≡
-        cellAnswer (now (areas .entry)) (now (xs .entry)) (now (ys .entry)) b w (now (entries .entry)) (length (now (cells .entry))) i used free ⌝ }
+        cellAnswer (now (areas .entry)) (now (xs .entry)) (now (ys .entry)) b w (now (entries .entry)) (now (cells .entry)) i used free ⌝ }
     ensures head { λ r. ⌜ now (head .exit) ≡ headBy r (now (head .entry)) used free (madeLent areas xs ys b w entries) ⌝ }
     ensures cells { λ r. ⌜ now (cells .exit) ≡
         cellsOf r (lent (now (areas .entry)) (now (xs .entry)) (now (ys .entry)) b) w (wordsFrom (now (entries .entry)) (w .first) (w .count))
         (now (cells .entry)) i used free ⌝ }
     ensures entries { λ r. ⌜ now (entries .exit) ≡ entriesBy r (now (entries .entry)) free (madeLent areas xs ys b w entries) ⌝ }
 {
-    if celltable::cell_fits(w, i, used as usize, free as usize) {
+    if celltable::cell_fits(cells, i, used as usize, free as usize) {
         if w.child == 0 {
             return split_leaf(head, cells, entries, areas, xs, ys, b, i, used, free, w);
         }

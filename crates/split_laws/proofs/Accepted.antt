@@ -78,7 +78,7 @@ module _ (t : Tree) (i : ℕ) where
       (cond (leb 3 (length (t .plan))) (drawingSplit t i) (Not Broken)) (Not Broken) (counts-head t (s .counts))
       ∙ (chosen (leb 3 (length (t .plan))) (drawingSplit t i) (Not Broken) (counts-plan t (s .counts))
       ∙ (chosen drawn (cellSplit t i) (Not Broken) (counts-used t (s .counts) i)
-      ∙ (chosen (cellRange (words t i) i used free) (cond (eqb (words t i .child) 0) leafed (Not AlreadySplit)) (Not Broken) (s .cell)
+      ∙ (chosen (cellRange (t .cells) i used free) (cond (eqb (words t i .child) 0) leafed (Not AlreadySplit)) (Not Broken) (s .cell)
       ∙ (chosen (eqb (words t i .child) 0) leafed (Not AlreadySplit) (eq-eqb (words t i .child) 0 (s .leaf))
       ∙ (chosen streamed sized (Not Broken) (s .passes)
       ∙ ap (λ (b : Bool). cond b (Not Smallest) roomed) (ne-eqb (words t i .side) 1 (λ e. omega (arith, e, s .halves))))))))))
@@ -86,10 +86,10 @@ module _ (t : Tree) (i : ℕ) where
   -- the numbers of a leaf that may be split
   module _ (s : Splittable t i) where
     pub able-square : squareRange (words t i) ≡ true
-    able-square = passes-range (words t i) i used free (s .cell)
+    able-square = passes-range (t .cells) i used free (s .cell)
 
     pub able-entries : words t i .first + words t i .count ≤ free
-    able-entries = passes-entries (words t i) i used free (s .cell)
+    able-entries = passes-entries (t .cells) i used free (s .cell)
 
     pub able-stream : Passed (t .entries) (words t i .first) (words t i .count) (against t i)
     able-stream = passed (t .entries) (words t i .first) (words t i .count) free (against t i) (s .passes)
@@ -112,8 +112,8 @@ module _ (t : Tree) (i : ℕ) where
     e5 : (drawn ≡ true) × (cellSplit t i ≡ Split n)
     e5 = taken drawn (cellSplit t i) Broken n (e4 .1)
 
-    e6 : (cellRange (words t i) i used free ≡ true) × (cond (eqb (words t i .child) 0) leafed (Not AlreadySplit) ≡ Split n)
-    e6 = taken (cellRange (words t i) i used free) (cond (eqb (words t i .child) 0) leafed (Not AlreadySplit)) Broken n (e5 .1)
+    e6 : (cellRange (t .cells) i used free ≡ true) × (cond (eqb (words t i .child) 0) leafed (Not AlreadySplit) ≡ Split n)
+    e6 = taken (cellRange (t .cells) i used free) (cond (eqb (words t i .child) 0) leafed (Not AlreadySplit)) Broken n (e5 .1)
 
     e7 : (eqb (words t i .child) 0 ≡ true) × (leafed ≡ Split n)
     e7 = taken (eqb (words t i .child) 0) leafed AlreadySplit n (e6 .1)
@@ -145,7 +145,7 @@ module _ (t : Tree) (i : ℕ) where
           cell = e6 .0;
           leaf = eqb-true (words t i .child) 0 (e7 .0);
           passes = e8 .0;
-          halves = omega (arith, square-fits (words t i) (passes-range (words t i) i used free (e6 .0)) .some-side, eqb-false (words t i .side) 1 (e9 .0));
+          halves = omega (arith, square-fits (words t i) (passes-range (t .cells) i used free (e6 .0)) .some-side, eqb-false (words t i .side) 1 (e9 .0));
         }
 
     -- what an accepted split says of the tables

@@ -7,13 +7,13 @@ use native.Mathlib.Omega.{arith}
 use lib.Dec.{eqb, ltb, leb}
 use lib.ListN.{length}
 use borrow.Author.Tests.{leb-true, le-leb, lt-ltb}
-use Rattle.laws.proofs.Booleans.{and-left, and-right, and-both, or-right, cond-left, cond-right}
+use Rattle.laws.proofs.Booleans.{or-right, cond-left, cond-right}
 use Rattle.stream.specs.Table.{wordsFrom}
 use Rattle.stream.specs.Grammar.{Env, usedRange, runRange, accepts, checkStream}
 use Rattle.celltable.specs.declared.CellWords.{CellWords}
-use Rattle.celltable.specs.Table.{withChild}
-use Rattle.celltable.specs.Ranges.{squareRange, rootRange, childRange, entryRange, numbersRange, cellRange}
-use Rattle.celltable.proofs.Ranges.{range-more}
+use Rattle.celltable.specs.Table.{cellAt, withChild}
+use Rattle.celltable.specs.Ranges.{squareRange, rootRange, childRange, entryRange, cellRange}
+use Rattle.celltable.proofs.Ranges.{entries-more, range-parts, passes-range, passes-run, passes-root, range-more}
 use Rattle.split.specs.declared.Answer.the-variants.{Split}
 use Rattle.tables.specs.Tables.{Tree, cellsUsed, entriesUsed}
 use Rattle.split.specs.Split.{words, splitAnswer}
@@ -23,29 +23,19 @@ use Rattle.split_laws.proofs.Counts.{used-more}
 use Rattle.split_laws.proofs.Accepted.{split-accepted}
 use Rattle.split_laws.proofs.Trees.{tree-used, tree-free, tree-length-entries, tree-keeps-cell, tree-cell, tree-stream}
 
--- a cell in range, with its first child among the cells in use, and as many entries in use or more
-pub child-range : (w : CellWords) (i used free child used′ free′ : ℕ)
+-- a cell in range, in a table with the same words there but for its first child, which is among the cells in use, and as many entries in use or more
+pub child-range : (t t′ : List ℕ) (i used free child used′ free′ : ℕ)
+    → cellAt t′ i ≡ withChild (cellAt t i) child
     → child + 3 < used′
     → free ≤ free′
-    → cellRange w i used free ≡ true
-    → cellRange (withChild w child) i used′ free′ ≡ true
-unfolding cellRange
-child-range w i used free child used′ free′ c f h =
-    and-both (squareRange w) (numbersRange (withChild w child) used′ free′ && rootRange w i)
-    (and-left (squareRange w) (numbersRange w used free && rootRange w i) h)
-    (and-both (numbersRange (withChild w child) used′ free′) (rootRange w i)
-    (and-both (childRange child used′) (entryRange (w .first) (w .count) free′)
-    (or-right (eqb child 0) (ltb (child + 3) used′) (lt-ltb (child + 3) used′ c)) (le-leb (w .first + w .count) free′ (omega (arith, old))))
-    (and-right (numbersRange w used free) (rootRange w i) rest))
-  where
-    rest : (numbersRange w used free && rootRange w i) ≡ true
-    rest = and-right (squareRange w) (numbersRange w used free && rootRange w i) h
-
-    old : w .first + w .count ≤ free
-    old =
-        leb-true (w .first + w .count) free
-        (and-right (childRange (w .child) used) (entryRange (w .first) (w .count) free)
-        (and-left (numbersRange w used free) (rootRange w i) rest))
+    → cellRange t i used free ≡ true
+    → cellRange t′ i used′ free′ ≡ true
+child-range t t′ i used free child used′ free′ e c f h =
+    range-parts t′ i used′ free′ (ap squareRange e ∙ passes-range t i used free h)
+    (ap (λ (w : CellWords). childRange (w .child) used′) e ∙ or-right (eqb child 0) (ltb (child + 3) used′) (lt-ltb (child + 3) used′ c))
+    (ap (λ (w : CellWords). entryRange (w .first) (w .count) free′) e
+    ∙ entries-more (cellAt t i .first) (cellAt t i .count) free free′ f (passes-run t i used free h))
+    (ap (λ (w : CellWords). rootRange w i) e ∙ passes-root t i used free h)
 
 -- a run of entries in use, with more in use
 run-more : (first count used used′ : ℕ) → used ≤ used′ → runRange first count used ≡ true → runRange first count used′ ≡ true
@@ -96,25 +86,21 @@ module _ (t : Tree) (i n : ℕ) (e : splitAnswer t i ≡ Split n) where
   A = split-accepted t i n e
 
   -- each cell but the one that is split
-  pub tree-range : (j : ℕ) → j < cellsUsed (t .head) → (j ≡ i → ⊥) → cellRange (words t j) j (cellsUsed (t .head)) (entriesUsed (t .head)) ≡ true
-      → cellRange (words (splitTree t i) j) j (cellsUsed (splitTree t i .head)) (entriesUsed (splitTree t i .head)) ≡ true
+  pub tree-range : (j : ℕ) → j < cellsUsed (t .head) → (j ≡ i → ⊥) → cellRange (t .cells) j (cellsUsed (t .head)) (entriesUsed (t .head)) ≡ true
+      → cellRange (splitTree t i .cells) j (cellsUsed (splitTree t i .head)) (entriesUsed (splitTree t i .head)) ≡ true
   tree-range j h f r =
       let u = tree-used t i n e in
       let g = tree-free t i n e in
-      subst (λ (w : CellWords). cellRange w j (cellsUsed (splitTree t i .head)) (entriesUsed (splitTree t i .head)) ≡ true)
-      (sym (tree-keeps-cell t i n e j h f))
-      (range-more (words t j) j (cellsUsed (t .head)) (entriesUsed (t .head)) (cellsUsed (splitTree t i .head))
-      (entriesUsed (splitTree t i .head)) (omega arith) (omega arith) r)
+      range-more (t .cells) (splitTree t i .cells) j (cellsUsed (t .head)) (entriesUsed (t .head)) (cellsUsed (splitTree t i .head))
+      (entriesUsed (splitTree t i .head)) (tree-keeps-cell t i n e j h f) (omega arith) (omega arith) r
 
   -- and that one, which has children now
-  pub tree-range-split : cellRange (words (splitTree t i) i) i (cellsUsed (splitTree t i .head)) (entriesUsed (splitTree t i .head)) ≡ true
+  pub tree-range-split : cellRange (splitTree t i .cells) i (cellsUsed (splitTree t i .head)) (entriesUsed (splitTree t i .head)) ≡ true
   tree-range-split =
       let u = tree-used t i n e in
       let g = tree-free t i n e in
-      subst (λ (w : CellWords). cellRange w i (cellsUsed (splitTree t i .head)) (entriesUsed (splitTree t i .head)) ≡ true)
-      (sym (tree-cell t i n e))
-      (child-range (words t i) i (cellsUsed (t .head)) (entriesUsed (t .head)) (cellsUsed (t .head)) (cellsUsed (splitTree t i .head))
-      (entriesUsed (splitTree t i .head)) (omega arith) (omega arith) (A .able .cell))
+      child-range (t .cells) (splitTree t i .cells) i (cellsUsed (t .head)) (entriesUsed (t .head)) (cellsUsed (t .head))
+      (cellsUsed (splitTree t i .head)) (entriesUsed (splitTree t i .head)) (tree-cell t i n e) (omega arith) (omega arith) (A .able .cell)
 
   -- every stream, read against anything
   pub tree-check : (first count : ℕ) (v : Env)

@@ -11,7 +11,7 @@ use Rattle.celltable.specs.declared.Down.the-variants.{Deeper, AtLeaf, B
 use Rattle.celltable.specs.declared.Found.{Found}
 use Rattle.celltable.specs.declared.Found.the-variants.{At, Broken}
 use Rattle.celltable.specs.Table.{cellAt}
-use Rattle.celltable.specs.Ranges.{numbersRange}
+use Rattle.celltable.specs.Ranges.{childRange, entryRange}
 use Rattle.celltable.specs.Descent.{leafOf}
 
 -- where the low or the high half of a side begins
@@ -36,7 +36,9 @@ standsN c w = eqb (w .x) (c .x) && (eqb (w .y) (c .y) && eqb (w .side) (c .side)
 unfoldable pub metN : CellWords → (used entries : ℕ) → Cursor → (px py : ℕ) → Down
 metN w used entries c px py =
     cond (standsN c w)
-    (cond (numbersRange w used entries) (cond (eqb (w .child) 0) (AtLeaf (leafOf (c .cell) (c .steps) w)) (Deeper (deeperN c (w .child) px py))) Bad)
+    (cond (childRange (w .child) used && entryRange (w .first) (w .count) entries)
+    (cond (eqb (w .child) 0) (AtLeaf (leafOf (c .cell) (c .steps) w)) (Deeper (deeperN c (w .child) px py)))
+    Bad)
     Bad
 
 -- "Each step down picks one quarter and gives the next cell"

@@ -34,7 +34,13 @@ bounds-in-requires c κs =
     leb-true 3 (length (now (a .plan))) (counts-plan T (p .0))
 
 try-cell-requires : tie.Need-try-cell-requires
-try-cell-requires c κs = search needs
+try-cell-requires c κs =
+    let after-read-cell = c .before .before .before in
+    let at-entry = after-read-cell .before .before .before .before .before .before .before .before .before .before in
+    let a = at-entry .args in
+    let p = at-entry .pre in
+    let T = tree (now (a .plan)) (now (a .areas)) (now (a .xs)) (now (a .ys)) (now (a .head)) (now (a .cells)) (now (a .entries)) in
+    (omega (arith, used-within T (p .0), p .1 .1 .0 .0, p .1 .1 .1 .0 .0), after-read-cell .read-cell .ensures)
 
 enum-told : tie.Need-enum-told
 enum-told c = search needs
@@ -48,7 +54,7 @@ same-length-2 c = search needs
 returns : tie.Need-returns
 returns c =
     let after-try-cell = c .before .before in
-    let after-bounds-in = after-try-cell .before .before in
+    let after-bounds-in = after-try-cell .before .before .before in
     let after-read-cell = after-bounds-in .before in
     let at-entry = after-read-cell .before .before .before .before .before .before .before .before .before .before in
     let a = at-entry .args in
@@ -70,7 +76,7 @@ enum-told-2 c = search needs
 
 past-requires : tie.Need-past-requires
 past-requires c κs =
-    let at-entry = c .before .before .before .before .before .before .before .before .before .before .before .before .before .before .before in
+    let at-entry = c .before .before .before .before .before .before .before .before .before .before .before .before .before .before .before .before in
     let a = at-entry .args in
     let p = at-entry .pre in
     let T = tree (now (a .plan)) (now (a .areas)) (now (a .xs)) (now (a .ys)) (now (a .head)) (now (a .cells)) (now (a .entries)) in
@@ -86,7 +92,7 @@ returns-2 : tie.Need-returns-2
 returns-2 c =
     let after-enum-told2 = c .before in
     let after-try-cell = after-enum-told2 .before .before in
-    let after-bounds-in = after-try-cell .before .before in
+    let after-bounds-in = after-try-cell .before .before .before in
     let after-read-cell = after-bounds-in .before in
     let at-entry = after-read-cell .before .before .before .before .before .before .before .before .before .before in
     let a = at-entry .args in
@@ -110,7 +116,7 @@ split-wanted-requires : tie.Need-split-wanted-requires
 split-wanted-requires c κs =
     let after-enum-told3 = c .before .before .before in
     let after-try-cell = after-enum-told3 .before .before in
-    let after-bounds-in = after-try-cell .before .before in
+    let after-bounds-in = after-try-cell .before .before .before in
     let after-read-cell = after-bounds-in .before in
     let at-entry = after-read-cell .before .before .before .before .before .before .before .before .before .before in
     let a = at-entry .args in
@@ -158,7 +164,7 @@ returns-3 c =
     let after-split-wanted = c .before .before .before .before .before .before in
     let after-enum-told3 = after-split-wanted .before .before .before .before in
     let after-try-cell = after-enum-told3 .before .before in
-    let after-bounds-in = after-try-cell .before .before in
+    let after-bounds-in = after-try-cell .before .before .before in
     let after-read-cell = after-bounds-in .before in
     let at-entry = after-read-cell .before .before .before .before .before .before .before .before .before .before in
     let a = at-entry .args in

@@ -1,7 +1,9 @@
 use borrow.Author.Needs.{needs}
 use Rattle.grow.proofs.try_cell.Statement.{statement}
 use Rattle.grow.proofs.try_cell.Tie as tie
-use mathlib.Core.Path.{sym, _∙_}
+use mathlib.Core.Path.{sym, ap, _∙_}
+use denote.Ref.{now}
+use Rattle.celltable.specs.Ranges.{squareRange}
 use borrow.Author.Tests.{eq-eqb, ne-eqb}
 use Rattle.celltable.proofs.Ranges.{passes-range}
 use Rattle.grow.proofs.Turned.{leaf-bad, cell-leaf, cell-past}
@@ -22,16 +24,16 @@ try-leaf-requires : tie.Need-try-leaf-requires
 try-leaf-requires c κs =
     let at-if1 = c .before .before in
     let after-cell-fits = at-if1 .before in
-    let at-entry = after-cell-fits .before .before .before .before .before .before .before .before in
+    let at-entry = after-cell-fits .before .before .before .before .before .before .before .before .before in
     let a = at-entry .args in
-    passes-range (a .w) (a .s .cell) (a .s .used) (a .s .free) (sym (after-cell-fits .cell-fits .ensures) ∙ at-if1 .if1 .taken)
+    ap squareRange (at-entry .pre .1) ∙ passes-range (now (a .cells)) (a .s .cell) (a .s .used) (a .s .free) (sym (after-cell-fits .cell-fits .ensures) ∙ at-if1 .if1 .taken)
 
 returns : tie.Need-returns
 returns c =
     let at-if2 = c .before in
     let at-if1 = at-if2 .before .before in
     let after-cell-fits = at-if1 .before in
-    let at-entry = after-cell-fits .before .before .before .before .before .before .before .before in
+    let at-entry = after-cell-fits .before .before .before .before .before .before .before .before .before in
     let a = at-entry .args in
     cell-leaf _ _ _ _ (sym (after-cell-fits .cell-fits .ensures) ∙ at-if1 .if1 .taken) (eq-eqb (a .w .child) 0 (at-if2 .if2 .taken))
     (c .try-leaf .ensures)
@@ -40,7 +42,7 @@ returns-2 : tie.Need-returns-2
 returns-2 c =
     let at-if1 = c .before .before in
     let after-cell-fits = at-if1 .before in
-    let at-entry = after-cell-fits .before .before .before .before .before .before .before .before in
+    let at-entry = after-cell-fits .before .before .before .before .before .before .before .before .before in
     let a = at-entry .args in
     cell-past _ _ _ (sym (after-cell-fits .cell-fits .ensures) ∙ at-if1 .if1 .taken) (ne-eqb (a .w .child) 0 (c .if2 .left))
 

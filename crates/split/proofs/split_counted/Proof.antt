@@ -2,6 +2,7 @@ use borrow.Author.Needs.{needs}
 use Rattle.split.proofs.split_counted.Statement.{statement}
 use Rattle.split.proofs.split_counted.Tie as tie
 use mathlib.Core.Path.{_≡_, sym, _∙_, refl}
+use native.Mathlib.Omega.{arith}
 use denote.Ref.{now}
 use Rattle.tables.specs.Tables.{tree, boundsOf}
 use Rattle.split.proofs.Counted.{counted-no, counted-yes, counted-head, counted-cells, counted-entries}
@@ -16,7 +17,10 @@ used-range-requires : tie.Need-used-range-requires
 used-range-requires c κs = search needs
 
 split-cell-requires : tie.Need-split-cell-requires
-split-cell-requires c κs = search needs
+split-cell-requires c κs =
+    let after-read-cell = c .before .before .before .before .before .before in
+    let p = after-read-cell .before .before .before .before .before .before .before .before .before .pre in
+    ((p .0 .0, p .0 .1), (p .1 .0, (omega (arith, p .0 .2, p .1 .0 .0), after-read-cell .read-cell .ensures)))
 
 same-length : tie.Need-same-length
 same-length c = search needs

@@ -13,7 +13,7 @@ pub record Splittable (t : Tree) (i : ℕ) : Type 0 where
   pub pair : length (t .xs) ≡ length (t .ys)
   pub counts : countsIn t ≡ true
   pub in-use : i < cellsUsed (t .head)
-  pub cell : cellRange (words t i) i (cellsUsed (t .head)) (entriesUsed (t .head)) ≡ true
+  pub cell : cellRange (t .cells) i (cellsUsed (t .head)) (entriesUsed (t .head)) ≡ true
   pub leaf : words t i .child ≡ 0
   pub passes : checkStream (t .entries) (words t i .first) (words t i .count) (entriesUsed (t .head)) (against t i) ≡ true
   pub halves : 1 < words t i .side

@@ -13,8 +13,11 @@ read-cell-requires c κs = search needs
 stands-on-requires : tie.Need-stands-on-requires
 stands-on-requires c κs = search needs
 
-numbers-fit-requires : tie.Need-numbers-fit-requires
-numbers-fit-requires c κs = search needs
+children-fit-requires : tie.Need-children-fit-requires
+children-fit-requires c κs = search needs
+
+entries-fit-requires : tie.Need-entries-fit-requires
+entries-fit-requires c κs = search needs
 
 returns : tie.Need-returns
 returns c = search step-landed
@@ -38,7 +41,8 @@ step-spec =
     cast-read-cell
     read-cell-requires
     stands-on-requires
-    numbers-fit-requires
+    children-fit-requires
+    entries-fit-requires
     returns
     deeper-requires
     returns-2
