@@ -9,12 +9,12 @@ use Rattle.refusals.specs.declared.Refusal.the-variants.{Argument, Broken}
 use Rattle.stream.specs.declared.Words.{Words}
 use Rattle.stream.specs.Entry.{linesIn}
 use Rattle.stream.specs.Table.{wordsFrom}
-use Rattle.stream.specs.Grammar.{Env, checkStream}
+use Rattle.stream.specs.Grammar.{Env}
 use Rattle.celltable.specs.declared.CellWords.{CellWords}
 use Rattle.celltable.specs.Ranges.{cellRange, levelOf}
 use Rattle.split.specs.declared.Answer as Splitting
 use Rattle.split.specs.declared.Answer.the-variants as split
-use Rattle.tables.specs.Tables.{Tree, cellsUsed, entriesUsed, countsIn}
+use Rattle.tables.specs.Tables.{Tree, cellsUsed, entriesUsed, countsIn, leafPasses}
 use Rattle.split.specs.Split.{words, against, splitAnswer}
 use Rattle.split_laws.specs.After.{splitTree}
 use Rattle.grow.specs.declared.Answer.{Answer}
@@ -28,14 +28,17 @@ use Rattle.grow.specs.declared.Tried.the-variants.{Bad, Past, Wanted}
 abbrev pub depthAt : (side : ℕ) → ℕ
 depthAt side = 16 - levelOf side
 
--- a "leaf with more lines than the threshold and a depth below the limit": threshold n, depth limit l
+-- a "leaf with more lines than the threshold and a depth below the limit": threshold n, depth limit l; its side, and how many lines it has
+abbrev pub wantedBy : (n l side lines : ℕ) → Bool
+wantedBy n l side lines = ltb n lines && ltb (depthAt side) l
+
 abbrev pub isWanted : (n l : ℕ) → CellWords → List Words → Bool
-isWanted n l w ws = ltb n (linesIn ws) && ltb (depthAt (w .side)) l
+isWanted n l w ws = wantedBy n l (w .side) (linesIn ws)
 
 -- a leaf is read with its stream, whatever its depth
 abbrev pub triedLeaf : (n l : ℕ) → (entries : List ℕ) → (free : ℕ) → Env → CellWords → Tried
 triedLeaf n l entries free v w =
-    cond (checkStream entries (w .first) (w .count) free v) (cond (isWanted n l w (wordsFrom entries (w .first) (w .count))) Wanted Past) Bad
+    cond (leafPasses entries (w .first) (w .count) free v) (cond (isWanted n l w (wordsFrom entries (w .first) (w .count))) Wanted Past) Bad
 
 -- cell i, whose words are w
 abbrev pub triedCell : (n l : ℕ) → (entries cells : List ℕ) → (i used free : ℕ) → Env → CellWords → Tried

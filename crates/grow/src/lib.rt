@@ -14,7 +14,7 @@ ghost use Rattle.ranges.specs.Held.{lent};
 ghost use Rattle.tables.specs.Tables.{tree, treeLent, cellsUsed, entriesUsed, countsIn};
 ghost use Rattle.split.specs.Split.{roomAnswer, headBy, cellsOf, entriesBy};
 ghost use Rattle.split.specs.code.Lent.{madeLent};
-ghost use Rattle.grow.specs.Grow.{depthAt, isWanted, triedLeaf, triedCell, tried, grown, answerOf, growAnswer, growTree};
+ghost use Rattle.grow.specs.Grow.{depthAt, wantedBy, triedLeaf, triedCell, tried, grown, answerOf, growAnswer, growTree};
 ghost use Rattle.grow.specs.code.Numbers.{pastN, splitN, byRoom, turnBy, treeBy};
 
 // Growing's answer: done or full with the splits made, or why it was refused.
@@ -61,18 +61,13 @@ fn depth_of(side: u32) -> u32
     d
 }
 
-// Whether a leaf has more lines than the threshold and a depth below the limit.
-fn is_wanted(entries: &[u32], w: CellWords, threshold: u32, limit: u32) -> bool
-    requires { ⌜ (w .first + w .count) * 4 ≤ length (now entries) ⌝ }
-    requires { ⌜ w .count ≤ 4096 ⌝ }
-    requires { ⌜ sideRange (w .side) ≡ true ⌝ }
-    ensures answer { λ r. ⌜ r ≡ isWanted threshold limit w (wordsFrom (now (entries .entry)) (w .first) (w .count)) ⌝ }
+// Whether a leaf of this side with so many lines has more than the threshold and a depth below the limit.
+fn is_wanted(lines: u32, side: u32, threshold: u32, limit: u32) -> bool
+    requires { ⌜ sideRange side ≡ true ⌝ }
+    ensures answer { λ r. ⌜ r ≡ wantedBy threshold limit side lines ⌝ }
 {
-    let first = w.first as usize;
-    let count = w.count as usize;
-    let n = find_leaf::lines_in(entries, first, count);
-    let d = depth_of(w.side);
-    (threshold < n) & (d < limit)
+    let d = depth_of(side);
+    (threshold < lines) & (d < limit)
 }
 
 // A leaf is read with its stream, whatever its depth.
@@ -92,8 +87,9 @@ fn try_leaf(
 {
     let first = w.first as usize;
     let count = w.count as usize;
-    if stream::check_stream(entries, first, count, free as usize, areas, xs, ys, b) {
-        if is_wanted(entries, w, threshold, limit) {
+    let c = stream::check_stream(entries, first, count, free as usize, areas, xs, ys, b);
+    if c.fits {
+        if is_wanted(c.lines, w.side, threshold, limit) {
             return Tried::Wanted;
         }
         return Tried::Past;

@@ -8,14 +8,14 @@ use Rattle.refusals.specs.declared.Refusal.the-variants.{Argument, NoCell, Alre
 use Rattle.stream.specs.declared.Bounds.{Bounds}
 use Rattle.stream.specs.declared.Words.{Words}
 use Rattle.stream.specs.Table.{wordsFrom, written}
-use Rattle.stream.specs.Grammar.{Env, env, usedRange, checkStream}
+use Rattle.stream.specs.Grammar.{Env, env, usedRange}
 use Rattle.celltable.specs.declared.CellWords.{CellWords}
 use Rattle.celltable.specs.Table.{cellAt, putChildAt}
 use Rattle.celltable.specs.Ranges.{cellRange, headRange, cellsHeld, entriesHeld, cellOf}
 use Rattle.cells.specs.Drawings.{Drawing}
 use Rattle.ranges.specs.Held.{lent}
 use Rattle.four_children.specs.Children.{streamsTo, cellsTo}
-use Rattle.tables.specs.Tables.{Tree, tree, cellsUsed, entriesUsed, boundsOf}
+use Rattle.tables.specs.Tables.{Tree, tree, cellsUsed, entriesUsed, boundsOf, leafPasses}
 use Rattle.split.specs.declared.Answer.{Answer}
 use Rattle.split.specs.declared.Answer.the-variants.{Split, Not}
 
@@ -31,7 +31,7 @@ roomAnswer cells entries used free made = cond (cellsHeld (used + 4) cells) (con
 -- 12 over the stream of a leaf, then 10: "cell of side 1"
 abbrev pub leafAnswer : (areas xs ys : List ℕ) → Bounds → CellWords → (entries : List ℕ) → (cells used free : ℕ) → Answer
 leafAnswer areas xs ys b w entries cells used free =
-    cond (checkStream entries (w .first) (w .count) free (env areas xs ys b))
+    cond (leafPasses entries (w .first) (w .count) free (env areas xs ys b))
     (cond (eqb (w .side) 1) (Not Smallest) (roomAnswer cells (length entries) used free (madeBy areas xs ys b w entries)))
     (Not Broken)
 

@@ -195,7 +195,8 @@ fn split_leaf(
 {
     let first = w.first as usize;
     let count = w.count as usize;
-    if stream::check_stream(entries, first, count, free as usize, areas, xs, ys, b) {
+    let c = stream::check_stream(entries, first, count, free as usize, areas, xs, ys, b);
+    if c.fits {
         if w.side == 1 {
             return Answer::Not(Refusal::Smallest);
         }

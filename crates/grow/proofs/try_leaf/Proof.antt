@@ -1,10 +1,11 @@
 use borrow.Author.Needs.{needs}
 use Rattle.grow.proofs.try_leaf.Statement.{statement}
 use Rattle.grow.proofs.try_leaf.Tie as tie
-use mathlib.Core.Path.{sym, _∙_}
+use mathlib.Core.Path.{sym, ap, _∙_}
 use denote.Ref.{now}
 use Rattle.stream.specs.Grammar.{env}
-use Rattle.stream.proofs.Passed.{passed}
+use Rattle.stream.proofs.Uniform.{fits-is, lines-is}
+use Rattle.grow.specs.Grow.{wantedBy}
 use Rattle.grow.proofs.Turned.{side-passes, leaf-wanted, leaf-past, leaf-bad}
 
 cast-first : tie.Need-cast-first
@@ -18,32 +19,42 @@ check-stream-requires c κs = search needs
 
 is-wanted-requires : tie.Need-is-wanted-requires
 is-wanted-requires c κs =
-    let after-check-stream = c .before in
-    let at-entry = after-check-stream .before .before .before .before .before .before .before in
-    let a = at-entry .args in
-    let p = at-entry .pre in
-    let P = passed (now (a .entries)) (a .w .first) (a .w .count) (a .free) (env (now (a .areas)) (now (a .xs)) (now (a .ys)) (a .b))
-    (sym (after-check-stream .check-stream .ensures) ∙ c .if1 .taken) in
-    (P .within, (P .few, side-passes (a .w) p))
+    let at-entry = c .before .before .before .before .before .before .before .before in
+    side-passes (at-entry .args .w) (at-entry .pre)
 
 returns : tie.Need-returns
 returns c =
     let after-is-wanted = c .before in
     let at-if1 = after-is-wanted .before in
     let after-check-stream = at-if1 .before in
-    leaf-wanted _ _ (sym (after-check-stream .check-stream .ensures) ∙ at-if1 .if1 .taken)
-    (sym (after-is-wanted .is-wanted .ensures) ∙ c .if2 .taken)
+    let at-entry = after-check-stream .before .before .before .before .before .before .before in
+    let a = at-entry .args in
+    leaf-wanted _ _ (sym (fits-is (now (a .entries)) (a .w .first) (a .w .count) (a .free) (env (now (a .areas)) (now (a .xs)) (now (a .ys)) (a .b))
+    (after-check-stream .check-stream .result) (after-check-stream .check-stream .ensures)) ∙ at-if1 .if1 .taken)
+    (ap (λ n. wantedBy (a .threshold) (a .limit) (a .w .side) n) (sym (lines-is (now (a .entries)) (a .w .first) (a .w .count) (a .free) (env (now (a .areas)) (now (a .xs)) (now (a .ys)) (a .b))
+    (after-check-stream .check-stream .result) (after-check-stream .check-stream .ensures) (at-if1 .if1 .taken)))
+    ∙ (sym (after-is-wanted .is-wanted .ensures) ∙ c .if2 .taken))
 
 returns-2 : tie.Need-returns-2
 returns-2 c =
     let after-is-wanted = c .before in
     let at-if1 = after-is-wanted .before in
     let after-check-stream = at-if1 .before in
-    leaf-past _ _ (sym (after-check-stream .check-stream .ensures) ∙ at-if1 .if1 .taken)
-    (sym (after-is-wanted .is-wanted .ensures) ∙ c .if2 .left)
+    let at-entry = after-check-stream .before .before .before .before .before .before .before in
+    let a = at-entry .args in
+    leaf-past _ _ (sym (fits-is (now (a .entries)) (a .w .first) (a .w .count) (a .free) (env (now (a .areas)) (now (a .xs)) (now (a .ys)) (a .b))
+    (after-check-stream .check-stream .result) (after-check-stream .check-stream .ensures)) ∙ at-if1 .if1 .taken)
+    (ap (λ n. wantedBy (a .threshold) (a .limit) (a .w .side) n) (sym (lines-is (now (a .entries)) (a .w .first) (a .w .count) (a .free) (env (now (a .areas)) (now (a .xs)) (now (a .ys)) (a .b))
+    (after-check-stream .check-stream .result) (after-check-stream .check-stream .ensures) (at-if1 .if1 .taken)))
+    ∙ (sym (after-is-wanted .is-wanted .ensures) ∙ c .if2 .left))
 
 returns-3 : tie.Need-returns-3
-returns-3 c = leaf-bad _ _ (sym (c .before .check-stream .ensures) ∙ c .if1 .left)
+returns-3 c =
+    let after-check-stream = c .before in
+    let at-entry = after-check-stream .before .before .before .before .before .before .before in
+    let a = at-entry .args in
+    leaf-bad _ _ (sym (fits-is (now (a .entries)) (a .w .first) (a .w .count) (a .free) (env (now (a .areas)) (now (a .xs)) (now (a .ys)) (a .b))
+    (after-check-stream .check-stream .result) (after-check-stream .check-stream .ensures)) ∙ c .if1 .left)
 
 pub try-leaf-spec : {M : Type 1} → statement M
 try-leaf-spec =

@@ -11,6 +11,7 @@ use borrow.Author.Tests.{eq-eqb, ne-eqb}
 use Rattle.refusals.specs.declared.Refusal.the-variants.{Smallest, Broken}
 use Rattle.stream.specs.Grammar.{env, checkStream}
 use Rattle.stream.proofs.Passed.{passed}
+use Rattle.stream.proofs.Uniform.{fits-is}
 use Rattle.celltable.proofs.Ranges.{square-fits}
 use Rattle.split.specs.declared.Answer.the-variants.{Not}
 use Rattle.split.specs.Split.{madeBy, roomAnswer}
@@ -34,13 +35,15 @@ returns c =
     let after-check-stream = at-if1 .before in
     let at-entry = after-check-stream .before .before .before .before .before .before .before .before .before .before in
     let a = at-entry .args in
+    let fits = fits-is (now (a .entries)) (a .w .first) (a .w .count) (a .free) (env (now (a .areas)) (now (a .xs)) (now (a .ys)) (a .b))
+    (after-check-stream .check-stream .result) (after-check-stream .check-stream .ensures) in
     let room = roomAnswer (length (now (a .cells))) (length (now (a .entries))) (a .used) (a .free)
     (madeBy (now (a .areas)) (now (a .xs)) (now (a .ys)) (a .b) (a .w) (now (a .entries))) in (
       pick-true (eqb (a .w .side) 1) (Not Smallest) room (eq-eqb (a .w .side) 1 (c .if2 .taken))
           ∙ pick-true
           (checkStream (now (a .entries)) (a .w .first) (a .w .count) (a .free) (env (now (a .areas)) (now (a .xs)) (now (a .ys)) (a .b)))
           (cond (eqb (a .w .side) 1) (Not Smallest) room) (Not Broken)
-          (sym (after-check-stream .check-stream .ensures) ∙ at-if1 .if1 .taken),
+          (sym fits ∙ at-if1 .if1 .taken),
       (refl, (refl, refl)),
     )
 
@@ -51,9 +54,11 @@ split-in-room-requires c κs =
     let after-check-stream = at-if1 .before in
     let at-entry = after-check-stream .before .before .before .before .before .before .before .before .before .before in
     let a = at-entry .args in
+    let fits = fits-is (now (a .entries)) (a .w .first) (a .w .count) (a .free) (env (now (a .areas)) (now (a .xs)) (now (a .ys)) (a .b))
+    (after-check-stream .check-stream .result) (after-check-stream .check-stream .ensures) in
     let p = at-entry .pre in (
       passed (now (a .entries)) (a .w .first) (a .w .count) (a .free) (env (now (a .areas)) (now (a .xs)) (now (a .ys)) (a .b))
-          (sym (after-check-stream .check-stream .ensures) ∙ at-if1 .if1 .taken),
+          (sym fits ∙ at-if1 .if1 .taken),
       (p .0, (omega (arith, square-fits (a .w) (p .0) .some-side, at-if2 .if2 .left), (p .1 .0, (p .1 .1 .0, p .1 .1 .1)))),
     )
 
@@ -74,6 +79,8 @@ returns-2 c =
     let after-check-stream = at-if1 .before in
     let at-entry = after-check-stream .before .before .before .before .before .before .before .before .before .before in
     let a = at-entry .args in
+    let fits = fits-is (now (a .entries)) (a .w .first) (a .w .count) (a .free) (env (now (a .areas)) (now (a .xs)) (now (a .ys)) (a .b))
+    (after-check-stream .check-stream .result) (after-check-stream .check-stream .ensures) in
     let room = roomAnswer (length (now (a .cells))) (length (now (a .entries))) (a .used) (a .free)
     (madeBy (now (a .areas)) (now (a .xs)) (now (a .ys)) (a .b) (a .w) (now (a .entries))) in
     let e = after-split-in-room .split-in-room .ensures in (
@@ -82,7 +89,7 @@ returns-2 c =
           ∙ pick-true
           (checkStream (now (a .entries)) (a .w .first) (a .w .count) (a .free) (env (now (a .areas)) (now (a .xs)) (now (a .ys)) (a .b)))
           (cond (eqb (a .w .side) 1) (Not Smallest) room) (Not Broken)
-          (sym (after-check-stream .check-stream .ensures) ∙ at-if1 .if1 .taken)),
+          (sym fits ∙ at-if1 .if1 .taken)),
       e .1,
     )
 
@@ -93,13 +100,15 @@ returns-3 : tie.Need-returns-3
 returns-3 c =
     let after-check-stream = c .before in
     let at-entry = after-check-stream .before .before .before .before .before .before .before .before .before .before in
-    let a = at-entry .args in (
+    let a = at-entry .args in
+    let fits = fits-is (now (a .entries)) (a .w .first) (a .w .count) (a .free) (env (now (a .areas)) (now (a .xs)) (now (a .ys)) (a .b))
+    (after-check-stream .check-stream .result) (after-check-stream .check-stream .ensures) in (
       pick-false
           (checkStream (now (a .entries)) (a .w .first) (a .w .count) (a .free) (env (now (a .areas)) (now (a .xs)) (now (a .ys)) (a .b)))
           (cond (eqb (a .w .side) 1) (Not Smallest)
           (roomAnswer (length (now (a .cells))) (length (now (a .entries))) (a .used) (a .free)
           (madeBy (now (a .areas)) (now (a .xs)) (now (a .ys)) (a .b) (a .w) (now (a .entries)))))
-          (Not Broken) (sym (after-check-stream .check-stream .ensures) ∙ c .if1 .left),
+          (Not Broken) (sym fits ∙ c .if1 .left),
       (refl, (refl, refl)),
     )
 
