@@ -82,7 +82,7 @@ module _ (t : Tree) (H : List Node) (i : ℕ) (s : Sound t H) where
         ∙ (chosen
         (usedRange (length (t .entries)) free (length (t .areas)) (length (t .xs)) (length (t .ys)) (boundsOf (t .plan) (words t i)))
         (cellSplit t i) (Not Broken) (counts-used t (s .counts) i)
-        ∙ chosen (cellRange (words t i) i used free) celled (Not Broken) (cell-passes t H s i h)))
+        ∙ chosen (cellRange (t .cells) i used free) celled (Not Broken) (cell-passes t H s i h)))
 
     module _ (l : Leaf H i) where
       -- the stream of a leaf passes

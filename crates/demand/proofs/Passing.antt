@@ -8,14 +8,14 @@ use native.Mathlib.Decide.{ℕ-discrete}
 use lib.Dec.{eqb, ltb}
 use lib.ListN.{length}
 use borrow.Author.Tests.{lt-ltb, le-leb}
-use Rattle.laws.proofs.Booleans.{and-both, or-right}
+use Rattle.laws.proofs.Booleans.{or-right}
 use Rattle.cells.specs.Cells.{Cell, cell, side, root}
 use Rattle.stream.specs.Grammar.{checkStream}
 use Rattle.ranges.proofs.Streams.{made-checks}
 use Rattle.celltable.specs.declared.CellWords.{CellWords}
-use Rattle.celltable.specs.Ranges.{childRange, entryRange, numbersRange, cellRange, levelOf, cellOf}
+use Rattle.celltable.specs.Ranges.{childRange, cellRange, levelOf, cellOf}
 use Rattle.celltable.proofs.Powers.{level-of}
-use Rattle.celltable.proofs.Ranges.{leaf-numbers}
+use Rattle.celltable.proofs.Ranges.{leaf-child}
 use Rattle.celltable.proofs.Grid.{Gridded, SaysCell, gridded-cell}
 use Rattle.tables.specs.Tables.{Tree, cellsUsed, entriesUsed, boundsOf}
 use Rattle.split.specs.Split.{words, against}
@@ -38,23 +38,23 @@ module _ (t : Tree) (H : List Node) (s : Sound t H) where
   pub cell-is : (i : ℕ) → i < length H → cellOf (words t i) ≡ cellIn H i
   cell-is i h = says-is (words t i) (cellIn H i) (s .grown .on-grid i h) (s .squares i h)
 
-  numbers : (i : ℕ) → i < length H → numbersRange (words t i) used free ≡ true
-  numbers i h = go (ℕ-discrete (firstIn H i) 0)
+  children : (i : ℕ) → i < length H → childRange (words t i .child) used ≡ true
+  children i h = go (ℕ-discrete (firstIn H i) 0)
     where
-      go : Dec (firstIn H i ≡ 0) → numbersRange (words t i) used free ≡ true
-      go (yes z) = leaf-numbers (words t i) used free (s .firsts i h ∙ z) (s .entries i h)
+      go : Dec (firstIn H i ≡ 0) → childRange (words t i .child) used ≡ true
+      go (yes z) = leaf-child (words t i .child) used (s .firsts i h ∙ z)
       go (no z) =
           let d = s .grown .divided i h z in
-          and-both (childRange (words t i .child) used) (entryRange (words t i .first) (words t i .count) free)
-          (or-right (eqb (words t i .child) 0) (ltb (words t i .child + 3) used)
-          (lt-ltb (words t i .child + 3) used (omega (arith, d .in-use, s .firsts i h, s .in-use))))
-          (le-leb (words t i .first + words t i .count) free (s .entries i h))
+          or-right (eqb (words t i .child) 0) (ltb (words t i .child + 3) used)
+          (lt-ltb (words t i .child + 3) used (omega (arith, d .in-use, s .firsts i h, s .in-use)))
 
   first-root : (i : ℕ) → i ≡ 0 → cellIn H i ≡ root
   first-root i e = ap (cellIn H) e ∙ s .grown .first
 
-  pub cell-passes : (i : ℕ) → i < length H → cellRange (words t i) i (cellsUsed (t .head)) (entriesUsed (t .head)) ≡ true
-  cell-passes i h = gridded-cell (words t i) (cellIn H i) i used free (s .grown .on-grid i h) (first-root i) (s .squares i h) (numbers i h)
+  pub cell-passes : (i : ℕ) → i < length H → cellRange (t .cells) i (cellsUsed (t .head)) (entriesUsed (t .head)) ≡ true
+  cell-passes i h =
+      gridded-cell (t .cells) (cellIn H i) i used free (s .grown .on-grid i h) (first-root i) (s .squares i h) (children i h)
+      (le-leb (words t i .first + words t i .count) free (s .entries i h))
 
   pub leaf-passes : (i : ℕ) → Leaf H i → checkStream (t .entries) (words t i .first) (words t i .count) (entriesUsed (t .head)) (against t i) ≡ true
   leaf-passes i l =

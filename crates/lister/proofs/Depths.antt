@@ -77,7 +77,7 @@ module _ (t : Tree) (n : ℕ) where
   wanted-level i e =
       let w = words t i in
       let ws = wordsFrom (t .entries) (w .first) (w .count) in
-      let d = wanted-passes (cellRange w i (cellsUsed (t .head)) (entriesUsed (t .head))) (eqb (w .child) 0)
+      let d = wanted-passes (cellRange (t .cells) i (cellsUsed (t .head)) (entriesUsed (t .head))) (eqb (w .child) 0)
       (checkStream (t .entries) (w .first) (w .count) (entriesUsed (t .head)) (against t i)) (isWanted n 4 w ws) e in
       omega (arith, ltb-true (16 - levelOf (w .side)) 4 (and-right (ltb n (linesIn ws)) (ltb (16 - levelOf (w .side)) 4) d))
 
