@@ -16,6 +16,23 @@ ghost use Rattle.probe.specs.Answers.{numberIn, tallyNumber, tallyAnswer
 // The last position, in x and in y.
 const LAST: u32 = celltable::GRID - 1;
 
+// Whether the stream passes the check.
+fn stream_passes(
+    entries: &[u32],
+    first: usize,
+    count: usize,
+    used: usize,
+    areas: &[u32],
+    xs: &[u32],
+    ys: &[u32],
+    b: Bounds,
+) -> bool
+    ensures answer { λ r. ⌜ r ≡ checkStream (now (entries .entry)) first count used (env (now (areas .entry)) (now (xs .entry)) (now (ys .entry)) b) ⌝ }
+{
+    let c = stream::check_stream(entries, first, count, used, areas, xs, ys, b);
+    c.fits
+}
+
 // 1 if the count entries from first on are a stream of the cell with this low row and this side, else 0.
 #[no_mangle]
 pub extern "C" fn probe_check(
@@ -41,7 +58,7 @@ pub extern "C" fn probe_check(
         low: low,
         side: side,
     };
-    let passes = stream::check_stream(entries, first, count, used, areas, xs, ys, b);
+    let passes = stream_passes(entries, first, count, used, areas, xs, ys, b);
     if passes {
         return 1;
     }
@@ -75,7 +92,7 @@ pub extern "C" fn probe_read(
         low: low,
         side: side,
     };
-    let passes = stream::check_stream(entries, first, count, used, areas, xs, ys, b);
+    let passes = stream_passes(entries, first, count, used, areas, xs, ys, b);
     if passes {
         if (x <= LAST) & (y <= LAST) {
             return evaluate::read_stream(entries, first, count, areas, xs, ys, b, x, y);
@@ -198,7 +215,7 @@ pub extern "C" fn probe_child(
         y: y,
         side: half,
     };
-    let passes = stream::check_stream(entries, first, count, used, areas, xs, ys, b);
+    let passes = stream_passes(entries, first, count, used, areas, xs, ys, b);
     if passes {
         let fits = square_fits(s);
         if fits {
@@ -294,7 +311,7 @@ pub extern "C" fn probe_tally(
         y: low,
         side: side,
     };
-    let passes = stream::check_stream(entries, first, count, used, areas, xs, ys, b);
+    let passes = stream_passes(entries, first, count, used, areas, xs, ys, b);
     if passes {
         let fits = square_fits(s);
         if fits {

@@ -3,14 +3,14 @@ use borrow.Author.Needs.{needs}
 use Rattle.probe.proofs.probe_check.Statement.{statement}
 use Rattle.probe.proofs.probe_check.Tie as tie
 
-check-stream-requires : tie.Need-check-stream-requires
-check-stream-requires c κs = search needs
+stream-passes-requires : tie.Need-stream-passes-requires
+stream-passes-requires c κs = search needs
 
 returns : tie.Need-returns
-returns c = rw (sym (c .before .check-stream .ensures) ∙ c .if1 .taken)
+returns c = rw (sym (c .before .stream-passes .ensures) ∙ c .if1 .taken)
 
 returns-2 : tie.Need-returns-2
-returns-2 c = rw (sym (c .before .check-stream .ensures) ∙ c .if1 .left)
+returns-2 c = rw (sym (c .before .stream-passes .ensures) ∙ c .if1 .left)
 
 pub probe-check-spec : {M : Type 1} → statement M
-probe-check-spec = tie.close (tie.spec check-stream-requires returns returns-2)
+probe-check-spec = tie.close (tie.spec stream-passes-requires returns returns-2)

@@ -6,8 +6,8 @@ use Rattle.laws.proofs.Signed.{read-back}
 use Rattle.stream.proofs.Passed.{passed}
 use Rattle.probe.proofs.Laws.{children-in}
 
-check-stream-requires : tie.Need-check-stream-requires
-check-stream-requires c κs = search needs
+stream-passes-requires : tie.Need-stream-passes-requires
+stream-passes-requires c κs = search needs
 
 square-fits-requires : tie.Need-square-fits-requires
 square-fits-requires c κs = search needs
@@ -17,8 +17,8 @@ tally-number-requires c κs =
     let at-if2 = c .before in
     let after-square-fits = at-if2 .before in
     let at-if1 = after-square-fits .before in
-    let after-check-stream = at-if1 .before in (
-      passed _ _ _ _ _ (sym (after-check-stream .check-stream .ensures) ∙ at-if1 .if1 .taken),
+    let after-stream-passes = at-if1 .before in (
+      passed _ _ _ _ _ (sym (after-stream-passes .stream-passes .ensures) ∙ at-if1 .if1 .taken),
       (sym (after-square-fits .square-fits .ensures) ∙ at-if2 .if2 .taken, children-in _ _ _ (c .if3 .taken)),
     )
 
@@ -28,11 +28,11 @@ returns c =
     let at-if2 = at-if3 .before in
     let after-square-fits = at-if2 .before in
     let at-if1 = after-square-fits .before in
-    let after-check-stream = at-if1 .before in
+    let after-stream-passes = at-if1 .before in
     read-back _ (c .tally-number .ok)
     ∙ (c .tally-number .ensures
     ∙ rw (
-      sym (after-check-stream .check-stream .ensures) ∙ at-if1 .if1 .taken,
+      sym (after-stream-passes .stream-passes .ensures) ∙ at-if1 .if1 .taken,
       sym (after-square-fits .square-fits .ensures) ∙ at-if2 .if2 .taken,
       at-if3 .if3 .taken,
     ))
@@ -42,9 +42,9 @@ returns-2 c =
     let at-if2 = c .before in
     let after-square-fits = at-if2 .before in
     let at-if1 = after-square-fits .before in
-    let after-check-stream = at-if1 .before in
+    let after-stream-passes = at-if1 .before in
     rw (
-      sym (after-check-stream .check-stream .ensures) ∙ at-if1 .if1 .taken,
+      sym (after-stream-passes .stream-passes .ensures) ∙ at-if1 .if1 .taken,
       sym (after-square-fits .square-fits .ensures) ∙ at-if2 .if2 .taken,
       c .if3 .left,
     )
@@ -53,19 +53,19 @@ returns-3 : tie.Need-returns-3
 returns-3 c =
     let after-square-fits = c .before in
     let at-if1 = after-square-fits .before in
-    let after-check-stream = at-if1 .before in
-    rw (sym (after-check-stream .check-stream .ensures) ∙ at-if1 .if1 .taken, sym (after-square-fits .square-fits .ensures) ∙ c .if2 .left)
+    let after-stream-passes = at-if1 .before in
+    rw (sym (after-stream-passes .stream-passes .ensures) ∙ at-if1 .if1 .taken, sym (after-square-fits .square-fits .ensures) ∙ c .if2 .left)
 
 returns-4 : tie.Need-returns-4
 returns-4 c =
-    let after-check-stream = c .before in
-    rw (sym (after-check-stream .check-stream .ensures) ∙ c .if1 .left)
+    let after-stream-passes = c .before in
+    rw (sym (after-stream-passes .stream-passes .ensures) ∙ c .if1 .left)
 
 pub probe-tally-spec : {M : Type 1} → statement M
 probe-tally-spec =
     tie.close
     (tie.spec
-    check-stream-requires
+    stream-passes-requires
     square-fits-requires
     tally-number-requires
     returns
