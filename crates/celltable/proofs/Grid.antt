@@ -128,7 +128,7 @@ gridded-passes w (cell x y k) g s =
     (grid-true x (2 ^ k) (g .x-multiple) (omega (arith, one-le-pow k 2 (omega arith))))
     (grid-true y (2 ^ k) (g .y-multiple) (omega (arith, one-le-pow k 2 (omega arith)))))
 
--- where the words say a cell of the grid, and cell 0 the root, only the other numbers decide whether they pass
+-- where the words of cell 0 say the root, it is on its own square
 own-square : (w : CellWords) (c : Cell) (i : ℕ) → (i ≡ 0 → c ≡ root) → SaysCell w c → rootRange w i ≡ true
 own-square w c i r s = go (eqb i 0) refl
   where
@@ -138,6 +138,7 @@ own-square w c i r s = go (eqb i 0) refl
         rw (e, s .same-x ∙ ap left q, s .same-y ∙ ap low q, s .same-side ∙ ap side q)
     go false e = rw e
 
+-- where the words say a cell of the grid, and cell 0 the root, only the other numbers decide whether they pass
 pub gridded-range : (t : List ℕ) (c : Cell) (i used entries : ℕ) → Gridded c → (i ≡ 0 → c ≡ root) → onSquare (cellAt t i) c ≡ true
     → cellRange t i used entries ≡ (childRange (cellAt t i .child) used && entryRange (cellAt t i .first) (cellAt t i .count) entries)
 unfolding cellRange

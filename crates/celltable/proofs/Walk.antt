@@ -2,11 +2,11 @@
 use Prim.Native.Nat.{ℕ, suc, _+_, _-_, _/_, _≤_, _<_}
 use mathlib.Core.Path.{_≡_, refl, sym, ap, _∙_, subst}
 use mathlib.Core.Bool.{Bool, true, false, cond, _&&_}
-use Rattle.laws.proofs.Booleans.{and-left}
 use mathlib.Core.List.{List}
 use native.Mathlib.Omega.{arith}
 use lib.Dec.{eqb, leb}
 use borrow.Author.Tests.{eqb-false, eq-eqb, ne-eqb}
+use Rattle.laws.proofs.Booleans.{and-left}
 use Rattle.celltable.specs.declared.CellWords.{CellWords}
 use Rattle.celltable.specs.declared.Cursor.{Cursor}
 use Rattle.celltable.specs.declared.Leaf.{Leaf}
@@ -32,7 +32,8 @@ module _ (t : List ℕ) (used entries : ℕ) (c : Cursor) (px py : ℕ) (w : Cel
       met : Bad ≡ metN w used entries c px py
       met = rw (← r, k)
 
-  pub step-unfit : (f g : Bool) → s ≡ true → f ≡ childRange (w .child) used → g ≡ entryRange (w .first) (w .count) entries → (f && g) ≡ false → Bad ≡ stepN t used entries c px py
+  pub step-unfit : (f g : Bool) → s ≡ true → f ≡ childRange (w .child) used → g ≡ entryRange (w .first) (w .count) entries → (f && g) ≡ false
+      → Bad ≡ stepN t used entries c px py
   unfolding metN
   step-unfit f g k q u h = met ∙ read-is
     where
@@ -47,7 +48,8 @@ module _ (t : List ℕ) (used entries : ℕ) (c : Cursor) (px py : ℕ) (w : Cel
       met : AtLeaf (leafOf (c .cell) (c .steps) w) ≡ metN w used entries c px py
       met = rw (← r, k, ← q, ← u, h, eq-eqb (w .child) 0 l)
 
-  pub step-deeper : (f g : Bool) (next : Cursor) → s ≡ true → f ≡ childRange (w .child) used → g ≡ entryRange (w .first) (w .count) entries → (f && g) ≡ true → (w .child ≡ 0 → ⊥) → next ≡ deeperN c (w .child) px py
+  pub step-deeper : (f g : Bool) (next : Cursor) → s ≡ true → f ≡ childRange (w .child) used → g ≡ entryRange (w .first) (w .count) entries → (f && g) ≡ true
+      → (w .child ≡ 0 → ⊥) → next ≡ deeperN c (w .child) px py
       → Deeper next ≡ stepN t used entries c px py
   unfolding metN
   step-deeper f g next k q u h l e = met ∙ read-is
@@ -136,7 +138,8 @@ step-follows t used entries px py c c′ r p q = go (standsN c w) (inChild && in
         → cond a (cond b (cond d (AtLeaf (leafOf (c .cell) (c .steps) w)) (Deeper (deeperN c (w .child) px py))) Bad) Bad ≡ Deeper c′ → Follows c c′ used
     go true true false e f k =
         let s : deeperN c (w .child) px py ≡ c′ = cc in
-        subst (λ (v : Cursor). Follows c v used) s (deeper-follows used (w .child) px py c (child-in-use (w .child) used (and-left inChild inRun e) (eqb-false (w .child) 0 f)))
+        subst (λ (v : Cursor). Follows c v used) s
+        (deeper-follows used (w .child) px py c (child-in-use (w .child) used (and-left inChild inRun e) (eqb-false (w .child) 0 f)))
     go true true true e f k = absurd (let z : _≡_ {A = ℕ} 0 1 = cc in omega arith)
     go true false d e f k = absurd (let z : _≡_ {A = ℕ} 0 1 = cc in omega arith)
     go false b d e f k = absurd (let z : _≡_ {A = ℕ} 0 1 = cc in omega arith)
