@@ -10,9 +10,12 @@ use borrow.Author.Tests.{eq-eqb, leb-true}
 use Rattle.refusals.specs.declared.Refusal.{Refusal}
 use Rattle.refusals.specs.declared.Refusal.the-variants as Refusals
 use Rattle.refusals.specs.Refusals.{numberOf}
-use Rattle.cells.specs.Cells.{at, level}
+use Rattle.geometry.specs.Classes.{Inside}
+use Rattle.paint.specs.Areas.{materialOf}
+use Rattle.paint.specs.Colours.{colourOf}
+use Rattle.cells.specs.Cells.{Position, at, col, row, level, Holds}
 use Rattle.cells.specs.Drawings.{Drawing}
-use Rattle.stream.specs.Entry.{linesIn}
+use Rattle.stream.specs.Entry.{linesIn, isUniform}
 use Rattle.ranges.proofs.Streams.{words-length}
 use Rattle.celltable.specs.Descent.{leafOf}
 use Rattle.split.specs.declared.Answer as Splitting
@@ -31,6 +34,7 @@ use Rattle.find_leaf.proofs.Landing.{on-grid}
 use Rattle.position.specs.declared.Spot.{Spot}
 use Rattle.position.specs.declared.Answer as Reading
 use Rattle.position.specs.declared.Answer.the-variants as Reads
+use Rattle.position.specs.Spots.{positionAnswer}
 use Rattle.pixel_row.specs.declared.RowAnswer.the-variants as Rows
 use Rattle.pixel_row.specs.Rows.{Filled, filled}
 use Rattle.zone_log.specs.declared.LogAnswer.{LogAnswer}
@@ -39,16 +43,17 @@ use Rattle.zone_log.specs.Logs.{outsideFrom, eachWord}
 use Rattle.answers.specs.Answers.{findRoom}
 use Rattle.answers.specs.Readings.{spotRoom}
 use Rattle.demand.specs.History.{Node, cellIn, afterSplits, Leaf, LeafAt}
-use Rattle.demand.specs.NoTree.{spotShown}
+use Rattle.demand.specs.NoTree.{paintOf}
 use Rattle.demand.specs.Stands.{drawingOf, wordsOfCell}
-use Rattle.demand.specs.Calls.{finds, splitting, growing, finding, reading, rowing, logging, refusal, given, afterSplit, grownCells}
-use Rattle.demand.specs.Demand.{SplitRight, GrowRight, reportShown, foundGiven, FindRight}
-use Rattle.demand.specs.Shown.{positionShown, fillShown, rowShown, logShown, logAnswerShown}
+use Rattle.demand.specs.Calls.{finds, reads, splitting, growing, finding, reading, rowing, logging, refusal, given, afterSplit, grownCells}
+use Rattle.demand.specs.Demand.{SplitRight, GrowRight, reportShown, foundGiven, FindRight, spotThere, positionGiven, SaysShown, ReadRight}
+use Rattle.demand.specs.Shown.{fillShown, rowShown, logShown, logAnswerShown}
 use Rattle.demand.proofs.History.{splits-longer}
 use Rattle.demand.proofs.Sound.{Sound}
 use Rattle.demand.proofs.Outcomes.{Outcome, accepted, refused, split-outcome}
 use Rattle.demand.proofs.Growing.{Ends, grown-sound}
 use Rattle.demand.proofs.Finding.{lands}
+use Rattle.demand.proofs.Readings.{shown-alike, position-inside, position-outside}
 
 -- ---- a split
 pub record SplitDone (t : Tree) (H : List Node) (i : ℕ) (a : Splitting.Answer) : Type 0 where
@@ -134,6 +139,7 @@ module _ (t : Tree) (H : List Node) (s : Sound t H) (x y : ℕ) where
         steps = 16 - level (cellIn H i);
         entries = n d;
         lines = linesIn (ws d);
+        uniform = isUniform (ws d);
       }
 
   abbrev found : Finding.Answer
@@ -171,7 +177,7 @@ module _ (t : Tree) (H : List Node) (s : Sound t H) (x y : ℕ) where
     find-by : (b : Bool) → positionRange x y ≡ b → refusal (finding (findRoom (findAnswer t x y) (length out))) ≡ 12 → ⊥
     find-by true e z =
         let r = find-right .inside e in
-        roomed (leb 7 (length out)) (reportShown (drawingOf t) H (r .0))
+        roomed (leb 8 (length out)) (reportShown (drawingOf t) H (r .0))
         (sym (ap (λ (a : Finding.Answer). refusal (finding (findRoom a (length out)))) (r .2)) ∙ z)
     find-by false e z =
         let o : _≡_ {A = ℕ} 7 12 = sym (ap (λ (a : Finding.Answer). refusal (finding (findRoom a (length out)))) (find-right .outside e)) ∙ z in
@@ -181,19 +187,71 @@ module _ (t : Tree) (H : List Node) (s : Sound t H) (x y : ℕ) where
     find-unmet = find-by (positionRange x y) refl
 
 -- ---- a position
-module _ (t : Tree) (x y out : ℕ) (a : Reading.Answer) (e : a ≡ positionShown (drawingOf t) x y) where
-  roomed-spot : (b : Bool) (s : Spot) → refusal (reading (cond b (Reads.At s) (Reads.Not Refusals.Room))) ≡ 12 → ⊥
-  roomed-spot true s z = omega arith
-  roomed-spot false s z = omega arith
+module _ (t : Tree) (H : List Node) (s : Sound t H) (x y : ℕ) (out : List ℕ) where
+  roomed-spot : (b : Bool) (r : Spot) → refusal (reading (cond b (Reads.At r) (Reads.Not Refusals.Room))) ≡ 12 → ⊥
+  roomed-spot true r z = omega arith
+  roomed-spot false r z = omega arith
 
-  shown-by : (b : Bool) (s : Spot) → refusal (reading (spotRoom (cond b (Reads.At s) (Reads.Not Refusals.Argument)) out)) ≡ 12 → ⊥
-  shown-by true s z = roomed-spot (leb 6 out) s z
-  shown-by false s z = omega arith
+  pub position-unmet : refusal (reading (spotRoom (positionAnswer t x y) (length out))) ≡ 12 → ⊥
+  position-unmet = go (positionRange x y) refl
+    where
+      go : (b : Bool) → positionRange x y ≡ b → refusal (reading (spotRoom (positionAnswer t x y) (length out))) ≡ 12 → ⊥
+      go true e z =
+          let r = position-inside t H s x y e in
+          roomed-spot (leb 10 (length out)) (spotThere (drawingOf t) H (r .0) (at x y))
+          (sym (ap (λ (a : Reading.Answer). refusal (reading (spotRoom a (length out)))) (r .2)) ∙ z)
+      go false e z =
+          let o : _≡_ {A = ℕ} 7 12 =
+          sym (ap (λ (a : Reading.Answer). refusal (reading (spotRoom a (length out)))) (position-outside t H s x y e)) ∙ z in
+          omega arith
 
-  pub position-unmet : refusal (reading (spotRoom a out)) ≡ 12 → ⊥
-  position-unmet z =
-      shown-by (positionRange x y) (spotShown (drawingOf t) (at x y))
-      (sym (ap (λ (r : Reading.Answer). refusal (reading (spotRoom r out))) e) ∙ z)
+  -- an answer that has room is the one that was made
+  spot-roomed : (b : Bool) (r r′ : Spot) → reading (cond b (Reads.At r) (Reads.Not Refusals.Room)) ≡ reading (Reads.At r′) → r ≡ r′
+  spot-roomed true r r′ e = cc
+  spot-roomed false r r′ e = cc
+
+  -- what shows at a position of a uniform leaf is what shows at each of its positions
+  alike : (i : ℕ) (r : Spot) → LeafAt H (at x y) i → r ≡ spotThere (drawingOf t) H i (at x y) → r .uniform ≡ true → (x′ y′ : ℕ)
+      → Inside (r .x) (r .y) (r .side) x′ y′ → SaysShown (drawingOf t) r (at x′ y′)
+  alike i r l e u x′ y′ h =
+      let c = cellIn H i in
+      let px = ap (λ (z : Spot). z .x) e in
+      let py = ap (λ (z : Spot). z .y) e in
+      let ps = ap (λ (z : Spot). z .side) e in
+      let holds : Holds c (at x′ y′) = record {
+        west = omega (arith, h .west, px);
+        east = omega (arith, h .east, px, ps);
+        south = omega (arith, h .south, py);
+        north = omega (arith, h .north, py, ps);
+      } in
+      let set = shown-alike t H s i (sym (ap (λ (z : Spot). z .uniform) e) ∙ u) x y x′ y′ (l .holds) holds in
+      record {
+        set = ap (λ (z : Spot). z .set) e ∙ set;
+        material = ap (λ (z : Spot). z .material) e ∙ ap (materialOf (paintOf (drawingOf t))) set;
+        red = ap (λ (z : Spot). z .red) e ∙ ap (λ (n : ℕ). colourOf (paintOf (drawingOf t)) n .red) set;
+        green = ap (λ (z : Spot). z .green) e ∙ ap (λ (n : ℕ). colourOf (paintOf (drawingOf t)) n .green) set;
+        blue = ap (λ (z : Spot). z .blue) e ∙ ap (λ (n : ℕ). colourOf (paintOf (drawingOf t)) n .blue) set;
+      }
+
+  pub position-given : ReadRight (drawingOf t) H x y out (given (reads x y out) t)
+  position-given =
+      record {
+        inside = λ e. let r = position-inside t H s x y e in (r .0, r .1, ap (λ (a : Reading.Answer). positionGiven a out) (r .2));
+        outside = λ e. ap (λ (a : Reading.Answer). positionGiven a out) (position-outside t H s x y e);
+        reach = λ r e u q h. go r u q h (positionRange x y) refl e;
+      }
+    where
+      go : (r : Spot) → r .uniform ≡ true → (q : Position) → Inside (r .x) (r .y) (r .side) (col q) (row q) → (b : Bool) → positionRange x y ≡ b
+          → reading (spotRoom (positionAnswer t x y) (length out)) ≡ reading (Reads.At r) → SaysShown (drawingOf t) r q
+      go r u (at x′ y′) h true k e =
+          let w = position-inside t H s x y k in
+          let z = spot-roomed (leb 10 (length out)) (spotThere (drawingOf t) H (w .0) (at x y)) r
+          (sym (ap (λ (a : Reading.Answer). reading (spotRoom a (length out))) (w .2)) ∙ e) in
+          alike (w .0) r (w .1) (sym z) u x′ y′ h
+      go r u q h false k e =
+          let z : reading (Reads.Not Refusals.Argument) ≡ reading (Reads.At r) =
+          sym (ap (λ (a : Reading.Answer). reading (spotRoom a (length out))) (position-outside t H s x y k)) ∙ e in
+          absurd (let o : _≡_ {A = ℕ} 0 1 = cc in omega arith)
 
 -- ---- a row
 module _ (D : Drawing) (row first : ℕ) (out : List ℕ) where

@@ -10,22 +10,18 @@ use Rattle.open.specs.declared.Answer as Opening
 use Rattle.open.specs.declared.Answer.the-variants as Opens
 use Rattle.open.specs.Open.{drawingTables, openAnswer, openTree}
 use Rattle.root_stream.specs.Opened.{drawingIn}
-use Rattle.position.specs.declared.Answer as Reading
-use Rattle.position.specs.Spots.{positionAnswer}
 use Rattle.pixel_row.specs.Rows.{Filled, rowFilled}
 use Rattle.zone_log.specs.Logs.{logAnswer}
-use Rattle.answers.specs.Readings.{spotRoom, outSpot}
 use Rattle.demand.specs.History.{Node, begun}
 use Rattle.demand.specs.Stands.{drawingOf}
-use Rattle.demand.specs.Calls.{opens, splits, grows, finds, reads, rows, logs, opening, reading, rowing, logging, gives}
+use Rattle.demand.specs.Calls.{opens, splits, grows, finds, reads, rows, logs, opening, rowing, logging, gives}
 use Rattle.demand.specs.Lists.{Listed, own, other, Allowed, tablesAfter, nodesAfter}
 use Rattle.demand.specs.Demand.{RightListed, Unmet, Throughout, Demand3}
 use Rattle.demand.proofs.Sound.{Sound, sound-stands}
 use Rattle.demand.proofs.Opened.{open-sound}
 use Rattle.demand.proofs.Splits.{tables-split}
 use Rattle.demand.proofs.Growing.{tables-grown}
-use Rattle.demand.proofs.Readings.{position-right}
-use Rattle.demand.proofs.Answers.{split-done, grow-done, find-given, find-unmet, position-unmet, row-unmet, log-unmet}
+use Rattle.demand.proofs.Answers.{split-done, grow-done, find-given, find-unmet, position-given, position-unmet, row-unmet, log-unmet}
 use Rattle.demand.proofs.Lists.{opening-same}
 use Rattle.demand.proofs.Rows.{row-right}
 use Rattle.demand.proofs.Logs.{log-right, log-out}
@@ -49,13 +45,7 @@ called (own (grows n l)) t H s a =
     record { sound = r .sound; right = r .right; unmet = λ e. r .unmet; unchanged = tables-grown t n l }
 called (own (finds x y out)) t H s a = record { sound = s; right = find-given t H s x y out; unmet = λ e. find-unmet t H s x y out; unchanged = refl }
 called (own (reads x y out)) t H s a =
-    let q = position-right t H s x y in
-    record {
-      sound = s;
-      right = ap (λ (r : Reading.Answer). gives (reading (spotRoom r (length out))) (outSpot (spotRoom r (length out)) out)) q;
-      unmet = λ e. position-unmet t x y (length out) (positionAnswer t x y) q;
-      unchanged = refl;
-    }
+    record { sound = s; right = position-given t H s x y out; unmet = λ e. position-unmet t H s x y out; unchanged = refl }
 called (own (rows row first out)) t H s a =
     let q = row-right t H s row first out in
     record {

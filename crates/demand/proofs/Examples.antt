@@ -1,11 +1,11 @@
 -- The claims are not empty: the file of the triangle's four records is read into tables with room for 9 cells and 40 entries, and opened; a list of calls
 -- follows, refused ones among them; and the words that a position then gives are computed.
 use mathlib.Core.Path.{_≡_, refl, sym, ap, _∙_}
-use mathlib.Core.Bool.{true}
+use mathlib.Core.Bool.{Bool, true}
 use mathlib.Core.List.{List, [], _∷_, _++_}
 use Prim.Native.Nat.{ℕ, zero, suc, _≤_}
 use native.Mathlib.Omega.{arith}
-use lib.ListN.{length}
+use lib.ListN.{length, getD, take}
 use borrow.Author.Tests.{le-leb}
 use Rattle.laws.proofs.Booleans.{clash}
 use Rattle.curves.specs.Lines.{product, lineCounts}
@@ -25,7 +25,7 @@ use Rattle.paint.specs.Areas.{materialOf}
 use Rattle.paint.specs.Colours.{mixOf}
 use Rattle.drawing.specs.code.Held.{Acceptable, Holding}
 use Rattle.drawing.proofs.Theorems.{drawn-records, holding-passes}
-use Rattle.cells.specs.Cells.{at, root}
+use Rattle.cells.specs.Cells.{at, Cell, root}
 use Rattle.cells.specs.Drawings.{Drawing}
 use Rattle.cells.specs.Streams.{source, made}
 use Rattle.pruning.specs.Sides.{paint}
@@ -39,14 +39,15 @@ use Rattle.open.specs.declared.Answer.the-variants.{Opened, Not}
 use Rattle.open.specs.Open.{drawingTables, streamOpened, roomFor, drawingAnswer, openAnswer}
 use Rattle.open.proofs.Rooms.{elements-words, has-room}
 use Rattle.open.proofs.Answers.{passed}
-use Rattle.position.specs.declared.Spot.{Spot}
-use Rattle.demand.specs.History.{begun}
+use Rattle.stream.specs.Entry.{isUniform}
+use Rattle.find_leaf.specs.Leaf.{positionRange}
+use Rattle.demand.specs.History.{Node, begun, cellIn}
 use Rattle.demand.specs.NoTree.{spotShown}
-use Rattle.demand.specs.Stands.{drawingOf}
+use Rattle.demand.specs.Stands.{drawingOf, wordsOfCell}
 use Rattle.answers.specs.Readings.{spotPut}
 use Rattle.demand.specs.Calls.{opens, splits, reads, opening, answerTo, numberBy, refusal, outputAfter, Given, given}
-use Rattle.demand.specs.Shown.{positionGiven}
-use Rattle.demand.specs.Lists.{Listed, own, other, Refused, AllAllowed, tablesAfterAll}
+use Rattle.demand.specs.Demand.{ReadRight}
+use Rattle.demand.specs.Lists.{Listed, own, other, Refused, AllAllowed, tablesAfterAll, nodesAfterAll}
 use Rattle.demand.specs.Files.{readTree, FileOpened, fileTree, drawingOfFile, Shows, position, callOf, GivesShown}
 use Rattle.demand.proofs.Lists.{list-goes-on, refused-same}
 use Rattle.demand.proofs.Files.{file-demand, from-file}
@@ -102,14 +103,16 @@ example-opened =
     sym (has-room example (length (streamOpened example)) refl (room (length (streamOpened example)) few)
     ∙ passed example (Grammar.counts 4 1 3) refl (holding-passes (drawingTables example) triangle (Grammar.counts 4 1 3) accepted held))
 
--- ---- "winding 1 at (5,5)", "0 at (4,5)": what shows there, with no tree
-spot : (D : Drawing) → D ≡ drawingFrom triangle → spotShown D (at 5 5) ≡ record { set = 1; material = 6; red = 9; green = 8; blue = 7 }
+-- ---- "winding 1 at (5,5)", "0 at (4,5)": what shows there, with no tree: the six words of set, material and colour
+spot : (D : Drawing) (c : Cell) (u : Bool) → D ≡ drawingFrom triangle
+    → take 6 (spotPut (spotShown D (at 5 5) c u) (zeros 10)) ≡ 1 ∷ 0 ∷ 6 ∷ 9 ∷ 8 ∷ 7 ∷ []
 unfolding materialOf mixOf each sumOf adds counts sign lineCounts product joined
-spot D e = ap (λ (E : Drawing). spotShown E (at 5 5)) e
+spot D c u e = ap (λ (E : Drawing). take 6 (spotPut (spotShown E (at 5 5) c u) (zeros 10))) e
 
-ground : (D : Drawing) → D ≡ drawingFrom triangle → spotShown D (at 4 5) ≡ record { set = 0; material = 0; red = 255; green = 255; blue = 255 }
+ground : (D : Drawing) (c : Cell) (u : Bool) → D ≡ drawingFrom triangle
+    → take 6 (spotPut (spotShown D (at 4 5) c u) (zeros 10)) ≡ 0 ∷ 0 ∷ 0 ∷ 255 ∷ 255 ∷ 255 ∷ []
 unfolding materialOf mixOf each sumOf adds counts sign lineCounts product joined
-ground D e = ap (λ (E : Drawing). spotShown E (at 4 5)) e
+ground D c u e = ap (λ (E : Drawing). take 6 (spotPut (spotShown E (at 4 5) c u) (zeros 10))) e
 
 -- ---- the file of the triangle, read into empty tables and opened
 abbrev file : List ℕ
@@ -168,30 +171,36 @@ allowed = (λ e. clash e, ((seven, refused-same (splits 0) unequal refl seven), 
 abbrev after : Tree
 after = tablesAfterAll calls (fileTree file blank)
 
--- a position is read behind it, with its six words
+abbrev splitNodes : List Node
+splitNodes = nodesAfterAll calls (fileTree file blank) begun
+
+-- a position is read behind it, with its ten words
 abbrev reading : (x y : ℕ) → Shows
-reading x y = position x y (zeros 6)
+reading x y = position x y (zeros 10)
 
 abbrev D : Drawing
 D = drawingOfFile file
 
-given-there : (x y : ℕ) → given (callOf (reading x y)) after ≡ positionGiven D x y (zeros 6)
+given-there : (x y : ℕ) → ReadRight D splitNodes x y (zeros 10) (given (callOf (reading x y)) after)
 given-there x y =
     list-goes-on D calls (own (callOf (reading x y)) ∷ []) (fileTree file blank) begun
     (file-demand file blank file-opened (calls ++ (own (callOf (reading x y)) ∷ []))) allowed (λ e. clash e) .0 .right
 
-there : (x y : ℕ) → refusal (positionGiven D x y (zeros 6) .answer) ≡ 0 → GivesShown D (reading x y) after
-there x y e = from-file file blank file-opened calls allowed (reading x y) (ap (λ (g : Given). refusal (g .answer)) (given-there x y) ∙ e)
+there : (x y : ℕ) → positionRange x y ≡ true → GivesShown D splitNodes (reading x y) after
+there x y e = from-file file blank file-opened calls allowed (reading x y) (ap (λ (g : Given). refusal (g .answer)) (given-there x y .inside e .2))
 
 drawn : D ≡ drawingFrom triangle
 drawn = ap drawingFrom file-records
 
 -- the material that is handed back, and the words: set, material, colour
-pub inside-number : numberBy (answerTo (reads 5 5 (zeros 6)) after) ≡ 6
-inside-number = there 5 5 refl .number ∙ ap (λ (s : Spot). s .material) (spot D drawn)
+pub inside-number : numberBy (answerTo (reads 5 5 (zeros 10)) after) ≡ 6
+inside-number = there 5 5 refl .number ∙ ap (λ (ws : List ℕ). getD ws 2 0) (spot D root true drawn)
 
-pub inside-words : outputAfter (reads 5 5 (zeros 6)) after ≡ 1 ∷ 0 ∷ 6 ∷ 9 ∷ 8 ∷ 7 ∷ []
-inside-words = there 5 5 refl .output ∙ ap (λ (s : Spot). spotPut s (zeros 6)) (spot D drawn)
+abbrev leafOfSpot : (x y : ℕ) → positionRange x y ≡ true → Cell
+leafOfSpot x y e = cellIn splitNodes (there x y e .leaf)
 
-pub outside-words : outputAfter (reads 4 5 (zeros 6)) after ≡ 0 ∷ 0 ∷ 0 ∷ 255 ∷ 255 ∷ 255 ∷ []
-outside-words = there 4 5 refl .output ∙ ap (λ (s : Spot). spotPut s (zeros 6)) (ground D drawn)
+pub inside-words : take 6 (outputAfter (reads 5 5 (zeros 10)) after) ≡ 1 ∷ 0 ∷ 6 ∷ 9 ∷ 8 ∷ 7 ∷ []
+inside-words = ap (take 6) (there 5 5 refl .output) ∙ spot D (leafOfSpot 5 5 refl) (isUniform (wordsOfCell D (leafOfSpot 5 5 refl))) drawn
+
+pub outside-words : take 6 (outputAfter (reads 4 5 (zeros 10)) after) ≡ 0 ∷ 0 ∷ 0 ∷ 255 ∷ 255 ∷ 255 ∷ []
+outside-words = ap (take 6) (there 4 5 refl .output) ∙ ground D (leafOfSpot 4 5 refl) (isUniform (wordsOfCell D (leafOfSpot 4 5 refl))) drawn

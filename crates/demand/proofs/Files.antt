@@ -29,14 +29,13 @@ use Rattle.zone_log.specs.declared.LogAnswer.{LogAnswer}
 use Rattle.zone_log.specs.declared.LogAnswer.the-variants as Logs
 use Rattle.zone_log.specs.Logs.{outsideFrom, eachWord}
 use Rattle.answers.specs.Answers.{packed}
-use Rattle.answers.specs.Readings.{spotRoom, spotNumber, outSpot, lowHalf, rowNumber, logNumber}
+use Rattle.answers.specs.Readings.{spotNumber, outSpot, lowHalf, rowNumber, logNumber}
 use Rattle.demand.specs.History.{Node, begun}
-use Rattle.demand.specs.NoTree.{spotShown}
 use Rattle.demand.specs.Stands.{drawingOf}
-use Rattle.demand.specs.Shown.{positionGiven, fillShown, rowGiven, logShown, logOutShown, logGiven}
+use Rattle.demand.specs.Shown.{fillShown, rowGiven, logShown, logOutShown, logGiven}
 use Rattle.demand.specs.Calls.{reading, rowing, logging, numberBy, refusal, answerTo, Given, given}
 use Rattle.demand.specs.Lists.{own, Allowed, tablesAfterAll, nodesAfterAll}
-use Rattle.demand.specs.Demand.{Right}
+use Rattle.demand.specs.Demand.{spotThere, positionGiven, Right}
 use Rattle.demand.specs.Files.{
   readBy,
   readTree,
@@ -49,6 +48,7 @@ use Rattle.demand.specs.Files.{
   pixels,
   run,
   callOf,
+  InLeaf,
   numberShown,
   outputShown,
   GivesShown,
@@ -84,11 +84,6 @@ module _ (D : Drawing) where
   spot-roomed true s e = refl
   spot-roomed false s e = absurd (omega arith)
 
-  spot-accepted : (b : Bool) (s : Spot) (n : ℕ) → refusal (reading (spotRoom (cond b (Reads.At s) (Reads.Not Refusals.Argument)) n)) ≡ 0
-      → spotRoom (cond b (Reads.At s) (Reads.Not Refusals.Argument)) n ≡ Reads.At s
-  spot-accepted true s n e = spot-roomed (leb 6 n) s e
-  spot-accepted false s n e = absurd (omega arith)
-
   -- in a row
   row-accepted : (a b c : Bool) (bytes out : List ℕ)
       → let f : Filled = cond a
@@ -116,29 +111,39 @@ module _ (D : Drawing) where
   log-accepted false b c place n e = absurd (omega arith)
 
   -- what is given is what is shown
-  shows-accepted : (r : Shows) (t : Tree) (g : Given)
+  shows-accepted : (H : List Node) (r : Shows) (t : Tree) (g : Given) (i : ℕ)
       → given (callOf r) t ≡ g
+      → InLeaf H r i
       → numberBy (g .answer) ≡ numberShown D r
-      → g .output ≡ outputShown D r
-      → GivesShown D r t
-  shows-accepted r t g e n o = record { number = ap (λ (h : Given). numberBy (h .answer)) e ∙ n; output = ap (λ (h : Given). h .output) e ∙ o }
+      → g .output ≡ outputShown D H i r
+      → GivesShown D H r t
+  shows-accepted H r t g i e l n o =
+      record { number = ap (λ (h : Given). numberBy (h .answer)) e ∙ n; leaf = i; holds = l; output = ap (λ (h : Given). h .output) e ∙ o }
 
-  pub accepted-shows : (r : Shows) (t : Tree) (H : List Node) → Right D (callOf r) t H → refusal (answerTo (callOf r) t) ≡ 0 → GivesShown D r t
-  accepted-shows (position x y out) t H q h =
-      let s = spotShown D (at x y) in
-      let a = spot-accepted (positionRange x y) s (length out) (sym (ap (λ (g : Given). refusal (g .answer)) q) ∙ h) in
-      shows-accepted (position x y out) t (positionGiven D x y out) q (ap spotNumber a ∙ number-is (s .material)) (ap (λ (w : Reading.Answer). outSpot w out) a)
+  pub accepted-shows : (r : Shows) (t : Tree) (H : List Node) → Right D (callOf r) t H → refusal (answerTo (callOf r) t) ≡ 0 → GivesShown D H r t
+  accepted-shows (position x y out) t H q h = go (positionRange x y) refl
+    where
+      go : (b : Bool) → positionRange x y ≡ b → GivesShown D H (position x y out) t
+      go true e =
+          let w = q .inside e in
+          let s = spotThere D H (w .0) (at x y) in
+          let a = spot-roomed (leb 10 (length out)) s (sym (ap (λ (g : Given). refusal (g .answer)) (w .2)) ∙ h) in
+          shows-accepted H (position x y out) t (positionGiven (Reads.At s) out) (w .0) (w .2) (w .1) (ap spotNumber a ∙ number-is (s .material))
+          (ap (λ (r : Reading.Answer). outSpot r out) a)
+      go false e =
+          let z : _≡_ {A = ℕ} 7 0 = sym (ap (λ (g : Given). refusal (g .answer)) (q .outside e)) ∙ h in
+          absurd (omega arith)
   accepted-shows (pixels row first out) t H q h =
       let a = row-accepted (leb row 4095) (eqb (length out % 3) 0) (leb (first + length out / 3) 4096)
       (fillShown D row first 0 (length out / 3) out) out (sym (ap (λ (g : Given). refusal (g .answer)) q) ∙ h) in
-      shows-accepted (pixels row first out) t (rowGiven D row first out) q (ap (λ (f : Filled). rowNumber (f .answer)) a)
+      shows-accepted H (pixels row first out) t (rowGiven D row first out) 0 q tt (ap (λ (f : Filled). rowNumber (f .answer)) a)
       (ap (λ (f : Filled). f .bytes) a)
   accepted-shows (run px py out) t H q h =
       let l = logShown D px py in
       let a = log-accepted (eqb (length px) (length py)) (ltb (outsideFrom px py 0 (length px)) (length px))
       (leb (length l) (length out) && eachWord l) (outsideFrom px py 0 (length px)) (length l)
       (sym (ap (λ (g : Given). refusal (g .answer)) q) ∙ h) in
-      shows-accepted (run px py out) t (logGiven D px py out) q (ap logNumber a ∙ number-is (lowHalf (length l)))
+      shows-accepted H (run px py out) t (logGiven D px py out) 0 q tt (ap logNumber a ∙ number-is (lowHalf (length l)))
       (ap (λ (w : LogAnswer). logOutShown D px py w out) a)
 
   allowed : (r : Shows) (t : Tree) → Allowed (own (callOf r)) t

@@ -1,30 +1,34 @@
 -- What is read from sound tables at a position is what the drawing shows there: the set, the material, the colour.
-use mathlib.Core.Path.{_≡_, refl, ap, _∙_}
-use mathlib.Core.Bool.{Bool, true, false, cond, _&&_}
-use mathlib.Core.List.{List, [], _∷_}
-use Prim.Native.Nat.{ℕ, zero, suc, _≤_, _<_}
+use mathlib.Core.Path.{_≡_, refl, sym, ap, _∙_}
+use mathlib.Core.Bool.{Bool, true, false, cond}
+use mathlib.Core.List.{List}
+use Prim.Native.Nat.{ℕ, _-_, _≤_, _<_}
 use native.Mathlib.Omega.{arith}
-use lib.Dec.{ltb}
-use lib.ListN.{length, getD}
-use borrow.Author.Tests.{ltb-true, eq-eqb}
-use Rattle.laws.proofs.Booleans.{and-left, and-right}
+use lib.ListN.{length}
+use borrow.Author.Tests.{eq-eqb}
 use Rattle.refusals.specs.declared.Refusal.the-variants as Refusals
 use Rattle.paint.specs.Areas.{paintAt, materialOf}
 use Rattle.paint.specs.Colours.{sumsOf, rounded, colourOf}
 use Rattle.paint.specs.declared.colour.Channels.{Channels}
-use Rattle.paint.specs.Pixels.{rowOffsets, rowOffset, sampleX, sampleY, pixelOf}
+use Rattle.paint.specs.Pixels.{sampleX, sampleY, pixelOf}
 use Rattle.paint.proofs.Pixels.{pixel-agrees}
-use Rattle.cells.specs.Cells.{at, OnGrid}
-use Rattle.celltable.specs.declared.Found.the-variants.{At}
+use Rattle.cells.specs.Cells.{at, level, OnGrid, Holds}
+use Rattle.stream.specs.Entry.{isUniform}
+use Rattle.celltable.specs.Descent.{leafOf}
 use Rattle.evaluate.specs.Reading.{setAt}
+use Rattle.evaluate.proofs.Uniform.{set-uniform}
 use Rattle.tables.specs.Tables.{Tree}
-use Rattle.find_leaf.specs.Leaf.{positionRange}
+use Rattle.split.specs.Split.{words}
+use Rattle.find_leaf.specs.Leaf.{positionRange, leafStream}
 use Rattle.find_leaf.proofs.Landing.{on-grid}
 use Rattle.position.specs.declared.Answer.the-variants as Answers
-use Rattle.position.specs.Spots.{isFound, setBy, spotOf, known, setIn, materialIn, sumsIn, spotIn, positionAnswer}
-use Rattle.demand.specs.History.{Node, cellIn}
-use Rattle.demand.specs.NoTree.{setShown, materialShown, colourShown, sumsShown, spotShown}
-use Rattle.demand.specs.Stands.{drawingOf}
+use Rattle.position.specs.Spots.{isFound, setBy, spotOf, spotBy, known, setIn, materialIn, sumsIn, spotIn, positionAnswer}
+use Rattle.position.proofs.Known.{leaf-set}
+use Rattle.pixel_row.proofs.Sampling.{offset-small}
+use Rattle.demand.specs.History.{Node, cellIn, LeafAt}
+use Rattle.demand.specs.NoTree.{setShown, materialShown, colourShown, sumsShown}
+use Rattle.demand.specs.Stands.{drawingOf, wordsOfCell}
+use Rattle.demand.specs.Demand.{spotThere}
 use Rattle.demand.proofs.Paints.{material-held, sums-held}
 use Rattle.demand.proofs.Sound.{Sound, cell-set}
 use Rattle.demand.proofs.Finding.{lands}
@@ -56,8 +60,20 @@ module _ (t : Tree) (H : List Node) (s : Sound t H) where
     colour-there : colourOf (paintAt (t .areas)) (setIn t x y) ≡ colourShown (drawingOf t) (at x y)
     colour-there = ap rounded sums-there
 
-    spot-there : spotOf (t .areas) (setIn t x y) ≡ spotShown (drawingOf t) (at x y)
-    spot-there =
+    -- the leaf of the history that holds the position, with no output
+    pub record SpotLands : Type 0 where
+      pub leaf : ℕ
+      pub holds : LeafAt H (at x y) leaf
+      pub answer : spotIn t x y ≡ Answers.At (spotThere (drawingOf t) H leaf (at x y))
+
+    pub spot-lands : SpotLands
+    spot-lands =
+        let r = lands t H s x y g in
+        let i = r .leaf in
+        let l = leafOf i (16 - level (cellIn H i)) (words t i) in
+        let q = s .squares i (r .holds .leaf .in-use) in
+        let ws = s .streams i (r .holds .leaf) in
+        let same : spotOf (t .areas) l (isUniform (leafStream t l)) (setIn t x y) ≡ spotThere (drawingOf t) H i (at x y) =
         λ d.
         record {
           set = set-there d;
@@ -65,26 +81,43 @@ module _ (t : Tree) (H : List Node) (s : Sound t H) where
           red = colour-there d .red;
           green = colour-there d .green;
           blue = colour-there d .blue;
+          uniform = isUniform (ws d);
+          x = q .same-x d;
+          y = q .same-y d;
+          side = q .same-side d;
+        } in
+        record {
+          leaf = i;
+          holds = r .holds;
+          answer = ap (spotBy t x y) (r .found)
+              ∙ ap Answers.At (ap (spotOf (t .areas) l (isUniform (leafStream t l))) (leaf-set t x y l (r .found)) ∙ same);
         }
 
-    pub spot-answer : spotIn t x y ≡ Answers.At (spotShown (drawingOf t) (at x y))
-    spot-answer =
-        ap (λ (b : Bool). cond b (Answers.At (spotOf (t .areas) (setIn t x y))) (Answers.Not Refusals.Broken)) known-there ∙ ap Answers.At spot-there
+  -- what shows at one position of a uniform leaf shows at all of them
+  pub shown-alike : (i : ℕ)
+      → isUniform (wordsOfCell (drawingOf t) (cellIn H i)) ≡ true
+      → (x y x′ y′ : ℕ)
+      → Holds (cellIn H i) (at x y)
+      → Holds (cellIn H i) (at x′ y′)
+      → setShown (drawingOf t) (at x y) ≡ setShown (drawingOf t) (at x′ y′)
+  shown-alike i u x y x′ y′ h h′ =
+      sym (cell-set t (s .drawn) (cellIn H i) x y h)
+      ∙ (set-uniform (t .areas) (t .xs) (t .ys) x y x′ y′ (wordsOfCell (drawingOf t) (cellIn H i)) u ∙ cell-set t (s .drawn) (cellIn H i) x′ y′ h′)
 
-  -- the call: with no tree, and refused with 7 where the position is out of range
-  pub position-right : (x y : ℕ)
-      → positionAnswer t x y ≡ cond (positionRange x y) (Answers.At (spotShown (drawingOf t) (at x y))) (Answers.Not Refusals.Argument)
-  position-right x y =
-      ap (λ (b : Bool). cond b (cond (positionRange x y) (spotIn t x y) (Answers.Not Refusals.Argument)) (Answers.Not Refusals.Argument))
-      (eq-eqb (length (t .xs)) (length (t .ys)) (s .drawn .pair))
-      ∙ go (positionRange x y) refl
-    where
-      go : (b : Bool)
-          → positionRange x y ≡ b
-          → cond b (spotIn t x y) (Answers.Not Refusals.Argument)
-          ≡ cond b (Answers.At (spotShown (drawingOf t) (at x y))) (Answers.Not Refusals.Argument)
-      go true e = spot-answer x y (on-grid x y e)
-      go false e = refl
+  -- the call: refused with 7 where the position is out of range
+  module _ (x y : ℕ) where
+    chosen : (b : Bool) → positionRange x y ≡ b → positionAnswer t x y ≡ cond b (spotIn t x y) (Answers.Not Refusals.Argument)
+    chosen b e =
+        ap (λ (p : Bool). cond p (cond (positionRange x y) (spotIn t x y) (Answers.Not Refusals.Argument)) (Answers.Not Refusals.Argument))
+        (eq-eqb (length (t .xs)) (length (t .ys)) (s .drawn .pair))
+        ∙ ap (λ (p : Bool). cond p (spotIn t x y) (Answers.Not Refusals.Argument)) e
+
+    pub position-inside : positionRange x y ≡ true
+        → (i : ℕ) × LeafAt H (at x y) i × (positionAnswer t x y ≡ Answers.At (spotThere (drawingOf t) H i (at x y)))
+    position-inside e = let r = spot-lands x y (on-grid x y e) in (r .leaf, r .holds, chosen true e ∙ r .answer)
+
+    pub position-outside : positionRange x y ≡ false → positionAnswer t x y ≡ Answers.Not Refusals.Argument
+    position-outside e = chosen false e
 
 -- ---- a pixel
 pub sample-on-grid : (row pixel i : ℕ) → row ≤ 4095 → pixel ≤ 4095 → i < 16 → OnGrid (at (sampleX pixel i) (sampleY row i))

@@ -40,9 +40,9 @@ pub data Call : Type 0 where
   opens : Call
   splits : (cell : ℕ) → Call
   grows : (threshold limit : ℕ) → Call
-  -- the position, and the table that takes the seven words of the leaf
+  -- the position, and the table that takes the eight words of the leaf
   finds : (x y : ℕ) (out : List ℕ) → Call
-  -- the position, and the table that takes the six words of what shows
+  -- the position, and the table that takes the ten words of what shows and of how far that reaches
   reads : (x y : ℕ) (out : List ℕ) → Call
   -- the row, its first pixel, and the buffer that takes the pixels
   rows : (row first : ℕ) (out : List ℕ) → Call

@@ -1,13 +1,14 @@
--- Document 01, "The list of demand 3", as a single claim about the list.
+-- Document 01, "The list of demand 3", as a single claim about the list; document 02, Item 4.
 use mathlib.Core.Path.{_≡_}
 use mathlib.Core.Bool.{true, false}
 use mathlib.Core.List.{List, [], _∷_}
 use Prim.Native.Nat.{ℕ, _+_, _*_, _-_, _<_}
 use lib.ListN.{length}
 use Rattle.refusals.specs.declared.Refusal.the-variants as Refusals
-use Rattle.cells.specs.Cells.{at, left, low, side, level}
+use Rattle.geometry.specs.Classes.{Inside}
+use Rattle.cells.specs.Cells.{Position, at, col, row, left, low, side, level}
 use Rattle.cells.specs.Drawings.{Drawing}
-use Rattle.stream.specs.Entry.{linesIn}
+use Rattle.stream.specs.Entry.{linesIn, isUniform}
 use Rattle.tables.specs.Tables.{Tree}
 use Rattle.split.specs.declared.Answer as Splitting
 use Rattle.split.specs.declared.Answer.the-variants as Splits
@@ -21,12 +22,17 @@ use Rattle.find_leaf.specs.declared.FoundLeaf.{FoundLeaf}
 use Rattle.find_leaf.specs.declared.Answer as Finding
 use Rattle.find_leaf.specs.declared.Answer.the-variants as Finds
 use Rattle.find_leaf.specs.Leaf.{positionRange}
+use Rattle.position.specs.declared.Spot.{Spot}
+use Rattle.position.specs.declared.Answer as Reading
+use Rattle.position.specs.declared.Answer.the-variants as Reads
 use Rattle.answers.specs.Answers.{findRoom, outFound}
+use Rattle.answers.specs.Readings.{spotRoom, outSpot}
 use Rattle.demand.specs.History.{Node, begun, afterSplits, cellIn, Leaf, LeafAt}
 use Rattle.demand.specs.Stands.{drawingOf, wordsOfCell, Stands}
-use Rattle.demand.specs.Calls.{Call, opens, splits, grows, finds, reads, rows, logs, isOpening, finding, answerTo, refusal, Given, gives, given}
+use Rattle.demand.specs.Calls.{Call, opens, splits, grows, finds, reads, rows, logs, isOpening, finding, reading, answerTo, refusal, Given, gives, given}
 use Rattle.demand.specs.Calls.{grownCells}
-use Rattle.demand.specs.Shown.{positionGiven, rowGiven, logGiven}
+use Rattle.demand.specs.NoTree.{setShown, materialShown, colourShown, spotShown}
+use Rattle.demand.specs.Shown.{rowGiven, logGiven}
 use Rattle.demand.specs.Lists.{Listed, own, other, Allowed, tablesAfter, nodesAfter}
 
 -- ---- the answers
@@ -59,7 +65,8 @@ GrowRight D n l H K t (Grows.Done k) = (length K ≡ length H + 4 * k) × NoneWa
 GrowRight D n l H K t (Grows.Full k) = (length K ≡ length H + 4 * k) × FullAt D n l K t
 GrowRight D n l H K t (Grows.Not r) = K ≡ H
 
--- a leaf of the history: its number, its square, as many steps as its depth, and the entries and lines of the stream that is made from the drawing
+-- a leaf of the history: its number, its square, as many steps as its depth, and the entries and lines of the stream that is made from the drawing;
+-- document 02: "yes exactly when the leaf's stream holds no line, curve or shortcut"
 abbrev pub reportShown : Drawing → List Node → ℕ → FoundLeaf
 reportShown D H i =
     record {
@@ -70,6 +77,7 @@ reportShown D H i =
       steps = 16 - level (cellIn H i);
       entries = length (wordsOfCell D (cellIn H i));
       lines = linesIn (wordsOfCell D (cellIn H i));
+      uniform = isUniform (wordsOfCell D (cellIn H i));
     }
 
 -- a leaf as it is found, in a table of words: 11 where that is too short
@@ -81,13 +89,37 @@ pub record FindRight (D : Drawing) (H : List Node) (x y : ℕ) (out : List ℕ) 
   pub inside : positionRange x y ≡ true → (i : ℕ) × LeafAt H (at x y) i × (g ≡ foundGiven (Finds.Found (reportShown D H i)) out)
   pub outside : positionRange x y ≡ false → g ≡ foundGiven (Finds.Not Refusals.Argument) out
 
+-- what shows at a position of leaf i of the history, and how far that reaches
+abbrev pub spotThere : Drawing → List Node → (i : ℕ) → Position → Spot
+spotThere D H i p = spotShown D p (cellIn H i) (isUniform (wordsOfCell D (cellIn H i)))
+
+-- an answer at a position, in a table of words: 11 where that is too short
+abbrev pub positionGiven : Reading.Answer → List ℕ → Given
+positionGiven a out = gives (reading (spotRoom a (length out))) (outSpot (spotRoom a (length out)) out)
+
+-- what an answer says is what the drawing shows at q, worked out with no tree
+pub record SaysShown (D : Drawing) (s : Spot) (q : Position) : Type 0 where
+  pub set : s .set ≡ setShown D q
+  pub material : s .material ≡ materialShown D q
+  pub red : s .red ≡ colourShown D q .red
+  pub green : s .green ≡ colourShown D q .green
+  pub blue : s .blue ≡ colourShown D q .blue
+
+-- what the drawing shows at the position, with the leaf that holds it; 7 where the position is out of range
+pub record ReadRight (D : Drawing) (H : List Node) (x y : ℕ) (out : List ℕ) (g : Given) : Type 0 where
+  pub inside : positionRange x y ≡ true → (i : ℕ) × LeafAt H (at x y) i × (g ≡ positionGiven (Reads.At (spotThere D H i (at x y))) out)
+  pub outside : positionRange x y ≡ false → g ≡ positionGiven (Reads.Not Refusals.Argument) out
+  -- document 02: "A yes means that each position of the leaf has this shown set, material and colour.": of the leaf whose square the answer names
+  pub reach : (s : Spot) → g .answer ≡ reading (Reads.At s) → s .uniform ≡ true → (q : Position) → Inside (s .x) (s .y) (s .side) (col q) (row q)
+      → SaysShown D s q
+
 -- what a call gives that is lent the tables of a tree with the history H, over the drawing D
 abbrev pub Right : Drawing → Call → Tree → List Node → Type 0
 Right D opens t H = Unit {0}
 Right D (splits i) t H = SplitRight H i (splitAnswer t i)
 Right D (grows n l) t H = GrowRight D n l H (afterSplits H (grownCells t n l)) (growTree t n l) (growAnswer t n l)
 Right D (finds x y out) t H = FindRight D H x y out (given (finds x y out) t)
-Right D (reads x y out) t H = given (reads x y out) t ≡ positionGiven D x y out
+Right D (reads x y out) t H = ReadRight D H x y out (given (reads x y out) t)
 Right D (rows row first out) t H = given (rows row first out) t ≡ rowGiven D row first out
 Right D (logs px py out) t H = given (logs px py out) t ≡ logGiven D px py out
 

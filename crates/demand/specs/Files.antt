@@ -17,12 +17,12 @@ use Rattle.tables.specs.Tables.{Tree, tree}
 use Rattle.open.specs.declared.Answer.the-variants.{Opened}
 use Rattle.open.specs.Open.{openAnswer, openTree}
 use Rattle.answers.specs.Readings.{spotPut, lowHalf}
-use Rattle.demand.specs.History.{begun}
-use Rattle.demand.specs.NoTree.{materialShown, spotShown}
+use Rattle.demand.specs.History.{Node, begun, LeafAt}
+use Rattle.demand.specs.NoTree.{materialShown}
 use Rattle.demand.specs.Calls.{Call, reads, rows, logs, answerTo, numberBy, refusal, outputAfter}
 use Rattle.demand.specs.Shown.{fillShown, logShown}
-use Rattle.demand.specs.Lists.{Listed, AllAllowed, tablesAfterAll}
-use Rattle.demand.specs.Demand.{Throughout}
+use Rattle.demand.specs.Lists.{Listed, AllAllowed, tablesAfterAll, nodesAfterAll}
+use Rattle.demand.specs.Demand.{spotThere, Throughout}
 
 -- ---- the file
 -- the seven tables after `zones_read` has read the file into the first four of them
@@ -71,19 +71,27 @@ numberShown D (position x y out) = materialShown D (at x y)
 numberShown D (pixels row first out) = 0
 numberShown D (run px py out) = lowHalf (length (logShown D px py))
 
--- and the output afterwards: shown set, material and colour; red, green, blue of each pixel; the indices
-abbrev pub outputShown : Drawing → Shows → List ℕ
-outputShown D (position x y out) = spotPut (spotShown D (at x y)) out
-outputShown D (pixels row first out) = fillShown D row first 0 (length out / 3) out
-outputShown D (run px py out) = sets out 0 (logShown D px py)
+-- leaf i of the history holds the position; a row and a run are of no one leaf
+abbrev pub InLeaf : List Node → Shows → (i : ℕ) → Type 0
+InLeaf H (position x y out) i = LeafAt H (at x y) i
+InLeaf H (pixels row first out) i = Unit {0}
+InLeaf H (run px py out) i = Unit {0}
 
--- what such a call gives, lent the tables t, is what the drawing shows
-pub record GivesShown (D : Drawing) (r : Shows) (t : Tree) : Type 0 where
+-- and the output afterwards: shown set, material and colour, and how far they reach; red, green, blue of each pixel; the indices
+abbrev pub outputShown : Drawing → List Node → (i : ℕ) → Shows → List ℕ
+outputShown D H i (position x y out) = spotPut (spotThere D H i (at x y)) out
+outputShown D H i (pixels row first out) = fillShown D row first 0 (length out / 3) out
+outputShown D H i (run px py out) = sets out 0 (logShown D px py)
+
+-- what such a call gives, lent the tables t of a tree with the history H, is what the drawing shows
+pub record GivesShown (D : Drawing) (H : List Node) (r : Shows) (t : Tree) : Type 0 where
   pub number : numberBy (answerTo (callOf r) t) ≡ numberShown D r
-  pub output : outputAfter (callOf r) t ≡ outputShown D r
+  pub leaf : ℕ
+  pub holds : InLeaf H r leaf
+  pub output : outputAfter (callOf r) t ≡ outputShown D H leaf r
 
 -- after any list of calls that are allowed
 abbrev pub FromFile : Type 0
 FromFile = (file : List ℕ) (t : Tree) → FileOpened file t → (cs : List Listed) → AllAllowed cs (fileTree file t) → (r : Shows)
     → refusal (answerTo (callOf r) (tablesAfterAll cs (fileTree file t))) ≡ 0
-    → GivesShown (drawingOfFile file) r (tablesAfterAll cs (fileTree file t))
+    → GivesShown (drawingOfFile file) (nodesAfterAll cs (fileTree file t) begun) r (tablesAfterAll cs (fileTree file t))

@@ -1,5 +1,6 @@
 -- Document 01, "The list of demand 3": ""with no tree" is by the same section over the whole drawing, pixels and logs too."; document 02, Item 1:
 -- "Pixels are compared with this rule alone."
+use mathlib.Core.Bool.{Bool}
 use Prim.Native.Nat.{ℕ}
 use Rattle.paint.specs.Sets.{setOf}
 use Rattle.paint.specs.Areas.{materialOf}
@@ -8,7 +9,7 @@ use Rattle.paint.specs.Pixels.{pixelOf}
 use Rattle.paint.specs.declared.area.Paint.{Paint}
 use Rattle.paint.specs.declared.colour.Channels.{Channels}
 use Rattle.paint.specs.declared.colour.Colour.{Colour}
-use Rattle.cells.specs.Cells.{Position, at}
+use Rattle.cells.specs.Cells.{Position, at, Cell, left, low, side}
 use Rattle.cells.specs.Drawings.{Drawing, fieldsOf, shownAt}
 use Rattle.position.specs.declared.Spot.{Spot}
 
@@ -28,15 +29,20 @@ module _ (D : Drawing) where
   abbrev pub colourShown : Position → Colour
   colourShown p = colourOf paintOf (setShown p)
 
-  -- the answer at a position
-  abbrev pub spotShown : Position → Spot
-  spotShown p =
+  -- the answer at a position of a leaf on the square c, which is uniform or not; document 02: "Positions hand it on, together with the leaf's low corner and
+  -- side."
+  abbrev pub spotShown : Position → Cell → (uniform : Bool) → Spot
+  spotShown p c u =
       record {
         set = setShown p;
         material = materialShown p;
         red = colourShown p .red;
         green = colourShown p .green;
         blue = colourShown p .blue;
+        uniform = u;
+        x = left c;
+        y = low c;
+        side = side c;
       }
 
   -- document 02: "the unrounded channel sums (before + 127 and the division)"

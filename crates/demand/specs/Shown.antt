@@ -1,4 +1,4 @@
--- Document 01, "The list of demand 3": the answers of the reading calls worked out "with no tree": "by the same section over the whole drawing, pixels and
+-- Document 01, "The list of demand 3": the answers of rows and logs worked out "with no tree": "by the same section over the whole drawing, pixels and
 -- logs too".
 use mathlib.Core.Bool.{cond, _&&_}
 use mathlib.Core.List.{List}
@@ -9,27 +9,15 @@ use lib.Seq.{sets}
 use Rattle.refusals.specs.declared.Refusal.the-variants.{Argument, Room}
 use Rattle.cells.specs.Cells.{at}
 use Rattle.cells.specs.Drawings.{Drawing}
-use Rattle.find_leaf.specs.Leaf.{positionRange}
-use Rattle.position.specs.declared.Answer as Reading
-use Rattle.position.specs.declared.Answer.the-variants as Reads
 use Rattle.pixel_row.specs.declared.RowAnswer.the-variants as Rows
 use Rattle.pixel_row.specs.Rows.{Filled, filled, putPixel}
 use Rattle.zone_log.specs.declared.LogAnswer.{LogAnswer}
 use Rattle.zone_log.specs.declared.LogAnswer.the-variants.{Indices, Not}
 use Rattle.zone_log.specs.Logs.{logFrom, outsideFrom, eachWord}
-use Rattle.answers.specs.Readings.{spotRoom, outSpot}
-use Rattle.demand.specs.NoTree.{materialShown, spotShown, pixelShown}
-use Rattle.demand.specs.Calls.{reading, rowing, logging, Given, gives}
+use Rattle.demand.specs.NoTree.{materialShown, pixelShown}
+use Rattle.demand.specs.Calls.{rowing, logging, Given, gives}
 
 module _ (D : Drawing) where
-  -- the answer at a position; 7 where the position is out of range
-  abbrev pub positionShown : (x y : ℕ) → Reading.Answer
-  positionShown x y = cond (positionRange x y) (Reads.At (spotShown D (at x y))) (Reads.Not Argument)
-
-  -- and in a table of words: 11 where that is too short
-  abbrev pub positionGiven : (x y : ℕ) (out : List ℕ) → Given
-  positionGiven x y out = gives (reading (spotRoom (positionShown x y) (length out))) (outSpot (spotRoom (positionShown x y) (length out)) out)
-
   -- "A row call fills red, green, blue per pixel.": the n pixels of the call from index i on
   abbrev pub fillShown : (row first i n : ℕ) → List ℕ → List ℕ
   fillShown row first i zero out = out
