@@ -61,7 +61,7 @@ findNumber (leaf.Not r) = packed (numberOf r) 0
 
 -- "yes or no" as a word: 1 or 0
 abbrev pub wordOf : Bool → ℕ
-wordOf yes = cond yes 1 0
+wordOf b = cond b 1 0
 
 -- the eight words of a leaf
 abbrev pub leafPut : FoundLeaf → List ℕ → List ℕ
