@@ -124,7 +124,8 @@ pub extern "C" fn zones_grow(
     answers::pack_grow(a)
 }
 
-// Finds the leaf that holds (x, y) and writes seven words: its number, x, y, side, steps, entries, lines. The result is its number.
+// Finds the leaf that holds (x, y) and writes eight words: its number, x, y, side, steps, entries, lines, and 1 where it has no line, curve or shortcut,
+// else 0. The result is its number.
 // Refusals, in this order: 7 (tables of x and y of unequal length, no position), 12, 11. Nothing is changed on a refusal.
 #[no_mangle]
 pub extern "C" fn zones_find_leaf(

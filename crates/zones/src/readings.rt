@@ -7,7 +7,9 @@ ghost use Rattle.zone_log.specs.Logs.{logAnswer, outLogged};
 ghost use Rattle.pixel_row.specs.Rows.{rowFilled};
 ghost use Rattle.answers.specs.Readings.{spotRoom, spotNumber, spotWritten, logNumber, rowNumber};
 
-// What shows at (x, y), written as six words: the low and the high half of the set, material, red, green, blue. The result is the material.
+// What shows at (x, y), and how far that reaches, written as ten words: the low and the high half of the set, material, red, green, blue; 1 where the
+// leaf has no line, curve or shortcut, so that each of its positions has this answer, else 0; the leaf's low corner x, y and its side. The result is the
+// material.
 // Refusals, in this order: 7 (tables of x and y of unequal length, no position), 12, 11. Nothing is changed on a refusal.
 #[no_mangle]
 pub extern "C" fn zones_position(
