@@ -1,4 +1,4 @@
-/* zones.h, version 0.4.0: which drawn area a position lies in.
+/* zones.h, version 0.5.0: which drawn area a position lies in.
  *
  * This header is the manual of libzones.a (made by: rt staticlib zones). A surveyor draws areas, a drawing is a
  * file of records; the library reads it into tables, opens a tree of map cells over it, and answers positions,
@@ -26,7 +26,8 @@
  *
  * Then spot.material is the material at (x, y), spot.colour what to paint there, and zones_shows(&spot, n) tells
  * whether area n shows there. Reading, opening and growing are done once for a drawing; any number of questions
- * follow. samples/where.c is a whole program.
+ * follow, and zones_reaches(&spot, x, y) tells whether the next one is answered already. samples/where.c is a whole
+ * program.
  *
  * All memory is lent by the caller. No call allocates, keeps anything between calls, or has a variable of its own
  * outside its stack: questions about one map may be asked by several threads at a time, and calls on maps apart
@@ -54,9 +55,9 @@ extern "C" {
  * met since. A new MINOR may change tables, records and answers: compile your program again, and read a drawing
  * again rather than keep its tables. A new PATCH changes none of them. */
 #define ZONES_VERSION_MAJOR 0
-#define ZONES_VERSION_MINOR 4
+#define ZONES_VERSION_MINOR 5
 #define ZONES_VERSION_PATCH 0
-#define ZONES_VERSION "0.4.0"
+#define ZONES_VERSION "0.5.0"
 
 /* 3  ANSWERS AND REFUSALS
  *
@@ -242,7 +243,7 @@ static inline const char *zones_refusal_text(uint32_t number) {
 #define ZONES_MOST_POSITION 65535
 
 /* The words that zones_find_leaf writes. */
-#define ZONES_LEAF_WORDS 7
+#define ZONES_LEAF_WORDS 8
 #define ZONES_LEAF_CELL 0    /* its number */
 #define ZONES_LEAF_X 1       /* its low corner */
 #define ZONES_LEAF_Y 2
@@ -250,15 +251,29 @@ static inline const char *zones_refusal_text(uint32_t number) {
 #define ZONES_LEAF_STEPS 4   /* down to it from cell 0: its depth */
 #define ZONES_LEAF_ENTRIES 5 /* of its stream */
 #define ZONES_LEAF_LINES 6   /* those that are lines or curves */
+#define ZONES_LEAF_UNIFORM 7 /* 1 where none is a line, a curve or a shortcut, else 0 */
 
 /* The words that zones_position writes. */
-#define ZONES_POSITION_WORDS 6
+#define ZONES_POSITION_WORDS 10
 #define ZONES_POSITION_SET_LOW 0  /* the areas that show: area n is bit n, n below 32 */
 #define ZONES_POSITION_SET_HIGH 1 /* the same: bit n - 32 */
 #define ZONES_POSITION_MATERIAL 2 /* of the front one, or 0 */
 #define ZONES_POSITION_RED 3      /* over white ground */
 #define ZONES_POSITION_GREEN 4
 #define ZONES_POSITION_BLUE 5
+#define ZONES_POSITION_UNIFORM 6  /* of the leaf that holds the position, as ZONES_LEAF_UNIFORM says it */
+#define ZONES_POSITION_X 7        /* its low corner */
+#define ZONES_POSITION_Y 8
+#define ZONES_POSITION_SIDE 9
+
+/* How far an answer reaches. A leaf is uniform where its stream has no line, no curve and no shortcut. Then each
+ * position of the leaf, x and y from its low corner up to the low corner plus the side less one, has this shown set,
+ * material and colour. A cab tablet that asks at every fix keeps its last answer: as long as that says 1 and the next
+ * fix lies in its square, the answer is the same, and no call is needed. That holds while the map is unchanged: no
+ * split, growing, opening or reading into its tables in between.
+ *
+ * 0 says nothing about the positions around. A leaf with a line or a shortcut in its stream has 0, even where all its
+ * positions show the same. A tree that is cut finer has more leaves with 1, and smaller ones. */
 
 /* Pixels: a row has 4,096 of 16 by 16 units, and there are 4,096 rows. Row 0 is that of the lowest y. */
 #define ZONES_PIXELS 4096 /* of a row; rows too */
@@ -468,7 +483,8 @@ static inline int zones_full(uint64_t answer) { return (zones_result(answer) & Z
  *   x, y                   0 to ZONES_MOST_POSITION
  *   out                    at least ZONES_LEAF_WORDS
  *
- * Result: the number of the leaf. Writes ZONES_LEAF_WORDS words of out.
+ * Result: the number of the leaf. Writes ZONES_LEAF_WORDS words of out, the last of which tells how far an answer
+ * reaches (section 5).
  * Refusals:
  *    7  xs and ys are of unequal length, or x or y is over ZONES_MOST_POSITION
  *   12  as said above; looked at are the path down from cell 0 and the whole stream of the leaf
@@ -484,7 +500,7 @@ uint64_t zones_find_leaf(ZONES_DRAWING, ZONES_CONST_TREE, uint32_t x, uint32_t y
  *   x, y                   0 to ZONES_MOST_POSITION
  *   out                    at least ZONES_POSITION_WORDS
  *
- * Result: the material. Writes ZONES_POSITION_WORDS words of out.
+ * Result: the material. Writes ZONES_POSITION_WORDS words of out: what shows, and how far that reaches (section 5).
  * Refusals:
  *    7  xs and ys are of unequal length, or x or y is over ZONES_MOST_POSITION
  *   12  as said above; looked at are the path down from cell 0 and the whole stream of the leaf
@@ -600,6 +616,7 @@ struct zones_leaf {
     uint32_t steps;   /* down to it: its depth */
     uint32_t entries; /* of its stream */
     uint32_t lines;   /* lines and curves among them */
+    uint32_t uniform; /* 1 where no entry is a line, a curve or a shortcut, else 0 */
 };
 
 /* What shows at a position: the words of zones_position by name. */
@@ -607,6 +624,9 @@ struct zones_spot {
     uint32_t set[2];   /* the areas that show: bit n of set[0] is area n, bit n of set[1] is area 32 + n */
     uint32_t material; /* of the front one, 0 where nothing shows */
     uint32_t colour[ZONES_PIXEL_BYTES]; /* red, green, blue, 0 to 255 each */
+    uint32_t uniform;  /* 1 where the leaf that holds the position is uniform (section 5), else 0 */
+    uint32_t x, y;     /* the low corner of that leaf */
+    uint32_t side;
 };
 
 /* Both are as long as the words that are written to them. */
@@ -621,6 +641,12 @@ static inline uint64_t zones_shown(const struct zones_spot *spot) {
 /* Whether area n shows there: 1 or 0. */
 static inline int zones_shows(const struct zones_spot *spot, uint32_t area) {
     return area < ZONES_MOST_AREAS && ((zones_shown(spot) >> area) & 1) != 0;
+}
+
+/* Whether this answer is known to be that of (x, y) too: 1 where its leaf is uniform and holds (x, y), else 0. Not to
+ * be asked of an answer from before a split, a growing, an opening or a reading. */
+static inline int zones_reaches(const struct zones_spot *spot, uint32_t x, uint32_t y) {
+    return spot->uniform != 0 && x - spot->x < spot->side && y - spot->y < spot->side;
 }
 
 /* Tables as the calls of section 7 take them. */

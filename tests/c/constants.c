@@ -523,7 +523,7 @@ static void entries(void) {
 /* What is read from a tree. */
 
 static void positions(void) {
-    uint32_t out[8];
+    uint32_t out[12];
     for (unsigned k = 0; k < 41; k++) {
         put_area(0, 0, k == 0 ? 128 : 255, k + 300);
         if (k == 0) memcpy(file + 4, "\377\000\000", 3);
@@ -533,8 +533,8 @@ static void positions(void) {
     read_file();
     zones_map_open(&map);
 #define ASK(x, y, words) zones_position(ZONES_LEND_DRAWING(&map), ZONES_LEND_TREE(&map), x, y, out, words)
-    CHECK(ZONES_MOST_POSITION, PASSES(ASK(ZONES_MOST_POSITION, ZONES_MOST_POSITION, 6)));
-    CHECK(ZONES_MOST_POSITION, REFUSED(7, ASK(ZONES_MOST_POSITION + 1, 0, 6)) && REFUSED(7, ASK(0, ZONES_MOST_POSITION + 1, 6)));
+    CHECK(ZONES_MOST_POSITION, PASSES(ASK(ZONES_MOST_POSITION, ZONES_MOST_POSITION, 10)));
+    CHECK(ZONES_MOST_POSITION, REFUSED(7, ASK(ZONES_MOST_POSITION + 1, 0, 10)) && REFUSED(7, ASK(0, ZONES_MOST_POSITION + 1, 10)));
     CHECK(ZONES_POSITION_WORDS, ASK(1, 1, ZONES_POSITION_WORDS) == 300 && REFUSED(11, ASK(1, 1, ZONES_POSITION_WORDS - 1)));
     CHECK(ZONES_POSITION_SET_LOW, out[ZONES_POSITION_SET_LOW] == 1);
     CHECK(ZONES_POSITION_SET_HIGH, out[ZONES_POSITION_SET_HIGH] == 1 << 8);
@@ -542,6 +542,17 @@ static void positions(void) {
     CHECK(ZONES_POSITION_RED, out[ZONES_POSITION_RED] == 128);
     CHECK(ZONES_POSITION_GREEN, out[ZONES_POSITION_GREEN] == 127);
     CHECK(ZONES_POSITION_BLUE, out[ZONES_POSITION_BLUE] == 0);
+    /* The sides of the box are in the stream of cell 0, none in that of the low quarter, and none in that of a cell to its right. */
+    CHECK(ZONES_POSITION_UNIFORM, out[ZONES_POSITION_UNIFORM] == 0);
+    zones_map_split(&map, 0);
+    zones_map_split(&map, 4);
+    ASK(50000, 33000, ZONES_POSITION_WORDS);
+    CHECK(ZONES_POSITION_UNIFORM, out[ZONES_POSITION_UNIFORM] == 1);
+    CHECK(ZONES_POSITION_X, out[ZONES_POSITION_X] == 49152);
+    CHECK(ZONES_POSITION_Y, out[ZONES_POSITION_Y] == 32768);
+    CHECK(ZONES_POSITION_SIDE, out[ZONES_POSITION_SIDE] == 16384);
+    ASK(1, 1, ZONES_POSITION_WORDS);
+    CHECK(ZONES_POSITION_UNIFORM, out[ZONES_POSITION_UNIFORM] == 1 && out[ZONES_POSITION_SIDE] == 32768 && out[ZONES_POSITION_SET_HIGH] == 1 << 8);
 
     triangle();
     zones_map_split(&map, 0);
@@ -553,10 +564,12 @@ static void positions(void) {
     CHECK(ZONES_LEAF_Y, out[ZONES_LEAF_Y] == 32768);
     CHECK(ZONES_LEAF_SIDE, out[ZONES_LEAF_SIDE] == 16384);
     CHECK(ZONES_LEAF_STEPS, out[ZONES_LEAF_STEPS] == 2);
+    CHECK(ZONES_LEAF_UNIFORM, out[ZONES_LEAF_UNIFORM] == 1);
     triangle();
     FIND(ZONES_LEAF_WORDS);
     CHECK(ZONES_LEAF_ENTRIES, out[ZONES_LEAF_ENTRIES] == 4);
     CHECK(ZONES_LEAF_LINES, out[ZONES_LEAF_LINES] == 3);
+    CHECK(ZONES_LEAF_UNIFORM, out[ZONES_LEAF_UNIFORM] == 0);
 }
 
 static void pixels(void) {

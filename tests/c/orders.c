@@ -154,13 +154,13 @@ static uint64_t split_at(uint32_t x, uint32_t y) {
 static uint64_t leaf_with(int faults, uint32_t x) {
     uint32_t out[ZONES_LEAF_WORDS];
     with(faults & ~SHORT);
-    return zones_find_leaf(ZONES_LEND_DRAWING(&map), ZONES_LEND_TREE(&map), x, 0, out, faults & SHORT ? 6 : 7);
+    return zones_find_leaf(ZONES_LEND_DRAWING(&map), ZONES_LEND_TREE(&map), x, 0, out, faults & SHORT ? 7 : 8);
 }
 
 static uint64_t spot_with(int faults, uint32_t x) {
     uint32_t out[ZONES_POSITION_WORDS];
     with(faults & ~SHORT);
-    return zones_position(ZONES_LEND_DRAWING(&map), ZONES_LEND_TREE(&map), x, 0, out, faults & SHORT ? 5 : 6);
+    return zones_position(ZONES_LEND_DRAWING(&map), ZONES_LEND_TREE(&map), x, 0, out, faults & SHORT ? 9 : 10);
 }
 
 static uint64_t row_with(int faults, uint32_t row) { return with(faults), zones_map_pixel_row(&map, row, 0, bytes, 3); }

@@ -36,7 +36,7 @@ static int read_leaf(const struct zones_map *lent, uint32_t x, uint32_t y) {
     memset(out, 77, sizeof out);
     SAME(zones_map_find_leaf(&m, x, y, &leaf), zones_find_leaf(DRAWING, TREE, x, y, out, ZONES_LEAF_WORDS));
     return wrong || leaf.cell != out[0] || leaf.x != out[1] || leaf.y != out[2] || leaf.side != out[3] || leaf.steps != out[4] ||
-           leaf.entries != out[5] || leaf.lines != out[6];
+           leaf.entries != out[5] || leaf.lines != out[6] || leaf.uniform != out[7];
 }
 
 static int read_spot(const struct zones_map *lent, uint32_t x, uint32_t y) {
@@ -49,7 +49,29 @@ static int read_spot(const struct zones_map *lent, uint32_t x, uint32_t y) {
     SAME(zones_map_position(&m, x, y, &spot), zones_position(DRAWING, TREE, x, y, out, ZONES_POSITION_WORDS));
     for (uint32_t k = 0; k < 70; k++) wrong |= zones_shows(&spot, k) != (k < 64 && (out[k / 32] >> k % 32 & 1) == 1);
     return wrong || zones_shown(&spot) != ((uint64_t)out[1] << 32 | out[0]) || spot.material != out[2] || spot.colour[0] != out[3] || spot.colour[1] != out[4] ||
-           spot.colour[2] != out[5];
+           spot.colour[2] != out[5] || spot.uniform != out[6] || spot.x != out[7] || spot.y != out[8] || spot.side != out[9];
+}
+
+/* An answer reaches the positions of its square's corners and none beside them, and none at all where it is not uniform. */
+static int reach(void) {
+    const uint32_t squares[5][3] = {{0, 0, 65536}, {0, 0, 1}, {65535, 65535, 1}, {49152, 16384, 16384}, {0, 32768, 32768}};
+    int wrong = 0;
+    for (int k = 0; k < 5; k++) {
+        const uint32_t x = squares[k][0], y = squares[k][1], side = squares[k][2];
+        const uint32_t in[2] = {0, side - 1}, out[4] = {side, side + 1, 4294967295u, 2147483648u};
+        struct zones_spot spot;
+        memset(&spot, 0, sizeof spot);
+        spot.x = x, spot.y = y, spot.side = side;
+        for (uint32_t yes = 0; yes < 2; yes++) {
+            spot.uniform = yes;
+            for (int one = 0; one < 2; one++) {
+                for (int other = 0; other < 2; other++) wrong |= zones_reaches(&spot, x + in[one], y + in[other]) != (int)yes;
+                for (int other = 0; other < 4; other++)
+                    wrong |= zones_reaches(&spot, x + in[one], y + out[other]) | zones_reaches(&spot, x + out[other], y + in[one]);
+            }
+        }
+    }
+    return wrong;
 }
 
 static int readings(const struct zones_map *lent) {
@@ -101,7 +123,7 @@ int main(int argc, char **argv) {
     const size_t length = fread(file, 1, sizeof file, drawing);
     fclose(drawing);
     struct zones_map whole = zones_map_of(&a), m = whole;
-    int wrong = nothing() | every_call(whole, length) | every_call(whole, length - 1);
+    int wrong = nothing() | reach() | every_call(whole, length) | every_call(whole, length - 1);
     m.cells.length = 8 * 50, wrong |= every_call(m, length), m = whole;
     m.entries.length = 4 * 90, wrong |= every_call(m, length), m = whole;
     m.head.length = 1, wrong |= every_call(m, length), m = whole;

@@ -19,7 +19,7 @@ static void say(const char *what, uint64_t answer, const uint32_t *words, size_t
 }
 
 int main(void) {
-    uint32_t plan[3] = {77, 77, 77}, head[2] = {77, 77}, cells[CELLS * 8] = {0}, out[7], one[1] = {5};
+    uint32_t plan[3] = {77, 77, 77}, head[2] = {77, 77}, cells[CELLS * 8] = {0}, out[10], one[1] = {5};
     uint8_t pixel[3] = {77, 77, 77}, bytes[1] = {1};
 
     say("read nothing to nothing", zones_read(NONE, NO_DRAWING), NULL, 0);
@@ -47,11 +47,11 @@ int main(void) {
 
     say("find in no tree", zones_find_leaf(NO_DRAWING, NO_TREE, 0, 0, NONE), NULL, 0);
     say("find, no word", zones_find_leaf(DRAWING, TREE, 0, 0, NONE), NULL, 0);
-    say("find", zones_find_leaf(DRAWING, TREE, 40000, 50000, out, 7), out, 7);
+    say("find", zones_find_leaf(DRAWING, TREE, 40000, 50000, out, 8), out, 8);
 
     say("position in no tree", zones_position(NO_DRAWING, NO_TREE, 0, 0, NONE), NULL, 0);
     say("position, no word", zones_position(DRAWING, TREE, 0, 0, NONE), NULL, 0);
-    say("position", zones_position(DRAWING, TREE, 40000, 50000, out, 6), out, 6);
+    say("position", zones_position(DRAWING, TREE, 40000, 50000, out, 10), out, 10);
 
     say("no pixel of no tree", zones_pixel_row(NO_DRAWING, NO_TREE, 0, 0, NONE), NULL, 0);
     say("no pixel of row 4096", zones_pixel_row(NO_DRAWING, NO_TREE, 4096, 0, NONE), NULL, 0);

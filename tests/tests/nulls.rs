@@ -28,10 +28,10 @@ grow no tree, a limit of 17: 7 0
 grow with no entry: 0 0; 5 0
 find in no tree: 12 0
 find, no word: 11 0
-find: 0 4; 4 32768 32768 32768 1 0 0
+find: 0 4; 4 32768 32768 32768 1 0 0 1
 position in no tree: 12 0
 position, no word: 11 0
-position: 0 0; 0 0 0 255 255 255
+position: 0 0; 0 0 0 255 255 255 1 32768 32768 32768
 no pixel of no tree: 0 0
 no pixel of row 4096: 7 0
 a pixel of no tree: 12 0
