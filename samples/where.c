@@ -1,5 +1,5 @@
-/* where DRAWING X Y: which area a position lies in. Reads a file of records, opens and grows a tree over it, and asks for the position. Exit status: 1
- * where the library refuses, 2 where the arguments or the file are no use.
+/* where DRAWING X Y: which area a position lies in. Reads a file of records, opens and grows a tree over it, and asks for the position. Where the answer
+ * is that of each position of a square, a second line says which. Exit status: 1 where the library refuses, 2 where the arguments or the file are no use.
  *
  *     cc -O2 -Iinclude samples/where.c target/staticlib/libzones.a -o target/where
  *     target/where samples/pit.zones 40000 30000
@@ -65,5 +65,9 @@ int main(int argc, char **argv) {
     if (refused("position", zones_map_position(&map, place[0], place[1], &spot))) return 1;
     printf("material %u, colour %u %u %u\n", (unsigned)spot.material, (unsigned)spot.colour[0], (unsigned)spot.colour[1],
            (unsigned)spot.colour[2]);
+    /* A tablet that asks at every fix need not ask again where zones_reaches(&spot, x, y). */
+    if (spot.uniform)
+        printf("the same for x %u to %u, y %u to %u\n", (unsigned)spot.x, (unsigned)(spot.x + spot.side - 1), (unsigned)spot.y,
+               (unsigned)(spot.y + spot.side - 1));
     return 0;
 }

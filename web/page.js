@@ -211,15 +211,15 @@ function rowOfMeans(data, y, { left, units, width }) {
 }
 
 function rowOfPositions(data, y, { left, units, width }) {
-    let before = -1;
+    // The colour in hand is that of each x below this.
+    let reach = 0;
     for (let i = 0; i < width; i++) {
         const x = Math.floor(left + (i + 0.5) * units);
         if (x < 0 || x > LAST) {
             put(data, i, ...OUTSIDE);
             continue;
         }
-        if (x !== before) zones.colour(x, y);
-        before = x;
+        if (x >= reach) reach = zones.colour(x, y);
         put(data, i, zones.words[3], zones.words[4], zones.words[5]);
     }
 }
@@ -369,7 +369,8 @@ function positionText({ x, y, leaf }, { shown, material, colour }) {
         parts.push(tag("p", "Areas that show, front first:", "small"), table(["area", "material", "alpha", "colour"], rows));
     }
     const where = `cell ${leaf.cell}: side ${leaf.side} at ${leaf.x}, ${leaf.y}; depth ${leaf.depth}, entries ${leaf.entries}, lines ${leaf.lines}`;
-    parts.push(tag("p", `The leaf around it, ${where}.`, "small"));
+    const reach = leaf.uniform ? "Each position of it shows the same." : "Its stream has a line, a curve or a shortcut.";
+    parts.push(tag("p", `The leaf around it, ${where}. ${reach}`, "small"));
     return parts;
 }
 

@@ -13,8 +13,8 @@ const MOST = {
 };
 const AREA_WORDS = 8;
 const CELL_WORDS = 8;
-const POSITION_WORDS = 6;
-const LEAF_WORDS = 7;
+const POSITION_WORDS = 10;
+const LEAF_WORDS = 8;
 const FULL = 2 ** 31;
 const WIDTH = 65536;
 
@@ -88,8 +88,8 @@ class Zones {
         this.lend = (name, length = tables[name].length) => [tables[name].at, BigInt(length)];
         this.drawing = ["plan", "areas", "xs", "ys"].flatMap((name) => this.lend(name));
         this.lent = [...this.drawing, ...["head", "cells", "entries"].flatMap((name) => this.lend(name))];
-        this.sixWords = this.lend("words", POSITION_WORDS);
-        this.sevenWords = this.lend("words", LEAF_WORDS);
+        this.positionWords = this.lend("words", POSITION_WORDS);
+        this.leafWords = this.lend("words", LEAF_WORDS);
         this.threeBytes = this.lend("row", 3);
     }
 
@@ -124,22 +124,24 @@ class Zones {
     }
 
     position(x, y) {
-        this.result(this.calls.zones_position(...this.lent, x, y, ...this.sixWords));
-        const [low, high, material, red, green, blue] = this.words;
+        this.result(this.calls.zones_position(...this.lent, x, y, ...this.positionWords));
+        const [low, high, material, red, green, blue, uniform, left, bottom, side] = this.words;
         const shown = [];
         for (let i = 0; i < 64; i++) if (((i < 32 ? low : high) >>> i % 32) & 1) shown.push(i);
-        return { shown, material, colour: [red, green, blue] };
+        return { shown, material, colour: [red, green, blue], uniform: uniform === 1, leaf: { x: left, y: bottom, side } };
     }
 
-    // The colour alone, for pictures: words 3, 4 and 5 of `words`.
+    // The colour alone, for pictures: words 3, 4 and 5 of `words`. Gives the first x to the right, in this row, that the answer does not reach.
     colour(x, y) {
-        this.result(this.calls.zones_position(...this.lent, x, y, ...this.sixWords));
+        this.result(this.calls.zones_position(...this.lent, x, y, ...this.positionWords));
+        const [uniform, left, , side] = this.words.subarray(6);
+        return uniform === 1 ? left + side : x + 1;
     }
 
     findLeaf(x, y) {
-        this.result(this.calls.zones_find_leaf(...this.lent, x, y, ...this.sevenWords));
-        const [cell, left, bottom, side, depth, entries, lines] = this.words;
-        return { cell, x: left, y: bottom, side, depth, entries, lines };
+        this.result(this.calls.zones_find_leaf(...this.lent, x, y, ...this.leafWords));
+        const [cell, left, bottom, side, depth, entries, lines, uniform] = this.words;
+        return { cell, x: left, y: bottom, side, depth, entries, lines, uniform: uniform === 1 };
     }
 
     // Pixels of a row into `row`, red, green and blue of each.

@@ -170,7 +170,8 @@ pub fn find_leaf(
     )
 }
 
-/// Reads what shows at a position and writes its words ([`Position::of`](crate::Position::of)); gives the material.
+/// Reads what shows at a position, and how far that reaches, and writes its words ([`Position::of`](crate::Position::of)); gives the
+/// material.
 ///
 /// Refusals: 7, 12, 11 where `out` has under [`POSITION_WORDS`](crate::POSITION_WORDS) words. A refusal leaves `out` as it was.
 pub fn position(

@@ -38,9 +38,9 @@ pub const ADVISED_THRESHOLD: u32 = 2;
 pub const ADVISED_DEPTH: u32 = 8;
 
 /// Words that [`find_leaf`](crate::find_leaf) writes.
-pub const LEAF_WORDS: usize = 7;
+pub const LEAF_WORDS: usize = 8;
 /// Words that [`position`](crate::position) writes.
-pub const POSITION_WORDS: usize = 6;
+pub const POSITION_WORDS: usize = 10;
 /// Bytes of a pixel: red, green, blue.
 pub const PIXEL_BYTES: usize = 3;
 /// Units of a pixel to either side.

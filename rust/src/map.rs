@@ -178,6 +178,8 @@ impl Map {
     /// // Cells 1 to 4 are the quarters: low x low y, high x low y, low x high y, high x high y.
     /// let leaf = map.find_leaf(40_000, 30_000)?;
     /// assert_eq!((leaf.cell, leaf.x, leaf.y, leaf.side, leaf.steps), (2, 32_768, 0, 32_768, 1));
+    /// // No line, curve or shortcut stands in its stream.
+    /// assert!(leaf.uniform);
     /// # Ok::<(), zones::Refused>(())
     /// ```
     pub fn find_leaf(&self, x: u32, y: u32) -> Result<Leaf, Refused> {
@@ -186,7 +188,7 @@ impl Map {
         Ok(Leaf::of(&words))
     }
 
-    /// What shows at a position.
+    /// What shows at a position, and how far that reaches ([`Position::reaches`]).
     pub fn position(&self, x: u32, y: u32) -> Result<Position, Refused> {
         let mut words = [0; POSITION_WORDS];
         crate::position(self.drawing(), self.tree(), x, y, &mut words)?;

@@ -38,12 +38,14 @@ pub struct Leaf {
     pub entries: u32,
     /// How many of its entries are lines or curves.
     pub lines: u32,
+    /// Whether no entry is a line, a curve or a shortcut: then each position of the leaf shows the same ([`Position::reaches`]).
+    pub uniform: bool,
 }
 
 impl Leaf {
     /// The words of a leaf.
     pub const fn of(words: &[u32; LEAF_WORDS]) -> Leaf {
-        let [cell, x, y, side, steps, entries, lines] = *words;
+        let [cell, x, y, side, steps, entries, lines, uniform] = *words;
         Leaf {
             cell,
             x,
@@ -52,11 +54,12 @@ impl Leaf {
             steps,
             entries,
             lines,
+            uniform: uniform != 0,
         }
     }
 }
 
-/// What shows at a position.
+/// What shows at a position, and how far that reaches.
 #[derive(Clone, Copy, PartialEq, Eq, Hash, Debug)]
 pub struct Position {
     /// The shown set: bit n is area n.
@@ -65,17 +68,49 @@ pub struct Position {
     pub material: u32,
     /// Red, green, blue.
     pub colour: [u8; 3],
+    /// Whether the stream of the leaf that holds the position has no line, curve or shortcut: then each position of the leaf has this
+    /// shown set, material and colour. Where it has one, nothing is said about the positions around.
+    pub uniform: bool,
+    /// The low corner of that leaf.
+    pub x: u32,
+    pub y: u32,
+    /// Its side.
+    pub side: u32,
 }
 
 impl Position {
     /// The words of a position.
     pub const fn of(words: &[u32; POSITION_WORDS]) -> Position {
-        let [low, high, material, red, green, blue] = *words;
+        let [low, high, material, red, green, blue, uniform, x, y, side] = *words;
         Position {
             shown: (high as u64) << 32 | low as u64,
             material,
             colour: [red as u8, green as u8, blue as u8],
+            uniform: uniform != 0,
+            x,
+            y,
+            side,
         }
+    }
+
+    /// Whether this answer is known to be that of (x, y) too: the leaf is uniform and holds (x, y). A cab tablet that asks at every fix
+    /// needs no call where it is. Not to be asked of an answer from before a split, a growing, an opening or a reading.
+    ///
+    /// ```
+    /// use zones::Map;
+    ///
+    /// // The empty drawing is the white ground everywhere.
+    /// let mut map = Map::read(&[])?;
+    /// map.open()?;
+    /// map.split(0)?;
+    /// let here = map.position(40_000, 30_000)?;
+    /// assert_eq!((here.uniform, here.x, here.y, here.side), (true, 32_768, 0, 32_768));
+    /// assert!(here.reaches(32_768, 0) && here.reaches(65_535, 32_767));
+    /// assert!(!here.reaches(32_767, 30_000) && !here.reaches(40_000, 32_768));
+    /// # Ok::<(), zones::Refused>(())
+    /// ```
+    pub const fn reaches(&self, x: u32, y: u32) -> bool {
+        self.uniform && x.wrapping_sub(self.x) < self.side && y.wrapping_sub(self.y) < self.side
     }
 
     /// Whether an area shows.

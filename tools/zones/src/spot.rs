@@ -24,8 +24,9 @@ pub fn run(args: &Args) -> Result<(), Fault> {
     } = position;
     let [red, green, blue] = colour;
     let leaf = leaf_text(&leaf);
+    let reach = reach_text(&position);
     output::print(&format!(
-        "position  {x},{y}\nmaterial  {material}\ncolour    {red} {green} {blue}\n{areas}{leaf}"
+        "position  {x},{y}\nmaterial  {material}\ncolour    {red} {green} {blue}\n{areas}{leaf}{reach}"
     ))
 }
 
@@ -80,10 +81,29 @@ fn leaf_text(leaf: &Leaf) -> String {
         steps,
         entries,
         lines,
+        ..
     } = leaf;
-    let high = |low: &u32| low + side - 1;
-    let (right, top) = (high(x), high(y));
-    format!(
-        "leaf      cell {cell}: x {x} to {right}, y {y} to {top}; depth {steps}, entries {entries}, lines {lines}\n"
-    )
+    let square = square_text(*x, *y, *side);
+    format!("leaf      cell {cell}: {square}; depth {steps}, entries {entries}, lines {lines}\n")
+}
+
+/// How far the answer reaches: the whole leaf, or no further than is asked.
+fn reach_text(position: &Position) -> String {
+    let Position {
+        uniform,
+        x,
+        y,
+        side,
+        ..
+    } = *position;
+    match uniform {
+        true => format!("reach     the same for {}\n", square_text(x, y, side)),
+        false => "reach     this position: the leaf's stream has a line, a curve or a shortcut\n"
+            .to_string(),
+    }
+}
+
+fn square_text(x: u32, y: u32, side: u32) -> String {
+    let (right, top) = (x + side - 1, y + side - 1);
+    format!("x {x} to {right}, y {y} to {top}")
 }

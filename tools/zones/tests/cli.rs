@@ -415,17 +415,20 @@ fn positions() {
         text.lines().take(5).collect::<Vec<_>>().join("\n") + "\n",
         words
     );
-    let leaf = text.lines().nth(5).expect("a line");
+    let rest: Vec<&str> = text.lines().skip(5).collect();
+    let [leaf, reach] = rest[..] else {
+        panic!("two lines more: {text}");
+    };
     assert!(leaf.starts_with("leaf      cell "), "{leaf}");
+    assert!(reach.starts_with("reach     "), "{reach}");
     let records = at("samples/pit.zones", "45000", "31000");
-    assert_eq!(
-        records,
-        format!("{}{leaf}\n", expected.replace("AT", "").replace("OVER", ""))
-    );
+    let said = expected.replace("AT", "").replace("OVER", "");
+    assert_eq!(records, format!("{said}{leaf}\n{reach}\n"));
     assert_eq!(
         at("samples/quarter.zones", "65535", "65535"),
         "position  65535,65535\nmaterial  0\ncolour    255 255 255\nareas     none, the white ground\n\
-         leaf      cell 0: x 0 to 65535, y 0 to 65535; depth 0, entries 2, lines 1\n"
+         leaf      cell 0: x 0 to 65535, y 0 to 65535; depth 0, entries 2, lines 1\n\
+         reach     this position: the leaf's stream has a line, a curve or a shortcut\n"
     );
     let split = done(&[
         "where",
@@ -439,7 +442,8 @@ fn positions() {
     let split = String::from_utf8(split).expect("text");
     assert!(
         split.ends_with(
-            "leaf      cell 1: x 0 to 32767, y 0 to 32767; depth 1, entries 1, lines 0\n"
+            "leaf      cell 1: x 0 to 32767, y 0 to 32767; depth 1, entries 1, lines 0\n\
+             reach     the same for x 0 to 32767, y 0 to 32767\n"
         ),
         "{split}"
     );
@@ -638,8 +642,8 @@ fn help() {
     assert!(whole.contains("Exit status: 0 done; 1 refused"));
     assert!(whole.lines().all(|line| line.len() <= 80));
     assert_eq!(done(&["help"]), whole.as_bytes());
-    assert_eq!(done(&["--version"]), b"zones 0.4.0\n");
-    assert_eq!(done(&["-V"]), b"zones 0.4.0\n");
+    assert_eq!(done(&["--version"]), b"zones 0.5.0\n");
+    assert_eq!(done(&["-V"]), b"zones 0.5.0\n");
 }
 
 #[test]
