@@ -223,8 +223,8 @@ pub fn grow(
     (answer, after)
 }
 
-/// Words that a leaf found is written to: cell, x, y, side, steps, entries, lines.
-pub const LEAF_WORDS: usize = 7;
+/// Words that a leaf found is written to: cell, x, y, side, steps, entries, lines, uniform.
+pub const LEAF_WORDS: usize = 8;
 
 /// Finds a leaf by both, for an output with other words in it.
 pub fn find_leaf(
@@ -250,7 +250,8 @@ pub fn find_leaf(
             let written = found.and_then(|leaf| {
                 let Square { x, y, side } = leaf.square;
                 let (entries, lines) = (leaf.entries(), leaf.lines());
-                let words = [leaf.cell, x, y, side, leaf.steps, entries, lines];
+                let (cell, steps, uniform) = (leaf.cell, leaf.steps, leaf.uniform().into());
+                let words = [cell, x, y, side, steps, entries, lines, uniform];
                 let room = by_second.table_mut().get_mut(..LEAF_WORDS);
                 room.ok_or(refusal(11, 0))?.copy_from_slice(&words);
                 Ok(leaf.cell)

@@ -91,10 +91,13 @@ pub fn all_calls(random: &mut Random, tables: &Tables, tree: &TreeTables, tally:
 
     let found = tree::find_leaf(drawing, tree.view(), x, y);
     note("find", found.as_ref().err().map(|refusal| refusal.number));
-    let reading = query::position(drawing, tree.view(), x, y);
-    assert_eq!(reading.is_ok(), found.is_ok());
-    if let (Err(one), Err(other)) = (&reading, &found) {
-        assert_eq!(one, other);
+    let spot = query::position(drawing, tree.view(), x, y);
+    match (&spot, &found) {
+        (Ok(spot), Ok(leaf)) => {
+            assert_eq!((spot.uniform, spot.square), (leaf.uniform(), leaf.square));
+        }
+        (Err(one), Err(other)) => assert_eq!(one, other),
+        _ => panic!("position and leaf: {spot:?} {found:?}"),
     }
 
     let mut out = [0xA5; 3 * 40];

@@ -1,7 +1,8 @@
 //! The answers from a tree: positions, pixel rows and zone logs.
 
+use crate::class::Square;
 use crate::drawing::{refusal, Refusal};
-use crate::meaning::{channel_sums, log, pixel, samples, Drawing, Reading};
+use crate::meaning::{channel_sums, log, material, pixel, samples, Drawing, Reading};
 use crate::stream;
 use crate::tree::{leaf_at, off_the_grid, Tree};
 
@@ -16,17 +17,31 @@ fn shown_at(drawing: Drawing, tree: Tree, x: u32, y: u32) -> Option<u64> {
     Some(stream::shown(drawing, &leaf.stream, x, y))
 }
 
-fn reading_at(drawing: Drawing, tree: Tree, x: u32, y: u32) -> Option<Reading> {
-    let shown = shown_at(drawing, tree, x, y)?;
-    Some(Reading::of_set(drawing, shown))
+/// What a position answers: what shows there, and, by document 02, Item 4, the leaf reading's yes or
+/// no. "Positions hand it on, together with the leaf's low corner and side."
+#[derive(Clone, Copy, PartialEq, Eq, Debug)]
+pub struct Spot {
+    pub reading: Reading,
+    pub uniform: bool,
+    pub square: Square,
 }
 
-/// Shown set, material and colour at a position. Refusals: 7, 12.
-pub fn position(drawing: Drawing, tree: Tree, x: u32, y: u32) -> Result<Reading, Refusal> {
+fn spot_at(drawing: Drawing, tree: Tree, x: u32, y: u32) -> Option<Spot> {
+    let leaf = leaf_at(drawing, tree, x, y)?;
+    let shown = stream::shown(drawing, &leaf.stream, x, y);
+    Some(Spot {
+        reading: Reading::of_set(drawing, shown),
+        uniform: leaf.uniform(),
+        square: leaf.square,
+    })
+}
+
+/// Shown set, material and colour at a position, and how far they reach. Refusals: 7, 12.
+pub fn position(drawing: Drawing, tree: Tree, x: u32, y: u32) -> Result<Spot, Refusal> {
     if drawing.xs.len() != drawing.ys.len() || off_the_grid(x, y) {
         return Err(refusal(7, 0));
     }
-    reading_at(drawing, tree, x, y).ok_or(refusal(12, 0))
+    spot_at(drawing, tree, x, y).ok_or(refusal(12, 0))
 }
 
 /// Fills red, green, blue for each pixel of `out`, from pixel `first` of a row on. Refusals: 7; 12
@@ -76,7 +91,7 @@ pub fn zone_log(
     }
     let materials: Option<Vec<u32>> = run
         .iter()
-        .map(|(x, y)| Some(reading_at(drawing, tree, *x, *y)?.material))
+        .map(|(x, y)| Some(material(drawing, shown_at(drawing, tree, *x, *y)?)))
         .collect();
     let indices = log(&materials.ok_or(refusal(12, 0))?);
     if indices.len() > out.len() {

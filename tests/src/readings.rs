@@ -4,22 +4,33 @@
 use std::fmt::Debug;
 use std::hint::black_box;
 
+use crate::class::Square;
 use crate::compare;
 use crate::drawing::{refusal, Refusal};
 use crate::lent::{Lent, LentTables, LentTree};
 use crate::meaning::{Drawing, Reading};
-use crate::query;
+use crate::query::{self, Spot};
 use crate::tree::Tree;
 use crate::zones::{self, Answer};
 
-/// Words that a reading is written to.
-pub const SPOT_WORDS: usize = 6;
+/// Words that a position is written to.
+pub const SPOT_WORDS: usize = 10;
+/// The first of them, which say what shows.
+pub const SHOWN_WORDS: usize = 6;
 
 /// The low and the high half of the set, material, red, green, blue.
-pub fn spot_words(reading: Reading) -> [u32; SPOT_WORDS] {
+pub fn shown_words(reading: Reading) -> [u32; SHOWN_WORDS] {
     let [red, green, blue] = reading.colour;
     let (low, high) = (reading.shown as u32, (reading.shown >> 32) as u32);
     [low, high, reading.material, red, green, blue]
+}
+
+/// Those, then 1 for yes or 0 for no, the low corner of the leaf and its side.
+pub fn spot_words(spot: Spot) -> [u32; SPOT_WORDS] {
+    let [low, high, material, red, green, blue] = shown_words(spot.reading);
+    let Square { x, y, side } = spot.square;
+    let uniform = spot.uniform.into();
+    [low, high, material, red, green, blue, uniform, x, y, side]
 }
 
 /// A drawing and a tree that are only read: the library has copies of its own.
@@ -77,11 +88,11 @@ impl Reader<'_> {
             blank,
             |drawing, tree, out| zones::position(drawing, tree, x, y, out),
             |drawing, tree, out| {
-                let reading = query::position(drawing, tree, x, y)?;
+                let spot = query::position(drawing, tree, x, y)?;
                 // "another output table too short for the whole result"
                 let room = out.get_mut(..SPOT_WORDS).ok_or(refusal(11, 0))?;
-                room.copy_from_slice(&spot_words(reading));
-                Ok(reading.material)
+                room.copy_from_slice(&spot_words(spot));
+                Ok(spot.reading.material)
             },
         );
         if let Answer::Refused { place, .. } = answer {

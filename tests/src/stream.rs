@@ -1,6 +1,6 @@
 //! Streams: entries and their words, the check of a lent stream, the stream of a drawing, a stream
 //! in a smaller square, and a stream read at a position. Document 01, "Cells" and "From the state",
-//! with the curves of document 02, Item 2.
+//! with the curves of document 02, Item 2, and the yes or no of its Item 4.
 
 use crate::class::{self, Class, Square};
 use crate::curve;
@@ -112,6 +112,11 @@ pub fn words(stream: &[Entry]) -> Vec<u32> {
 /// How many lines a stream has, curves among them: shortcuts are none.
 pub fn lines(stream: &[Entry]) -> u32 {
     stream.iter().filter(|entry| entry.is_line()).count() as u32
+}
+
+/// Document 02, Item 4: "yes exactly when the leaf's stream holds no line, curve or shortcut."
+pub fn uniform(stream: &[Entry]) -> bool {
+    !stream.iter().any(Entry::is_segment)
 }
 
 // ---- the check ----

@@ -397,6 +397,11 @@ impl Leaf {
     pub fn lines(&self) -> u32 {
         stream::lines(&self.stream)
     }
+
+    /// Document 02, Item 4: "The leaf reading shall also say yes or no".
+    pub fn uniform(&self) -> bool {
+        stream::uniform(&self.stream)
+    }
 }
 
 /// "out of range" for a position.

@@ -93,12 +93,12 @@ pub fn grow(drawing: Drawing, tree: &mut TreeMut, threshold: u32, limit: u32) ->
     grown.map(result).into()
 }
 
-/// Finds the leaf at a position and writes its seven words; accepted: its number.
+/// Finds the leaf at a position and writes its eight words; accepted: its number.
 pub fn find_leaf(drawing: Drawing, tree: Tree, x: u32, y: u32, out: &mut [u32]) -> Answer {
     ::zones::find_leaf(drawing.into(), tree.into(), x, y, out).into()
 }
 
-/// Reads at a position and writes six words; accepted: the material.
+/// Reads at a position and writes ten words; accepted: the material.
 pub fn position(drawing: Drawing, tree: Tree, x: u32, y: u32, out: &mut [u32]) -> Answer {
     ::zones::position(drawing.into(), tree.into(), x, y, out).into()
 }

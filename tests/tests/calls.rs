@@ -59,7 +59,7 @@ fn find(random: &mut Random, sample: &Sample, tally: &mut Tally) {
         1 => y = random.pick(&[65_536, 131_071, u32::MAX]),
         _ => {}
     }
-    let words = random.pick(&[7, 7, 7, 8, 10, 6, 5, 0]);
+    let words = random.pick(&[8, 8, 8, 9, 12, 7, 7, 0]);
     let words: Vec<u32> = (0..words).map(|_| random.word()).collect();
     let blank = lent_words(random, &words);
     tally.note_call("find", sample.find_leaf((x, y), &blank).0);

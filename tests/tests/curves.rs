@@ -6,7 +6,7 @@ use std::ops::RangeInclusive;
 
 use zones_tests::bends::{self, Corner};
 use zones_tests::class::{self, Class, Square};
-use zones_tests::compare;
+use zones_tests::compare::{self, LEAF_WORDS};
 use zones_tests::curve::{self, Curve, Segment, MOST_SPAN};
 use zones_tests::damage;
 use zones_tests::drawing::{
@@ -25,7 +25,7 @@ use zones_tests::probe;
 use zones_tests::prune::{prune, prune_in_any_order};
 use zones_tests::query::{self, CHANNELS};
 use zones_tests::random::Random;
-use zones_tests::readings::{spot_words, SPOT_WORDS};
+use zones_tests::readings::{shown_words, SHOWN_WORDS, SPOT_WORDS};
 use zones_tests::record::{corner, letters, Record};
 use zones_tests::sample::Sample;
 use zones_tests::samples::{self, Tables};
@@ -1017,12 +1017,12 @@ fn a_kept_curve_is_one_line() {
     // From (0, 0) over (4096, 0) to (4096, 4096): below the chord. Cell 0 keeps it.
     let corners = [(0, 0), (4_096, 0), (4_096, 4_096)];
     let mut sample = read_and_open(random, &area_of(corners));
-    let blank = lent_words(random, &[77; 7]);
+    let blank = lent_words(random, &[77; LEAF_WORDS]);
     let (answer, out) = sample.find_leaf((0, 0), &blank);
     assert_eq!(answer, Answer::Accepted(0));
-    // Cell 0, its square, no steps, two entries (the area and the curve), one line. The upright side at
-    // x = 0 counts nowhere and is dropped; level ones have no rows.
-    assert_eq!(out.table(), [0, 0, 0, 65_536, 0, 2, 1]);
+    // Cell 0, its square, no steps, two entries (the area and the curve), one line, and so not uniform.
+    // The upright side at x = 0 counts nowhere and is dropped; level ones have no rows.
+    assert_eq!(out.table(), [0, 0, 0, 65_536, 0, 2, 1, 0]);
     let words = &sample.tree.view().entries[..8];
     assert_eq!(words, [4, 0, 0, 0, 8, 0, 0, 0]);
     // Growing with threshold 1 splits nothing, with threshold 0 down to the limit.
@@ -1030,7 +1030,7 @@ fn a_kept_curve_is_one_line() {
     assert_eq!(sample.grow(0, 4), Answer::Accepted(4));
     // The leaf of side 4,096 holds the curve whole.
     let (_, out) = sample.find_leaf((0, 0), &blank);
-    assert_eq!(out.table()[1..], [0, 0, 4_096, 4, 2, 1]);
+    assert_eq!(out.table()[1..], [0, 0, 4_096, 4, 2, 1, 0]);
     // In its quarters: left of the curve above, right below; the upper left quarter lies left of the
     // curve in all its rows, the lower right one holds its lower part.
     assert_eq!(sample.grow(0, 5), Answer::Accepted(1));
@@ -1102,7 +1102,8 @@ fn readings(random: &mut Random, sample: &Sample, scene: Option<&Scene>, tally: 
         let (answer, out) = reader.position((x, y), &blank);
         tally.note_call("position", answer);
         if let (Some(scene), Answer::Accepted(_)) = (scene, answer) {
-            assert_eq!(out.table(), spot_words(scene.position(x, y)));
+            let shown = shown_words(scene.position(x, y));
+            assert_eq!(out.table()[..SHOWN_WORDS], shown);
         }
     }
     let (x, y) = scenes::any_position(random, &sample.tables);
@@ -1373,9 +1374,10 @@ fn the_fast_form_answers_as_the_literal_one() {
         assert_eq!(grown, by_literal);
         assert!(by_fast == literal);
         let (x, y) = scenes::any_position(random, &tables);
-        if let Ok(reading) = query::position(drawing, literal.view(), x, y) {
+        if let Ok(spot) = query::position(drawing, literal.view(), x, y) {
             let leaf = tree::find_leaf(drawing, literal.view(), x, y).expect("a leaf is found");
-            assert_eq!(reading.shown, machine::shown(drawing, &leaf.stream, x, y));
+            let shown = machine::shown(drawing, &leaf.stream, x, y);
+            assert_eq!(spot.reading.shown, shown);
         }
     }
 }

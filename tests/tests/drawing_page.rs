@@ -3,11 +3,12 @@
 
 use std::fs;
 
+use zones_tests::compare::LEAF_WORDS;
 use zones_tests::drawing::{AREA_WORDS, MOST_AREAS, MOST_CORNERS, MOST_RECORDS, PLAN_COUNTS};
 use zones_tests::meaning::{Drawing, Scene};
 use zones_tests::pages;
 use zones_tests::query::CHANNELS;
-use zones_tests::readings::SPOT_WORDS;
+use zones_tests::readings::{shown_words, SHOWN_WORDS, SPOT_WORDS};
 use zones_tests::record::letters;
 use zones_tests::samples::Tables;
 use zones_tests::stream::Entry;
@@ -105,15 +106,15 @@ fn trees(drawing: Drawing) -> Vec<TreeTables> {
     grown.into()
 }
 
-/// The six words at a position, the same by every tree and with none.
-fn position(tables: &Tables, x: u32, y: u32) -> [u32; SPOT_WORDS] {
+/// The words of what shows at a position, the same by every tree and with none.
+fn position(tables: &Tables, x: u32, y: u32) -> [u32; SHOWN_WORDS] {
     let drawing = Drawing::of(tables);
-    let plain = zones_tests::readings::spot_words(Scene::of(drawing).position(x, y));
+    let plain = shown_words(Scene::of(drawing).position(x, y));
     for tree in trees(drawing) {
         let mut out = [0; SPOT_WORDS];
         let answer = zones::position(drawing, tree.view(), x, y, &mut out);
         assert_eq!(answer, Answer::Accepted(plain[2]), "{x}, {y}");
-        assert_eq!(out, plain, "{x}, {y}");
+        assert_eq!(out[..SHOWN_WORDS], plain, "{x}, {y}");
     }
     plain
 }
@@ -259,7 +260,7 @@ fn the_leaf_of_the_other_page() {
     let mut tree = TreeTables::new(MOST_CELLS, MOST_ENTRIES);
     zones::open(drawing, &mut tree.lend());
     zones::grow(drawing, &mut tree.lend(), 0, 8);
-    let mut leaf = [0; 7];
+    let mut leaf = [0; LEAF_WORDS];
     for row in table("Reading a leaf", "position") {
         let (x, y) = pair(&row[0]);
         zones::find_leaf(drawing, tree.view(), x, y, &mut leaf);

@@ -1,15 +1,18 @@
-//! The C programs: they compile with include/zones.h and link the archive. That of samples/ says what the second implementation says; that of
-//! tools/, which counts instructions, has every call accepted.
+//! The C programs: they compile with include/zones.h and link the archive. That of samples/ says what the second implementation says; those of
+//! tools/, whose instructions are counted, have every call accepted.
 
 use std::collections::BTreeSet;
 use std::fs;
 use std::path::{Path, PathBuf};
 use std::process::Command;
 
+use zones::{ADVISED_DEPTH, ADVISED_THRESHOLD};
 use zones_tests::c_program::compiled;
+use zones_tests::class::Square;
 use zones_tests::meaning::{Drawing, Scene};
 use zones_tests::pages::{sample, top};
 use zones_tests::samples;
+use zones_tests::tree::{self, TreeTables, MOST_CELLS, MOST_ENTRIES};
 use zones_tools::words;
 
 /// samples/where.c, in a folder of its own.
@@ -37,16 +40,25 @@ fn positions_of_the_pit() {
     let program = where_program("positions");
     let text = fs::read_to_string(sample("pit.txt")).expect("the sample");
     let tables = samples::tables(&words::records(&text).expect("the words of a drawing"));
-    let scene = Scene::of(Drawing::of(&tables));
-    let mut materials = BTreeSet::new();
+    let drawing = Drawing::of(&tables);
+    let scene = Scene::of(drawing);
+    let mut tree = TreeTables::new(MOST_CELLS, MOST_ENTRIES);
+    tree::open(drawing, &mut tree.lend()).expect("it opens");
+    tree::grow(drawing, &mut tree.lend(), ADVISED_THRESHOLD, ADVISED_DEPTH).expect("it grows");
+    let (mut materials, mut uniform) = (BTreeSet::new(), 0);
     for x in (0..=65_535).step_by(4_369) {
         for y in (0..=65_535).step_by(4_369) {
             let reading = scene.position(x, y);
             let [red, green, blue] = reading.colour;
-            let expected = format!(
+            let mut expected = format!(
                 "material {}, colour {red} {green} {blue}\n",
                 reading.material
             );
+            let leaf = tree::find_leaf(drawing, tree.view(), x, y).expect("a leaf is found");
+            if leaf.uniform() {
+                uniform += 1;
+                expected += &reach(leaf.square);
+            }
             let asked = run(
                 &program,
                 &sample("pit.zones"),
@@ -58,6 +70,14 @@ fn positions_of_the_pit() {
         }
     }
     assert!(materials.len() > 5, "{materials:?}");
+    assert!((1..256).contains(&uniform), "{uniform} of 256 reach");
+}
+
+/// What the program says of a leaf that is uniform.
+fn reach(square: Square) -> String {
+    let Square { x, y, side } = square;
+    let (right, top) = (x + side - 1, y + side - 1);
+    format!("the same for x {x} to {right}, y {y} to {top}\n")
 }
 
 /// What is refused is said with its number, its place and its words.
@@ -136,7 +156,8 @@ fn files_that_are_too_long() {
     let groups = group.concat().repeat(1_365);
     let area = [[1_u8, 0, 0, 0, 0, 0, 0, 0, 1, 0, 0, 0, 0, 0, 0, 0]].concat();
     let longest = [groups, area].concat();
-    let nothing = "material 0, colour 255 255 255\n";
+    // No area has a contour, so no line is left.
+    let nothing = "material 0, colour 255 255 255\nthe same for x 0 to 65535, y 0 to 65535\n";
     let refused = "read refused 1 at 0: the length of the file is no multiple of 16, or it has over 4,096 records\n";
     for (bytes, expected) in [
         (longest.clone(), nothing),
@@ -175,5 +196,15 @@ fn calls_whose_instructions_are_counted() {
     };
     for job in ["none", "read", "grow", "position", "log", "row"] {
         assert!(run(job), "{job}");
+    }
+    let program = compiled(&[&top().join("tools/readings.c")], tmp);
+    for areas in ["8", "32", "64"] {
+        for (threshold, job) in [("2", "truck"), ("0", "truck"), ("2", "row"), ("0", "about")] {
+            let output = Command::new(&program)
+                .args([areas, threshold, job])
+                .output()
+                .expect("the program runs");
+            assert!(output.status.success(), "{areas} {threshold} {job}");
+        }
     }
 }

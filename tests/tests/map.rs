@@ -2,6 +2,7 @@
 //! are refused.
 
 use zones::{Map, Refusal, Refused, CELL_WORDS, HEAD_WORDS};
+use zones_tests::class::Square;
 use zones_tests::drawing::{self, MOST_RECORDS};
 use zones_tests::meaning::{numbers, Drawing, Scene};
 use zones_tests::random::Random;
@@ -40,6 +41,32 @@ fn same_tree(map: &Map, second: &TreeTables) {
     assert_eq!(map.cells().count(), cells);
 }
 
+/// An answer that reaches a position is what shows there; it reaches where the leaf is uniform and holds
+/// the position.
+fn reach(random: &mut Random, scene: &Scene, spot: &zones::Position, at: (u32, u32)) {
+    let square = Square {
+        x: spot.x,
+        y: spot.y,
+        side: spot.side,
+    };
+    for _ in 0..4 {
+        let mut beside = |at: u32, low: u32| match random.below(4) {
+            0 => low.wrapping_sub(1),
+            1 => low + spot.side,
+            2 => low + random.below(spot.side as usize) as u32,
+            _ => at,
+        };
+        let (x, y) = (beside(at.0, spot.x), beside(at.1, spot.y));
+        let holds = x <= zones::MOST_POSITION && y <= zones::MOST_POSITION && square.holds(x, y);
+        assert_eq!(spot.reaches(x, y), spot.uniform && holds);
+        if spot.reaches(x, y) {
+            let there = scene.position(x, y);
+            assert_eq!((spot.shown, spot.material), (there.shown, there.material));
+            assert_eq!(spot.colour.map(u32::from), there.colour);
+        }
+    }
+}
+
 fn readings(random: &mut Random, map: &Map, tables: &Tables, tree: &TreeTables) {
     let drawing = Drawing::of(tables);
     let scene = Scene::of(drawing);
@@ -52,8 +79,8 @@ fn readings(random: &mut Random, map: &Map, tables: &Tables, tree: &TreeTables) 
         .expect("a leaf is found");
         assert_eq!((leaf.cell, leaf.steps), (second.cell, second.steps));
         assert_eq!(
-            (leaf.entries, leaf.lines),
-            (second.entries(), second.lines())
+            (leaf.entries, leaf.lines, leaf.uniform),
+            (second.entries(), second.lines(), second.uniform())
         );
         let square = second.square;
         assert_eq!(
@@ -68,6 +95,11 @@ fn readings(random: &mut Random, map: &Map, tables: &Tables, tree: &TreeTables) 
         );
         assert_eq!(spot.colour.map(u32::from), reading.colour);
         assert!(spot.areas().eq(numbers(reading.shown)));
+        assert_eq!(
+            (spot.uniform, spot.x, spot.y, spot.side),
+            (leaf.uniform, leaf.x, leaf.y, leaf.side)
+        );
+        reach(random, &scene, &spot, (x, y));
         let (row, first) = (y / 16, (x / 16).min(4_094));
         let mut pixels = [0; 6];
         map.pixel_row(row, first, &mut pixels).expect("two pixels");

@@ -55,7 +55,7 @@ fn readings(random: &mut Random, sample: &Sample, times: usize, tally: &mut Tall
         let room = random.pick(&[LEAF_WORDS, LEAF_WORDS, LEAF_WORDS - 1, 9]);
         let blank = blank_words(random, room);
         tally.note_call("find", sample.find_leaf((x, y), &blank).0);
-        let room = random.pick(&[SPOT_WORDS, SPOT_WORDS, SPOT_WORDS - 1, 9]);
+        let room = random.pick(&[SPOT_WORDS, SPOT_WORDS, SPOT_WORDS - 1, 11]);
         let blank = blank_words(random, room);
         tally.note_call("position", reader.position((x, y), &blank).0);
         let pixels = random.pick(&[1, 2, 5, 20]);

@@ -9,7 +9,7 @@ use zones_tests::lent::{any_bytes, lent_bytes, lent_words, LentTables, LentTree}
 use zones_tests::meaning::{self, Drawing, Scene, PIXEL};
 use zones_tests::query::{CHANNELS, PIXELS};
 use zones_tests::random::Random;
-use zones_tests::readings::{spot_words, SPOT_WORDS};
+use zones_tests::readings::{shown_words, SHOWN_WORDS, SPOT_WORDS};
 use zones_tests::record::{letters, Record};
 use zones_tests::sample::{grown, Sample};
 use zones_tests::samples;
@@ -62,7 +62,7 @@ fn positions(
             _ => {}
         }
         let words = match random.below(10) {
-            0 => random.pick(&[7, 10, 5, 1, 0]),
+            0 => random.pick(&[11, 14, 9, 9, 6, 1, 0]),
             _ => SPOT_WORDS,
         };
         let words: Vec<u32> = (0..words).map(|_| random.word()).collect();
@@ -71,7 +71,7 @@ fn positions(
         tally.note_call("position", answer);
         if let (Answer::Accepted(material), Some(scene)) = (answer, scene) {
             let reading = scene.position(x, y);
-            assert_eq!(out.table()[..SPOT_WORDS], spot_words(reading));
+            assert_eq!(out.table()[..SHOWN_WORDS], shown_words(reading));
             assert_eq!(material, reading.material);
             assert_eq!(out.table()[SPOT_WORDS..], words[SPOT_WORDS..]);
         }
@@ -366,7 +366,7 @@ fn a_pixel_that_was_one_off() {
         // "Single positions keep their rounding", says document 02.
         let blank = lent_words(random, &[77; SPOT_WORDS]);
         let (_, out) = reader.position((8, 11), &blank);
-        assert_eq!(out.table(), [1, 0, 7, 254, 247, 255]);
+        assert_eq!(out.table()[..SHOWN_WORDS], [1, 0, 7, 254, 247, 255]);
         reader.finish();
         let answer = sample.split(cell);
         assert!(matches!(answer, Answer::Accepted(_)), "{answer:?}");
@@ -405,7 +405,8 @@ fn a_pixel_of_one_area_has_the_colour_of_a_position() {
             let blank = lent_bytes(random, &[77; CHANNELS]);
             let (_, pixel) = reader.pixel_row(y / PIXEL, x / PIXEL, &blank);
             let pixel: Vec<u32> = pixel.table().iter().map(|byte| (*byte).into()).collect();
-            assert_eq!(pixel, position.table()[3..], "alpha {alpha}, {colour:?}");
+            let position = &position.table()[3..SHOWN_WORDS];
+            assert_eq!(pixel, position, "alpha {alpha}, {colour:?}");
             for channel in colour {
                 seen[usize::from(alpha) * 256 + usize::from(channel)] = true;
             }
@@ -600,7 +601,7 @@ fn the_last_position() {
         for at in [(65_535, 65_535), (65_535, 0), (0, 65_535)] {
             let (answer, out) = reader.position(at, &blank);
             assert_eq!(answer, Answer::Accepted(7));
-            assert_eq!(out.table(), [1, 0, 7, 10, 20, 30]);
+            assert_eq!(out.table()[..SHOWN_WORDS], [1, 0, 7, 10, 20, 30]);
         }
         for at in [(65_536, 0), (0, 65_536), (65_536, 65_536), (u32::MAX, 0)] {
             assert_eq!(reader.position(at, &blank).0, SEVEN_AT_0);

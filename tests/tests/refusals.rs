@@ -9,7 +9,7 @@ use zones_tests::lent::{lent_bytes, lent_words};
 use zones_tests::meaning::{self, Drawing, Scene, PIXEL};
 use zones_tests::query::CHANNELS;
 use zones_tests::random::Random;
-use zones_tests::readings::{spot_words, SPOT_WORDS};
+use zones_tests::readings::{shown_words, SPOT_WORDS};
 use zones_tests::record::{area, delimiter, letters};
 use zones_tests::sample::Sample;
 use zones_tests::samples::{self, Tables};
@@ -637,8 +637,17 @@ fn readings_at_side_1() {
     for (x, y) in DEEP {
         let (case, leaf) = deep_tree(x, y);
         let reading = scene.position(x, y);
-        let expected = (Ok(reading.material), spot_words(reading).to_vec());
-        assert_eq!(case.position(x, y), expected, "{x} {y}");
+        // No line, curve or shortcut is left in a cell of one position.
+        let words = [&shown_words(reading)[..], &[1, x, y, 1]].concat();
+        assert_eq!(
+            case.position(x, y),
+            (Ok(reading.material), words),
+            "{x} {y}"
+        );
+        let [.., uniform] = case.leaf(x, y).1[..] else {
+            panic!("a leaf has words");
+        };
+        assert_eq!(uniform, 1);
         assert_eq!(case.log(&[x, x], &[y, y], 2), (Ok(1), vec![0, 77]));
         let pixel = scene.pixel(y / PIXEL, x / PIXEL).to_vec();
         let drawn = case.row(y / PIXEL, x / PIXEL, CHANNELS);

@@ -8,7 +8,7 @@ use zones_tests::foreign;
 use zones_tests::lister;
 use zones_tests::machine;
 use zones_tests::meaning::{Drawing, Item, Reading, Scene, Side};
-use zones_tests::query;
+use zones_tests::query::{self, Spot};
 use zones_tests::random::Random;
 use zones_tests::record::letters;
 use zones_tests::samples::{self, Tables};
@@ -109,8 +109,13 @@ fn expect_position(scene: &Scene, tree: &TreeTables, x: u32, y: u32) {
             assert_eq!(winding, Scene::winding(drawn[*number as usize], x, y));
         }
     }
-    let reading = query::position(drawing, tree.view(), x, y);
-    assert_eq!(reading, Ok(scene.position(x, y)), "at {x}, {y}");
+    let spot = Spot {
+        reading: scene.position(x, y),
+        uniform: leaf.uniform(),
+        square: leaf.square,
+    };
+    let found = query::position(drawing, tree.view(), x, y);
+    assert_eq!(found, Ok(spot), "at {x}, {y}");
 }
 
 /// The history of a tree: which squares its cells have.
@@ -408,14 +413,18 @@ fn trees_written_by_others() {
                     tally.note("found".to_string());
                     assert!(leaf.square.holds(x, y));
                     let shown = machine::shown(drawing, &leaf.stream, x, y);
-                    let reading = query::position(drawing, tree.view(), x, y);
+                    let read = |tree: &TreeTables| {
+                        let spot = query::position(drawing, tree.view(), x, y);
+                        spot.map(|spot| spot.reading)
+                    };
+                    let reading = read(&tree);
                     assert_eq!(reading, Ok(Reading::of_set(drawing, shown)));
                     // A split of the leaf changes no reading, unless a start passes its range.
                     let mut after = tree.clone();
                     match tree::split(drawing, &mut after.lend(), leaf.cell) {
                         Ok(_) => {
                             expect::split_words(&tree, &after, leaf.cell);
-                            let again = query::position(drawing, after.view(), x, y);
+                            let again = read(&after);
                             if again != reading {
                                 assert_eq!(again, Err(refusal(12, 0)));
                                 tally.note("start out of range".to_string());

@@ -188,8 +188,12 @@ impl Sample {
         }
         let leaf = tree::find_leaf(drawing, self.tree.view(), x, y).expect("a leaf");
         let (square, entries, lines) = (leaf.square, leaf.entries(), leaf.lines());
+        let reach = match leaf.uniform() {
+            true => "Each position of it shows the same.",
+            false => "Its stream has a line, a curve or a shortcut.",
+        };
         format!(
-            "{text} The leaf around it, cell {}: side {} at {}, {}; depth {}, entries {entries}, lines {lines}.",
+            "{text} The leaf around it, cell {}: side {} at {}, {}; depth {}, entries {entries}, lines {lines}. {reach}",
             leaf.cell, square.side, square.x, square.y, leaf.steps
         )
     }

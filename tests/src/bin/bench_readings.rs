@@ -13,7 +13,7 @@ use zones_tests::drawing::{
 use zones_tests::meaning::{fill_passes, pixel, rounded, samples, Drawing, MOST_POSITION, OPAQUE};
 use zones_tests::query::CHANNELS;
 use zones_tests::random::Random;
-use zones_tests::readings::SPOT_WORDS;
+use zones_tests::readings::{SHOWN_WORDS, SPOT_WORDS};
 use zones_tests::record::{area, clip, corner, delimiter, Record};
 use zones_tests::samples::{self, Tables};
 use zones_tests::scenes;
@@ -141,7 +141,7 @@ impl Machine {
 }
 
 /// The words of a reading: the set, its material and its colour.
-fn words(areas: &[[u32; AREA_WORDS]], set: u64) -> [u32; SPOT_WORDS] {
+fn words(areas: &[[u32; AREA_WORDS]], set: u64) -> [u32; SHOWN_WORDS] {
     let [red, green, blue] = rounded(channel_sums(areas, set));
     let (low, high) = (set as u32, (set >> 32) as u32);
     [low, high, material(areas, set), red, green, blue]
@@ -578,7 +578,8 @@ fn time_positions(name: &str, tables: &Tables, tree: Tree, positions: &[(u32, u3
         let mut out = [0; SPOT_WORDS];
         let answer = zones::position(black_box(drawing), black_box(tree), x, y, &mut out);
         assert!(matches!(answer, Answer::Accepted(_)));
-        out
+        *out.first_chunk::<SHOWN_WORDS>()
+            .expect("they are the first")
     };
     let by_scan = |x, y| {
         let scan = black_box(&scan);
@@ -600,7 +601,7 @@ fn time_positions(name: &str, tables: &Tables, tree: Tree, positions: &[(u32, u3
         assert_eq!(expected, unchecked(x, y), "at {x}, {y}");
         assert_eq!(expected, checked(x, y), "at {x}, {y}");
     }
-    let all = |reading: &dyn Fn(u32, u32) -> [u32; SPOT_WORDS]| {
+    let all = |reading: &dyn Fn(u32, u32) -> [u32; SHOWN_WORDS]| {
         for (x, y) in positions.iter().copied() {
             black_box(reading(x, y));
         }
