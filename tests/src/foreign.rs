@@ -34,6 +34,20 @@ pub fn stream(random: &mut Random, tables: &Tables, square: Square) -> Vec<Entry
     maker.stream
 }
 
+/// One without line, curve or shortcut: nothing is pruned in it, areas fail or stand behind an opaque
+/// one, groups have sides that are empty.
+pub fn uniform_stream(random: &mut Random, tables: &Tables, square: Square) -> Vec<Entry> {
+    let mut stream = stream(random, tables, square);
+    stream.retain(|entry| !entry.is_segment());
+    for entry in &mut stream {
+        if let Entry::Area { start, .. } = entry {
+            *start += random.pick(&[0, 1, 1, -1]);
+            *start = (*start).clamp(-MOST_START, MOST_START);
+        }
+    }
+    stream
+}
+
 struct Maker<'a> {
     stream: Vec<Entry>,
     areas: usize,
@@ -156,6 +170,16 @@ pub fn words(random: &mut Random, stream: &[Entry]) -> Vec<u32> {
 /// A tree with so many split cells over a drawing. All pass 12, but for leaves that share a stream
 /// with shortcuts of rows that they do not have.
 pub fn tree(random: &mut Random, tables: &Tables, splits: usize) -> TreeTables {
+    tree_of(random, tables, splits, stream)
+}
+
+/// One whose cells have the streams that are made for their squares.
+pub fn tree_of(
+    random: &mut Random,
+    tables: &Tables,
+    splits: usize,
+    mut stream: impl FnMut(&mut Random, &Tables, Square) -> Vec<Entry>,
+) -> TreeTables {
     // Squares of the cells in the order of splitting, and for each its block of four children.
     let mut squares = vec![Square::WHOLE];
     let mut blocks = vec![None];

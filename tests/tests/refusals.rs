@@ -611,7 +611,8 @@ fn deep_tree(x: u32, y: u32) -> (Case, u32) {
     let (found, words) = case.leaf(x, y);
     let leaf = found.expect("a leaf is found");
     let count = case.tree.view().cell(leaf).count;
-    assert_eq!(words, [leaf, x, y, 1, 16, count, 0]);
+    // No line, curve or shortcut is left in a cell of one position.
+    assert_eq!(words, [leaf, x, y, 1, 16, count, 0, 1]);
     (case, leaf)
 }
 
@@ -637,17 +638,12 @@ fn readings_at_side_1() {
     for (x, y) in DEEP {
         let (case, leaf) = deep_tree(x, y);
         let reading = scene.position(x, y);
-        // No line, curve or shortcut is left in a cell of one position.
         let words = [&shown_words(reading)[..], &[1, x, y, 1]].concat();
         assert_eq!(
             case.position(x, y),
             (Ok(reading.material), words),
             "{x} {y}"
         );
-        let [.., uniform] = case.leaf(x, y).1[..] else {
-            panic!("a leaf has words");
-        };
-        assert_eq!(uniform, 1);
         assert_eq!(case.log(&[x, x], &[y, y], 2), (Ok(1), vec![0, 77]));
         let pixel = scene.pixel(y / PIXEL, x / PIXEL).to_vec();
         let drawn = case.row(y / PIXEL, x / PIXEL, CHANNELS);
