@@ -342,6 +342,14 @@ static inline const char *zones_refusal_text(uint32_t number) {
  * - In little memory: threshold 8 or 16. Of the first table, cells x 32 and entries x 16 are the bytes.
  * - A depth limit of 8 (leaves of side 256) is enough: where more lines meet in a point than the threshold, it ends the
  *   splitting. Deeper made no answer faster; 4 and 5 made them slower, most of all on the larger drawings.
+ * - Where answers are kept as far as they reach (section 5): threshold 0. A leaf with one line is not uniform, and many
+ *   without a line have a shortcut. The percentage of the grid that lies in uniform leaves, with depth limit 8:
+ *
+ *       threshold    pit  berms   full   mine
+ *               2    4.3    7.9   15.5    4.9
+ *               1   16.3   20.4   16.2    8.2
+ *               0   48.9   57.8   24.0   12.2
+ *
  * - For a few questions do not grow: a tree that is only opened answers the same. On these drawings growing pays from
  *   300 to 2,200 positions, or from 70 to 300 pixels, onward. */
 #define ZONES_ADVISED_THRESHOLD 2

@@ -385,6 +385,33 @@ fn cells_and_entries_over_thresholds() {
     }
 }
 
+/// The percentages of the grid in uniform leaves, of each drawing with thresholds 2, 1 and 0: in the header, and in docs/HOW.md.
+#[test]
+fn how_far_answers_reach_in_the_samples() {
+    let program = compiled(&[&source("reach.c")], &folder("reach"));
+    let mut command = Command::new(program);
+    for name in DRAWINGS {
+        command.arg(name).arg(drawing(name));
+    }
+    let said = printed(&mut command);
+    let columns: Vec<Vec<&str>> = said.lines().map(|l| l.split(' ').collect()).collect();
+    assert!(columns.iter().map(|column| column[0]).eq(DRAWINGS));
+    let how = fs::read_to_string(top().join("docs/HOW.md")).expect("the page");
+    for (row, threshold) in [(1, "2"), (2, "1"), (3, "0")] {
+        let numbers: Vec<&str> = columns.iter().map(|column| column[row]).collect();
+        let in_header = header().lines().any(|line| {
+            let words: Vec<&str> = line.split_whitespace().collect();
+            words.len() == 6 && words[1] == threshold && words[2..] == numbers
+        });
+        assert!(in_header, "the header, threshold {threshold}: {numbers:?}");
+        let in_page = how.lines().any(|line| {
+            let cells: Vec<&str> = line.split('|').map(str::trim).collect();
+            cells.len() == 7 && cells[1].starts_with(threshold) && cells[2..6] == numbers
+        });
+        assert!(in_page, "docs/HOW.md, threshold {threshold}: {numbers:?}");
+    }
+}
+
 /// Another compiler lays the wrapper's frame out otherwise, so a tenth more passes.
 #[test]
 fn the_stack_of_the_calls() {
