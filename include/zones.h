@@ -272,8 +272,8 @@ static inline const char *zones_refusal_text(uint32_t number) {
  * fix lies in its square, the answer is the same, and no call is needed. That holds while the map is unchanged: no
  * split, growing, opening or reading into its tables in between.
  *
- * 0 says nothing about the positions around. A leaf with a line or a shortcut in its stream has 0, even where all its
- * positions show the same. A tree that is cut finer has more leaves with 1, and smaller ones. */
+ * 0 says nothing about the positions around. A leaf with a line, a curve or a shortcut in its stream has 0, even where
+ * all its positions show the same. A tree that is cut finer has more leaves with 1, and smaller ones. */
 
 /* Pixels: a row has 4,096 of 16 by 16 units, and there are 4,096 rows. Row 0 is that of the lowest y. */
 #define ZONES_PIXELS 4096 /* of a row; rows too */
