@@ -1,21 +1,22 @@
 -- Lines, curves and shortcuts in a row: how many there are, and that a scan of the run is a scan of its entries.
 use mathlib.Core.Path.{_≡_, refl, sym, ap, ap₂, _∙_}
-use mathlib.Core.Bool.{Bool, true, false, cond, _&&_}
+use mathlib.Core.Bool.{Bool, true, false, cond, _&&_, _||_}
 use mathlib.Core.List.{List, [], _∷_}
 use Prim.Native.Nat.{ℕ, zero, suc, _+_, _-_, _≤_, _<_}
 use native.Mathlib.Omega.{arith}
-use lib.Dec.{eqb, ltb}
-use borrow.Author.Tests.{eq-eqb, ne-eqb, ltb-true}
-use Rattle.laws.proofs.Booleans.{clash, and-left, and-right}
+use lib.Dec.{eqb, ltb, leb}
+use borrow.Author.Tests.{eq-eqb, ne-eqb, ltb-true, ltb-false, leb-true, leb-false}
+use Rattle.laws.proofs.Booleans.{clash, and-left, and-right, and-true}
 use Rattle.stream.specs.declared.Words.{Words}
 use Rattle.stream.specs.declared.Bounds.{Bounds}
+use Rattle.stream.specs.declared.Run.{Run}
 use Rattle.stream.specs.declared.Scan.{Scan}
 use Rattle.stream.specs.declared.Scanned.{Scanned}
 use Rattle.stream.specs.Table.{wordsAt, wordsFrom}
 use Rattle.stream.specs.Grammar.{Env}
 use Rattle.stream.specs.Entry.{isSegment, linesIn}
 use Rattle.stream.specs.code.Machine.{mk, offN, afterOpenN, afterBarN, afterCloseN, withAreaN, areaFitsN, stepN, scanN, segmentFits}
-use Rattle.stream.specs.code.Machine.{runLength, runFits, afterRunN, otherN, withLineN, afterPassesN, Apart, Onward}
+use Rattle.stream.specs.code.Machine.{runLength, runFits, eachFits, runTo, afterRunN, otherN, withLineN, afterPassesN, Apart, Onward}
 use Rattle.stream.proofs.Counts.{alive-before, alive-lines}
 use Rattle.stream.proofs.Entries.{segment-ne}
 use Rattle.stream.proofs.Table.{words-step, words-none}
@@ -51,24 +52,72 @@ few-segments t (suc n) i = go (isSegment (wordsAt t i .kind)) (few-segments t n 
 
 module _ (xs ys : List ℕ) (b : Bounds) where
   module _ (t : List ℕ) (i e : ℕ) (w : Words) (q : w ≡ wordsAt t i) (l : i < e) where
-    pub fits-more : (n : ℕ)
-        → isSegment (w .kind) ≡ true
-        → runFits xs ys b n (wordsFrom t i (e - i))
-        ≡ ((segmentFits xs ys b w && ltb n 2048) && runFits xs ys b (n + 1) (wordsFrom t (i + 1) (e - (i + 1))))
-    unfolding runFits
-    fits-more n s =
-        ap (runFits xs ys b n) (words-first t i e w q l)
-        ∙ ap (λ c. cond c ((segmentFits xs ys b w && ltb n 2048) && runFits xs ys b (n + 1) (wordsFrom t (i + 1) (e - (i + 1)))) true) s
+    pub fits-more : isSegment (w .kind) ≡ true
+        → eachFits xs ys b (wordsFrom t i (e - i)) ≡ (segmentFits xs ys b w && eachFits xs ys b (wordsFrom t (i + 1) (e - (i + 1))))
+    unfolding eachFits
+    fits-more s =
+        ap (eachFits xs ys b) (words-first t i e w q l)
+        ∙ ap (λ c. cond c (segmentFits xs ys b w && eachFits xs ys b (wordsFrom t (i + 1) (e - (i + 1)))) true) s
 
-    pub fits-stop : (n : ℕ) → isSegment (w .kind) ≡ false → runFits xs ys b n (wordsFrom t i (e - i)) ≡ true
-    unfolding runFits
-    fits-stop n s =
-        ap (runFits xs ys b n) (words-first t i e w q l)
-        ∙ ap (λ c. cond c ((segmentFits xs ys b w && ltb n 2048) && runFits xs ys b (n + 1) (wordsFrom t (i + 1) (e - (i + 1)))) true) s
+    pub fits-stop : isSegment (w .kind) ≡ false → eachFits xs ys b (wordsFrom t i (e - i)) ≡ true
+    unfolding eachFits
+    fits-stop s =
+        ap (eachFits xs ys b) (words-first t i e w q l)
+        ∙ ap (λ c. cond c (segmentFits xs ys b w && eachFits xs ys b (wordsFrom t (i + 1) (e - (i + 1)))) true) s
 
-  pub fits-last : (t : List ℕ) (i e n : ℕ) → e ≤ i → runFits xs ys b n (wordsFrom t i (e - i)) ≡ true
-  unfolding runFits
-  fits-last t i e n h = ap (runFits xs ys b n) (words-none t i e h)
+  pub fits-last : (t : List ℕ) (i e : ℕ) → e ≤ i → eachFits xs ys b (wordsFrom t i (e - i)) ≡ true
+  unfolding eachFits
+  fits-last t i e h = ap (eachFits xs ys b) (words-none t i e h)
+
+  -- a run fits where each of it does, and with those before it makes no more than 2,048
+  pub fits-whole : (t : List ℕ) (k i n : ℕ)
+      → runFits xs ys b n (wordsFrom t i k)
+      ≡ (eachFits xs ys b (wordsFrom t i k) && (eqb (runLength (wordsFrom t i k)) 0 || leb (n + runLength (wordsFrom t i k)) 2048))
+  unfolding runFits eachFits runLength wordsFrom
+  fits-whole t zero i n = refl
+  fits-whole t (suc k) i n = go (isSegment (wordsAt t i .kind)) (fits-whole t k (i + 1) (n + 1))
+    where
+      ws : List Words
+      ws = wordsFrom t (i + 1) k
+
+      f : Bool
+      f = segmentFits xs ys b (wordsAt t i)
+
+      both : (a c x y z : Bool) → (c && y) ≡ z → ((a && c) && (x && y)) ≡ ((a && x) && z)
+      both true true x y z h = ap (λ v. x && v) h
+      both true false true y z h = h
+      both true false false y z h = refl
+      both false c x y z h = refl
+
+      limit : (m : ℕ) → (ltb n 2048 && (eqb m 0 || leb (n + 1 + m) 2048)) ≡ (eqb (suc m) 0 || leb (n + suc m) 2048)
+      limit zero = same (ltb n 2048) (leb (n + 1) 2048) refl refl
+        where
+          same : (a c : Bool) → ltb n 2048 ≡ a → leb (n + 1) 2048 ≡ c → (a && true) ≡ c
+          same true true p q = refl
+          same true false p q = absurd (omega (arith, ltb-true n 2048 p, leb-false (n + 1) 2048 q))
+          same false true p q = absurd (omega (arith, ltb-false n 2048 p, leb-true (n + 1) 2048 q))
+          same false false p q = refl
+      limit (suc m) =
+          rw (ne-eqb (suc m) 0 (λ z. omega (arith, z)), ne-eqb (suc (suc m)) 0 (λ z. omega (arith, z)))
+          (same (ltb n 2048) (leb (n + 1 + suc m) 2048) (leb (n + suc (suc m)) 2048) refl refl refl)
+        where
+          same : (a c d : Bool) → ltb n 2048 ≡ a → leb (n + 1 + suc m) 2048 ≡ c → leb (n + suc (suc m)) 2048 ≡ d → (a && c) ≡ d
+          same true true true p q r = refl
+          same true true false p q r = absurd (omega (arith, leb-true (n + 1 + suc m) 2048 q, leb-false (n + suc (suc m)) 2048 r))
+          same true false true p q r = absurd (omega (arith, leb-false (n + 1 + suc m) 2048 q, leb-true (n + suc (suc m)) 2048 r))
+          same true false false p q r = refl
+          same false c true p q r = absurd (omega (arith, ltb-false n 2048 p, leb-true (n + suc (suc m)) 2048 r))
+          same false c false p q r = refl
+
+      go : (c : Bool)
+          → runFits xs ys b (n + 1) ws ≡ (eachFits xs ys b ws && (eqb (runLength ws) 0 || leb (n + 1 + runLength ws) 2048))
+          → cond c ((f && ltb n 2048) && runFits xs ys b (n + 1) ws) true
+          ≡ (cond c (f && eachFits xs ys b ws) true && (eqb (cond c (suc (runLength ws)) 0) 0 || leb (n + cond c (suc (runLength ws)) 0) 2048))
+      go true h =
+          ap (λ v. (f && ltb n 2048) && v) h
+          ∙ both f (ltb n 2048) (eachFits xs ys b ws) (eqb (runLength ws) 0 || leb (n + 1 + runLength ws) 2048)
+          (eqb (suc (runLength ws)) 0 || leb (n + suc (runLength ws)) 2048) (limit (runLength ws))
+      go false h = refl
 
   -- a run that fits makes no more than 2,048
   pub fits-few : (t : List ℕ) (k i n : ℕ) → runFits xs ys b n (wordsFrom t i k) ≡ true → n < 4294967296 → n + runLength (wordsFrom t i k) < 4294967296
@@ -90,6 +139,40 @@ module _ (xs ys : List ℕ) (b : Bounds) where
           let u = ih (and-right (f && ltb n 2048) r e) (omega arith) in
           omega (arith, u)
       go false e ih = omega arith
+
+-- where a run ends: what is found there is what the contract of the loop asks, part by part
+module _ (xs ys : List ℕ) (b : Bounds) (t : List ℕ) (from e before i lines : ℕ) (fits : Bool) (r : Run) (g : r ≡ runTo fits lines before from i) where
+  abbrev whole : List Words
+  whole = wordsFrom t from (e - from)
+
+  pub run-ended : (fits && eachFits xs ys b (wordsFrom t i (e - i))) ≡ eachFits xs ys b whole
+      → eachFits xs ys b (wordsFrom t i (e - i)) ≡ true
+      → i + runLength (wordsFrom t i (e - i)) ≡ from + runLength whole
+      → runLength (wordsFrom t i (e - i)) ≡ 0
+      → (i < e → isSegment (wordsAt t i .kind) ≡ false)
+      → from + lines ≤ i
+      → lines + linesIn (wordsFrom t i (e - i)) ≡ linesIn whole
+      → (r .fits ≡ runFits xs ys b before whole)
+      × ((r .segments ≡ before + runLength whole)
+      × ((r .next ≡ from + runLength whole)
+      × ((r .next < e → isSegment (wordsAt t (r .next) .kind) ≡ false)
+      × ((from + r .lines ≤ r .next) × (r .lines + linesIn (wordsFrom t (r .next) (e - r .next)) ≡ linesIn whole)))))
+  run-ended p q n z o f l =
+      let m : i - from ≡ runLength whole = omega (arith, n, z, f) in
+      let is : i ≡ from + runLength whole = omega (arith, n, z) in
+      let each : fits ≡ eachFits xs ys b whole = sym (and-true fits) ∙ (ap (λ v. fits && v) (sym q) ∙ p) in
+      let none : eqb i from ≡ eqb (runLength whole) 0 = empty is in
+      rw g (
+        ap₂ _&&_ each (ap₂ _||_ none (ap (λ k. leb (before + k) 2048) m)) ∙ sym (fits-whole xs ys b t (e - from) from before),
+        (ap (λ k. before + k) m, (is, (o, (f, l)))),
+      )
+    where
+      empty : i ≡ from + runLength whole → eqb i from ≡ eqb (runLength whole) 0
+      empty is = go (runLength whole) refl
+        where
+          go : (k : ℕ) → runLength whole ≡ k → eqb i from ≡ eqb k 0
+          go zero y = eq-eqb i from (omega (arith, is, y))
+          go (suc k) y = ne-eqb i from (λ j. omega (arith, is, y, j)) ∙ sym (ne-eqb (suc k) 0 (λ z. omega (arith, z)))
 
 -- ---- the scan of a run
 

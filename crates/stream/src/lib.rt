@@ -9,7 +9,7 @@ ghost use Rattle.stream.specs.Table.{wordsAt, wordsFrom, putAt};
 ghost use Rattle.stream.specs.Grammar.{env, cornerMet, lineRange, curveRange, shortcutRange, recordFits, roleFits, usedRange, Ready, accepts};
 ghost use Rattle.stream.specs.Entry.{isCurve, isLine, isSegment, linesIn};
 ghost use Rattle.stream.specs.code.Machine.{offN, inGroups, afterOpenN, afterBarN, afterCloseN, afterPassesN, withAreaN, areaFitsN, otherN};
-ghost use Rattle.stream.specs.code.Machine.{lineFits, segmentFits, runLength, runFits, afterRunN, Apart, Onward};
+ghost use Rattle.stream.specs.code.Machine.{lineFits, segmentFits, runLength, runFits, runTo, afterRunN, Apart, Onward};
 ghost use Rattle.stream.specs.code.Checks.{unfit, told, toldAt, checked};
 
 // How many words an entry has, and the kinds, its first word.
@@ -126,17 +126,6 @@ pub fn is_segment(kind: u32) -> bool
     line | (kind == ENTRY_SHORTCUT)
 }
 
-// 1 for a line or a curve, or 0.
-fn line_of(kind: u32) -> usize
-    ensures answer { λ r. ⌜ r ≡ cond (isLine kind) 1 0 ⌝ }
-    ensures range { λ r. ⌜ r ≤ 1 ⌝ }
-{
-    if is_line(kind) {
-        return 1;
-    }
-    0
-}
-
 // ---- the numbers of an entry
 // Whether corner i is in use and its coordinates are in range.
 fn corner_met(xs: &[u32], ys: &[u32], used: usize, i: usize) -> bool
@@ -238,15 +227,24 @@ fn shortcut_range(low: u32, side: u32, w: Words) -> bool
         & ((low <= w.q) & ((w.q < w.r) & ((w.r as u64) <= beyond)))
 }
 
-// Whether the numbers of a line, a curve or a shortcut are in range.
-fn segment_fits(xs: &[u32], ys: &[u32], b: Bounds, w: Words) -> bool
+// Whether the numbers of a line, a curve or a shortcut are in range; and 1 for a line or a curve, 0 for a shortcut.
+pub struct Fit {
+    pub fits: bool,
+    pub line: usize,
+}
+
+fn segment_fits(xs: &[u32], ys: &[u32], b: Bounds, w: Words) -> Fit
     requires { ⌜ (b .corners ≤ length (now xs)) × (b .corners ≤ length (now ys)) ⌝ }
-    ensures answer { λ r. ⌜ r ≡ segmentFits (now (xs .entry)) (now (ys .entry)) b w ⌝ }
+    ensures fits { λ r. ⌜ r .fits ≡ segmentFits (now (xs .entry)) (now (ys .entry)) b w ⌝ }
+    ensures line { λ r. ⌜ r .line ≡ cond (isLine (w .kind)) 1 0 ⌝ }
+    ensures range { λ r. ⌜ r .line ≤ 1 ⌝ }
 {
     if is_line(w.kind) {
-        return line_fits(xs, ys, b.corners, w);
+        let g = line_fits(xs, ys, b.corners, w);
+        return Fit { fits: g, line: 1 };
     }
-    shortcut_range(b.low, b.side, w)
+    let g = shortcut_range(b.low, b.side, w);
+    Fit { fits: g, line: 0 }
 }
 
 // ---- one entry more
@@ -362,6 +360,20 @@ pub struct Run {
     pub next: usize,
 }
 
+// A run from entry `from` up to entry `next`, with so many lines and curves in it and so many entries like it before.
+fn run_to(fits: bool, lines: usize, before: usize, from: usize, next: usize) -> Run
+    requires { ⌜ (from ≤ next) × (next ≤ from + 4096) × (before < 4294967296) ⌝ }
+    ensures answer { λ r. ⌜ r ≡ runTo fits lines before from next ⌝ }
+{
+    let n = before + (next - from);
+    Run {
+        fits: fits & ((next == from) | (n <= records::MOST_CORNERS)),
+        segments: n,
+        lines: lines,
+        next: next,
+    }
+}
+
 // The lines, curves and shortcuts from entry `from` on, where `before` stand before.
 fn scan_run(
     entries: &[u32],
@@ -384,33 +396,20 @@ fn scan_run(
         ≡ linesIn (wordsFrom (now (entries .entry)) from (end - from)) ⌝ }
 {
     let mut fits = true;
-    let mut n = before;
     let mut lines: usize = 0;
     let mut i = from;
     while i < end {
         let w = read_entry(entries, i);
         if is_segment(w.kind) {
             let g = segment_fits(xs, ys, b, w);
-            let line = line_of(w.kind);
-            fits = fits & (g & (n < records::MOST_CORNERS));
-            n += 1;
-            lines = lines + line;
+            fits = fits & g.fits;
+            lines = lines + g.line;
             i += 1;
         } else {
-            return Run {
-                fits: fits,
-                segments: n,
-                lines: lines,
-                next: i,
-            };
+            return run_to(fits, lines, before, from, i);
         }
     }
-    Run {
-        fits: fits,
-        segments: n,
-        lines: lines,
-        next: i,
-    }
+    run_to(fits, lines, before, from, i)
 }
 
 // After a run of lines, curves and shortcuts that stands straight after an area or another of them.

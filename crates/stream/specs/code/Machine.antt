@@ -1,14 +1,15 @@
 -- The grammar of streams over the state that the code holds. `Rattle.stream.proofs.Meaning` says that it is the same.
 use Prim.Native.Nat.{ℕ, suc, _+_, _-_, _≤_, _<_}
 use mathlib.Core.Path.{_≡_}
-use mathlib.Core.Bool.{Bool, true, false, cond, _&&_}
+use mathlib.Core.Bool.{Bool, true, false, cond, _&&_, _||_}
 use mathlib.Core.List.{List, [], _∷_}
-use lib.Dec.{eqb, ltb}
+use lib.Dec.{eqb, ltb, leb}
 use Rattle.groups.specs.code.Stack.{paintN, leftN, rightN, roomN, openN, barN, closeN}
 use Rattle.drawing.specs.Tables.{areaRow}
 use Rattle.stream.specs.declared.Words.{Words}
 use Rattle.stream.specs.declared.Bounds.{Bounds}
 use Rattle.stream.specs.declared.Scan.{Scan}
+use Rattle.stream.specs.declared.Run.{Run}
 use Rattle.stream.specs.declared.Scanned.{Scanned}
 use Rattle.stream.specs.Table.{wordsAt, wordsFrom}
 use Rattle.stream.specs.Entry.{isCurve, isLine, isSegment, linesIn, startRange}
@@ -93,6 +94,21 @@ runLength (w ∷ ws) = cond (isSegment (w .kind)) (suc (runLength ws)) 0
 unfoldable pub runFits : (xs ys : List ℕ) → Bounds → (lines : ℕ) → List Words → Bool
 runFits xs ys b l [] = true
 runFits xs ys b l (w ∷ ws) = cond (isSegment (w .kind)) ((segmentFits xs ys b w && ltb l 2048) && runFits xs ys b (l + 1) ws) true
+
+-- they are in range
+unfoldable pub eachFits : (xs ys : List ℕ) → Bounds → List Words → Bool
+eachFits xs ys b [] = true
+eachFits xs ys b (w ∷ ws) = cond (isSegment (w .kind)) (segmentFits xs ys b w && eachFits xs ys b ws) true
+
+-- a run from entry `from` up to entry `next`: with those before it has at most 2,048, or it has none
+abbrev pub runTo : (fits : Bool) → (lines before from next : ℕ) → Run
+runTo fits lines before from next =
+    record {
+      fits = fits && (eqb next from || leb (before + (next - from)) 2048);
+      segments = before + (next - from);
+      lines = lines;
+      next = next;
+    }
 
 abbrev pub afterRunN : Scan → Bool → ℕ → Scan
 afterRunN s fits lines = cond fits (mk (s .stack) true (s .areas) lines) offN
