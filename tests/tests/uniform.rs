@@ -207,7 +207,7 @@ fn each_position_of_a_uniform_leaf() {
 fn the_borders_of_large_uniform_leaves() {
     let random = &mut Random::for_test(151);
     let mut sides = Vec::new();
-    for round in 0..10 {
+    for round in 0..6 {
         // A few areas on the borders of large cells, or one beside them, and a corner far down.
         let records = match round {
             0 => painted(255, [9, 8, 7], square_at(16_384, 32_768, 16_384)),
