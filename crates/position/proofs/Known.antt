@@ -6,7 +6,7 @@ use native.Mathlib.Omega.{arith}
 use lib.Dec.{eqb, ltb, leb}
 use lib.ListN.{length}
 use borrow.Author.Tests.{leb-true, ltb-true, eq-eqb}
-use Rattle.laws.proofs.Booleans.{clash}
+use Rattle.laws.proofs.Booleans.{clash, cond-left, cond-right}
 use Rattle.refusals.specs.declared.Refusal.the-variants as Refusals
 use Rattle.cells.specs.Cells.{at}
 use Rattle.paint.specs.Areas.{Painted}
@@ -32,7 +32,7 @@ use Rattle.position.specs.declared.Shown.{Shown}
 use Rattle.position.specs.declared.Shown.the-variants.{In}
 use Rattle.position.specs.declared.Shown.the-variants as Seen
 use Rattle.position.specs.Spots.{isFound, spotOf, setBy, spotBy, setMeant, known, setIn, spotIn, positionAnswer}
-use Rattle.position.specs.code.Numbers.{between, inSquare, shownBy, shownThere, WasShown, LastIn}
+use Rattle.position.specs.code.Numbers.{between, inSquare, shownBy, shownThere, WasShown, LastIn, servesN}
 use Rattle.position.proofs.Painted.{set-painted, none-painted}
 
 -- ---- the square of a leaf
@@ -227,5 +227,9 @@ module _ (t : Tree) where
     pub last-read : (s′ : ℕ) → s′ ≡ setAt (t .areas) (t .xs) (t .ys) x y (leafStream t l) → In l u s′ ≡ shownThere t x y
     last-read s′ g = set-again (k .x) (k .y) l u s (k .was) x y (inside-holds l x y h) s′ g
 
-    pub last-serves : u ≡ true → In l u s ≡ shownThere t x y
-    last-serves g = shown-again (k .x) (k .y) l u s (k .was) x y (inside-holds l x y h) g
+    last-same : u ≡ true → In l u s ≡ shownThere t x y
+    last-same g = shown-again (k .x) (k .y) l u s (k .was) x y (inside-holds l x y h) g
+
+  pub last-serves : (r : Shown) (x y : ℕ) → LastIn t r → servesN r x y ≡ true → r ≡ shownThere t x y
+  last-serves (In l u s) x y k h = last-same l u s x y k (cond-right u (inSquare l x y) h) (cond-left u (inSquare l x y) h)
+  last-serves Seen.Broken x y k h = clash h

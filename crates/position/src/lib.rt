@@ -13,7 +13,7 @@ ghost use Rattle.stream.specs.Grammar.{env, bounds, Passed};
 ghost use Rattle.evaluate.specs.Reading.{setAt};
 ghost use Rattle.tables.specs.Tables.{tree, treeLent};
 ghost use Rattle.position.specs.Spots.{spotOf, spotIn, positionAnswer};
-ghost use Rattle.position.specs.code.Numbers.{between, inSquare, LastIn, shownThere};
+ghost use Rattle.position.specs.code.Numbers.{between, inSquare, servesN, LastIn, shownThere};
 
 // What shows at a position: the set of areas, the material of the front one, and the colour. And how far that reaches: whether the leaf's stream holds no
 // line, curve or shortcut, and the leaf's low corner and its side.
@@ -131,8 +131,8 @@ fn shown_anew(
     }
 }
 
-// What shows at (x, y), or 12, where `last` was read last. In the square of that leaf no leaf is looked for, and where it is uniform no stream is read.
-pub fn shown_at(
+// The same, where `last` was read last: no leaf is looked for in the square of that leaf.
+fn shown_near(
     plan: &[u32],
     areas: &[u32],
     xs: &[u32],
@@ -151,9 +151,6 @@ pub fn shown_at(
     match last {
         Shown::In(l, uniform, set) => {
             if is_inside(l, x, y) {
-                if uniform {
-                    return last;
-                }
                 let there = set_in(plan, areas, xs, ys, entries, l, x, y);
                 return Shown::In(l, uniform, there);
             }
@@ -161,6 +158,46 @@ pub fn shown_at(
         }
         Shown::Broken => shown_anew(plan, areas, xs, ys, head, cells, entries, x, y),
     }
+}
+
+// Whether a uniform leaf was read last, and (x, y) lies in its square.
+fn serves(last: Shown, x: u32, y: u32) -> bool
+    ensures answer { λ r. ⌜ r ≡ servesN last x y ⌝ }
+{
+    match last {
+        Shown::In(l, uniform, set) => {
+            if uniform {
+                return is_inside(l, x, y);
+            }
+            return false;
+        }
+        Shown::Broken => {
+            return false;
+        }
+    }
+}
+
+// The same: no stream is read in the square of a uniform leaf that was read last.
+pub fn shown_at(
+    plan: &[u32],
+    areas: &[u32],
+    xs: &[u32],
+    ys: &[u32],
+    head: &[u32],
+    cells: &[u32],
+    entries: &[u32],
+    last: Shown,
+    x: u32,
+    y: u32,
+) -> Shown
+    requires { ⌜ LastIn (tree (now plan) (now areas) (now xs) (now ys) (now head) (now cells) (now entries)) last ⌝ }
+    requires { ⌜ (x < 65536) × (y < 65536) ⌝ }
+    ensures answer { λ r. ⌜ r ≡ shownThere (treeLent plan areas xs ys head cells entries) x y ⌝ }
+{
+    if serves(last, x, y) {
+        return last;
+    }
+    shown_near(plan, areas, xs, ys, head, cells, entries, last, x, y)
 }
 
 // ---- the call

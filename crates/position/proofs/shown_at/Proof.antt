@@ -1,85 +1,27 @@
-use Rattle.position.proofs.Known.{leaf-plan, leaf-stream, last-leaf, last-read, last-serves}
-use Rattle.position.specs.code.Numbers.{LastIn}
-use Rattle.position.specs.declared.Shown.{Shown}
-use mathlib.Core.Path.{sym, subst, _∙_}
+use Rattle.position.proofs.Known.{last-serves}
+use mathlib.Core.Path.{sym, _∙_}
 use Rattle.tables.specs.Tables.{tree}
 use denote.Ref.{now}
 use borrow.Author.Needs.{needs}
 use Rattle.position.proofs.shown_at.Statement.{statement}
 use Rattle.position.proofs.shown_at.Tie as tie
 
-enum-known-last : tie.Need-enum-known-last
-enum-known-last c = search needs
-
-is-inside-requires : tie.Need-is-inside-requires
-is-inside-requires c κs = search needs
+serves-requires : tie.Need-serves-requires
+serves-requires c κs = search needs
 
 returns : tie.Need-returns
 returns c =
-    let at-if1 = c .before in
-    let after-is-inside = at-if1 .before in
-    let after-last = after-is-inside .before .before in
-    let at-entry = after-last .before .before .before .before .before .before .before .before .before in
+    let after-serves = c .before in
+    let at-entry = after-serves .before .before .before .before .before .before .before .before in
     let a = at-entry .args in
     let T = tree (now (a .plan)) (now (a .areas)) (now (a .xs)) (now (a .ys)) (now (a .head)) (now (a .cells)) (now (a .entries)) in
-    let v = after-last .last .given .0 in
-    let k = subst (λ (f : Shown). LastIn T f) (after-last .last .given .1) (at-entry .pre .0) in
-    let h = sym (after-is-inside .is-inside .ensures) ∙ at-if1 .if1 .taken in
-    last-serves T (v .0) (v .1 .0) (v .1 .1 .0) (a .x) (a .y) k h (c .if2 .taken)
+    last-serves T (a .last) (a .x) (a .y) (at-entry .pre .0) (sym (after-serves .serves .ensures) ∙ c .if1 .taken)
 
-set-in-requires : tie.Need-set-in-requires
-set-in-requires c κs =
-    let at-if1 = c .before in
-    let after-is-inside = at-if1 .before in
-    let after-last = after-is-inside .before .before in
-    let at-entry = after-last .before .before .before .before .before .before .before .before .before in
-    let a = at-entry .args in
-    let T = tree (now (a .plan)) (now (a .areas)) (now (a .xs)) (now (a .ys)) (now (a .head)) (now (a .cells)) (now (a .entries)) in
-    let v = after-last .last .given .0 in
-    let k = subst (λ (f : Shown). LastIn T f) (after-last .last .given .1) (at-entry .pre .0) in
-    let h = sym (after-is-inside .is-inside .ensures) ∙ at-if1 .if1 .taken in
-    let e = last-leaf T (v .0) (v .1 .0) (v .1 .1 .0) (a .x) (a .y) k h in
-    (leaf-plan T (a .x) (a .y) (v .0) e, (leaf-stream T (a .x) (a .y) (v .0) e, at-entry .pre .1))
+shown-near-requires : tie.Need-shown-near-requires
+shown-near-requires c κs = search needs
 
 returns-2 : tie.Need-returns-2
-returns-2 c =
-    let at-if1 = c .before .before in
-    let after-is-inside = at-if1 .before in
-    let after-last = after-is-inside .before .before in
-    let at-entry = after-last .before .before .before .before .before .before .before .before .before in
-    let a = at-entry .args in
-    let T = tree (now (a .plan)) (now (a .areas)) (now (a .xs)) (now (a .ys)) (now (a .head)) (now (a .cells)) (now (a .entries)) in
-    let v = after-last .last .given .0 in
-    let k = subst (λ (f : Shown). LastIn T f) (after-last .last .given .1) (at-entry .pre .0) in
-    let h = sym (after-is-inside .is-inside .ensures) ∙ at-if1 .if1 .taken in
-    last-read T (v .0) (v .1 .0) (v .1 .1 .0) (a .x) (a .y) k h (c .set-in .result) (c .set-in .ensures .0)
-
-shown-anew-requires : tie.Need-shown-anew-requires
-shown-anew-requires c κs = search needs
-
-enum-told : tie.Need-enum-told
-enum-told c = search needs
-
-shown-anew-requires-2 : tie.Need-shown-anew-requires-2
-shown-anew-requires-2 c κs = search needs
-
-returns-3 : tie.Need-returns-3
-returns-3 c = search needs
-
-returns-4 : tie.Need-returns-4
-returns-4 c = search needs
+returns-2 c = search needs
 
 pub shown-at-spec : {M : Type 1} → statement M
-shown-at-spec =
-    tie.close
-    (tie.spec
-    enum-known-last
-    is-inside-requires
-    returns
-    set-in-requires
-    returns-2
-    shown-anew-requires
-    enum-told
-    shown-anew-requires-2
-    returns-3
-    returns-4)
+shown-at-spec = tie.close (tie.spec serves-requires returns shown-near-requires returns-2)

@@ -40,3 +40,8 @@ pub record WasShown (t : Tree) (s : Shown) : Type 0 where
 abbrev pub LastIn : Tree → Shown → Type 0
 LastIn t (In l u s) = WasShown t (In l u s)
 LastIn t Seen.Broken = Unit {0}
+
+-- a uniform leaf was read last, and (x, y) lies in its square
+abbrev pub servesN : Shown → (x y : ℕ) → Bool
+servesN (In l u s) x y = cond u (inSquare l x y) false
+servesN Seen.Broken x y = false
