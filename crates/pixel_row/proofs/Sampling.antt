@@ -17,14 +17,16 @@ use Rattle.paint.specs.Pixels.{rowOffsets, rowOffset, sampleX, sampleY, plus, m
 use Rattle.paint.proofs.Pixels.{one-colour}
 use Rattle.cells.specs.Cells.{at}
 use Rattle.celltable.specs.declared.Leaf.{Leaf}
+use Rattle.evaluate.specs.Reading.{setAt}
 use Rattle.tables.specs.Tables.{Tree}
 use Rattle.laws.proofs.Choices.{pick-true, pick-false}
+use Rattle.find_leaf.specs.Leaf.{leafStream}
 use Rattle.find_leaf.proofs.Same.{LeafHolds}
 use Rattle.position.specs.declared.Shown.{Shown}
 use Rattle.position.specs.declared.Shown.the-variants.{In}
 use Rattle.position.specs.Spots.{known, sumsIn}
 use Rattle.position.specs.code.Numbers.{inSquare, shownThere, LastIn}
-use Rattle.position.proofs.Known.{Known, known-set, inside-holds, shown-again}
+use Rattle.position.proofs.Known.{Known, known-set, shown-in, inside-holds, shown-again}
 use Rattle.pixel_row.specs.declared.Pixel.the-variants as Pixels
 use Rattle.pixel_row.specs.Rows.{samplesKnown, pixelKnown, pixelIn}
 use Rattle.pixel_row.proofs.Agree.{pixel-known}
@@ -66,6 +68,13 @@ known-at t x y x′ y′ s f p q k = subst (λ (v : ℕ). Known t v y′ s f) p 
 
 pub shown-named : (t : Tree) (x y x′ y′ : ℕ) (r : Shown) → x ≡ x′ → y ≡ y′ → r ≡ shownThere t x y → r ≡ shownThere t x′ y′
 shown-named t x y x′ y′ r p q e = e ∙ ap₂ (shownThere t) p q
+
+pub set-named : (t : Tree) (l : Leaf) (x y x′ y′ s : ℕ)
+    → x ≡ x′
+    → y ≡ y′
+    → s ≡ setAt (t .areas) (t .xs) (t .ys) x y (leafStream t l)
+    → s ≡ setAt (t .areas) (t .xs) (t .ys) x′ y′ (leafStream t l)
+set-named t l x y x′ y′ s p q e = e ∙ ap₂ (λ (v w : ℕ). setAt (t .areas) (t .xs) (t .ys) v w (leafStream t l)) p q
 
 pub unknown-at : (t : Tree) (x y x′ y′ : ℕ) → x ≡ x′ → y ≡ y′ → known t x y ≡ false → known t x′ y′ ≡ false
 unknown-at t x y x′ y′ p q k = sym (ap₂ (known t) p q) ∙ k
@@ -159,7 +168,7 @@ module _ (t : Tree) (row pixel : ℕ) where
       Pixels.Broken (sym (p .knows) ∙ known-off 16 i h g)
 
   -- ---- a pixel that a uniform leaf holds
-  module _ (l : Leaf) (u : Bool) (set : ℕ) (e : In l u set ≡ shownThere t (sampleX pixel 0) (sampleY row 0)) (yes : u ≡ true)
+  module _ (l : Leaf) (u : Bool) (set : ℕ) (e : In l u set ≡ shownThere t (sampleX pixel 0) (sampleY row 0)) (q : u ≡ true)
       (h : holdsPixel l row pixel ≡ true) where
     -- the leaf holds each of its samples
     sample-held : (k : ℕ) → k < 16 → LeafHolds l (at (sampleX pixel k) (sampleY row k))
@@ -178,10 +187,13 @@ module _ (t : Tree) (row pixel : ℕ) where
     -- so the same set shows at each
     sample-shown : (k : ℕ) → k < 16 → In l u set ≡ shownThere t (sampleX pixel k) (sampleY row k)
     sample-shown k g =
-        shown-again t (sampleX pixel 0) (sampleY row 0) l u set e (sampleX pixel k) (sampleY row k) (sample-held k g) yes
+        shown-again t (sampleX pixel 0) (sampleY row 0) l u set e (sampleX pixel k) (sampleY row k) (sample-held k g)
 
     sample-known : (k : ℕ) → k < 16 → Known t (sampleX pixel k) (sampleY row k) set (In l u set)
-    sample-known k g = known-set t (sampleX pixel k) (sampleY row k) (In l u set) l u set (sample-shown k g) refl
+    sample-known k g =
+        let r = sample-shown k g in
+        known-set t (sampleX pixel k) (sampleY row k) (In l u set) l u set set r refl
+        (shown-in t (sampleX pixel k) (sampleY row k) l u set r .is-read q)
 
     pub uniform-told : (c : Colour) → c ≡ colourOf (paintAt (t .areas)) set → Pixels.Known c (In l u set) ≡ pixelTold t row pixel
     uniform-told c g =

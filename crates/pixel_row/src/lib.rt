@@ -76,9 +76,21 @@ fn pixel_from(
     let mut i: u32 = 1;
     while i < pixel::SAMPLES {
         let p = pixel::sample_at(row, column, i);
-        let s = position::shown_at(plan, areas, xs, ys, head, cells, entries, last, p.x, p.y);
+        let s = position::leaf_for(plan, areas, xs, ys, head, cells, entries, last, p.x, p.y);
         match s {
-            Shown::In(l, uniform, shown) => {
+            Shown::In(l, uniform, set) => {
+                let shown = position::set_for(
+                    plan,
+                    areas,
+                    xs,
+                    ys,
+                    entries,
+                    l,
+                    uniform,
+                    set,
+                    p.x,
+                    p.y,
+                );
                 let c = colour::channel_sums(areas, shown);
                 sum = pixel::add_sample(sum, c);
                 last = s;
@@ -112,9 +124,10 @@ fn pixel_at(
     ensures range { λ r. ⌜ PixelBytes r ⌝ }
 {
     let p = pixel::sample_at(row, column, 0);
-    let s = position::shown_at(plan, areas, xs, ys, head, cells, entries, before, p.x, p.y);
+    let s = position::leaf_for(plan, areas, xs, ys, head, cells, entries, before, p.x, p.y);
     match s {
-        Shown::In(l, uniform, shown) => {
+        Shown::In(l, uniform, set) => {
+            let shown = position::set_for(plan, areas, xs, ys, entries, l, uniform, set, p.x, p.y);
             let inside = holds_pixel(l, row, column);
             if uniform & inside {
                 let c = colour::colour_of(areas, shown);

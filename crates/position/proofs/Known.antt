@@ -6,7 +6,7 @@ use native.Mathlib.Omega.{arith}
 use lib.Dec.{eqb, ltb, leb}
 use lib.ListN.{length}
 use borrow.Author.Tests.{leb-true, ltb-true, eq-eqb}
-use Rattle.laws.proofs.Booleans.{clash, cond-left, cond-right}
+use Rattle.laws.proofs.Booleans.{clash}
 use Rattle.refusals.specs.declared.Refusal.the-variants as Refusals
 use Rattle.cells.specs.Cells.{at}
 use Rattle.paint.specs.Areas.{Painted}
@@ -19,7 +19,7 @@ use Rattle.evaluate.specs.Reading.{setAt}
 use Rattle.evaluate.proofs.Uniform.{set-uniform}
 use Rattle.making.proofs.Meaning.{lent-meaning}
 use Rattle.tables.specs.Tables.{Tree}
-use Rattle.laws.proofs.Choices.{pick-true}
+use Rattle.laws.proofs.Choices.{pick-true, pick-false}
 use Rattle.find_leaf.specs.declared.LeafRead.{LeafRead}
 use Rattle.find_leaf.specs.declared.LeafRead.the-variants as Reads
 use Rattle.find_leaf.specs.Leaf.{positionRange, leafStream, leafBounds, leafIn}
@@ -32,7 +32,7 @@ use Rattle.position.specs.declared.Shown.{Shown}
 use Rattle.position.specs.declared.Shown.the-variants.{In}
 use Rattle.position.specs.declared.Shown.the-variants as Seen
 use Rattle.position.specs.Spots.{isFound, spotOf, setBy, spotBy, setMeant, known, setIn, spotIn, positionAnswer}
-use Rattle.position.specs.code.Numbers.{between, inSquare, shownBy, shownThere, WasShown, LastIn, servesN}
+use Rattle.position.specs.code.Numbers.{between, inSquare, shownBy, shownThere, LastIn, servesN}
 use Rattle.position.proofs.Painted.{set-painted, none-painted}
 
 -- ---- the square of a leaf
@@ -77,7 +77,8 @@ module _ (t : Tree) where
       pub leaf-meaning : setIn t x y ≡ setMeant t x y l
       leaf-meaning = sym leaf-set ∙ lent-meaning (t .areas) (t .xs) (t .ys) (leafBounds t l) x y (leafStream t l) (leaf-stream .grammar)
 
-      pub leaf-shown : shownThere t x y ≡ In l (isUniform (leafStream t l)) (setAt (t .areas) (t .xs) (t .ys) x y (leafStream t l))
+      pub leaf-shown : shownThere t x y
+          ≡ In l (isUniform (leafStream t l)) (cond (isUniform (leafStream t l)) (setAt (t .areas) (t .xs) (t .ys) x y (leafStream t l)) 0)
       unfolding shownThere
       leaf-shown = ap (shownBy t x y) e
 
@@ -96,13 +97,24 @@ module _ (t : Tree) where
               (k ∙ ap At z, sym w ∙ ap (λ (j : Leaf). isUniform (leafStream t j)) z)
           go Broken k q = absurd (let z : _≡_ {A = ℕ} 0 1 = cc in omega arith)
 
-      pub anew-known : (l : Leaf) (n : ℕ) (u : Bool) (s : ℕ)
+      pub anew-uniform : (l : Leaf) (n : ℕ) (u : Bool) (s : ℕ)
           → f ≡ Reads.At l n u
+          → u ≡ true
           → s ≡ setAt (t .areas) (t .xs) (t .ys) x y (leafStream t l)
           → In l u s ≡ shownThere t x y
-      anew-known l n u s e g =
+      anew-uniform l n u s e q g =
           let r = read-leaf l n u e in
-          ap₂ (In l) (r .1) g ∙ sym (leaf-shown l (r .0))
+          ap₂ (In l) (r .1)
+          (g
+          ∙ pick-true (isUniform (leafStream t l)) (setAt (t .areas) (t .xs) (t .ys) x y (leafStream t l)) 0 (sym (r .1) ∙ q))
+          ∙ sym (leaf-shown l (r .0))
+
+      pub anew-lined : (l : Leaf) (n : ℕ) (u : Bool) → f ≡ Reads.At l n u → u ≡ false → In l u 0 ≡ shownThere t x y
+      anew-lined l n u e q =
+          let r = read-leaf l n u e in
+          ap₂ (In l) (r .1)
+          (pick-false (isUniform (leafStream t l)) (setAt (t .areas) (t .xs) (t .ys) x y (leafStream t l)) 0 (sym (r .1) ∙ q))
+          ∙ sym (leaf-shown l (r .0))
 
       pub anew-broken : f ≡ Reads.Broken → Seen.Broken ≡ shownThere t x y
       unfolding shownThere
@@ -116,7 +128,7 @@ module _ (t : Tree) where
     pub record ShownIn (l : Leaf) (u : Bool) (s : ℕ) : Type 0 where
       pub is-leaf : leafIn t x y ≡ At l
       pub is-flag : u ≡ isUniform (leafStream t l)
-      pub is-read : s ≡ setAt (t .areas) (t .xs) (t .ys) x y (leafStream t l)
+      pub is-read : u ≡ true → s ≡ setAt (t .areas) (t .xs) (t .ys) x y (leafStream t l)
 
     pub shown-in : (l : Leaf) (u : Bool) (s : ℕ) → In l u s ≡ shownThere t x y → ShownIn l u s
     unfolding shownThere
@@ -126,11 +138,15 @@ module _ (t : Tree) where
         go (At m) k q =
             let z : m ≡ l = cc in
             let v : isUniform (leafStream t m) ≡ u = cc in
-            let w : setAt (t .areas) (t .xs) (t .ys) x y (leafStream t m) ≡ s = cc in
+            let w : cond (isUniform (leafStream t m)) (setAt (t .areas) (t .xs) (t .ys) x y (leafStream t m)) 0 ≡ s = cc in
             record {
               is-leaf = k ∙ ap At z;
               is-flag = sym v ∙ ap (λ (j : Leaf). isUniform (leafStream t j)) z;
-              is-read = sym w ∙ ap (λ (j : Leaf). setAt (t .areas) (t .xs) (t .ys) x y (leafStream t j)) z;
+              is-read = λ h.
+                  sym w
+                  ∙ (sym
+                  (pick-true (isUniform (leafStream t m)) (setAt (t .areas) (t .xs) (t .ys) x y (leafStream t m)) 0 (v ∙ h))
+                  ∙ ap (λ (j : Leaf). setAt (t .areas) (t .xs) (t .ys) x y (leafStream t j)) z);
             }
         go Broken k q = absurd (let z : _≡_ {A = ℕ} 0 1 = cc in omega arith)
 
@@ -148,16 +164,15 @@ module _ (t : Tree) where
         go Broken e = none-painted (t .areas)
 
     -- ---- the answer at a position
-    pub spot-known : (r : Shown) (l : Leaf) (u : Bool) (s : ℕ) → r ≡ shownThere t x y → r ≡ In l u s → Answers.At (spotOf (t .areas) l u s) ≡ spotIn t x y
-    spot-known r l u s e g =
-        let k = shown-in l u s (sym g ∙ e) in
-        ap₂ (λ (v : Bool) (n : ℕ). Answers.At (spotOf (t .areas) l v n)) (k .is-flag) (k .is-read)
+    pub spot-known : (r : Shown) (l : Leaf) (u : Bool) (s₀ s : ℕ)
+        → r ≡ shownThere t x y
+        → r ≡ In l u s₀
+        → s ≡ setAt (t .areas) (t .xs) (t .ys) x y (leafStream t l)
+        → Answers.At (spotOf (t .areas) l u s) ≡ spotIn t x y
+    spot-known r l u s₀ s e g q =
+        let k = shown-in l u s₀ (sym g ∙ e) in
+        ap₂ (λ (v : Bool) (n : ℕ). Answers.At (spotOf (t .areas) l v n)) (k .is-flag) q
         ∙ sym (ap (spotBy t x y) (k .is-leaf))
-
-    pub spot-painted : (r : Shown) (l : Leaf) (u : Bool) (s : ℕ) → r ≡ shownThere t x y → r ≡ In l u s → Painted (t .areas) s
-    spot-painted r l u s e g =
-        let k = shown-in l u s (sym g ∙ e) in
-        subst (λ (n : ℕ). Painted (t .areas) n) (sym (k .is-read ∙ leaf-set l (k .is-leaf))) in-painted
 
     pub spot-broken : (r : Shown) → r ≡ shownThere t x y → r ≡ Seen.Broken → Answers.Not Refusals.Broken ≡ spotIn t x y
     unfolding shownThere
@@ -174,11 +189,26 @@ module _ (t : Tree) where
       pub is-shown : r ≡ shownThere t x y
       pub is-last : LastIn t r
 
-    pub known-set : (r : Shown) (l : Leaf) (u : Bool) (s : ℕ) → r ≡ shownThere t x y → r ≡ In l u s → Known s (In l u s)
-    known-set r l u s e g =
+    pub known-set : (r : Shown) (l : Leaf) (u : Bool) (s₀ s : ℕ)
+        → r ≡ shownThere t x y
+        → r ≡ In l u s₀
+        → s ≡ setAt (t .areas) (t .xs) (t .ys) x y (leafStream t l)
+        → Known s (In l u s₀)
+    known-set r l u s₀ s e g q =
         let h = sym g ∙ e in
-        let k = shown-in l u s h in
-        record { is-known = leaf-known l (k .is-leaf); is-set = k .is-read ∙ leaf-set l (k .is-leaf); is-shown = h; is-last = last-in (In l u s) h }
+        let k = shown-in l u s₀ h in
+        record { is-known = leaf-known l (k .is-leaf); is-set = q ∙ leaf-set l (k .is-leaf); is-shown = h; is-last = last-in (In l u s₀) h }
+
+    -- what reading the set of a leaf asks
+    pub record Readable (l : Leaf) (u : Bool) (s : ℕ) : Type 0 where
+      pub plan-long : 3 ≤ length (t .plan)
+      pub stream : Passed (t .entries) (l .first) (l .count) (env (t .areas) (t .xs) (t .ys) (leafBounds t l))
+      pub read : u ≡ true → s ≡ setAt (t .areas) (t .xs) (t .ys) x y (leafStream t l)
+
+    pub readable : (r : Shown) (l : Leaf) (u : Bool) (s : ℕ) → r ≡ shownThere t x y → r ≡ In l u s → Readable l u s
+    readable r l u s e g =
+        let k = shown-in l u s (sym g ∙ e) in
+        record { plan-long = leaf-plan l (k .is-leaf); stream = leaf-stream l (k .is-leaf); read = k .is-read }
 
     pub unknown-set : (r : Shown) → r ≡ shownThere t x y → r ≡ Seen.Broken → known t x y ≡ false
     unfolding shownThere known
@@ -206,30 +236,24 @@ module _ (t : Tree) where
 
   -- ---- how far it reaches
 
-  -- a leaf that was read is found from each position of its square, and where it is uniform the same set is read there
+  -- a leaf that was read serves each position of its square: it is found there, and where it is uniform the same set is read
   module _ (x y : ℕ) (l : Leaf) (u : Bool) (s : ℕ) (e : In l u s ≡ shownThere t x y) (x′ y′ : ℕ) (h : LeafHolds l (at x′ y′)) where
     pub leaf-again : leafIn t x′ y′ ≡ At l
     leaf-again = leaf-same t x y x′ y′ l h (shown-in x y l u s e .is-leaf)
 
-    pub set-again : (s′ : ℕ) → s′ ≡ setAt (t .areas) (t .xs) (t .ys) x′ y′ (leafStream t l) → In l u s′ ≡ shownThere t x′ y′
-    set-again s′ g = ap₂ (In l) (shown-in x y l u s e .is-flag) g ∙ sym (leaf-shown x′ y′ l leaf-again)
+    same-set : (b : Bool)
+        → isUniform (leafStream t l) ≡ b
+        → cond b (setAt (t .areas) (t .xs) (t .ys) x y (leafStream t l)) 0 ≡ cond b (setAt (t .areas) (t .xs) (t .ys) x′ y′ (leafStream t l)) 0
+    same-set true q = set-uniform (t .areas) (t .xs) (t .ys) x y x′ y′ (leafStream t l) q
+    same-set false q = refl
 
-    pub shown-again : u ≡ true → In l u s ≡ shownThere t x′ y′
-    shown-again g =
-        let k = shown-in x y l u s e in
-        set-again s (k .is-read ∙ set-uniform (t .areas) (t .xs) (t .ys) x y x′ y′ (leafStream t l) (sym (k .is-flag) ∙ g))
+    pub shown-again : In l u s ≡ shownThere t x′ y′
+    shown-again =
+        e
+        ∙ (leaf-shown x y l (shown-in x y l u s e .is-leaf)
+        ∙ (ap (In l (isUniform (leafStream t l))) (same-set (isUniform (leafStream t l)) refl) ∙ sym (leaf-shown x′ y′ l leaf-again)))
 
   -- as the code tests it
-  module _ (l : Leaf) (u : Bool) (s x y : ℕ) (k : WasShown t (In l u s)) (h : inSquare l x y ≡ true) where
-    pub last-leaf : leafIn t x y ≡ At l
-    last-leaf = leaf-again (k .x) (k .y) l u s (k .was) x y (inside-holds l x y h)
-
-    pub last-read : (s′ : ℕ) → s′ ≡ setAt (t .areas) (t .xs) (t .ys) x y (leafStream t l) → In l u s′ ≡ shownThere t x y
-    last-read s′ g = set-again (k .x) (k .y) l u s (k .was) x y (inside-holds l x y h) s′ g
-
-    last-same : u ≡ true → In l u s ≡ shownThere t x y
-    last-same g = shown-again (k .x) (k .y) l u s (k .was) x y (inside-holds l x y h) g
-
   pub last-serves : (r : Shown) (x y : ℕ) → LastIn t r → servesN r x y ≡ true → r ≡ shownThere t x y
-  last-serves (In l u s) x y k h = last-same l u s x y k (cond-right u (inSquare l x y) h) (cond-left u (inSquare l x y) h)
+  last-serves (In l u s) x y k h = shown-again (k .x) (k .y) l u s (k .was) x y (inside-holds l x y h)
   last-serves Seen.Broken x y k h = clash h

@@ -5,6 +5,7 @@ use paint::area;
 use paint::colour;
 use refusals::Refusal;
 ghost use mathlib.Core.Path.{_≡_};
+ghost use mathlib.Core.Bool.{true};
 ghost use Prim.Native.Nat.{_≤_, _<_};
 ghost use lib.ListN.{length, getD};
 ghost use Rattle.paint.specs.Areas.{Painted};
@@ -35,7 +36,7 @@ pub enum Answer {
     Not(Refusal),
 }
 
-// A leaf, whether it is uniform, and the shown set that was read from it; or 12.
+// A leaf, whether it is uniform, and the set that shows at all its positions where it is, else 0; or 12.
 pub enum Shown {
     In(Leaf, bool, u64),
     Broken,
@@ -106,8 +107,8 @@ pub fn is_inside(l: Leaf, x: u32, y: u32) -> bool
     false
 }
 
-// What shows at (x, y), or 12: the leaf is looked for and its stream is tried.
-fn shown_anew(
+// The leaf that holds (x, y), with the set that shows in it where it is uniform, or 12: it is looked for and its stream is tried.
+fn leaf_anew(
     plan: &[u32],
     areas: &[u32],
     xs: &[u32],
@@ -124,61 +125,30 @@ fn shown_anew(
     let f = find_leaf::read_leaf(plan, areas, xs, ys, head, cells, entries, x, y);
     match f {
         LeafRead::At(l, lines, uniform) => {
-            let set = set_in(plan, areas, xs, ys, entries, l, x, y);
-            Shown::In(l, uniform, set)
-        }
-        LeafRead::Broken => Shown::Broken,
-    }
-}
-
-// The same, where `last` was read last: no leaf is looked for in the square of that leaf.
-fn shown_near(
-    plan: &[u32],
-    areas: &[u32],
-    xs: &[u32],
-    ys: &[u32],
-    head: &[u32],
-    cells: &[u32],
-    entries: &[u32],
-    last: Shown,
-    x: u32,
-    y: u32,
-) -> Shown
-    requires { ⌜ LastIn (tree (now plan) (now areas) (now xs) (now ys) (now head) (now cells) (now entries)) last ⌝ }
-    requires { ⌜ (x < 65536) × (y < 65536) ⌝ }
-    ensures answer { λ r. ⌜ r ≡ shownThere (treeLent plan areas xs ys head cells entries) x y ⌝ }
-{
-    match last {
-        Shown::In(l, uniform, set) => {
-            if is_inside(l, x, y) {
-                let there = set_in(plan, areas, xs, ys, entries, l, x, y);
-                return Shown::In(l, uniform, there);
+            if uniform {
+                let set = set_in(plan, areas, xs, ys, entries, l, x, y);
+                return Shown::In(l, uniform, set);
             }
-            shown_anew(plan, areas, xs, ys, head, cells, entries, x, y)
+            return Shown::In(l, uniform, 0);
         }
-        Shown::Broken => shown_anew(plan, areas, xs, ys, head, cells, entries, x, y),
+        LeafRead::Broken => {
+            return Shown::Broken;
+        }
     }
 }
 
-// Whether a uniform leaf was read last, and (x, y) lies in its square.
+// Whether a leaf was read last, and (x, y) lies in its square.
 fn serves(last: Shown, x: u32, y: u32) -> bool
     ensures answer { λ r. ⌜ r ≡ servesN last x y ⌝ }
 {
     match last {
-        Shown::In(l, uniform, set) => {
-            if uniform {
-                return is_inside(l, x, y);
-            }
-            return false;
-        }
-        Shown::Broken => {
-            return false;
-        }
+        Shown::In(l, uniform, set) => is_inside(l, x, y),
+        Shown::Broken => false,
     }
 }
 
-// The same: no stream is read in the square of a uniform leaf that was read last.
-pub fn shown_at(
+// The leaf that holds (x, y), or 12, where `last` was read last: it serves all positions of its square.
+pub fn leaf_for(
     plan: &[u32],
     areas: &[u32],
     xs: &[u32],
@@ -197,7 +167,34 @@ pub fn shown_at(
     if serves(last, x, y) {
         return last;
     }
-    shown_near(plan, areas, xs, ys, head, cells, entries, last, x, y)
+    leaf_anew(plan, areas, xs, ys, head, cells, entries, x, y)
+}
+
+// The shown set at (x, y) in the leaf that holds it: a stream is read only where the leaf is not uniform.
+pub fn set_for(
+    plan: &[u32],
+    areas: &[u32],
+    xs: &[u32],
+    ys: &[u32],
+    entries: &[u32],
+    l: Leaf,
+    uniform: bool,
+    set: u64,
+    x: u32,
+    y: u32,
+) -> u64
+    requires { ⌜ 3 ≤ length (now plan) ⌝ }
+    requires { ⌜ Passed (now entries) (l .first) (l .count)
+        (env (now areas) (now xs) (now ys) (bounds (getD (now plan) 1 0) (getD (now plan) 2 0) (l .y) (l .side))) ⌝ }
+    requires { ⌜ (x < 65536) × (y < 65536) ⌝ }
+    requires { ⌜ (uniform ≡ true → set ≡ setAt (now areas) (now xs) (now ys) x y (wordsFrom (now entries) (l .first) (l .count))) ⌝ }
+    ensures answer { λ r. ⌜ r ≡ setAt (now (areas .entry)) (now (xs .entry)) (now (ys .entry)) x y (wordsFrom (now (entries .entry)) (l .first) (l .count)) ⌝ }
+    ensures painted { λ r. ⌜ Painted (now (areas .entry)) r ⌝ }
+{
+    if uniform {
+        return set;
+    }
+    set_in(plan, areas, xs, ys, entries, l, x, y)
 }
 
 // ---- the call
@@ -216,10 +213,11 @@ fn spot_at(
     requires { ⌜ (x < 65536) × (y < 65536) ⌝ }
     ensures answer { λ r. ⌜ r ≡ spotIn (treeLent plan areas xs ys head cells entries) x y ⌝ }
 {
-    let s = shown_anew(plan, areas, xs, ys, head, cells, entries, x, y);
+    let s = leaf_anew(plan, areas, xs, ys, head, cells, entries, x, y);
     match s {
         Shown::In(l, uniform, set) => {
-            let spot = spot_of(areas, l, uniform, set);
+            let shown = set_for(plan, areas, xs, ys, entries, l, uniform, set, x, y);
+            let spot = spot_of(areas, l, uniform, shown);
             Answer::At(spot)
         }
         Shown::Broken => Answer::Not(Refusal::Broken),

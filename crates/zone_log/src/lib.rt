@@ -114,20 +114,12 @@ fn log_pass(
     };
     let mut i: usize = 0;
     while i < n {
-        let s = position::shown_at(
-            plan,
-            areas,
-            xs,
-            ys,
-            head,
-            cells,
-            entries,
-            last,
-            px[i],
-            py[i],
-        );
+        let x = px[i];
+        let y = py[i];
+        let s = position::leaf_for(plan, areas, xs, ys, head, cells, entries, last, x, y);
         match s {
-            Shown::In(l, uniform, shown) => {
+            Shown::In(l, uniform, set) => {
+                let shown = position::set_for(plan, areas, xs, ys, entries, l, uniform, set, x, y);
                 let m = area::material_of(areas, shown);
                 let logged = is_logged(i, prior, m);
                 put_logged(out, c.count, i, logged & written);

@@ -1,5 +1,5 @@
 use Rattle.pixel_row.proofs.Sampling.{fewer-in, known-at, unknown-at, sampling-turn, sampling-done, sampling-broken}
-use Rattle.position.proofs.Known.{known-set, unknown-set, in-painted}
+use Rattle.position.proofs.Known.{known-set, unknown-set, readable}
 use Rattle.tables.specs.Tables.{tree}
 use Rattle.pixel_row.specs.code.Numbers.{Sampling}
 use Rattle.paint.specs.Pixels.{sampleX, sampleY}
@@ -29,8 +29,8 @@ sample-at-requires c κs =
     let k = c .loop-test .taken in
     omega (arith, p .1, k)
 
-shown-at-requires : tie.Need-shown-at-requires Inv-loop μ-loop
-shown-at-requires c κs =
+leaf-for-requires : tie.Need-leaf-for-requires Inv-loop μ-loop
+leaf-for-requires c κs =
     let at-loop-test = c .before in
     let at-loop = at-loop-test .before in
     let e = c .sample-at .ensures in
@@ -39,22 +39,25 @@ shown-at-requires c κs =
 enum-known-s : tie.Need-enum-known-s Inv-loop μ-loop
 enum-known-s c = search needs
 
-channel-sums-requires : tie.Need-channel-sums-requires Inv-loop μ-loop
-channel-sums-requires c κs =
+set-for-requires : tie.Need-set-for-requires Inv-loop μ-loop
+set-for-requires c κs =
     let after-s = c .before in
-    let after-shown-at = after-s .before .before in
-    let after-sample-at = after-shown-at .before in
+    let after-leaf-for = after-s .before .before in
+    let after-sample-at = after-leaf-for .before in
     let at-entry = after-sample-at .before .before .before .before .before .before .before .before .before .before in
     let a = at-entry .args in
     let T = tree (now (a .plan)) (now (a .areas)) (now (a .xs)) (now (a .ys)) (now (a .head)) (now (a .cells)) (now (a .entries)) in
     let q = after-sample-at .sample-at .result in
-    let g = known-set T (q .x) (q .y) (after-shown-at .shown-at .result) (after-s .s .given .0 .0) (after-s .s .given .0 .1 .0)
-    (after-s .s .given .0 .1 .1 .0) (after-shown-at .shown-at .ensures) (after-s .s .given .1) in
-    rw (g .is-set) (in-painted T (q .x) (q .y))
+    let e = after-sample-at .sample-at .ensures in
+    let k = readable T (q .x) (q .y) (after-leaf-for .leaf-for .result) _ _ _ (after-leaf-for .leaf-for .ensures) (after-s .s .given .1) in
+    (k .plan-long, (k .stream, ((e .1 .1 .0, e .1 .1 .1), k .read)))
+
+channel-sums-requires : tie.Need-channel-sums-requires Inv-loop μ-loop
+channel-sums-requires c κs = c .set-for .ensures .1
 
 add-sample-requires : tie.Need-add-sample-requires Inv-loop μ-loop
 add-sample-requires c κs =
-    let at-loop-test = c .before .before .before .before .before .before in
+    let at-loop-test = c .before .before .before .before .before .before .before in
     let at-loop = at-loop-test .before in
     let i = at-loop .loop .i in
     let k = at-loop-test .loop-test .taken in
@@ -62,20 +65,21 @@ add-sample-requires c κs =
 
 add-i : tie.Need-add-i Inv-loop μ-loop
 add-i c =
-    let at-loop-test = c .before .before .before .before .before .before .before in
+    let at-loop-test = c .before .before .before .before .before .before .before .before in
     omega (arith, at-loop-test .loop-test .taken)
 
 loop-less : tie.Need-loop-less Inv-loop μ-loop
 loop-less c =
-    let at-loop-test = c .before .before .before .before .before .before .before in
+    let at-loop-test = c .before .before .before .before .before .before .before .before in
     omega (arith, at-loop-test .loop-test .taken)
 
 loop-again : tie.Need-loop-again Inv-loop μ-loop
 loop-again c =
     let after-channel-sums = c .before in
-    let after-s = after-channel-sums .before .before in
-    let after-shown-at = after-s .before .before in
-    let after-sample-at = after-shown-at .before in
+    let after-set-for = after-channel-sums .before in
+    let after-s = after-set-for .before .before in
+    let after-leaf-for = after-s .before .before in
+    let after-sample-at = after-leaf-for .before in
     let at-loop-test = after-sample-at .before in
     let at-loop = at-loop-test .before in
     let at-entry = at-loop .before .before .before .before .before .before .before .before in
@@ -85,11 +89,11 @@ loop-again c =
     let k = at-loop-test .loop-test .taken in
     let q = after-sample-at .sample-at .result in
     let e = after-sample-at .sample-at .ensures in
-    let g = known-at T (q .x) (q .y) (sampleX (a .column) i) (sampleY (a .row) i) (after-s .s .given .0 .1 .1 .0) _
+    let g = known-at T (q .x) (q .y) (sampleX (a .column) i) (sampleY (a .row) i) (after-set-for .set-for .result) _
     (e .0) (e .1 .0)
-    (known-set T (q .x) (q .y) (after-shown-at .shown-at .result) (after-s .s .given .0 .0) (after-s .s .given .0 .1 .0)
-    (after-s .s .given .0 .1 .1 .0) (after-shown-at .shown-at .ensures) (after-s .s .given .1)) in
-    sampling-turn T (a .row) (a .column) 16 i (after-s .s .given .0 .1 .1 .0) (at-loop .loop .last) _
+    (known-set T (q .x) (q .y) (after-leaf-for .leaf-for .result) _ _ _ (after-set-for .set-for .result) (after-leaf-for .leaf-for .ensures)
+    (after-s .s .given .1) (after-set-for .set-for .ensures .0)) in
+    sampling-turn T (a .row) (a .column) 16 i (after-set-for .set-for .result) (at-loop .loop .last) _
     (at-loop .loop .sum) (c .add-sample .result) (after-channel-sums .channel-sums .result) k (at-loop .loop .inv) g
     (after-channel-sums .channel-sums .ensures .0) (after-channel-sums .channel-sums .ensures .1) (c .add-sample .ensures)
 
@@ -98,8 +102,8 @@ enum-told c = search needs
 
 returns : tie.Need-returns Inv-loop μ-loop
 returns c =
-    let after-shown-at = c .before .before in
-    let after-sample-at = after-shown-at .before in
+    let after-leaf-for = c .before .before in
+    let after-sample-at = after-leaf-for .before in
     let at-loop-test = after-sample-at .before in
     let at-loop = at-loop-test .before in
     let at-entry = at-loop .before .before .before .before .before .before .before .before in
@@ -111,7 +115,7 @@ returns c =
     let e = after-sample-at .sample-at .ensures in (
       sampling-broken T (a .row) (a .column) i (at-loop .loop .last) (at-loop .loop .sum) k (at-loop .loop .inv)
           (unknown-at T (q .x) (q .y) (sampleX (a .column) i) (sampleY (a .row) i) (e .0) (e .1 .0)
-          (unknown-set T (q .x) (q .y) (after-shown-at .shown-at .result) (after-shown-at .shown-at .ensures) (c .enum-told .given .1))),
+          (unknown-set T (q .x) (q .y) (after-leaf-for .leaf-for .result) (after-leaf-for .leaf-for .ensures) (c .enum-told .given .1))),
       tt,
     )
 
@@ -140,8 +144,9 @@ pixel-from-spec =
     μ-loop
     loop-holds
     sample-at-requires
-    shown-at-requires
+    leaf-for-requires
     enum-known-s
+    set-for-requires
     channel-sums-requires
     add-sample-requires
     add-i

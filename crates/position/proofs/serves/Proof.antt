@@ -8,18 +8,14 @@ enum-known-last c = search needs
 is-inside-requires : tie.Need-is-inside-requires
 is-inside-requires c κs = search needs
 
-returns : tie.Need-returns
-returns c = rw (c .before .before .before .last .given .1, c .before .if1 .taken) (c .is-inside .ensures)
-
-returns-2 : tie.Need-returns-2
-returns-2 c = rw (c .before .before .last .given .1, c .if1 .left)
-
 enum-told : tie.Need-enum-told
 enum-told c = search needs
 
-returns-3 : tie.Need-returns-3
-returns-3 c = search needs
+returns : tie.Need-returns
+returns c = rw (c .before .before .last .given .1) (c .is-inside .ensures)
+
+returns-2 : tie.Need-returns-2
+returns-2 c = search needs
 
 pub serves-spec : {M : Type 1} → statement M
-serves-spec =
-    tie.close (tie.spec enum-known-last is-inside-requires returns returns-2 enum-told returns-3)
+serves-spec = tie.close (tie.spec enum-known-last is-inside-requires enum-told returns returns-2)

@@ -1,4 +1,4 @@
--- What a run of positions keeps: the leaf that was read last and the set that was read there, which serve the next position where that lies in its square.
+-- What a run of positions keeps: the leaf that was read last, and the set that shows in it where it is uniform, which serve all positions of its square.
 use mathlib.Core.Path.{_≡_}
 use mathlib.Core.Bool.{Bool, false, cond}
 use Prim.Native.Nat.{ℕ, _-_}
@@ -22,9 +22,9 @@ between low side v = cond (leb low v) (ltb (v - low) side) false
 abbrev pub inSquare : Leaf → (x y : ℕ) → Bool
 inSquare l x y = cond (between (l .x) (l .side) x) (between (l .y) (l .side) y) false
 
--- the shown set with the leaf that it is read from, and whether that is uniform; or 12
+-- the leaf, whether it is uniform, and the set that is read there where it is, else 0; or 12
 abbrev pub shownBy : Tree → (x y : ℕ) → Found → Shown
-shownBy t x y (At l) = In l (isUniform (leafStream t l)) (setBy t x y (At l))
+shownBy t x y (At l) = In l (isUniform (leafStream t l)) (cond (isUniform (leafStream t l)) (setBy t x y (At l)) 0)
 shownBy t x y Broken = Seen.Broken
 
 unfoldable pub shownThere : Tree → (x y : ℕ) → Shown
@@ -41,7 +41,7 @@ abbrev pub LastIn : Tree → Shown → Type 0
 LastIn t (In l u s) = WasShown t (In l u s)
 LastIn t Seen.Broken = Unit {0}
 
--- a uniform leaf was read last, and (x, y) lies in its square
+-- a leaf was read last, and (x, y) lies in its square
 abbrev pub servesN : Shown → (x y : ℕ) → Bool
-servesN (In l u s) x y = cond u (inSquare l x y) false
+servesN (In l u s) x y = inSquare l x y
 servesN Seen.Broken x y = false

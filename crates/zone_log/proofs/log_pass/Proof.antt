@@ -1,6 +1,6 @@
 use Rattle.zone_log.proofs.Passes.{Passing, passing-begin, passing-room, passing-turn, passing-done, passing-broken}
 use Rattle.position.specs.declared.Shown.the-variants.{Broken}
-use Rattle.position.proofs.Known.{known-set, unknown-set, in-painted}
+use Rattle.position.proofs.Known.{known-set, unknown-set, readable}
 use Rattle.tables.specs.Tables.{tree}
 use lib.ListN.{getD}
 use denote.Ref.{now}
@@ -24,21 +24,21 @@ loop-holds c =
     let T = tree (now (a .plan)) (now (a .areas)) (now (a .xs)) (now (a .ys)) (now (a .head)) (now (a .cells)) (now (a .entries)) in
     passing-begin T (now (a .px)) (now (a .py)) (a .written) (now (a .out)) 0 Broken tt
 
-mul-shown-at : tie.Need-mul-shown-at Inv-loop μ-loop
-mul-shown-at c =
+mul-x : tie.Need-mul-x Inv-loop μ-loop
+mul-x c =
     let at-loop = c .before in
     let at-entry = at-loop .before .before .before .before .before .before .before .before .before .before .before in
     let k = c .loop-test .taken in
     omega (arith, at-entry .good, k)
 
-shared-slice-read-shown-at : tie.Need-shared-slice-read-shown-at Inv-loop μ-loop
-shared-slice-read-shown-at c =
+shared-slice-read-x : tie.Need-shared-slice-read-x Inv-loop μ-loop
+shared-slice-read-x c =
     let at-loop-test = c .before in
     let k = at-loop-test .loop-test .taken in
     omega (arith, k)
 
-mul-shown-at-2 : tie.Need-mul-shown-at-2 Inv-loop μ-loop
-mul-shown-at-2 c =
+mul-y : tie.Need-mul-y Inv-loop μ-loop
+mul-y c =
     let at-loop-test = c .before in
     let at-loop = at-loop-test .before in
     let at-entry = at-loop .before .before .before .before .before .before .before .before .before .before .before in
@@ -46,8 +46,8 @@ mul-shown-at-2 c =
     let k = at-loop-test .loop-test .taken in
     omega (arith, at-entry .good, p .0 .same, k)
 
-shared-slice-read-shown-at-2 : tie.Need-shared-slice-read-shown-at-2 Inv-loop μ-loop
-shared-slice-read-shown-at-2 c =
+shared-slice-read-y : tie.Need-shared-slice-read-y Inv-loop μ-loop
+shared-slice-read-y c =
     let at-loop-test = c .before .before in
     let at-loop = at-loop-test .before in
     let at-entry = at-loop .before .before .before .before .before .before .before .before .before .before .before in
@@ -55,8 +55,8 @@ shared-slice-read-shown-at-2 c =
     let k = at-loop-test .loop-test .taken in
     omega (arith, p .0 .same, k)
 
-shown-at-requires : tie.Need-shown-at-requires Inv-loop μ-loop
-shown-at-requires c κs =
+leaf-for-requires : tie.Need-leaf-for-requires Inv-loop μ-loop
+leaf-for-requires c κs =
     let at-loop-test = c .before .before in
     let at-loop = at-loop-test .before in
     let at-entry = at-loop .before .before .before .before .before .before .before .before .before .before .before in
@@ -68,21 +68,22 @@ shown-at-requires c κs =
 enum-known-s : tie.Need-enum-known-s Inv-loop μ-loop
 enum-known-s c = search needs
 
-material-of-requires : tie.Need-material-of-requires Inv-loop μ-loop
-material-of-requires c κs =
+set-for-requires : tie.Need-set-for-requires Inv-loop μ-loop
+set-for-requires c κs =
     let after-s = c .before in
-    let after-shown-at = after-s .before .before in
-    let at-loop-test = after-shown-at .before .before .before in
+    let after-leaf-for = after-s .before .before in
+    let at-loop-test = after-leaf-for .before .before .before in
     let at-loop = at-loop-test .before in
     let at-entry = at-loop .before .before .before .before .before .before .before .before .before .before .before in
     let a = at-entry .args in
     let T = tree (now (a .plan)) (now (a .areas)) (now (a .xs)) (now (a .ys)) (now (a .head)) (now (a .cells)) (now (a .entries)) in
-    let px = now (a .px) in
-    let py = now (a .py) in
     let i = at-loop .loop .i in
-    let g = known-set T (getD px i 0) (getD py i 0) (after-shown-at .shown-at .result) (after-s .s .given .0 .0)
-    (after-s .s .given .0 .1 .0) (after-s .s .given .0 .1 .1 .0) (after-shown-at .shown-at .ensures) (after-s .s .given .1) in
-    rw (g .is-set) (in-painted T (getD px i 0) (getD py i 0))
+    let k = readable T (getD (now (a .px)) i 0) (getD (now (a .py)) i 0) (after-leaf-for .leaf-for .result) _ _ _ (after-leaf-for .leaf-for .ensures)
+    (after-s .s .given .1) in
+    (k .plan-long, (k .stream, (at-entry .pre .0 .inside i (at-loop-test .loop-test .taken), k .read)))
+
+material-of-requires : tie.Need-material-of-requires Inv-loop μ-loop
+material-of-requires c κs = c .set-for .ensures .1
 
 is-logged-requires : tie.Need-is-logged-requires Inv-loop μ-loop
 is-logged-requires c κs = search needs
@@ -91,9 +92,10 @@ put-logged-requires : tie.Need-put-logged-requires Inv-loop μ-loop
 put-logged-requires c κs =
     let after-is-logged = c .before in
     let after-material-of = after-is-logged .before in
-    let after-s = after-material-of .before .before in
-    let after-shown-at = after-s .before .before in
-    let at-loop-test = after-shown-at .before .before .before in
+    let after-set-for = after-material-of .before in
+    let after-s = after-set-for .before .before in
+    let after-leaf-for = after-s .before .before in
+    let at-loop-test = after-leaf-for .before .before .before in
     let at-loop = at-loop-test .before in
     let at-entry = at-loop .before .before .before .before .before .before .before .before .before .before .before in
     let a = at-entry .args in
@@ -101,29 +103,29 @@ put-logged-requires c κs =
     let px = now (a .px) in
     let py = now (a .py) in
     let i = at-loop .loop .i in
-    let g = known-set T (getD px i 0) (getD py i 0) (after-shown-at .shown-at .result) (after-s .s .given .0 .0)
-    (after-s .s .given .0 .1 .0) (after-s .s .given .0 .1 .1 .0) (after-shown-at .shown-at .ensures) (after-s .s .given .1) in
-    passing-room T px py (a .written) (now (a .out)) i (after-s .s .given .0 .1 .1 .0) (at-loop .loop .last) _
+    let g = known-set T (getD px i 0) (getD py i 0) (after-leaf-for .leaf-for .result) _ _ _ (after-set-for .set-for .result)
+    (after-leaf-for .leaf-for .ensures) (after-s .s .given .1) (after-set-for .set-for .ensures .0) in
+    passing-room T px py (a .written) (now (a .out)) i (after-set-for .set-for .result) (at-loop .loop .last) _
     (at-loop .loop .prior) (after-material-of .material-of .result) (after-is-logged .is-logged .result) (at-loop .loop .c) (at-loop .loop .out)
     (at-loop-test .loop-test .taken) (at-loop .loop .inv) g (after-material-of .material-of .ensures) (after-is-logged .is-logged .ensures)
     (at-entry .pre .1)
 
 tallied-requires : tie.Need-tallied-requires Inv-loop μ-loop
 tallied-requires c κs =
-    let at-loop-test = c .before .before .before .before .before .before .before .before .before .before .before .before in
+    let at-loop-test = c .before .before .before .before .before .before .before .before .before .before .before .before .before in
     let at-loop = at-loop-test .before in
     let at-entry = at-loop .before .before .before .before .before .before .before .before .before .before .before in
     omega (arith, at-entry .good, at-loop-test .loop-test .taken, at-loop .loop .inv .few)
 
 add-i : tie.Need-add-i Inv-loop μ-loop
 add-i c =
-    let at-loop-test = c .before .before .before .before .before .before .before .before .before .before .before .before .before in
+    let at-loop-test = c .before .before .before .before .before .before .before .before .before .before .before .before .before .before in
     let at-entry = at-loop-test .before .before .before .before .before .before .before .before .before .before .before .before in
     omega (arith, at-entry .good, at-loop-test .loop-test .taken)
 
 loop-less : tie.Need-loop-less Inv-loop μ-loop
 loop-less c =
-    let at-loop-test = c .before .before .before .before .before .before .before .before .before .before .before .before .before in
+    let at-loop-test = c .before .before .before .before .before .before .before .before .before .before .before .before .before .before in
     omega (arith, at-loop-test .loop-test .taken)
 
 loop-again : tie.Need-loop-again Inv-loop μ-loop
@@ -131,9 +133,10 @@ loop-again c =
     let after-put-logged = c .before .before .before in
     let after-is-logged = after-put-logged .before .before in
     let after-material-of = after-is-logged .before in
-    let after-s = after-material-of .before .before in
-    let after-shown-at = after-s .before .before in
-    let at-loop-test = after-shown-at .before .before .before in
+    let after-set-for = after-material-of .before in
+    let after-s = after-set-for .before .before in
+    let after-leaf-for = after-s .before .before in
+    let at-loop-test = after-leaf-for .before .before .before in
     let at-loop = at-loop-test .before in
     let at-entry = at-loop .before .before .before .before .before .before .before .before .before .before .before in
     let a = at-entry .args in
@@ -141,9 +144,9 @@ loop-again c =
     let px = now (a .px) in
     let py = now (a .py) in
     let i = at-loop .loop .i in
-    let g = known-set T (getD px i 0) (getD py i 0) (after-shown-at .shown-at .result) (after-s .s .given .0 .0)
-    (after-s .s .given .0 .1 .0) (after-s .s .given .0 .1 .1 .0) (after-shown-at .shown-at .ensures) (after-s .s .given .1) in
-    passing-turn T px py (a .written) (now (a .out)) i (after-s .s .given .0 .1 .1 .0) (at-loop .loop .last) _
+    let g = known-set T (getD px i 0) (getD py i 0) (after-leaf-for .leaf-for .result) _ _ _ (after-set-for .set-for .result)
+    (after-leaf-for .leaf-for .ensures) (after-s .s .given .1) (after-set-for .set-for .ensures .0) in
+    passing-turn T px py (a .written) (now (a .out)) i (after-set-for .set-for .result) (at-loop .loop .last) _
     (at-loop .loop .prior) (after-material-of .material-of .result) (after-is-logged .is-logged .result) (at-loop .loop .c) (at-loop .loop .out)
     (at-loop-test .loop-test .taken) (at-loop .loop .inv) g (after-material-of .material-of .ensures) (after-is-logged .is-logged .ensures)
     (c .tallied .result) _ (after-put-logged .put-logged .ensures) (c .tallied .ensures)
@@ -159,8 +162,8 @@ same-length c =
 
 returns : tie.Need-returns Inv-loop μ-loop
 returns c =
-    let after-shown-at = c .before .before in
-    let at-loop-test = after-shown-at .before .before .before in
+    let after-leaf-for = c .before .before in
+    let at-loop-test = after-leaf-for .before .before .before in
     let at-loop = at-loop-test .before in
     let at-entry = at-loop .before .before .before .before .before .before .before .before .before .before .before in
     let a = at-entry .args in
@@ -170,7 +173,7 @@ returns c =
     let i = at-loop .loop .i in
     passing-broken T px py (a .written) (now (a .out)) i (at-loop .loop .last) (at-loop .loop .prior) (at-loop .loop .c) (at-loop .loop .out)
     (at-loop-test .loop-test .taken) (at-entry .pre .1) (at-loop .loop .inv)
-    (unknown-set T (getD px i 0) (getD py i 0) (after-shown-at .shown-at .result) (after-shown-at .shown-at .ensures)
+    (unknown-set T (getD px i 0) (getD py i 0) (after-leaf-for .leaf-for .result) (after-leaf-for .leaf-for .ensures)
     (c .enum-told .given .1))
 
 same-length-2 : tie.Need-same-length-2 Inv-loop μ-loop
@@ -197,12 +200,13 @@ log-pass-spec =
     Inv-loop
     μ-loop
     loop-holds
-    mul-shown-at
-    shared-slice-read-shown-at
-    mul-shown-at-2
-    shared-slice-read-shown-at-2
-    shown-at-requires
+    mul-x
+    shared-slice-read-x
+    mul-y
+    shared-slice-read-y
+    leaf-for-requires
     enum-known-s
+    set-for-requires
     material-of-requires
     is-logged-requires
     put-logged-requires
