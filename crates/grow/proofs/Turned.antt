@@ -64,7 +64,9 @@ cell-past a b y p q = rw (p, q)
 -- ---- what is met at the cell
 module _ (n l : ℕ) (t : Tree) (s : Sweep) (w : CellWords) (b : Bounds) (ew : w ≡ words t (s .cell)) (eb : b ≡ boundsOf (t .plan) w)
     (eu : s .used ≡ cellsUsed (t .head)) (ef : s .free ≡ entriesUsed (t .head)) where
-  pub tried-here : (x : Tried) → x ≡ triedCell n l (t .entries) (t .cells) (s .cell) (s .used) (s .free) (env (t .areas) (t .xs) (t .ys) b) w → tried t n l (s .cell) ≡ x
+  pub tried-here : (x : Tried)
+      → x ≡ triedCell n l (t .entries) (t .cells) (s .cell) (s .used) (s .free) (env (t .areas) (t .xs) (t .ys) b) w
+      → tried t n l (s .cell) ≡ x
   unfolding tried
   tried-here x e = sym (rw (eb, ew, eu, ef) at e)
 

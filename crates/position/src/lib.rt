@@ -108,7 +108,7 @@ pub fn is_inside(l: Leaf, x: u32, y: u32) -> bool
 }
 
 // The leaf that holds (x, y), with the set that shows in it where it is uniform, or 12: it is looked for and its stream is tried.
-fn leaf_anew(
+pub fn leaf_anew(
     plan: &[u32],
     areas: &[u32],
     xs: &[u32],
@@ -138,7 +138,7 @@ fn leaf_anew(
 }
 
 // Whether a leaf was read last, and (x, y) lies in its square.
-fn serves(last: Shown, x: u32, y: u32) -> bool
+pub fn serves(last: Shown, x: u32, y: u32) -> bool
     ensures answer { λ r. ⌜ r ≡ servesN last x y ⌝ }
 {
     match last {

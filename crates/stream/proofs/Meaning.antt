@@ -91,7 +91,8 @@ module _ (v : Env) (p : Place) where
 
       go : (d : Decoded) (paint b : Bool)
           → withAreaN (enc (at p)) (roleFits d paint && b)
-          ≡ enc (cond (isGood d && b) (cond (roleFits d paint) (cond (ltb (p .areas) 64) (at (place (p .groups) true (p .areas + 1) (p .segments))) off) off) off)
+          ≡ enc
+          (cond (isGood d && b) (cond (roleFits d paint) (cond (ltb (p .areas) 64) (at (place (p .groups) true (p .areas + 1) (p .segments))) off) off) off)
       go (Good r) paint b = pick (roleFits (Good r) paint) b
       go (Bad x) paint b = refl
 

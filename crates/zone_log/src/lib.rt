@@ -8,6 +8,7 @@ ghost use Prim.Native.Nat.{_<_};
 ghost use lib.ListN.{length, set};
 ghost use lib.Seq.{sets};
 ghost use Rattle.tables.specs.Tables.{tree, treeLent};
+ghost use Rattle.position.specs.code.Numbers.{LastIn, shownThere};
 ghost use Rattle.zone_log.specs.Logs.{outsideFrom, zoneLog, logKnown, logRange, logAnswer, outAfter};
 ghost use Rattle.zone_log.specs.code.Numbers.{RunIn, Accepted, loggedN, talliedN, countIn};
 
@@ -81,6 +82,29 @@ fn put_logged(out: &mut [u32], k: usize, i: usize, written: bool)
 }
 
 // ---- the pass over a run
+// The leaf that holds (x, y), or 12, where `last` was read last: `position::leaf_for` again, with one caller, so that the compiler puts it into the loop.
+fn leaf_next(
+    plan: &[u32],
+    areas: &[u32],
+    xs: &[u32],
+    ys: &[u32],
+    head: &[u32],
+    cells: &[u32],
+    entries: &[u32],
+    last: Shown,
+    x: u32,
+    y: u32,
+) -> Shown
+    requires { ⌜ LastIn (tree (now plan) (now areas) (now xs) (now ys) (now head) (now cells) (now entries)) last ⌝ }
+    requires { ⌜ (x < 65536) × (y < 65536) ⌝ }
+    ensures answer { λ r. ⌜ r ≡ shownThere (treeLent plan areas xs ys head cells entries) x y ⌝ }
+{
+    if position::serves(last, x, y) {
+        return last;
+    }
+    position::leaf_anew(plan, areas, xs, ys, head, cells, entries, x, y)
+}
+
 // How many indices the log of a run has and whether a word holds each of them, or 12. The positions are in range.
 // Where `written` says so the log is also written, from the table's beginning on: then 12 is met at none of the positions, and there is room.
 fn log_pass(
@@ -116,7 +140,7 @@ fn log_pass(
     while i < n {
         let x = px[i];
         let y = py[i];
-        let s = position::leaf_for(plan, areas, xs, ys, head, cells, entries, last, x, y);
+        let s = leaf_next(plan, areas, xs, ys, head, cells, entries, last, x, y);
         match s {
             Shown::In(l, uniform, set) => {
                 let shown = position::set_for(plan, areas, xs, ys, entries, l, uniform, set, x, y);

@@ -26,7 +26,8 @@ try-leaf-requires c κs =
     let after-cell-fits = at-if1 .before in
     let at-entry = after-cell-fits .before .before .before .before .before .before .before .before .before in
     let a = at-entry .args in
-    ap squareRange (at-entry .pre .1) ∙ passes-range (now (a .cells)) (a .s .cell) (a .s .used) (a .s .free) (sym (after-cell-fits .cell-fits .ensures) ∙ at-if1 .if1 .taken)
+    ap squareRange (at-entry .pre .1)
+    ∙ passes-range (now (a .cells)) (a .s .cell) (a .s .used) (a .s .free) (sym (after-cell-fits .cell-fits .ensures) ∙ at-if1 .if1 .taken)
 
 returns : tie.Need-returns
 returns c =

@@ -31,7 +31,8 @@ returns c =
     let a = at-entry .args in
     leaf-wanted _ _ (sym (fits-is (now (a .entries)) (a .w .first) (a .w .count) (a .free) (env (now (a .areas)) (now (a .xs)) (now (a .ys)) (a .b))
     (after-check-stream .check-stream .result) (after-check-stream .check-stream .ensures)) ∙ at-if1 .if1 .taken)
-    (ap (λ n. wantedBy (a .threshold) (a .limit) (a .w .side) n) (sym (lines-is (now (a .entries)) (a .w .first) (a .w .count) (a .free) (env (now (a .areas)) (now (a .xs)) (now (a .ys)) (a .b))
+    (ap (wantedBy (a .threshold) (a .limit) (a .w .side))
+    (sym (lines-is (now (a .entries)) (a .w .first) (a .w .count) (a .free) (env (now (a .areas)) (now (a .xs)) (now (a .ys)) (a .b))
     (after-check-stream .check-stream .result) (after-check-stream .check-stream .ensures) (at-if1 .if1 .taken)))
     ∙ (sym (after-is-wanted .is-wanted .ensures) ∙ c .if2 .taken))
 
@@ -44,7 +45,8 @@ returns-2 c =
     let a = at-entry .args in
     leaf-past _ _ (sym (fits-is (now (a .entries)) (a .w .first) (a .w .count) (a .free) (env (now (a .areas)) (now (a .xs)) (now (a .ys)) (a .b))
     (after-check-stream .check-stream .result) (after-check-stream .check-stream .ensures)) ∙ at-if1 .if1 .taken)
-    (ap (λ n. wantedBy (a .threshold) (a .limit) (a .w .side) n) (sym (lines-is (now (a .entries)) (a .w .first) (a .w .count) (a .free) (env (now (a .areas)) (now (a .xs)) (now (a .ys)) (a .b))
+    (ap (wantedBy (a .threshold) (a .limit) (a .w .side))
+    (sym (lines-is (now (a .entries)) (a .w .first) (a .w .count) (a .free) (env (now (a .areas)) (now (a .xs)) (now (a .ys)) (a .b))
     (after-check-stream .check-stream .result) (after-check-stream .check-stream .ensures) (at-if1 .if1 .taken)))
     ∙ (sym (after-is-wanted .is-wanted .ensures) ∙ c .if2 .left))
 

@@ -34,7 +34,8 @@ loop-holds c =
     let at-entry = c .before .before .before .before in
     let a = at-entry .args in
     let z : a .first + a .count - a .first ≡ a .count = omega arith in
-    (omega arith, omega arith, scan-begin _ _ _ _ _, λ _ _ h. clash h, omega arith, λ _. omega (arith, ap (λ n. linesIn (wordsFrom (now (a .entries)) (a .first) n)) z))
+    let e = ap (λ n. linesIn (wordsFrom (now (a .entries)) (a .first) n)) z in
+    (omega arith, omega arith, scan-begin _ _ _ _ _, λ _ _ h. clash h, omega arith, λ _. omega (arith, e))
 
 scan-next-requires : tie.Need-scan-next-requires Inv-loop μ-loop
 scan-next-requires c κs =

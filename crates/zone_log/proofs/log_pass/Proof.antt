@@ -55,8 +55,8 @@ shared-slice-read-y c =
     let k = at-loop-test .loop-test .taken in
     omega (arith, p .0 .same, k)
 
-leaf-for-requires : tie.Need-leaf-for-requires Inv-loop μ-loop
-leaf-for-requires c κs =
+leaf-next-requires : tie.Need-leaf-next-requires Inv-loop μ-loop
+leaf-next-requires c κs =
     let at-loop-test = c .before .before in
     let at-loop = at-loop-test .before in
     let at-entry = at-loop .before .before .before .before .before .before .before .before .before .before .before in
@@ -71,14 +71,14 @@ enum-known-s c = search needs
 set-for-requires : tie.Need-set-for-requires Inv-loop μ-loop
 set-for-requires c κs =
     let after-s = c .before in
-    let after-leaf-for = after-s .before .before in
-    let at-loop-test = after-leaf-for .before .before .before in
+    let after-leaf-next = after-s .before .before in
+    let at-loop-test = after-leaf-next .before .before .before in
     let at-loop = at-loop-test .before in
     let at-entry = at-loop .before .before .before .before .before .before .before .before .before .before .before in
     let a = at-entry .args in
     let T = tree (now (a .plan)) (now (a .areas)) (now (a .xs)) (now (a .ys)) (now (a .head)) (now (a .cells)) (now (a .entries)) in
     let i = at-loop .loop .i in
-    let k = readable T (getD (now (a .px)) i 0) (getD (now (a .py)) i 0) (after-leaf-for .leaf-for .result) _ _ _ (after-leaf-for .leaf-for .ensures)
+    let k = readable T (getD (now (a .px)) i 0) (getD (now (a .py)) i 0) (after-leaf-next .leaf-next .result) _ _ _ (after-leaf-next .leaf-next .ensures)
     (after-s .s .given .1) in
     (k .plan-long, (k .stream, (at-entry .pre .0 .inside i (at-loop-test .loop-test .taken), k .read)))
 
@@ -94,8 +94,8 @@ put-logged-requires c κs =
     let after-material-of = after-is-logged .before in
     let after-set-for = after-material-of .before in
     let after-s = after-set-for .before .before in
-    let after-leaf-for = after-s .before .before in
-    let at-loop-test = after-leaf-for .before .before .before in
+    let after-leaf-next = after-s .before .before in
+    let at-loop-test = after-leaf-next .before .before .before in
     let at-loop = at-loop-test .before in
     let at-entry = at-loop .before .before .before .before .before .before .before .before .before .before .before in
     let a = at-entry .args in
@@ -103,8 +103,8 @@ put-logged-requires c κs =
     let px = now (a .px) in
     let py = now (a .py) in
     let i = at-loop .loop .i in
-    let g = known-set T (getD px i 0) (getD py i 0) (after-leaf-for .leaf-for .result) _ _ _ (after-set-for .set-for .result)
-    (after-leaf-for .leaf-for .ensures) (after-s .s .given .1) (after-set-for .set-for .ensures .0) in
+    let g = known-set T (getD px i 0) (getD py i 0) (after-leaf-next .leaf-next .result) _ _ _ (after-set-for .set-for .result)
+    (after-leaf-next .leaf-next .ensures) (after-s .s .given .1) (after-set-for .set-for .ensures .0) in
     passing-room T px py (a .written) (now (a .out)) i (after-set-for .set-for .result) (at-loop .loop .last) _
     (at-loop .loop .prior) (after-material-of .material-of .result) (after-is-logged .is-logged .result) (at-loop .loop .c) (at-loop .loop .out)
     (at-loop-test .loop-test .taken) (at-loop .loop .inv) g (after-material-of .material-of .ensures) (after-is-logged .is-logged .ensures)
@@ -135,8 +135,8 @@ loop-again c =
     let after-material-of = after-is-logged .before in
     let after-set-for = after-material-of .before in
     let after-s = after-set-for .before .before in
-    let after-leaf-for = after-s .before .before in
-    let at-loop-test = after-leaf-for .before .before .before in
+    let after-leaf-next = after-s .before .before in
+    let at-loop-test = after-leaf-next .before .before .before in
     let at-loop = at-loop-test .before in
     let at-entry = at-loop .before .before .before .before .before .before .before .before .before .before .before in
     let a = at-entry .args in
@@ -144,8 +144,8 @@ loop-again c =
     let px = now (a .px) in
     let py = now (a .py) in
     let i = at-loop .loop .i in
-    let g = known-set T (getD px i 0) (getD py i 0) (after-leaf-for .leaf-for .result) _ _ _ (after-set-for .set-for .result)
-    (after-leaf-for .leaf-for .ensures) (after-s .s .given .1) (after-set-for .set-for .ensures .0) in
+    let g = known-set T (getD px i 0) (getD py i 0) (after-leaf-next .leaf-next .result) _ _ _ (after-set-for .set-for .result)
+    (after-leaf-next .leaf-next .ensures) (after-s .s .given .1) (after-set-for .set-for .ensures .0) in
     passing-turn T px py (a .written) (now (a .out)) i (after-set-for .set-for .result) (at-loop .loop .last) _
     (at-loop .loop .prior) (after-material-of .material-of .result) (after-is-logged .is-logged .result) (at-loop .loop .c) (at-loop .loop .out)
     (at-loop-test .loop-test .taken) (at-loop .loop .inv) g (after-material-of .material-of .ensures) (after-is-logged .is-logged .ensures)
@@ -162,8 +162,8 @@ same-length c =
 
 returns : tie.Need-returns Inv-loop μ-loop
 returns c =
-    let after-leaf-for = c .before .before in
-    let at-loop-test = after-leaf-for .before .before .before in
+    let after-leaf-next = c .before .before in
+    let at-loop-test = after-leaf-next .before .before .before in
     let at-loop = at-loop-test .before in
     let at-entry = at-loop .before .before .before .before .before .before .before .before .before .before .before in
     let a = at-entry .args in
@@ -173,7 +173,7 @@ returns c =
     let i = at-loop .loop .i in
     passing-broken T px py (a .written) (now (a .out)) i (at-loop .loop .last) (at-loop .loop .prior) (at-loop .loop .c) (at-loop .loop .out)
     (at-loop-test .loop-test .taken) (at-entry .pre .1) (at-loop .loop .inv)
-    (unknown-set T (getD px i 0) (getD py i 0) (after-leaf-for .leaf-for .result) (after-leaf-for .leaf-for .ensures)
+    (unknown-set T (getD px i 0) (getD py i 0) (after-leaf-next .leaf-next .result) (after-leaf-next .leaf-next .ensures)
     (c .enum-told .given .1))
 
 same-length-2 : tie.Need-same-length-2 Inv-loop μ-loop
@@ -204,7 +204,7 @@ log-pass-spec =
     shared-slice-read-x
     mul-y
     shared-slice-read-y
-    leaf-for-requires
+    leaf-next-requires
     enum-known-s
     set-for-requires
     material-of-requires
