@@ -304,9 +304,9 @@ static inline const char *zones_refusal_text(uint32_t number) {
  * recursive and no frame depends on the tables: what was measured is the longest path through the object code, so
  * other drawings take no more.
  *
- *     zones_read     346     zones_split    4200     zones_position    841
- *     zones_write    538     zones_grow     4168     zones_pixel_row  1593
- *     zones_open    1896     zones_find_leaf 825     zones_zone_log   1561
+ *     zones_read     346     zones_split    4200     zones_position    951
+ *     zones_write    538     zones_grow     4168     zones_pixel_row  1271
+ *     zones_open    1896     zones_find_leaf 807     zones_zone_log   1255
  *
  * What memcpy and memset take comes on top. In a program that binds a shared C library lazily, the first call of
  * either runs the dynamic linker on this stack, another 3 to 4 KB.
@@ -318,24 +318,24 @@ static inline const char *zones_refusal_text(uint32_t number) {
  *
  *      | pit                       | berms                     | full                      | mine
  *      |cells  entr.   pos.  pixel |cells  entr.   pos.  pixel |cells  entr.   pos.  pixel |cells  entr.   pos.  pixel
- * none |    1     72   6708  32394 |    1    117  17996  96028 |    1     72   9083  54686 |    1   1247 153387 499414
- *   16 |   17    427   3016  15277 |   29    936   3737  19868 |   53   1590   3439  21734 |  429  38480   6313  21042
- *    8 |   45    962   1984  10150 |   73   1656   2413  12494 |  229   3849   2432  14560 | 1065  65158   4888  16381
- *    4 |   89   1390   1857   8853 |  253   4228   1809   9953 |  905   8523   1820  10338 | 1081f 65452   4565  13340
- *    2 |  329   3180   1525   6653 |  673   7615   1665   8381 | 2661  15606   1351   4722 | 1129f 65467   4319  12856
- *    1 | 1453   7811   1331   6090 | 2005  14840   1441   7326 | 4093f 20713   1279   4129 | 1145f 65382   4246  12249
- *    0 | 4093f 18119   1080   4002 | 4093f 24055   1181   4735 | 4093f 20187   1206   3767 | 1149f 65514   4011  12856
+ * none |    1     72   5922  32027 |    1    117  16896  95657 |    1     72   8377  54278 |    1   1247 140228 498948
+ *   16 |   17    427   2746  14913 |   29    936   3414  19503 |   53   1590   3213  21330 |  429  38480   5578  20674
+ *    8 |   45    962   1868   9788 |   73   1656   2250  12131 |  229   3849   2301  14157 | 1065  65158   4352  16013
+ *    4 |   89   1390   1758   8491 |  253   4228   1726   9590 |  905   8523   1748   9984 | 1081f 65452   4074  12974
+ *    2 |  329   3180   1473   6328 |  673   7615   1597   8055 | 2661  15606   1326   4379 | 1129f 65467   3871  12526
+ *    1 | 1453   7811   1307   5769 | 2005  14840   1400   7000 | 4093f 20713   1261   3787 | 1145f 65382   3811  11919
+ *    0 | 4093f 18119   1085   3770 | 4093f 24055   1170   4530 | 4093f 20187   1195   3459 | 1149f 65514   3626  12526
  *
  * Then over depth limits, with threshold 2:
  *
  *      | pit                       | berms                     | full                      | mine
  *      |cells  entr.   pos.  pixel |cells  entr.   pos.  pixel |cells  entr.   pos.  pixel |cells  entr.   pos.  pixel
- *    4 |  153   2016   1565   7905 |  121   2680   1807   9392 |  293   4399   1934  12228 |  317  31278   6334  25543
- *    5 |  249   2763   1530   6816 |  229   4096   1699   8631 | 1057   9329   1452   5336 |  973  60736   4388  12856
- *    6 |  301   3040   1526   6653 |  373   5493   1678   8381 | 2661  15606   1351   4722 | 1129f 65467   4319  12856
- *    7 |  317   3126   1525   6653 |  553   6889   1668   8381 | 2661  15606   1351   4722 | 1129f 65467   4319  12856
- *    8 |  329   3180   1525   6653 |  673   7615   1665   8381 | 2661  15606   1351   4722 | 1129f 65467   4319  12856
- *   10 |  333   3186   1525   6653 |  681   7641   1665   8381 | 2661  15606   1351   4722 | 1129f 65467   4319  12856
+ *    4 |  153   2016   1507   7580 |  121   2680   1725   9066 |  293   4399   1851  11873 |  317  31278   5607  25174
+ *    5 |  249   2763   1477   6491 |  229   4096   1628   8305 | 1057   9329   1415   4983 |  973  60736   3930  12526
+ *    6 |  301   3040   1474   6328 |  373   5493   1609   8055 | 2661  15606   1326   4379 | 1129f 65467   3871  12526
+ *    7 |  317   3126   1473   6328 |  553   6889   1600   8055 | 2661  15606   1326   4379 | 1129f 65467   3871  12526
+ *    8 |  329   3180   1473   6328 |  673   7615   1597   8055 | 2661  15606   1326   4379 | 1129f 65467   3871  12526
+ *   10 |  333   3186   1473   6328 |  681   7641   1597   8055 | 2661  15606   1326   4379 | 1129f 65467   3871  12526
  *
  * - In tables at the limits: threshold 2, depth limit 8. Below 2 the tables fill up for little; a large drawing fills
  *   them at any threshold up to 4, and what is cut then is cut evenly, as growing goes from the large cells down.

@@ -59,7 +59,7 @@ abbrev pub findNumber : leaf-answer.Answer → ℕ
 findNumber (leaf.Found l) = packed 0 (l .cell)
 findNumber (leaf.Not r) = packed (numberOf r) 0
 
--- "yes or no" as a word: 1 or 0
+-- document 02: "yes or no", as a word: 1 or 0
 abbrev pub wordOf : Bool → ℕ
 wordOf b = cond b 1 0
 

@@ -92,7 +92,7 @@ pub fn pack_grow(a: grow::Answer) -> u64
     }
 }
 
-// "yes" or "no" as a word.
+// Yes or no as a word: 1 or 0.
 fn word_of(yes: bool) -> u32
     ensures answer { λ r. ⌜ r ≡ wordOf yes ⌝ }
 {

@@ -1,4 +1,4 @@
--- How far an answer reaches: "yes" gives each position of the leaf the same answer, and "no" comes exactly with a line, a curve or a shortcut.
+-- How far an answer reaches: yes gives each position of the leaf the same answer, and no comes exactly with a line, a curve or a shortcut.
 use mathlib.Core.Path.{_≡_, refl, sym, ap, _∙_}
 use mathlib.Core.Bool.{Bool, true, false, cond, _&&_}
 use Prim.Native.Nat.{ℕ, _+_, _≤_, _<_}
@@ -56,7 +56,7 @@ module _ (t : Tree) (x y : ℕ) where
       go false b f e r k q = absurd (let z : _≡_ {A = ℕ} 0 1 = cc in omega arith)
 
   module _ (s : Spot) (h : positionAnswer t x y ≡ Answers.At s) where
-    -- "no" comes with a line, a curve or a shortcut
+    -- no comes with a line, a curve or a shortcut
     pub no-reach : s .uniform ≡ false → HoldsSegment (leafStream t (accepted s h .leaf))
     no-reach u = no-holds (leafStream t (accepted s h .leaf)) (sym (ap (λ (r : Spot). r .uniform) (accepted s h .spot)) ∙ u)
 
@@ -64,7 +64,7 @@ module _ (t : Tree) (x y : ℕ) where
     pub reach-no : HoldsSegment (leafStream t (accepted s h .leaf)) → s .uniform ≡ false
     reach-no k = ap (λ (r : Spot). r .uniform) (accepted s h .spot) ∙ holds-no k
 
--- "A yes means that each position of the leaf has this shown set, material and colour."
+-- document 02: "A yes means that each position of the leaf has this shown set, material and colour."
 pub reaches : (t : Tree) → Reaches t
 reaches t x y s h u x′ y′ i =
     let a = accepted t x y s h in
