@@ -1,5 +1,5 @@
 -- A leaf that is found: what is read there, and which positions it serves.
-use mathlib.Core.Path.{_≡_, refl, sym, ap, ap₂, subst, _∙_}
+use mathlib.Core.Path.{_≡_, refl, sym, ap, ap₂, _∙_}
 use mathlib.Core.Bool.{Bool, true, false, cond}
 use Prim.Native.Nat.{ℕ, _+_, _-_, _≤_, _<_}
 use native.Mathlib.Omega.{arith}
@@ -9,7 +9,6 @@ use borrow.Author.Tests.{leb-true, ltb-true, eq-eqb}
 use Rattle.laws.proofs.Booleans.{clash}
 use Rattle.refusals.specs.declared.Refusal.the-variants as Refusals
 use Rattle.cells.specs.Cells.{at}
-use Rattle.paint.specs.Areas.{Painted}
 use Rattle.stream.specs.Entry.{isUniform}
 use Rattle.stream.specs.Grammar.{env, Passed}
 use Rattle.celltable.specs.declared.Leaf.{Leaf}
@@ -33,7 +32,6 @@ use Rattle.position.specs.declared.Shown.the-variants.{In}
 use Rattle.position.specs.declared.Shown.the-variants as Seen
 use Rattle.position.specs.Spots.{isFound, spotOf, setBy, spotBy, setMeant, known, setIn, spotIn, positionAnswer}
 use Rattle.position.specs.code.Numbers.{between, inSquare, shownBy, shownThere, LastIn, servesN}
-use Rattle.position.proofs.Painted.{set-painted, none-painted}
 
 -- ---- the square of a leaf
 
@@ -81,10 +79,6 @@ module _ (t : Tree) where
           ≡ In l (isUniform (leafStream t l)) (cond (isUniform (leafStream t l)) (setAt (t .areas) (t .xs) (t .ys) x y (leafStream t l)) 0)
       unfolding shownThere
       leaf-shown = ap (shownBy t x y) e
-
-    pub broken-known : leafIn t x y ≡ Broken → known t x y ≡ false
-    unfolding known
-    broken-known e = ap isFound e
 
     -- ---- what is read there
     module _ (f : LeafRead) (h : f ≡ leafRead t x y) where
@@ -153,15 +147,6 @@ module _ (t : Tree) where
     pub last-in : (r : Shown) → r ≡ shownThere t x y → LastIn t r
     last-in (In l u s) e = record { x = x; y = y; was = e }
     last-in Seen.Broken e = tt
-
-    -- ---- each area of the set has a row in range
-    pub in-painted : Painted (t .areas) (setIn t x y)
-    unfolding setIn
-    in-painted = go (leafIn t x y) refl
-      where
-        go : (f : Found) → leafIn t x y ≡ f → Painted (t .areas) (setBy t x y f)
-        go (At l) e = set-painted (t .entries) (l .first) (l .count) (env (t .areas) (t .xs) (t .ys) (leafBounds t l)) x y (leaf-stream l e)
-        go Broken e = none-painted (t .areas)
 
     -- ---- the answer at a position
     pub spot-known : (r : Shown) (l : Leaf) (u : Bool) (s₀ s : ℕ)

@@ -249,10 +249,3 @@ set-painted t first count v x y p =
         × (fieldsAt (v .areas) n .blue ≤ 255)
         → PaintIn (paintAt (v .areas) n)
     painted n f = record { alpha-byte = f .0; red-byte = f .1; green-byte = f .2; blue-byte = f .3 }
-
--- the empty set
-pub none-painted : (areas : List ℕ) → Painted areas 0
-none-painted areas = record { row = λ n e. absurd (none n e); bytes = λ n e. absurd (none n e) }
-  where
-    none : (n : ℕ) → has 0 n ≡ true → ⊥
-    none n e = clash (sym (has-none n) ∙ e)

@@ -1,13 +1,12 @@
 -- How far an answer reaches: yes gives each position of the leaf the same answer, and no comes exactly with a line, a curve or a shortcut.
 use mathlib.Core.Path.{_≡_, refl, sym, ap, _∙_}
 use mathlib.Core.Bool.{Bool, true, false, cond, _&&_}
-use Prim.Native.Nat.{ℕ, _+_, _≤_, _<_}
+use Prim.Native.Nat.{ℕ}
 use native.Mathlib.Omega.{arith}
 use lib.Dec.{eqb, ltb}
 use lib.ListN.{length}
 use borrow.Author.Tests.{eqb-true, lt-ltb}
 use Rattle.refusals.specs.declared.Refusal.the-variants as Refusals
-use Rattle.geometry.specs.Classes.{Inside}
 use Rattle.cells.specs.Cells.{at}
 use Rattle.stream.specs.Entry.{HoldsSegment, isUniform}
 use Rattle.stream.proofs.Uniform.{no-holds, holds-no}
@@ -21,7 +20,7 @@ use Rattle.find_leaf.proofs.Landing.{leaf-square}
 use Rattle.find_leaf.proofs.Same.{LeafHolds, leaf-same}
 use Rattle.position.specs.declared.Spot.{Spot}
 use Rattle.position.specs.declared.Answer.the-variants as Answers
-use Rattle.position.specs.Spots.{spotOf, setBy, spotBy, setIn, spotIn, positionAnswer, Reaches}
+use Rattle.position.specs.Spots.{spotOf, setBy, spotBy, setIn, positionAnswer, Reaches}
 use Rattle.position.proofs.Known.{leaf-set, position-accepted}
 
 module _ (t : Tree) (x y : ℕ) where

@@ -1,11 +1,11 @@
 -- How many lines, curves and shortcuts a stream that passes holds; and when it is uniform, both ways.
 use mathlib.Core.Path.{_≡_, refl, sym, ap, ap₂, _∙_}
-use mathlib.Core.Bool.{Bool, true, false, cond, not}
+use mathlib.Core.Bool.{Bool, true, false, cond}
 use mathlib.Core.List.{List, [], _∷_}
 use Prim.Native.Nat.{ℕ, _+_}
 use native.Mathlib.Omega.{arith}
 use lib.Dec.{eqb}
-use borrow.Author.Tests.{eqb-true, eq-eqb, ne-eqb}
+use borrow.Author.Tests.{eqb-true, ne-eqb}
 use Rattle.laws.proofs.Booleans.{clash}
 use Rattle.stream.specs.declared.Words.{Words}
 use Rattle.stream.specs.declared.Scan.{Scan}
@@ -14,7 +14,7 @@ use Rattle.stream.specs.Entry.{Entry, opens, bar, closes, area, line, cu
 use Rattle.stream.specs.Entry.{isCurve, isLine, isSegment, linesIn, segmentsIn, HoldsSegment, here, behind, isUniform}
 use Rattle.stream.specs.Table.{wordsFrom}
 use Rattle.stream.specs.Grammar.{Env, Place, place, Course, at, off, inRange, fits, inLimit, after, next, course, begin, accepts, checkStream}
-use Rattle.stream.specs.code.Machine.{offN, startN, scanN}
+use Rattle.stream.specs.code.Machine.{startN, scanN}
 use Rattle.stream.specs.code.Checks.{fit, unfit, told, toldAt, checked}
 use Rattle.stream.proofs.Counts.{one-more}
 use Rattle.stream.proofs.Entries.{decode-is, decode-segment, byTests}

@@ -2,7 +2,7 @@ use Rattle.pixel_row.proofs.Sampling.{plus-none, shown-named, set-named
 use Rattle.position.proofs.Known.{known-set, unknown-set, readable, shown-in}
 use Rattle.tables.specs.Tables.{tree}
 use Rattle.paint.specs.Pixels.{sampleX, sampleY}
-use Rattle.pixel_row.specs.code.Numbers.{holdsPixel, noChannels}
+use Rattle.pixel_row.specs.code.Numbers.{noChannels}
 use Rattle.laws.proofs.Booleans.{and-left, and-right}
 use mathlib.Core.Path.{sym, ap, _∙_}
 use Rattle.paint.specs.Areas.{paintAt}

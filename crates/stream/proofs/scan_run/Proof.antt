@@ -9,7 +9,7 @@ use Rattle.stream.specs.declared.Words.{Words}
 use Rattle.stream.specs.Table.{wordsFrom}
 use Rattle.stream.specs.Entry.{isSegment, linesIn}
 use Rattle.stream.specs.code.Machine.{runLength, eachFits}
-use Rattle.laws.proofs.Booleans.{and-assoc, and-true}
+use Rattle.laws.proofs.Booleans.{and-assoc}
 use Rattle.stream.proofs.Counts.{lines-more}
 use Rattle.stream.proofs.Runs.{count-more, count-stop, count-last, fits-more, fits-stop, fits-last, run-ended}
 use Rattle.stream.proofs.scan_run.Statement.{statement}
