@@ -7,11 +7,11 @@ use native.Mathlib.Omega.{arith}
 use native.Mathlib.Nat.{one-le-pow, two-pow-succ, div-add-mod', div-lt-iff-lt-mul, mul-le-mul-right, mul-mod-left}
 use lib.Dec.{eqb, ltb}
 use borrow.Author.Tests.{eqb-true, eq-eqb, lt-ltb}
-use Rattle.laws.proofs.Booleans.{and-left, and-right, and-both, and-true}
+use Rattle.laws.proofs.Booleans.{and-left, and-right, and-both}
 use Rattle.cells.specs.Cells.{Cell, cell, left, low, level, side, root, Quarter, lowLow, highLow, lowHigh, highHigh, alongX, alongY, child}
 use Rattle.celltable.specs.declared.CellWords.{CellWords}
 use Rattle.celltable.specs.Table.{cellAt}
-use Rattle.celltable.specs.Ranges.{gridRange, squareRange, rootRange, childRange, entryRange, cellRange, levelOf, cellOf}
+use Rattle.celltable.specs.Ranges.{gridRange, squareRange, rootRange, childRange, entryRange, parentRange, cellRange, levelOf, cellOf}
 use Rattle.celltable.specs.Descent.{onSquare}
 use Rattle.celltable.proofs.Powers.{level-most, power-of, pow-split}
 use Rattle.celltable.proofs.Ranges.{SquareFits, square-fits, range-parts}
@@ -140,16 +140,17 @@ own-square w c i r s = go (eqb i 0) refl
 
 -- where the words say a cell of the grid, and cell 0 the root, only the other numbers decide whether they pass
 pub gridded-range : (t : List ℕ) (c : Cell) (i used entries : ℕ) → Gridded c → (i ≡ 0 → c ≡ root) → onSquare (cellAt t i) c ≡ true
-    → cellRange t i used entries ≡ (childRange (cellAt t i .child) used && entryRange (cellAt t i .first) (cellAt t i .count) entries)
+    → cellRange t i used entries
+    ≡ (childRange (cellAt t i .child) used && (entryRange (cellAt t i .first) (cellAt t i .count) entries && parentRange t i used))
 unfolding cellRange
 gridded-range t c i used entries g r h =
     let s : SaysCell (cellAt t i) c = says-cell (cellAt t i) c h in
     rw (gridded-passes (cellAt t i) c g s, own-square (cellAt t i) c i r s)
-    (ap (λ (b : Bool). childRange (cellAt t i .child) used && b) (and-true (entryRange (cellAt t i .first) (cellAt t i .count) entries)))
 
 pub gridded-cell : (t : List ℕ) (c : Cell) (i used entries : ℕ) → Gridded c → (i ≡ 0 → c ≡ root) → SaysCell (cellAt t i) c
     → childRange (cellAt t i .child) used ≡ true
     → entryRange (cellAt t i .first) (cellAt t i .count) entries ≡ true
+    → parentRange t i used ≡ true
     → cellRange t i used entries ≡ true
 gridded-cell t c i used entries g r s a b =
     range-parts t i used entries (gridded-passes (cellAt t i) c g s) a b (own-square (cellAt t i) c i r s)

@@ -6,7 +6,7 @@ use mathlib.Core.List.{List}
 use native.Mathlib.Omega.{arith}
 use lib.Dec.{eqb}
 use borrow.Author.Tests.{eqb-true, eqb-false, eq-eqb, ne-eqb}
-use Rattle.cells.specs.Cells.{Position, at, OnGrid, Cell, cell, level, root, Holds, Quarter, lowLow, highLow, lowHigh, highHigh, child, quarterOf}
+use Rattle.cells.specs.Cells.{Position, at, OnGrid, Cell, cell, level, root, Holds, Quarter, child, quarterOf}
 use Rattle.cells.proofs.Cells.{root-holds, child-holds}
 use Rattle.celltable.specs.declared.CellWords.{CellWords}
 use Rattle.celltable.specs.declared.Leaf.{Leaf}
@@ -17,6 +17,7 @@ use Rattle.celltable.specs.Descent.{placeOf, onSquare, leafOf, downFrom,
 use Rattle.celltable.proofs.Powers.{level-of}
 use Rattle.celltable.proofs.Ranges.{passes-child}
 use Rattle.celltable.proofs.Grid.{SaysCell, says-cell}
+use Rattle.celltable.proofs.Parents.{few-places}
 
 -- the cell that a leaf says it is: "finding a leaf reports as many steps as the leaf's depth", so its level is 16 less the steps
 abbrev pub leafCell : Leaf → Cell
@@ -47,12 +48,6 @@ module _ (t : List ℕ) (used entries : ℕ) (p : Position) (n i steps : ℕ) (c
   down-split z = rw (f, s, ne-eqb (cellAt t i .child) 0 z)
 
 -- ---- the leaf that is found
-
-few-places : (q : Quarter) → placeOf q ≤ 3
-few-places lowLow = omega arith
-few-places highLow = omega arith
-few-places lowHigh = omega arith
-few-places highHigh = omega arith
 
 pub broken-not : {A : Type 0} (l : Leaf) → Broken ≡ At l → A
 broken-not l e = absurd (let z : _≡_ {A = ℕ} 0 1 = cc in omega arith)

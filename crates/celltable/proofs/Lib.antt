@@ -1,8 +1,9 @@
--- Laws of the table of cells; what a cell that passes says; the path down and the leaf that it finds; examples.
+-- Laws of the table of cells; what a cell that passes says, and its parent; the path down and the leaf that it finds; examples.
 pub mod Table
 pub mod Powers
 pub mod Ranges
 pub mod Grid
+pub mod Parents
 pub mod Meaning
 pub mod Quarters
 pub mod Walk

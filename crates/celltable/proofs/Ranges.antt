@@ -7,7 +7,7 @@ use native.Mathlib.Omega.{arith}
 use native.Mathlib.Nat.{one-le-pow, pow-le-pow-right}
 use lib.Dec.{eqb, ltb, leb}
 use lib.ListN.{length, getD}
-use borrow.Author.Tests.{eqb-true, eqb-false, ltb-true, leb-true, eq-eqb, le-leb, lt-ltb}
+use borrow.Author.Tests.{eqb-true, eqb-false, ltb-true, leb-true, eq-eqb, ne-eqb, le-leb, lt-ltb, le-ltb}
 use Rattle.laws.proofs.Booleans.{and-left, and-right, and-both, cond-left, cond-right}
 use Rattle.celltable.proofs.Powers.{level-is, level-most}
 use Rattle.geometry.specs.code.Reach.{SquareIn}
@@ -21,6 +21,9 @@ use Rattle.celltable.specs.Ranges.{
   rootRange,
   childRange,
   entryRange,
+  isChild,
+  heldBy,
+  parentRange,
   cellRange,
   cellsHeld,
   entriesHeld,
@@ -86,9 +89,9 @@ child-in-use child used h f = ltb-true (child + 3) used (go (eqb child 0) refl h
     go true e q = absurd (f (eqb-true child 0 e))
     go false e q = q
 
--- such a child has a number far below what a word holds; f and g are the outcomes of the code's tests
-pub child-few : (t : List ℕ) (child used : ℕ) (f g : Bool) → CellsIn t used → f ≡ childRange child used → (f && g) ≡ true → (child ≡ 0 → ⊥) → child < 65536
-child-few t child used f g r q h z = omega (arith, child-in-use child used (sym q ∙ and-left f g h) z)
+-- such a child has a number far below what a word holds
+pub child-few : (t : List ℕ) (child used : ℕ) → CellsIn t used → childRange child used ≡ true → (child ≡ 0 → ⊥) → child < 65536
+child-few t child used r q z = omega (arith, child-in-use child used q z)
 
 -- a leaf has none
 pub leaf-child : (child used : ℕ) → child ≡ 0 → childRange child used ≡ true
@@ -105,6 +108,33 @@ child-more child used used′ u h = go (eqb child 0) refl
 pub entries-more : (first count entries entries′ : ℕ) → entries ≤ entries′ → entryRange first count entries ≡ true → entryRange first count entries′ ≡ true
 entries-more first count entries entries′ n h = le-leb (first + count) entries′ (omega (arith, leb-true (first + count) entries h))
 
+-- a cell that is one of the four has no lower number than the first
+pub child-least : (first used i : ℕ) → isChild first used i ≡ true → first ≤ i
+child-least first used i h =
+    let rest : Bool = leb first i && leb i (first + 3) in
+    leb-true first i
+    (and-left (leb first i) (leb i (first + 3)) (and-right (ltb (first + 3) used) rest (and-right (leb 1 first) (ltb (first + 3) used && rest) h)))
+
+-- ---- the parent, test by test: w are the words of cell i
+module _ (t : List ℕ) (i used : ℕ) (w : CellWords) (e : w ≡ cellAt t i) where
+  pub parent-first : i ≡ 0 → eqb (w .parent) 0 ≡ parentRange t i used
+  unfolding parentRange
+  parent-first z = rw (e, eq-eqb i 0 z)
+
+  module _ (z : i ≡ 0 → ⊥) where
+    pub parent-met : (p : CellWords) (r : Bool) → w .parent < used → p ≡ cellAt t (w .parent) → r ≡ heldBy p w i used → r ≡ parentRange t i used
+    unfolding parentRange
+    parent-met p r l f q =
+        let q₁ : r ≡ heldBy (cellAt t (cellAt t i .parent)) (cellAt t i) i used = rw (f, e) at q in
+        let l₁ : cellAt t i .parent < used = rw e at l in
+        rw (ne-eqb i 0 z, lt-ltb (cellAt t i .parent) used l₁) q₁
+
+    pub parent-past : used ≤ w .parent → false ≡ parentRange t i used
+    unfolding parentRange
+    parent-past l =
+        let l₁ : used ≤ cellAt t i .parent = rw e at l in
+        rw (ne-eqb i 0 z, le-ltb (cellAt t i .parent) used l₁)
+
 -- ---- a cell that passes
 
 module _ (t : List ℕ) (i used entries : ℕ) where
@@ -117,36 +147,49 @@ module _ (t : List ℕ) (i used entries : ℕ) where
   abbrev inRun : Bool
   inRun = entryRange (w .first) (w .count) entries
 
+  abbrev inRoot : Bool
+  inRoot = rootRange w i
+
+  abbrev inParent : Bool
+  inParent = parentRange t i used
+
   -- part by part
   pub range-parts : squareRange (cellAt t i) ≡ true → childRange (cellAt t i .child) used ≡ true
-      → entryRange (cellAt t i .first) (cellAt t i .count) entries ≡ true → rootRange (cellAt t i) i ≡ true → cellRange t i used entries ≡ true
+      → entryRange (cellAt t i .first) (cellAt t i .count) entries ≡ true → rootRange (cellAt t i) i ≡ true → parentRange t i used ≡ true
+      → cellRange t i used entries ≡ true
   unfolding cellRange
-  range-parts a b d e =
-      and-both (squareRange w) (inChild && (inRun && rootRange w i)) a
-      (and-both inChild (inRun && rootRange w i) b (and-both inRun (rootRange w i) d e))
+  range-parts a b d e f =
+      and-both (squareRange w) (inChild && (inRun && (inRoot && inParent))) a
+      (and-both inChild (inRun && (inRoot && inParent)) b (and-both inRun (inRoot && inParent) d (and-both inRoot inParent e f)))
 
   module _ (h : cellRange t i used entries ≡ true) where
-    parts : (squareRange w && (inChild && (inRun && rootRange w i))) ≡ true
+    parts : (squareRange w && (inChild && (inRun && (inRoot && inParent)))) ≡ true
     unfolding cellRange
     parts = h
 
-    past-square : (inChild && (inRun && rootRange w i)) ≡ true
-    past-square = and-right (squareRange w) (inChild && (inRun && rootRange w i)) parts
+    past-square : (inChild && (inRun && (inRoot && inParent))) ≡ true
+    past-square = and-right (squareRange w) (inChild && (inRun && (inRoot && inParent))) parts
 
-    past-child : (inRun && rootRange w i) ≡ true
-    past-child = and-right inChild (inRun && rootRange w i) past-square
+    past-child : (inRun && (inRoot && inParent)) ≡ true
+    past-child = and-right inChild (inRun && (inRoot && inParent)) past-square
+
+    past-run : (inRoot && inParent) ≡ true
+    past-run = and-right inRun (inRoot && inParent) past-child
 
     pub passes-range : squareRange (cellAt t i) ≡ true
-    passes-range = and-left (squareRange w) (inChild && (inRun && rootRange w i)) parts
+    passes-range = and-left (squareRange w) (inChild && (inRun && (inRoot && inParent))) parts
 
     pub passes-children : childRange (cellAt t i .child) used ≡ true
-    passes-children = and-left inChild (inRun && rootRange w i) past-square
+    passes-children = and-left inChild (inRun && (inRoot && inParent)) past-square
 
     pub passes-run : entryRange (cellAt t i .first) (cellAt t i .count) entries ≡ true
-    passes-run = and-left inRun (rootRange w i) past-child
+    passes-run = and-left inRun (inRoot && inParent) past-child
 
     pub passes-root : rootRange (cellAt t i) i ≡ true
-    passes-root = and-right inRun (rootRange w i) past-child
+    passes-root = and-left inRoot inParent past-run
+
+    pub passes-parent : parentRange t i used ≡ true
+    passes-parent = and-right inRoot inParent past-run
 
     passes-fits : SquareFits w
     passes-fits = square-fits w passes-range
@@ -167,20 +210,6 @@ module _ (t : List ℕ) (i used entries : ℕ) where
 
     pub passes-entries : cellAt t i .first + cellAt t i .count ≤ entries
     passes-entries = leb-true (w .first + w .count) entries passes-run
-
--- in a table with the same words there, with more in use
-pub range-more : (t t′ : List ℕ) (i used entries used′ entries′ : ℕ)
-    → cellAt t′ i ≡ cellAt t i
-    → used ≤ used′
-    → entries ≤ entries′
-    → cellRange t i used entries ≡ true
-    → cellRange t′ i used′ entries′ ≡ true
-range-more t t′ i used entries used′ entries′ e u n h =
-    range-parts t′ i used′ entries′ (ap squareRange e ∙ passes-range t i used entries h)
-    (ap (λ (w : CellWords). childRange (w .child) used′) e ∙ child-more (cellAt t i .child) used used′ u (passes-children t i used entries h))
-    (ap (λ (w : CellWords). entryRange (w .first) (w .count) entries′) e
-    ∙ entries-more (cellAt t i .first) (cellAt t i .count) entries entries′ n (passes-run t i used entries h))
-    (ap (λ (w : CellWords). rootRange w i) e ∙ passes-root t i used entries h)
 
 -- ---- a head that passes
 

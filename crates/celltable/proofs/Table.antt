@@ -22,6 +22,8 @@ same-words t t′ i f =
       child = f 3 (omega arith) d;
       first = f 4 (omega arith) d;
       count = f 5 (omega arith) d;
+      lines = f 6 (omega arith) d;
+      parent = f 7 (omega arith) d;
     }
   where
     zeroth : (l : List ℕ) → getD l (i * 8) 0 ≡ getD l (i * 8 + 0) 0
@@ -96,7 +98,7 @@ put-cell-eq t i w h = stores ∙ sets-eq (cellRow w) t (i * 8) h
 pub put-cell-same : (t : List ℕ) (i : ℕ) (w : CellWords) → i * 8 + 8 ≤ length t → cellAt (putCellAt t i w) i ≡ w
 put-cell-same t i w h =
     rw (put-cell-eq t i w h, append-assoc (take (i * 8) t) (cellRow w) (drop (i * 8 + 8) t))
-    (λ d. record { x = at-zero d; y = at 1 d; side = at 2 d; child = at 3 d; first = at 4 d; count = at 5 d })
+    (λ d. record { x = at-zero d; y = at 1 d; side = at 2 d; child = at 3 d; first = at 4 d; count = at 5 d; lines = at 6 d; parent = at 7 d })
   where
     whole : List ℕ
     whole = take (i * 8) t ++ (cellRow w ++ drop (i * 8 + 8) t)
@@ -133,6 +135,8 @@ put-child-same t i n h =
       child = getD-set-same t (i * 8 + 3) n 0 (omega arith) d;
       first = other (i * 8 + 4) (λ e. omega arith) d;
       count = other (i * 8 + 5) (λ e. omega arith) d;
+      lines = other (i * 8 + 6) (λ e. omega arith) d;
+      parent = other (i * 8 + 7) (λ e. omega arith) d;
     }
   where
     other : (k : ℕ) → (k ≡ i * 8 + 3 → ⊥) → getD (putChildAt t i n) k 0 ≡ getD t k 0

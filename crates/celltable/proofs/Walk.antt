@@ -1,7 +1,7 @@
 -- The steps of a path down and the loop over them, as plain laws.
 use Prim.Native.Nat.{ℕ, suc, _+_, _-_, _/_, _≤_, _<_}
 use mathlib.Core.Path.{_≡_, refl, sym, ap, _∙_, subst}
-use mathlib.Core.Bool.{Bool, true, false, cond, _&&_}
+use mathlib.Core.Bool.{Bool, true, false, cond}
 use mathlib.Core.List.{List}
 use native.Mathlib.Omega.{arith}
 use lib.Dec.{eqb, leb}
@@ -15,47 +15,49 @@ use Rattle.celltable.specs.declared.Down.the-variants.{Deeper, AtLeaf, B
 use Rattle.celltable.specs.declared.Found.{Found}
 use Rattle.celltable.specs.declared.Found.the-variants.{At, Broken}
 use Rattle.celltable.specs.Table.{cellAt}
-use Rattle.celltable.specs.Ranges.{childRange, entryRange}
+use Rattle.celltable.specs.Ranges.{childRange}
 use Rattle.celltable.specs.Descent.{leafOf}
-use Rattle.celltable.specs.code.Numbers.{halfN, deeperN, standsN, metN, stepN, goOn, walkN, startN, CursorIn}
+use Rattle.celltable.specs.code.Numbers.{halfN, deeperN, standsN, numbersN, metN, stepN, goOn, walkN, startN, CursorIn}
 use Rattle.celltable.proofs.Ranges.{child-in-use}
 
--- ---- what one step gives: w is the cell that was read, s, f and g are the outcomes of its tests
+-- ---- what one step gives: w is the cell that was read, s and f are the outcomes of its tests
 module _ (t : List ℕ) (used entries : ℕ) (c : Cursor) (px py : ℕ) (w : CellWords) (s : Bool) (p : w ≡ cellAt t (c .cell)) (r : s ≡ standsN c w) where
-  read-is : metN w used entries c px py ≡ stepN t used entries c px py
-  read-is = ap (λ (v : CellWords). metN v used entries c px py) p
+  read-is : metN t w used entries c px py ≡ stepN t used entries c px py
+  read-is = ap (λ (v : CellWords). metN t v used entries c px py) p
 
   pub step-astray : s ≡ false → Bad ≡ stepN t used entries c px py
   unfolding metN
   step-astray k = met ∙ read-is
     where
-      met : Bad ≡ metN w used entries c px py
+      met : Bad ≡ metN t w used entries c px py
       met = rw (← r, k)
 
-  pub step-unfit : (f g : Bool) → s ≡ true → f ≡ childRange (w .child) used → g ≡ entryRange (w .first) (w .count) entries → (f && g) ≡ false
-      → Bad ≡ stepN t used entries c px py
-  unfolding metN
-  step-unfit f g k q u h = met ∙ read-is
-    where
-      met : Bad ≡ metN w used entries c px py
-      met = rw (← r, k, ← q, ← u, h)
+  module _ (f : Bool) (k : s ≡ true) (q : f ≡ numbersN t used entries c w) where
+    pub step-unfit : f ≡ false → Bad ≡ stepN t used entries c px py
+    unfolding metN
+    step-unfit h = met ∙ read-is
+      where
+        met : Bad ≡ metN t w used entries c px py
+        met = rw (← r, k, ← q, h)
 
-  pub step-landed : (f g : Bool) → s ≡ true → f ≡ childRange (w .child) used → g ≡ entryRange (w .first) (w .count) entries → (f && g) ≡ true → w .child ≡ 0
-      → AtLeaf (leafOf (c .cell) (c .steps) w) ≡ stepN t used entries c px py
-  unfolding metN
-  step-landed f g k q u h l = met ∙ read-is
-    where
-      met : AtLeaf (leafOf (c .cell) (c .steps) w) ≡ metN w used entries c px py
-      met = rw (← r, k, ← q, ← u, h, eq-eqb (w .child) 0 l)
+    pub step-landed : f ≡ true → w .child ≡ 0 → AtLeaf (leafOf (c .cell) (c .steps) w) ≡ stepN t used entries c px py
+    unfolding metN
+    step-landed h l = met ∙ read-is
+      where
+        met : AtLeaf (leafOf (c .cell) (c .steps) w) ≡ metN t w used entries c px py
+        met = rw (← r, k, ← q, h, eq-eqb (w .child) 0 l)
 
-  pub step-deeper : (f g : Bool) (next : Cursor) → s ≡ true → f ≡ childRange (w .child) used → g ≡ entryRange (w .first) (w .count) entries → (f && g) ≡ true
-      → (w .child ≡ 0 → ⊥) → next ≡ deeperN c (w .child) px py
-      → Deeper next ≡ stepN t used entries c px py
-  unfolding metN
-  step-deeper f g next k q u h l e = met ∙ read-is
-    where
-      met : Deeper next ≡ metN w used entries c px py
-      met = rw (← r, k, ← q, ← u, h, ne-eqb (w .child) 0 l, e)
+    pub step-deeper : (next : Cursor) → f ≡ true → (w .child ≡ 0 → ⊥) → next ≡ deeperN c (w .child) px py → Deeper next ≡ stepN t used entries c px py
+    unfolding metN
+    step-deeper next h l e = met ∙ read-is
+      where
+        met : Deeper next ≡ metN t w used entries c px py
+        met = rw (← r, k, ← q, h, ne-eqb (w .child) 0 l, e)
+
+-- a cell whose numbers pass has children in range
+pub numbers-child : (t : List ℕ) (used entries : ℕ) (c : Cursor) (w : CellWords) (f : Bool) → f ≡ numbersN t used entries c w → f ≡ true
+    → childRange (w .child) used ≡ true
+numbers-child t used entries c w f q h = and-left (childRange (w .child) used) _ (sym q ∙ h)
 
 -- ---- the loop: what is left gives what the whole gives
 module _ (t : List ℕ) (used entries px py n : ℕ) (c : Cursor) (r : Down) (whole : Found) where
@@ -123,23 +125,21 @@ deeper-follows used first px py c u =
 
 step-follows : (t : List ℕ) (used entries px py : ℕ) (c c′ : Cursor) (r : Down) → r ≡ stepN t used entries c px py → r ≡ Deeper c′ → Follows c c′ used
 unfolding metN
-step-follows t used entries px py c c′ r p q = go (standsN c w) (inChild && inRun) (eqb (w .child) 0) refl refl (sym p ∙ q)
+step-follows t used entries px py c c′ r p q = go (standsN c w) numbers (eqb (w .child) 0) refl refl (sym p ∙ q)
   where
     w : CellWords
     w = cellAt t (c .cell)
 
-    inChild : Bool
-    inChild = childRange (w .child) used
+    numbers : Bool
+    numbers = numbersN t used entries c w
 
-    inRun : Bool
-    inRun = entryRange (w .first) (w .count) entries
-
-    go : (a b d : Bool) → (inChild && inRun) ≡ b → eqb (w .child) 0 ≡ d
+    go : (a b d : Bool) → numbers ≡ b → eqb (w .child) 0 ≡ d
         → cond a (cond b (cond d (AtLeaf (leafOf (c .cell) (c .steps) w)) (Deeper (deeperN c (w .child) px py))) Bad) Bad ≡ Deeper c′ → Follows c c′ used
     go true true false e f k =
         let s : deeperN c (w .child) px py ≡ c′ = cc in
         subst (λ (v : Cursor). Follows c v used) s
-        (deeper-follows used (w .child) px py c (child-in-use (w .child) used (and-left inChild inRun e) (eqb-false (w .child) 0 f)))
+        (deeper-follows used (w .child) px py c
+        (child-in-use (w .child) used (numbers-child t used entries c w numbers refl e) (eqb-false (w .child) 0 f)))
     go true true true e f k = absurd (let z : _≡_ {A = ℕ} 0 1 = cc in omega arith)
     go true false d e f k = absurd (let z : _≡_ {A = ℕ} 0 1 = cc in omega arith)
     go false b d e f k = absurd (let z : _≡_ {A = ℕ} 0 1 = cc in omega arith)

@@ -27,7 +27,8 @@ abbrev pub onSquare : CellWords → Cell → Bool
 onSquare w c = eqb (w .x) (left c) && (eqb (w .y) (low c) && eqb (w .side) (side c))
 
 abbrev pub leafOf : (i steps : ℕ) → CellWords → Leaf
-leafOf i steps w = record { cell = i; x = w .x; y = w .y; side = w .side; steps = steps; first = w .first; count = w .count }
+leafOf i steps w =
+    record { cell = i; x = w .x; y = w .y; side = w .side; steps = steps; first = w .first; count = w .count; lines = w .lines }
 
 -- "Each step down picks one quarter and gives the next cell": from cell i, which has to be the cell c, so many steps below cell 0, over at
 -- most n cells. Each cell that is met passes 12 and is on its own square, or the way is broken.

@@ -1,5 +1,5 @@
--- Document 01, "From the state", 12: when the numbers of a cell and the numbers in use are in range.
-use Prim.Native.Nat.{ℕ, zero, suc, _+_, _*_, _/_, _%_, _^_, _≤_}
+-- Document 01, "From the state", 12, and document 02, Item 5: when the numbers of a cell and the numbers in use are in range.
+use Prim.Native.Nat.{ℕ, zero, suc, _+_, _*_, _-_, _/_, _%_, _^_, _≤_}
 use mathlib.Core.Bool.{Bool, true, false, cond, _&&_, _||_}
 use mathlib.Core.List.{List}
 use lib.ListN.{length, getD}
@@ -41,12 +41,41 @@ childRange child used = eqb child 0 || ltb (child + 3) used
 abbrev pub entryRange : (first count used : ℕ) → Bool
 entryRange first count used = leb (first + count) used
 
+-- ---- the parent of a cell
+
+-- document 02: "a split cell holding it as one of its four": cell i is one of the four in a row from `first` on, which are in use
+abbrev pub isChild : (first used i : ℕ) → Bool
+isChild first used i = leb 1 first && (ltb (first + 3) used && (leb first i && leb i (first + 3)))
+
+-- a coordinate of the low corner of a half
+abbrev pub halfAt : (v side : ℕ) → (high : Bool) → ℕ
+halfAt v side high = cond high (v + side) v
+
+-- "each child on its own square"; "four cells of half the side ...: low x low y, high x low y, low x high y, high x high y": words w of the child
+-- at place q of a cell with the words p
+abbrev pub onQuarter : (p w : CellWords) → (q : ℕ) → Bool
+onQuarter p w q =
+    eqb (p .side) (2 * w .side) && (eqb (w .x) (halfAt (p .x) (w .side) (eqb (q % 2) 1)) && eqb (w .y) (halfAt (p .y) (w .side) (leb 2 q)))
+
+-- of the parent, whose words are p, nothing else is tried
+abbrev pub heldBy : (p w : CellWords) → (i used : ℕ) → Bool
+heldBy p w i used = isChild (p .child) used i && onQuarter p w (i - p .child)
+
+-- document 02: "Cell 0 with another parent than itself, or any other cell whose parent is not a split cell holding it as one of its four, is met by 12"
+unfoldable pub parentRange : List ℕ → (i used : ℕ) → Bool
+parentRange t i used =
+    cond (eqb i 0) (eqb (cellAt t i .parent) 0)
+    (cond (ltb (cellAt t i .parent) used) (heldBy (cellAt t (cellAt t i .parent)) (cellAt t i) i used) false)
+
+-- ---- a cell
+
 -- "a number met in the tables used (... the path down ...; the cell ... when splitting) is outside its range": cell i of the table t, with so many
 -- cells and entries in use
 unfoldable pub cellRange : List ℕ → (i used entries : ℕ) → Bool
 cellRange t i used entries =
     squareRange (cellAt t i)
-    && (childRange (cellAt t i .child) used && (entryRange (cellAt t i .first) (cellAt t i .count) entries && rootRange (cellAt t i) i))
+    && (childRange (cellAt t i .child) used
+    && (entryRange (cellAt t i .first) (cellAt t i .count) entries && (rootRange (cellAt t i) i && parentRange t i used)))
 
 -- ---- the numbers in use
 

@@ -8,8 +8,9 @@ ghost use lib.ListN.{length};
 ghost use Rattle.cells.specs.Cells.{squareOf, child};
 ghost use Rattle.celltable.specs.Table.{cellAt, putCellAt, putChildAt};
 ghost use Rattle.celltable.specs.Ranges.{sideRange, squareRange, rootRange, childRange, entryRange, cellRange, headRange, CellsIn, cellOf};
+ghost use Rattle.celltable.specs.Ranges.{halfAt, onQuarter, heldBy, parentRange};
 ghost use Rattle.celltable.specs.Descent.{quarterAt, descendIn};
-ghost use Rattle.celltable.specs.code.Numbers.{halfN, deeperN, standsN, stepN, CursorIn};
+ghost use Rattle.celltable.specs.code.Numbers.{halfN, deeperN, standsN, parentN, numbersN, stepN, CursorIn};
 
 // The side of cell 0, one past the last position.
 pub const GRID: u32 = 65536;
@@ -46,12 +47,17 @@ const FIRST: usize = 4;
 
 const COUNT: usize = 5;
 
+const LINES: usize = 6;
+
+const PARENT: usize = 7;
+
 pub const CELL_WORDS: usize = 8;
 
 // The words of an entry.
 pub const ENTRY_WORDS: usize = 4;
 
-// The words of a cell that have a name. `child` is the first of its four children, or 0 for a leaf.
+// The words of a cell. `child` is the first of its four children, or 0 for a leaf; `lines` is how many lines and curves its stream has; `parent` is 0
+// for cell 0.
 pub struct CellWords {
     pub x: u32,
     pub y: u32,
@@ -59,6 +65,8 @@ pub struct CellWords {
     pub child: u32,
     pub first: u32,
     pub count: u32,
+    pub lines: u32,
+    pub parent: u32,
 }
 
 // Where one half of a side begins, and whether it is the high one (1) or the low one (0).
@@ -67,16 +75,18 @@ pub struct Half {
     pub bit: u32,
 }
 
-// Where a path down stands: the number of the next cell, the square that it has to be, and the steps so far.
+// Where a path down stands: the number of the next cell and of the cell that it came from (0 for cell 0), the square that it has to be, and the steps so
+// far.
 pub struct Cursor {
     pub cell: u32,
+    pub parent: u32,
     pub x: u32,
     pub y: u32,
     pub side: u32,
     pub steps: u32,
 }
 
-// The leaf that a path down found: its number, its square, its depth, and its stream.
+// The leaf that a path down found: its number, its square, its depth, its stream, and how many lines it says that it has.
 pub struct Leaf {
     pub cell: u32,
     pub x: u32,
@@ -85,6 +95,7 @@ pub struct Leaf {
     pub steps: u32,
     pub first: u32,
     pub count: u32,
+    pub lines: u32,
 }
 
 // One step down: the next cursor, the leaf, or a cell that does not pass.
@@ -113,10 +124,12 @@ pub fn read_cell(cells: &[u32], i: usize) -> CellWords
         child: cells[at + CHILD],
         first: cells[at + FIRST],
         count: cells[at + COUNT],
+        lines: cells[at + LINES],
+        parent: cells[at + PARENT],
     }
 }
 
-// Writes the eight words of cell i, the last two 0.
+// Writes the eight words of cell i.
 pub fn put_cell(cells: &mut [u32], i: usize, w: CellWords)
     requires { ⌜ i * 8 + 8 ≤ length (now cells) ⌝ }
     ensures cells { λ _. ⌜ now (cells .exit) ≡ putCellAt (now (cells .entry)) i w ⌝ }
@@ -128,8 +141,8 @@ pub fn put_cell(cells: &mut [u32], i: usize, w: CellWords)
     cells[at + CHILD] = w.child;
     cells[at + FIRST] = w.first;
     cells[at + COUNT] = w.count;
-    cells[at + 6] = 0;
-    cells[at + 7] = 0;
+    cells[at + LINES] = w.lines;
+    cells[at + PARENT] = w.parent;
 }
 
 // Writes the first child of cell i, and nothing else.
@@ -186,9 +199,57 @@ fn root_fits(w: CellWords, i: usize) -> bool
     true
 }
 
+// A coordinate of the low corner of a half of the parent, which may be any words.
+fn half_at(v: u32, side: u32, high: bool) -> usize
+    ensures answer { λ r. ⌜ r ≡ halfAt v side high ⌝ }
+{
+    let low = v as usize;
+    if high {
+        return low + (side as usize);
+    }
+    low
+}
+
+// Whether a cell with the words w lies on the quarter at place q of one with the words p.
+fn on_quarter(p: CellWords, w: CellWords, q: usize) -> bool
+    ensures answer { λ r. ⌜ r ≡ onQuarter p w q ⌝ }
+{
+    let x = half_at(p.x, w.side, q % 2 == 1);
+    let y = half_at(p.y, w.side, 2 <= q);
+    ((p.side as usize) == 2 * (w.side as usize)) & (((w.x as usize) == x) & ((w.y as usize) == y))
+}
+
+// Whether cell i, whose words are w, is one of the four of a split cell with the words p, and on its own square.
+fn held_by(p: CellWords, w: CellWords, i: usize, used: usize) -> bool
+    ensures answer { λ r. ⌜ r ≡ heldBy p w i used ⌝ }
+{
+    let first = p.child as usize;
+    if (1 <= first) & ((first + 3 < used) & ((first <= i) & (i <= first + 3))) {
+        return on_quarter(p, w, i - first);
+    }
+    false
+}
+
+// Whether the parent of cell i, whose words are w, is itself for cell 0, else a split cell that holds it as one of its four.
+fn parent_fits(cells: &[u32], i: usize, used: usize, w: CellWords) -> bool
+    requires { ⌜ used * 8 ≤ length (now cells) ⌝ }
+    requires { ⌜ w ≡ cellAt (now cells) i ⌝ }
+    ensures answer { λ r. ⌜ r ≡ parentRange (now (cells .entry)) i used ⌝ }
+{
+    if i == 0 {
+        return w.parent == 0;
+    }
+    let up = w.parent as usize;
+    if up < used {
+        let p = read_cell(cells, up);
+        return held_by(p, w, i, used);
+    }
+    false
+}
+
 // Whether the numbers of cell i are in range, with so many cells and entries in use.
 pub fn cell_fits(cells: &[u32], i: usize, used: usize, entries: usize) -> bool
-    requires { ⌜ i * 8 + 8 ≤ length (now cells) ⌝ }
+    requires { ⌜ (i < used) × (used * 8 ≤ length (now cells)) ⌝ }
     ensures answer { λ r. ⌜ r ≡ cellRange (now (cells .entry)) i used entries ⌝ }
 {
     let w = read_cell(cells, i);
@@ -196,7 +257,8 @@ pub fn cell_fits(cells: &[u32], i: usize, used: usize, entries: usize) -> bool
     let children = children_fit(w.child, used);
     let run = entries_fit(w.first, w.count, entries);
     let root = root_fits(w, i);
-    square & (children & (run & root))
+    let parent = parent_fits(cells, i, used, w);
+    square & (children & (run & (root & parent)))
 }
 
 // Whether the numbers in use, in the head, are in range for tables of cells and of entries of these lengths.
@@ -264,6 +326,7 @@ impl Cursor {
         let v = half_of(self.y, half, self.y + half <= py);
         Cursor {
             cell: first + h.bit + 2 * v.bit,
+            parent: self.cell,
             x: h.at,
             y: v.at,
             side: half,
@@ -271,8 +334,32 @@ impl Cursor {
         }
     }
 
+    // Whether the parent that a cell on the way names holds it. The cell that the way came from does.
+    fn parent_holds(self, cells: &[u32], used: usize, w: CellWords) -> bool
+        requires { ⌜ used * 8 ≤ length (now cells) ⌝ }
+        requires { ⌜ w ≡ cellAt (now cells) (self .cell) ⌝ }
+        ensures answer { λ r. ⌜ r ≡ parentN (now (cells .entry)) used self w ⌝ }
+    {
+        if w.parent == self.parent {
+            return true;
+        }
+        parent_fits(cells, self.cell as usize, used, w)
+    }
+
+    // Whether the children, the entries and the parent of a cell on the way are in range. On the square that the way expects it has a side and a
+    // corner in range.
+    fn numbers_fit(self, cells: &[u32], used: usize, entries: usize, w: CellWords) -> bool
+        requires { ⌜ used * 8 ≤ length (now cells) ⌝ }
+        requires { ⌜ w ≡ cellAt (now cells) (self .cell) ⌝ }
+        ensures answer { λ r. ⌜ r ≡ numbersN (now (cells .entry)) used entries self w ⌝ }
+    {
+        let children = children_fit(w.child, used);
+        let run = entries_fit(w.first, w.count, entries);
+        let parent = self.parent_holds(cells, used, w);
+        children & (run & parent)
+    }
+
     // The cell is read and tried; a leaf ends the way, another cell gives the cursor one level deeper.
-    // A cell on the square that the way expects has a side and a corner in range: only its other numbers are left to try.
     fn step(self, cells: &[u32], used: usize, entries: usize, px: u32, py: u32) -> Down
         requires { ⌜ CellsIn (now cells) used ⌝ }
         requires { ⌜ CursorIn self used ⌝ }
@@ -280,9 +367,7 @@ impl Cursor {
     {
         let w = read_cell(cells, self.cell as usize);
         if self.stands_on(w) {
-            let children = children_fit(w.child, used);
-            let run = entries_fit(w.first, w.count, entries);
-            if children & run {
+            if self.numbers_fit(cells, used, entries, w) {
                 if w.child == 0 {
                     return Down::AtLeaf(Leaf {
                         cell: self.cell,
@@ -292,6 +377,7 @@ impl Cursor {
                         steps: self.steps,
                         first: w.first,
                         count: w.count,
+                        lines: w.lines,
                     });
                 }
                 let c = self.deeper(w.child, px, py);
@@ -310,6 +396,7 @@ pub fn descend(cells: &[u32], used: usize, entries: usize, x: u32, y: u32) -> Fo
 {
     let mut c = Cursor {
         cell: 0,
+        parent: 0,
         x: 0,
         y: 0,
         side: GRID,

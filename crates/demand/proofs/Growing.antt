@@ -18,7 +18,7 @@ use Rattle.split.specs.declared.Answer as Splitting
 use Rattle.tables.specs.Tables.{Tree, cellsUsed, entriesUsed}
 use Rattle.split.specs.Split.{words, against, stream, splitAnswer}
 use Rattle.split_laws.specs.After.{splitTree}
-use Rattle.split_laws.proofs.Counts.{used-most}
+use Rattle.tables.proofs.Counts.{used-most}
 use Rattle.open.specs.Open.{drawingTables}
 use Rattle.grow.specs.declared.Tried.{Tried}
 use Rattle.grow.specs.declared.Tried.the-variants.{Bad, Past, Wanted}

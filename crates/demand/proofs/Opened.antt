@@ -25,7 +25,7 @@ use Rattle.root_stream.specs.Opened.{elementsOpened, wordsOpened}
 use Rattle.tables.specs.Tables.{Tree, cellsUsed, entriesUsed, countsIn}
 use Rattle.split.specs.Split.{words, stream}
 use Rattle.tables.proofs.Heads.{used-is}
-use Rattle.split_laws.proofs.Counts.{head-fits, counts-of}
+use Rattle.tables.proofs.Counts.{head-fits, counts-of}
 use Rattle.open.specs.declared.Answer.{Answer}
 use Rattle.open.specs.declared.Answer.the-variants.{Opened}
 use Rattle.open.specs.Open.{rootWords, drawingTables, streamOpened, openAnswer, openTree}

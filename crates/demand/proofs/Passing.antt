@@ -19,7 +19,7 @@ use Rattle.celltable.proofs.Ranges.{leaf-child}
 use Rattle.celltable.proofs.Grid.{Gridded, SaysCell, gridded-cell}
 use Rattle.tables.specs.Tables.{Tree, cellsUsed, entriesUsed, boundsOf}
 use Rattle.split.specs.Split.{words, against}
-use Rattle.split_laws.proofs.Counts.{free-most, free-within}
+use Rattle.tables.proofs.Counts.{free-most, free-within}
 use Rattle.demand.specs.History.{Node, cellIn, firstIn, Leaf}
 use Rattle.demand.specs.Stands.{drawingOf}
 use Rattle.demand.proofs.Sound.{Sound}

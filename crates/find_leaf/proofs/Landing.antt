@@ -25,7 +25,7 @@ use Rattle.laws.proofs.Choices.{pick-true, pick-false}
 use Rattle.find_leaf.specs.declared.LeafRead.the-variants as Reads
 use Rattle.find_leaf.specs.Leaf.{positionRange, leafBounds, streamFound, leafIn}
 use Rattle.find_leaf.specs.code.Numbers.{readBy, leafRead}
-use Rattle.find_leaf.proofs.Counts.{counts-fit}
+use Rattle.tables.proofs.Counts.{counts-fit}
 
 pub on-grid : (x y : ℕ) → positionRange x y ≡ true → OnGrid (at x y)
 on-grid x y h =

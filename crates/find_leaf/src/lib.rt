@@ -37,30 +37,6 @@ pub enum Answer {
     Not(Refusal),
 }
 
-// 12 over the numbers in use.
-pub fn counts_fit(
-    plan: &[u32],
-    areas: &[u32],
-    xs: &[u32],
-    ys: &[u32],
-    head: &[u32],
-    cells: &[u32],
-    entries: &[u32],
-) -> bool
-    ensures answer { λ r. ⌜ r ≡ countsIn (treeLent plan areas xs ys head cells entries) ⌝ }
-{
-    let n = entries.len();
-    if celltable::head_fits(head, cells.len(), n) {
-        if read::PLAN_COUNTS <= plan.len() {
-            let free = laws::wide(head[celltable::ENTRIES]);
-            let b = tables::bounds_in(plan, 0, 0);
-            return stream::used_range(n, free, areas.len(), xs.len(), ys.len(), b);
-        }
-        return false;
-    }
-    false
-}
-
 // 12 over the stream of a leaf.
 fn check_leaf(
     plan: &[u32],

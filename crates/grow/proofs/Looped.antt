@@ -5,7 +5,7 @@ use Prim.Native.Nat.{ℕ, _-_, _≤_, _<_}
 use native.Mathlib.Omega.{arith}
 use Rattle.refusals.specs.declared.Refusal.the-variants.{Broken}
 use Rattle.tables.specs.Tables.{Tree, tree}
-use Rattle.split_laws.proofs.Counts.{used-most}
+use Rattle.tables.proofs.Counts.{used-most}
 use Rattle.grow.specs.declared.Answer.the-variants.{Full, Not}
 use Rattle.grow.specs.declared.Sweep.{Sweep}
 use Rattle.grow.specs.declared.Turn.{Turn}

@@ -14,7 +14,7 @@ use Rattle.tables.specs.Tables.{Tree, cellsUsed, entriesUsed, countsIn}
 use Rattle.split.specs.Split.{splitAnswer}
 use Rattle.tables.proofs.Heads.{used-is}
 use Rattle.split_laws.specs.After.{splitTree}
-use Rattle.split_laws.proofs.Counts.{counts-long}
+use Rattle.tables.proofs.Counts.{counts-long}
 use Rattle.split_laws.proofs.Trees.{tree-refused, tree-xs, tree-ys, tree-used, tree-length-head, tree-length-cells, tree-length-entries, tree-counts}
 use Rattle.grow.specs.declared.Answer.the-variants.{Done, Full, Not}
 use Rattle.grow.specs.declared.Tried.{Tried}

@@ -23,7 +23,7 @@ use Rattle.find_leaf.specs.declared.LeafRead.{LeafRead}
 use Rattle.find_leaf.specs.declared.LeafRead.the-variants as Reads
 use Rattle.find_leaf.specs.Leaf.{positionRange, leafStream, leafBounds, leafIn}
 use Rattle.find_leaf.specs.code.Numbers.{readBy, leafRead}
-use Rattle.find_leaf.proofs.Counts.{counts-fit}
+use Rattle.tables.proofs.Counts.{counts-fit}
 use Rattle.find_leaf.proofs.Landing.{leaf-landed, leaf-passed}
 use Rattle.find_leaf.proofs.Same.{LeafHolds, leaf-same}
 use Rattle.position.specs.declared.Answer.the-variants as Answers

@@ -19,7 +19,7 @@ use Rattle.tables.specs.Tables.{Tree, cellsUsed, entriesUsed, boundsOf}
 use Rattle.split.specs.Split.{words, against, made, roomAnswer, cellSplit, drawingSplit, countsSplit, splitAnswer}
 use Rattle.tables.proofs.Rooms.{cells-room, entries-room}
 use Rattle.split_laws.specs.code.Accepted.{Splittable, Accepted}
-use Rattle.split_laws.proofs.Counts.{counts-head, counts-plan, counts-used, counts-of}
+use Rattle.tables.proofs.Counts.{counts-head, counts-plan, counts-used, counts-of}
 
 abbrev isSplit : Answer → Bool
 isSplit (Split n) = true

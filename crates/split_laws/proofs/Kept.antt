@@ -19,7 +19,7 @@ use Rattle.tables.specs.Tables.{Tree, cellsUsed, entriesUsed}
 use Rattle.split.specs.Split.{words, drawing, stream, made, splitAnswer, headAfter, cellsAfter, entriesAfter}
 use Rattle.tables.proofs.Heads.{used-is}
 use Rattle.split_laws.specs.code.Accepted.{Accepted}
-use Rattle.split_laws.proofs.Counts.{counts-long}
+use Rattle.tables.proofs.Counts.{counts-long}
 use Rattle.split_laws.proofs.Accepted.{split-accepted}
 use Rattle.split_laws.proofs.Rows.{length-cells-to, cells-to-keeps, cells-to-child, streams-read}
 

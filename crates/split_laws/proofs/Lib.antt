@@ -1,5 +1,4 @@
 -- When a split is accepted, what it leaves as it was, and what it makes.
-pub mod Counts
 pub mod Accepted
 pub mod Rows
 pub mod Kept

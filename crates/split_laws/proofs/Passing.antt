@@ -19,7 +19,7 @@ use Rattle.tables.specs.Tables.{Tree, cellsUsed, entriesUsed}
 use Rattle.split.specs.Split.{words, splitAnswer}
 use Rattle.split_laws.specs.After.{splitTree}
 use Rattle.split_laws.specs.code.Accepted.{Accepted}
-use Rattle.split_laws.proofs.Counts.{used-more}
+use Rattle.tables.proofs.Counts.{used-more}
 use Rattle.split_laws.proofs.Accepted.{split-accepted}
 use Rattle.split_laws.proofs.Trees.{tree-used, tree-free, tree-length-entries, tree-keeps-cell, tree-cell, tree-stream}
 

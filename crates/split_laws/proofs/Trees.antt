@@ -20,7 +20,7 @@ use Rattle.split.specs.Split.{words, drawing, stream, made, splitAnswer, headAf
 use Rattle.tables.proofs.Heads.{used-is}
 use Rattle.split_laws.specs.After.{splitTree}
 use Rattle.split_laws.specs.code.Accepted.{Accepted}
-use Rattle.split_laws.proofs.Counts.{counts-plan, counts-used, counts-long, counts-of, used-more, head-fits}
+use Rattle.tables.proofs.Counts.{counts-plan, counts-used, counts-long, counts-of, used-more, head-fits}
 use Rattle.split_laws.proofs.Accepted.{split-accepted}
 use Rattle.split_laws.proofs.Kept.{
   split-length-head,

@@ -1,12 +1,14 @@
--- The tables of a drawing and of its tree, together, and the numbers in use that every call on a tree meets.
-use mathlib.Core.Bool.{Bool, false, cond}
+-- The tables of a drawing and of its tree, together; 12 over the numbers in use, which every call on a tree meets, and over a leaf.
+use mathlib.Core.Bool.{Bool, false, cond, _&&_}
 use mathlib.Core.List.{List}
 use Prim.Native.Nat.{ℕ}
-use lib.Dec.{leb}
+use lib.Dec.{eqb, leb}
 use lib.ListN.{length, getD}
 use denote.Triple.Both.{Both}
 use denote.Ref.{RefT, now}
 use Rattle.stream.specs.declared.Bounds.{Bounds}
+use Rattle.stream.specs.Entry.{linesIn}
+use Rattle.stream.specs.Table.{wordsFrom}
 use Rattle.stream.specs.Grammar.{Env, bounds, usedRange, checkStream}
 use Rattle.celltable.specs.declared.CellWords.{CellWords}
 use Rattle.celltable.specs.Ranges.{headRange}
@@ -52,7 +54,7 @@ countsIn t =
     false)
     false
 
--- 12 over a leaf, its first entry and how many it has: "the whole leaf when answering", "the cell and, if it is a leaf, its stream when splitting"; `free`
--- entries are in use
-abbrev pub leafPasses : (entries : List ℕ) → (first count free : ℕ) → Env → Bool
-leafPasses entries first count free v = checkStream entries first count free v
+-- 12 over a leaf, its first entry, how many it has and its line count: "the whole leaf when answering", "the cell and, if it is a leaf, its stream when
+-- splitting"; document 02: "and so, where its stream is read, is a leaf whose count differs". `free` entries are in use.
+abbrev pub leafPasses : (entries : List ℕ) → (first count lines free : ℕ) → Env → Bool
+leafPasses entries first count lines free v = checkStream entries first count free v && eqb (linesIn (wordsFrom entries first count)) lines

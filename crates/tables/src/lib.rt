@@ -5,7 +5,7 @@ ghost use Prim.Native.Nat.{_≤_};
 ghost use lib.ListN.{length, getD, set};
 ghost use Rattle.stream.specs.Grammar.{bounds};
 ghost use Rattle.celltable.specs.Ranges.{cellsHeld, entriesHeld};
-ghost use Rattle.tables.specs.Tables.{cellsUsed};
+ghost use Rattle.tables.specs.Tables.{treeLent, cellsUsed, countsIn};
 
 // The limit of the cells, as a word.
 const MOST_CELLS: u32 = celltable::MOST_CELLS as u32;
@@ -51,4 +51,28 @@ pub fn bounds_in(plan: &[u32], low: u32, side: u32) -> Bounds
         low: low,
         side: side,
     }
+}
+
+// 12 over the numbers in use.
+pub fn counts_fit(
+    plan: &[u32],
+    areas: &[u32],
+    xs: &[u32],
+    ys: &[u32],
+    head: &[u32],
+    cells: &[u32],
+    entries: &[u32],
+) -> bool
+    ensures answer { λ r. ⌜ r ≡ countsIn (treeLent plan areas xs ys head cells entries) ⌝ }
+{
+    let n = entries.len();
+    if celltable::head_fits(head, cells.len(), n) {
+        if read::PLAN_COUNTS <= plan.len() {
+            let free = laws::wide(head[celltable::ENTRIES]);
+            let b = bounds_in(plan, 0, 0);
+            return stream::used_range(n, free, areas.len(), xs.len(), ys.len(), b);
+        }
+        return false;
+    }
+    false
 }

@@ -18,15 +18,20 @@ entries-fit-requires c κs = search needs
 root-fits-requires : tie.Need-root-fits-requires
 root-fits-requires c κs = search needs
 
+parent-fits-requires : tie.Need-parent-fits-requires
+parent-fits-requires c κs = search needs
+
 returns : tie.Need-returns
 unfolding cellRange
 returns c =
-    let after-entries-fit = c .before in
+    let after-root-fits = c .before in
+    let after-entries-fit = after-root-fits .before in
     let after-children-fit = after-entries-fit .before in
     let after-square-fits = after-children-fit .before in
     let after-read-cell = after-square-fits .before in
     rw (
-      c .root-fits .ensures,
+      c .parent-fits .ensures,
+      after-root-fits .root-fits .ensures,
       after-entries-fit .entries-fit .ensures,
       after-children-fit .children-fit .ensures,
       after-square-fits .square-fits .ensures,
@@ -35,4 +40,4 @@ returns c =
 
 pub cell-fits-spec : {M : Type 1} → statement M
 cell-fits-spec =
-    tie.close (tie.spec read-cell-requires square-fits-requires children-fit-requires entries-fit-requires root-fits-requires returns)
+    tie.close (tie.spec read-cell-requires square-fits-requires children-fit-requires entries-fit-requires root-fits-requires parent-fits-requires returns)

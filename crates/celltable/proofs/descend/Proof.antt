@@ -14,7 +14,7 @@ abbrev μ-loop : tie.MeasureT-loop
 μ-loop cells used entries x y c₀ left₀ c left = left
 
 loop-holds : tie.Need-loop-holds Inv-loop μ-loop
-loop-holds c = (search going-start, walk-is _ _ _ _ _)
+loop-holds c = (search going-start, search walk-is)
 
 step-requires : tie.Need-step-requires Inv-loop μ-loop
 step-requires c κs = (search needs, search going-in)

@@ -5,7 +5,7 @@ use mathlib.Core.Bool.{true, false}
 use native.Mathlib.Omega.{arith}
 use denote.Ref.{now}
 use Rattle.tables.specs.Tables.{tree, countsIn}
-use Rattle.find_leaf.proofs.Counts.{counts-fit, counts-cells, told}
+use Rattle.tables.proofs.Counts.{counts-fit, counts-cells, told}
 use Rattle.find_leaf.proofs.Landing.{read-uncounted, read-astray, read-unfit, read-met}
 
 counts-fit-requires : tie.Need-counts-fit-requires

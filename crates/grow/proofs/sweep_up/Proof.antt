@@ -6,7 +6,7 @@ use Prim.Native.Nat.{_-_}
 use native.Mathlib.Omega.{arith}
 use denote.Ref.{now}
 use Rattle.tables.specs.Tables.{Tree, tree}
-use Rattle.split_laws.proofs.Counts.{counts-long}
+use Rattle.tables.proofs.Counts.{counts-long}
 use Rattle.grow.proofs.Swept.{Sweeping, sweeping-begin, sweep-done}
 use Rattle.grow.proofs.Looped.{loop-on, loop-nearer, loop-full, full-tree, loop-stopped, stopped-tree}
 

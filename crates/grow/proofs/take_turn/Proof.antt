@@ -7,7 +7,7 @@ use denote.Ref.{now}
 use lib.ListN.{length}
 use borrow.Author.Tests.{leb-true}
 use Rattle.tables.specs.Tables.{tree}
-use Rattle.split_laws.proofs.Counts.{counts-plan, counts-long, used-most, used-within, free-most}
+use Rattle.tables.proofs.Counts.{counts-plan, counts-long, used-most, used-within, free-most}
 use Rattle.grow.specs.declared.Tried.{Tried}
 use Rattle.grow.specs.declared.Sweep.{Sweep}
 use Rattle.grow.specs.declared.Turn.the-variants.{Further}

@@ -1,5 +1,5 @@
 use Rattle.celltable.proofs.Ranges.{child-few}
-use Rattle.celltable.proofs.Walk.{step-astray, step-unfit, step-landed, step-deeper}
+use Rattle.celltable.proofs.Walk.{step-astray, step-unfit, step-landed, step-deeper, numbers-child}
 use borrow.Author.Needs.{needs}
 use Rattle.celltable.proofs.Cursor.step.Statement.{statement}
 use Rattle.celltable.proofs.Cursor.step.Tie as tie
@@ -13,17 +13,14 @@ read-cell-requires c κs = search needs
 stands-on-requires : tie.Need-stands-on-requires
 stands-on-requires c κs = search needs
 
-children-fit-requires : tie.Need-children-fit-requires
-children-fit-requires c κs = search needs
-
-entries-fit-requires : tie.Need-entries-fit-requires
-entries-fit-requires c κs = search needs
+numbers-fit-requires : tie.Need-numbers-fit-requires
+numbers-fit-requires c κs = search needs
 
 returns : tie.Need-returns
 returns c = search step-landed
 
 deeper-requires : tie.Need-deeper-requires
-deeper-requires c κs = (search needs, (search child-few, search needs))
+deeper-requires c κs = (search needs, (search (child-few, numbers-child), search needs))
 
 returns-2 : tie.Need-returns-2
 returns-2 c = search step-deeper
@@ -41,8 +38,7 @@ step-spec =
     cast-read-cell
     read-cell-requires
     stands-on-requires
-    children-fit-requires
-    entries-fit-requires
+    numbers-fit-requires
     returns
     deeper-requires
     returns-2

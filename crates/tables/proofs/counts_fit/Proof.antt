@@ -1,12 +1,12 @@
 use borrow.Author.Needs.{needs}
-use Rattle.find_leaf.proofs.counts_fit.Statement.{statement}
-use Rattle.find_leaf.proofs.counts_fit.Tie as tie
+use Rattle.tables.proofs.counts_fit.Statement.{statement}
+use Rattle.tables.proofs.counts_fit.Tie as tie
 use mathlib.Core.Path.{sym, _∙_}
 use denote.Ref.{now}
 use lib.ListN.{length}
 use Rattle.celltable.proofs.Ranges.{head-long}
 use Rattle.tables.specs.Tables.{tree}
-use Rattle.find_leaf.proofs.Counts.{counts-yes, counts-short, counts-no}
+use Rattle.tables.proofs.Counts.{counts-yes, counts-short, counts-no}
 
 head-fits-requires : tie.Need-head-fits-requires
 head-fits-requires c κs = search needs

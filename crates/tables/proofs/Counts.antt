@@ -1,20 +1,21 @@
--- What it says that the numbers in use pass.
-use mathlib.Core.Path.{_≡_}
+-- The check of the numbers in use, and what it says that they pass.
+use mathlib.Core.Path.{_≡_, sym, subst, _∙_}
 use mathlib.Core.Bool.{Bool, true, false, cond, _&&_}
 use mathlib.Core.List.{List}
-use Prim.Native.Nat.{ℕ, _*_, _/_, _≤_}
+use Prim.Native.Nat.{ℕ, _*_, _/_, _≤_, _<_}
 use native.Mathlib.Omega.{arith}
 use lib.Dec.{leb}
 use lib.ListN.{length, getD}
-use borrow.Author.Tests.{le-leb}
+use borrow.Author.Tests.{leb-true, le-leb, lt-leb}
+use Rattle.laws.proofs.Choices.{pick-true, pick-false}
 use Rattle.laws.proofs.Booleans.{and-right, and-both, cond-left, cond-right}
 use Rattle.stream.specs.declared.Bounds.{Bounds}
 use Rattle.stream.specs.Grammar.{bounds, usedRange}
-use Rattle.celltable.specs.Ranges.{headRange}
+use Rattle.celltable.specs.declared.CellWords.{CellWords}
+use Rattle.celltable.specs.Ranges.{headRange, CellsIn}
 use Rattle.celltable.proofs.Ranges.{head-long, head-cells, head-entries}
 use Rattle.tables.specs.Tables.{Tree, cellsUsed, entriesUsed, boundsOf, countsIn}
-use Rattle.split.specs.Split.{words}
 use Rattle.tables.proofs.Heads.{used-is}
 
 module _ (t : Tree) where
   abbrev inHead : Bool
@@ -43,12 +44,12 @@ module _ (t : Tree) where
     counts-drawing = cond-right inPlan inDrawing (cond-right inHead (cond inPlan inDrawing false) parts)
 
     -- the rows of a cell do not matter
-    pub counts-used : (i : ℕ)
+    pub counts-used : (w : CellWords)
         → usedRange (length (t .entries)) (entriesUsed (t .head)) (length (t .areas)) (length (t .xs)) (length (t .ys))
-        (boundsOf (t .plan) (words t i))
+        (boundsOf (t .plan) w)
         ≡ true
     unfolding usedRange
-    counts-used i = counts-drawing
+    counts-used w = counts-drawing
 
     pub counts-long : 2 ≤ length (t .head)
     counts-long = head-long (t .head) (t .cells) (length (t .entries)) counts-head
@@ -70,13 +71,34 @@ module _ (t : Tree) where
 
   pub counts-of : headRange (t .head) (length (t .cells)) (length (t .entries)) ≡ true
       → leb 3 (length (t .plan)) ≡ true
-      → (i : ℕ)
+      → (w : CellWords)
       → usedRange (length (t .entries)) (entriesUsed (t .head)) (length (t .areas)) (length (t .xs)) (length (t .ys))
-      (boundsOf (t .plan) (words t i))
+      (boundsOf (t .plan) w)
       ≡ true
       → countsIn t ≡ true
   unfolding countsIn usedRange
-  counts-of a b i d = rw (a, b) d
+  counts-of a b w d = rw (a, b) d
+
+  -- by the tests of the code
+  pub counts-yes : (r : Bool) (free : ℕ) (b : Bounds)
+      → inHead ≡ true
+      → 3 ≤ length (t .plan)
+      → free ≡ getD (t .head) 1 0
+      → b ≡ bounds (getD (t .plan) 1 0) (getD (t .plan) 2 0) 0 0
+      → r ≡ usedRange (length (t .entries)) free (length (t .areas)) (length (t .xs)) (length (t .ys)) b
+      → r ≡ countsIn t
+  unfolding countsIn
+  counts-yes r free b h l ef eb e =
+      let e₁ : r ≡ inDrawing = rw (ef, eb) at e in
+      e₁ ∙ pick-true inPlan inDrawing false (le-leb 3 (length (t .plan)) l) ∙ pick-true inHead (cond inPlan inDrawing false) false h
+
+  pub counts-short : inHead ≡ true → length (t .plan) < 3 → false ≡ countsIn t
+  unfolding countsIn
+  counts-short h l = pick-false inPlan inDrawing false (lt-leb 3 (length (t .plan)) l) ∙ pick-true inHead (cond inPlan inDrawing false) false h
+
+  pub counts-no : inHead ≡ false → false ≡ countsIn t
+  unfolding countsIn
+  counts-no h = pick-false inHead (cond inPlan inDrawing false) false h
 
 -- another number of entries in use
 pub used-more : (n used used′ a x y : ℕ) (b : Bounds) → used′ * 4 ≤ n → used′ ≤ 65536 → usedRange n used a x y b ≡ true → usedRange n used′ a x y b ≡ true
@@ -107,3 +129,31 @@ head-fits head cells entries a b d e f g =
       le-leb (getD head 1 0) (entries / 4) (omega arith),
       le-leb (getD head 1 0) 65536 g,
     )
+
+-- what numbers in use that pass say
+pub record CountsFit (t : Tree) : Type 0 where
+  pub head-long : 2 ≤ length (t .head)
+  pub plan-long : 3 ≤ length (t .plan)
+  pub cells-are : getD (t .head) 0 0 ≡ cellsUsed (t .head)
+  pub cells-fit : CellsIn (t .cells) (cellsUsed (t .head))
+  pub entries-few : entriesUsed (t .head) ≤ 65536
+  pub entries-within : entriesUsed (t .head) * 4 ≤ length (t .entries)
+
+pub counts-fit : (t : Tree) → countsIn t ≡ true → CountsFit t
+counts-fit t h =
+    record {
+      head-long = counts-long t h;
+      plan-long = leb-true 3 (length (t .plan)) (counts-plan t h);
+      cells-are = sym (used-is (t .head) (counts-long t h));
+      cells-fit = record { some = used-some t h; few = used-most t h; within = used-within t h };
+      entries-few = free-most t h;
+      entries-within = free-within t h;
+    }
+
+-- the cells that the code reads, by the head's first word
+pub counts-cells : (t : Tree) (used : ℕ) → countsIn t ≡ true → used ≡ getD (t .head) 0 0 → CellsIn (t .cells) used
+counts-cells t used h e = subst (λ (n : ℕ). CellsIn (t .cells) n) (sym (e ∙ counts-fit t h .cells-are)) (counts-fit t h .cells-fit)
+
+-- a test that the code made
+pub told : (q r b : Bool) → q ≡ r → q ≡ b → r ≡ b
+told q r b e f = sym e ∙ f
