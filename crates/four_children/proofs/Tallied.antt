@@ -94,7 +94,7 @@ tallied y few =
     }
 
 -- ---- what is written for a child has these numbers too
-words-lines : (rs : List Element) → linesIn (map wordsOf rs) ≡ total lineOne rs
+pub words-lines : (rs : List Element) → linesIn (map wordsOf rs) ≡ total lineOne rs
 words-lines [] = refl
 words-lines (opens ∷ rs) = omega (arith, words-lines rs)
 words-lines (bar ∷ rs) = omega (arith, words-lines rs)

@@ -29,14 +29,17 @@ element-is (named n z) = (refl, omega arith)
 element-is (segment (drawn l)) = (refl, omega arith)
 element-is (segment (shortcut z lo hi)) = (refl, omega arith)
 
-total-is : (rs : List Element) → (total elementSize rs ≡ length rs + 65536 * total lineOne rs + 4294967296 * total areaOne rs) × (total lineOne rs ≤ length rs)
+pub total-is : (rs : List Element) → (total elementSize rs ≡ length rs + 65536 * total lineOne rs + 4294967296 * total areaOne rs) × (total lineOne rs ≤ length rs)
 total-is [] = (refl, omega arith)
 total-is (r ∷ rs) =
     let a = element-is r in
     let b = total-is rs in
     (omega (arith, a .0, b .0), omega (arith, a .1, b .1))
 
--- of a stream that is not too long
+-- the lines that a weight tells, of a stream that is not too long
+pub lines-weight : (rs : List Element) (n : ℕ) → length rs ≤ 4096 → n ≡ total elementSize rs → n / 65536 % 65536 ≡ total lineOne rs
+lines-weight rs n h e = omega (arith, total-is rs .0, total-is rs .1, e)
+
 pub tally-is : (rs : List Element) (k : Count) → length rs ≤ 4096 → k .weight ≡ total elementSize rs → k .starts ≡ startsIn rs → tallyN k ≡ tally rs
 tally-is rs k h e z = λ d. record { entries = x d; lines = y d; starts = z d }
   where
@@ -44,4 +47,4 @@ tally-is rs k h e z = λ d. record { entries = x d; lines = y d; starts = z d }
     x = omega (arith, total-is rs .0, e)
 
     y : k .weight / 65536 % 65536 ≡ total lineOne rs
-    y = omega (arith, total-is rs .0, total-is rs .1, e)
+    y = lines-weight rs (k .weight) h e

@@ -1,4 +1,4 @@
--- Document 01, "Cells": what a split makes: four cells, "low x low y, high x low y, low x high y, high x high y", and their streams.
+-- Document 01, "Cells", and document 02, Item 5: what a split makes: four cells, "low x low y, high x low y, low x high y, high x high y", and their streams.
 use mathlib.Core.List.{List, [], _++_}
 use Prim.Native.Nat.{ℕ, zero, suc, _+_}
 use lib.ListN.{length}
@@ -6,14 +6,16 @@ use Rattle.cells.specs.Cells.{Cell, left, low, side, child}
 use Rattle.cells.specs.Drawings.{Drawing}
 use Rattle.cells.specs.Elements.{Element}
 use Rattle.stream.specs.declared.Words.{Words}
+use Rattle.stream.specs.Entry.{linesIn}
 use Rattle.celltable.specs.declared.CellWords.{CellWords}
 use Rattle.celltable.specs.Table.{putCellAt}
 use Rattle.celltable.specs.Descent.{quarterAt}
 use Rattle.making.specs.Made.{elementsMade, wordsMade}
 
--- the words of a leaf: its square, no child, its stream
-abbrev pub wordsWith : Cell → (first count : ℕ) → CellWords
-wordsWith c first count = record { x = left c; y = low c; side = side c; child = 0; first = first; count = count }
+-- the words of a leaf: its square, no child, its stream; document 02: "Each cell carries its parent's number ... and its line count, curves included."
+abbrev pub wordsWith : Cell → (first count lines parent : ℕ) → CellWords
+wordsWith c first count lines parent =
+    record { x = left c; y = low c; side = side c; child = 0; first = first; count = count; lines = lines; parent = parent }
 
 -- of cell c with the stream that ws say
 module _ (D : Drawing) (c : Cell) (ws : List Words) where
@@ -30,14 +32,18 @@ module _ (D : Drawing) (c : Cell) (ws : List Words) where
   abbrev pub entriesOfChild : ℕ → ℕ
   entriesOfChild q = length (elementsOfChild q)
 
+  abbrev pub linesOfChild : ℕ → ℕ
+  linesOfChild q = linesIn (wordsOfChild q)
+
   -- "child by child": the streams of the first n children
   unfoldable pub streamsTo : ℕ → List Words
   streamsTo zero = []
   streamsTo (suc n) = streamsTo n ++ wordsOfChild n
 
   -- their cells, "numbered onward from the cells in use", each with its square and where its stream stands: "their entries are written from the first
-  -- unused entry onward, child by child"
-  unfoldable pub cellsTo : (cells : List ℕ) (used free n : ℕ) → List ℕ
-  cellsTo cells used free zero = cells
-  cellsTo cells used free (suc n) =
-      putCellAt (cellsTo cells used free n) (used + n) (wordsWith (cellOfChild n) (free + length (streamsTo n)) (entriesOfChild n))
+  -- unused entry onward, child by child"; the cell that is split is cell i
+  unfoldable pub cellsTo : (cells : List ℕ) (i used free n : ℕ) → List ℕ
+  cellsTo cells i used free zero = cells
+  cellsTo cells i used free (suc n) =
+      putCellAt (cellsTo cells i used free n) (used + n)
+      (wordsWith (cellOfChild n) (free + length (streamsTo n)) (entriesOfChild n) (linesOfChild n) i)

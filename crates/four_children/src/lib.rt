@@ -18,8 +18,8 @@ ghost use Rattle.cells.specs.Cells.{child};
 ghost use Rattle.celltable.specs.Descent.{quarterAt};
 
 // What a child's stream has; document 01 asks for an "array of four child tallies (entries, lines, starts) passed and returned by value". `entries`
-// decides 11 and where the child's stream begins. `lines` and `starts` are those of that stream too (`EachPass`). No call reads them today: a word for
-// a cell's lines would be taken from here.
+// decides 11 and where the child's stream begins, `lines` is the child's line count. `starts` are those of that stream too (`EachPass`); no call reads
+// them today.
 pub struct Tally {
     pub entries: usize,
     pub lines: usize,
@@ -62,7 +62,7 @@ fn count_one(
 }
 
 // The tallies before any child's pass.
-fn no_tallies() -> [Tally; 4]
+pub fn no_tallies() -> [Tally; 4]
     ensures answer { λ r. ⌜ r ≡ emptyTally ∷ emptyTally ∷ emptyTally ∷ emptyTally ∷ [] ⌝ }
 {
     let none = Tally {
@@ -193,12 +193,12 @@ pub fn write_four(
     }
 }
 
-// The words of child q of the cell whose words are w; its stream begins at entry `first`.
-fn child_words(w: CellWords, q: u32, first: u32, t: Tally) -> CellWords
+// The words of child q of cell i, whose words are w; its stream begins at entry `first`.
+fn child_words(w: CellWords, i: u32, q: u32, first: u32, t: Tally) -> CellWords
     requires { ⌜ squareRange w ≡ true ⌝ }
     requires { ⌜ 1 < w .side ⌝ }
-    requires { ⌜ t .entries ≤ 4096 ⌝ }
-    ensures answer { λ r. ⌜ r ≡ wordsWith (child (cellOf w) (quarterAt q)) first (t .entries) ⌝ }
+    requires { ⌜ (t .entries ≤ 4096) × (t .lines ≤ 4096) ⌝ }
+    ensures answer { λ r. ⌜ r ≡ wordsWith (child (cellOf w) (quarterAt q)) first (t .entries) (t .lines) i ⌝ }
 {
     let s = celltable::quarter_of(w, q);
     CellWords {
@@ -208,26 +208,28 @@ fn child_words(w: CellWords, q: u32, first: u32, t: Tally) -> CellWords
         child: 0,
         first: first,
         count: t.entries as u32,
+        lines: t.lines as u32,
+        parent: i,
     }
 }
 
-// Writes the cells of all four children from cell `used` on; their streams stand child by child from entry `free` on.
-pub fn put_four(cells: &mut [u32], used: u32, free: u32, w: CellWords, ts: [Tally; 4])
+// Writes the cells of all four children of cell i from cell `used` on; their streams stand child by child from entry `free` on.
+pub fn put_four(cells: &mut [u32], i: u32, used: u32, free: u32, w: CellWords, ts: [Tally; 4])
     requires { ⌜ squareRange w ≡ true ⌝ }
     requires { ⌜ 1 < w .side ⌝ }
     requires { ⌜ (used + 4) * 8 ≤ length (now cells) ⌝ }
     requires { ⌜ (used ≤ 4096) × (free ≤ 65536) ⌝ }
     requires { ⌜ FewEach ts ⌝ }
-    ensures cells { λ _. ⌜ now (cells .exit) ≡ cellsBy (cellOf w) ts (now (cells .entry)) used free 4 ⌝ }
+    ensures cells { λ _. ⌜ now (cells .exit) ≡ cellsBy (cellOf w) ts (now (cells .entry)) i used free 4 ⌝ }
 {
     let mut at = free;
     let mut n: u32 = 0;
     while n < celltable::CHILDREN {
         let k = n as usize;
         let t = ts[k];
-        let c = child_words(w, n, at, t);
-        let i = (used + n) as usize;
-        celltable::put_cell(cells, i, c);
+        let c = child_words(w, i, n, at, t);
+        let new = (used + n) as usize;
+        celltable::put_cell(cells, new, c);
         at += t.entries as u32;
         n += 1;
     }

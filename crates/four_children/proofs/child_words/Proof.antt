@@ -6,11 +6,14 @@ use mathlib.Core.Path.{refl}
 quarter-of-requires : tie.Need-quarter-of-requires
 quarter-of-requires c κs = search needs
 
-cast-t6 : tie.Need-cast-t6
-cast-t6 c = search needs
+cast-t7 : tie.Need-cast-t7
+cast-t7 c = search needs
+
+cast-t8 : tie.Need-cast-t8
+cast-t8 c = search needs
 
 returns : tie.Need-returns
-returns c = rw (c .before .quarter-of .ensures) refl
+returns c = rw (c .before .before .quarter-of .ensures) refl
 
 pub child-words-spec : {M : Type 1} → statement M
-child-words-spec = tie.close (tie.spec quarter-of-requires cast-t6 returns)
+child-words-spec = tie.close (tie.spec quarter-of-requires cast-t7 cast-t8 returns)

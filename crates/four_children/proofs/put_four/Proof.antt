@@ -8,17 +8,17 @@ use Rattle.celltable.specs.Ranges.{cellOf}
 use Rattle.four_children.proofs.Placed.{Placed, placed-begin, placed-turn, placed-end}
 
 abbrev Inv-loop : tie.InvT-loop
-Inv-loop cells₀ used free w ts at₀ n₀ cells at n = Placed (cellOf w) ts cells₀ used free n at cells
+Inv-loop cells₀ i used free w ts at₀ n₀ cells at n = Placed (cellOf w) ts cells₀ i used free n at cells
 
 abbrev μ-loop : tie.MeasureT-loop
-μ-loop cells₀ used free w ts at₀ n₀ cells at n = 4 - n
+μ-loop cells₀ i used free w ts at₀ n₀ cells at n = 4 - n
 
 loop-holds : tie.Need-loop-holds Inv-loop μ-loop
 loop-holds c =
     let at-entry = c .before in
     let a = at-entry .args in
     let p = at-entry .pre in
-    placed-begin (cellOf (a .w)) (a .t5) (now (a .cells)) (a .used) (a .free) (p .1 .1 .1 .1)
+    placed-begin (cellOf (a .w)) (a .t6) (now (a .cells)) (a .i) (a .used) (a .free) (p .1 .1 .1 .1)
 
 cast-k : tie.Need-cast-k Inv-loop μ-loop
 cast-k c = search needs
@@ -35,16 +35,18 @@ child-words-requires c κs =
     let at-loop = at-loop-test .before in
     let at-entry = at-loop .before .before in
     let p = at-entry .pre in
-    (p .0, (p .1 .0, p .1 .1 .1 .1 .few (at-loop .loop .n) (omega (arith, at-loop-test .loop-test .taken))))
+    let l = at-loop-test .loop-test .taken in
+    let few = p .1 .1 .1 .1 in
+    (p .0, (p .1 .0, (few .few (at-loop .loop .n) (omega (arith, l)), few .few-lines (at-loop .loop .n) (omega (arith, l)))))
 
-add-i : tie.Need-add-i Inv-loop μ-loop
-add-i c =
+add-new : tie.Need-add-new Inv-loop μ-loop
+add-new c =
     let at-loop-test = c .before .before in
     let at-entry = at-loop-test .before .before .before in
     record { fits = omega (arith, at-entry .pre .1 .1 .1 .0 .0, at-loop-test .loop-test .taken) }
 
-cast-i : tie.Need-cast-i Inv-loop μ-loop
-cast-i c = search needs
+cast-new : tie.Need-cast-new Inv-loop μ-loop
+cast-new c = search needs
 
 put-cell-requires : tie.Need-put-cell-requires Inv-loop μ-loop
 put-cell-requires c κs =
@@ -91,7 +93,7 @@ loop-again c =
     let at-entry = at-loop .before .before in
     let a = at-entry .args in
     let p = at-entry .pre in
-    placed-turn (cellOf (a .w)) (a .t5) (now (a .cells)) (a .used) (a .free) (p .1 .1 .1 .1) (at-loop .loop .n) (at-loop .loop .at)
+    placed-turn (cellOf (a .w)) (a .t6) (now (a .cells)) (a .i) (a .used) (a .free) (p .1 .1 .1 .1) (at-loop .loop .n) (at-loop .loop .at)
     (at-loop .loop .cells) (at-loop .loop .inv) (omega (arith, at-loop-test .loop-test .taken)) (after-child-words .child-words .result) _
     (after-child-words .child-words .ensures) (after-put-cell .put-cell .ensures)
 
@@ -104,7 +106,7 @@ returns c =
     let at-entry = at-loop .before .before in
     let a = at-entry .args in
     let p = at-entry .pre in
-    placed-end (cellOf (a .w)) (a .t5) (now (a .cells)) (a .used) (a .free) (p .1 .1 .1 .1) (at-loop .loop .n) (at-loop .loop .at)
+    placed-end (cellOf (a .w)) (a .t6) (now (a .cells)) (a .i) (a .used) (a .free) (p .1 .1 .1 .1) (at-loop .loop .n) (at-loop .loop .at)
     (at-loop .loop .cells) (at-loop .loop .inv) (c .loop-test .left)
 
 pub put-four-spec : {M : Type 1} → statement M
@@ -118,8 +120,8 @@ put-four-spec =
     mul-t
     array-copy-out-t
     child-words-requires
-    add-i
-    cast-i
+    add-new
+    cast-new
     put-cell-requires
     cast-at
     add-at

@@ -48,15 +48,17 @@ abbrev pub firstBy : List Tally → (free n : ℕ) → ℕ
 firstBy ts free zero = free
 firstBy ts free (suc n) = firstBy ts free n + getD ts n noTally .entries
 
--- the first n children of cell c, from cell `used` on, by the tallies
-unfoldable pub cellsBy : Cell → List Tally → (t : List ℕ) (used free n : ℕ) → List ℕ
-cellsBy c ts t used free zero = t
-cellsBy c ts t used free (suc n) =
-    putCellAt (cellsBy c ts t used free n) (used + n) (wordsWith (child c (quarterAt n)) (firstBy ts free n) (getD ts n noTally .entries))
+-- the first n children of cell c, which is cell i, from cell `used` on, by the tallies
+unfoldable pub cellsBy : Cell → List Tally → (t : List ℕ) (i used free n : ℕ) → List ℕ
+cellsBy c ts t i used free zero = t
+cellsBy c ts t i used free (suc n) =
+    putCellAt (cellsBy c ts t i used free n) (used + n)
+    (wordsWith (child c (quarterAt n)) (firstBy ts free n) (getD ts n noTally .entries) (getD ts n noTally .lines) i)
 
--- each has at most 4,096 entries
+-- each has at most 4,096 entries, and no more lines
 pub record FewEach (ts : List Tally) : Type 0 where
   pub few : (n : ℕ) → n < 4 → getD ts n noTally .entries ≤ 4096
+  pub few-lines : (n : ℕ) → n < 4 → getD ts n noTally .lines ≤ 4096
 
 -- the tallies after the passes of the first q children of cell c with the stream that ws say: those of the first q, the others as they were
 module _ (D : Drawing) (c : Cell) (ws : List Words) where
