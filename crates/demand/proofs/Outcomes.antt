@@ -20,9 +20,9 @@ use Rattle.split.specs.declared.Answer.the-variants.{Split, Not}
 use Rattle.tables.specs.Tables.{Tree, cellsUsed, entriesUsed, boundsOf}
 use Rattle.split.specs.Split.{words, against, made, roomAnswer, drawingSplit, cellSplit, countsSplit, splitAnswer}
 use Rattle.split_laws.specs.After.{splitTree}
-use Rattle.split_laws.specs.code.Accepted.{Splittable}
+use Rattle.split.specs.code.Accepted.{Splittable}
 use Rattle.tables.proofs.Counts.{counts-head, counts-plan, counts-used}
-use Rattle.split_laws.proofs.Accepted.{able-answer, chosen}
+use Rattle.split.proofs.Accepted.{able-answer, chosen}
 use Rattle.demand.specs.History.{Node, cellIn, splitAt, Leaf}
 use Rattle.demand.proofs.Sound.{Sound}
 use Rattle.demand.proofs.Passing.{cell-passes, leaf-passes}

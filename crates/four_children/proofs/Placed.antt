@@ -17,6 +17,7 @@ use Rattle.making.specs.Made.{elementsMade, wordsMade}
 use Rattle.four_children.specs.Children.{wordsWith, cellOfChild, elementsOfChild, linesOfChild, streamsTo, cellsTo}
 use Rattle.four_children.specs.code.Numbers.{noTally, firstBy, cellsBy, workedTo, FewEach}
 use Rattle.four_children.proofs.Worked.{worked-done}
+use Rattle.four_children.proofs.Tallies.{total-is}
 use Rattle.four_children.proofs.Tallied.{words-lines}
 use Rattle.four_children.proofs.Filled.{entries-at, streams-more}
 
@@ -56,16 +57,22 @@ module _ (c : Cell) (ts : List Tally) (t₀ : List ℕ) (i used free : ℕ) (few
     pub placed-end : 4 ≤ q → t ≡ cellsBy c ts t₀ i used free 4
     placed-end h = let e : q ≡ 4 = omega (arith, p .low) in subst (λ (n : ℕ). t ≡ cellsBy c ts t₀ i used free n) e (p .table)
 
+-- ---- the lines of child q, by the four tallies
+module _ (D : Drawing) (c : Cell) (ws : List Words) where
+  lines-at : (q : ℕ) → q < 4 → getD (workedTo D c ws 4) q noTally .lines ≡ linesOfChild D c ws q
+  unfolding elementsMade wordsMade
+  lines-at q h = ap (λ (x : Tally). x .lines) (worked-done D c ws 4 q (omega arith) h) ∙ sym (words-lines (elementsOfChild D c ws q))
+
+  -- no more than it has entries
+  pub lines-few : (ts : List Tally) (q : ℕ) → q < 4 → ts ≡ workedTo D c ws 4 → getD ts q noTally .lines ≤ getD ts q noTally .entries
+  lines-few ts q h e = rw (e, worked-done D c ws 4 q (omega arith) h) (total-is (elementsOfChild D c ws q) .1)
+
 -- ---- by the tallies of the four children the table is that of document 01
 module _ (D : Drawing) (c : Cell) (ws : List Words) (t : List ℕ) (i used free : ℕ) where
   first-is : (q : ℕ) → q ≤ 4 → firstBy (workedTo D c ws 4) free q ≡ free + length (streamsTo D c ws q)
   unfolding streamsTo
   first-is zero h = omega arith
   first-is (suc q) h = omega (arith, first-is q (omega arith), entries-at D c ws (workedTo D c ws 4) q (omega arith) refl, streams-more D c ws q)
-
-  lines-at : (q : ℕ) → q < 4 → getD (workedTo D c ws 4) q noTally .lines ≡ linesOfChild D c ws q
-  unfolding elementsMade wordsMade
-  lines-at q h = ap (λ (x : Tally). x .lines) (worked-done D c ws 4 q (omega arith) h) ∙ sym (words-lines (elementsOfChild D c ws q))
 
   by-is-to : (n : ℕ) → n ≤ 4 → cellsBy c (workedTo D c ws 4) t i used free n ≡ cellsTo D c ws t i used free n
   unfolding cellsBy cellsTo
@@ -74,7 +81,7 @@ module _ (D : Drawing) (c : Cell) (ws : List Words) (t : List ℕ) (i used free 
       λ d.
       putCellAt (by-is-to n (omega arith) d) (used + n)
       (wordsWith (cellOfChild D c ws n) (first-is n (omega arith) d) (entries-at D c ws (workedTo D c ws 4) n (omega arith) refl d)
-      (lines-at n (omega arith) d) i)
+      (lines-at D c ws n (omega arith) d) i)
 
   pub cells-by-four : (ts : List Tally) → ts ≡ workedTo D c ws 4 → cellsBy c ts t i used free 4 ≡ cellsTo D c ws t i used free 4
   cells-by-four ts e = ap (λ (x : List Tally). cellsBy c x t i used free 4) e ∙ by-is-to 4 (omega arith)

@@ -12,7 +12,7 @@ use Rattle.split.specs.declared.Answer.the-variants.{Split, Not}
 use Rattle.tables.specs.Tables.{Tree, cellsUsed, countsIn}
 use Rattle.split.specs.Split.{splitAnswer}
 use Rattle.split_laws.specs.After.{splitTree}
-use Rattle.split_laws.proofs.Accepted.{split-accepted, split-number}
+use Rattle.split.proofs.Accepted.{split-accepted, split-number}
 use Rattle.split_laws.proofs.Trees.{tree-used}
 use Rattle.grow.specs.Grow.{
   Lowest,

@@ -21,9 +21,9 @@ use Rattle.split.specs.declared.Answer.the-variants.{Split, Not}
 use Rattle.tables.specs.Tables.{Tree, cellsUsed, entriesUsed, boundsOf, countsIn}
 use Rattle.split.specs.Split.{words, against, made, splitAnswer}
 use Rattle.split_laws.specs.After.{splitTree}
-use Rattle.split_laws.specs.code.Accepted.{Splittable}
+use Rattle.split.specs.code.Accepted.{Splittable}
 use Rattle.tables.proofs.Counts.{used-some}
-use Rattle.split_laws.proofs.Accepted.{able-answer, split-able}
+use Rattle.split.proofs.Accepted.{able-answer, split-able}
 use Rattle.split_laws.proofs.Trees.{tree-keeps-cell, tree-cell, tree-stream}
 use Rattle.split_laws.proofs.Passing.{tree-range, tree-range-split, tree-check}
 use Rattle.grow.specs.declared.Tried.{Tried}

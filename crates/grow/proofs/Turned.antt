@@ -19,8 +19,8 @@ use Rattle.split.specs.declared.Answer.the-variants as split
 use Rattle.tables.specs.Tables.{Tree, tree, cellsUsed, entriesUsed, boundsOf, countsIn}
 use Rattle.split.specs.Split.{words, roomAnswer, madeBy, headBy, cellsOf, entriesBy, splitAnswer, headAfter, cellsAfter, entriesAfter}
 use Rattle.split_laws.specs.After.{splitTree}
-use Rattle.split_laws.specs.code.Accepted.{Splittable}
-use Rattle.split_laws.proofs.Accepted.{able-answer, able-square, able-entries, able-stream}
+use Rattle.split.specs.code.Accepted.{Splittable}
+use Rattle.split.proofs.Accepted.{able-answer, able-square, able-entries, able-stream}
 use Rattle.grow.specs.declared.Tried.{Tried}
 use Rattle.grow.specs.declared.Tried.the-variants.{Bad, Past, Wanted}
 use Rattle.grow.specs.declared.Sweep.{Sweep}

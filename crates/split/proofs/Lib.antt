@@ -1,3 +1,5 @@
--- Laws of the calls on a tree.
+-- The room that a split asks for; when it is accepted; its checks; what is written then.
 pub mod Rooms
-pub mod Counted
+pub mod Accepted
+pub mod Judging
+pub mod Made

@@ -20,6 +20,7 @@ use Rattle.four_children.specs.declared.Tally.{Tally}
 use Rattle.four_children.specs.Children.{cellOfChild, wordsOfChild, entriesOfChild, streamsTo}
 use Rattle.four_children.specs.code.Numbers.{noTally, workedTo, FewEach}
 use Rattle.four_children.proofs.Filled.{length-child, entries-at}
+use Rattle.four_children.proofs.Placed.{lines-few}
 use Rattle.four_children.proofs.Made.{few-elements}
 
 pub few-each : (t areas xs ys : List ℕ) (b : Bounds) (first count : ℕ) (c : Cell) (ts : List Tally)
@@ -31,6 +32,13 @@ few-each t areas xs ys b first count c ts p e =
       few = λ n h.
           omega (
             arith,
+            entries-at (lent areas xs ys b) c (wordsFrom t first count) ts n h e,
+            few-elements t areas xs ys b first count (cellOfChild (lent areas xs ys b) c (wordsFrom t first count) n) p,
+          );
+      few-lines = λ n h.
+          omega (
+            arith,
+            lines-few (lent areas xs ys b) c (wordsFrom t first count) ts n h e,
             entries-at (lent areas xs ys b) c (wordsFrom t first count) ts n h e,
             few-elements t areas xs ys b first count (cellOfChild (lent areas xs ys b) c (wordsFrom t first count) n) p,
           );
@@ -65,19 +73,11 @@ sum-is D c ws ts n e h =
     )
 
 -- ---- the answer
-pub has-room : (C E used free n : ℕ) (made : List Words)
-    → cellsHeld (used + 4) C ≡ true
-    → entriesHeld (free + n) E ≡ true
-    → n ≡ length made
-    → Split used ≡ roomAnswer C E used free made
-has-room C E used free n made a b e = let b′ : entriesHeld (free + length made) E ≡ true = rw e at b in rw (a, b′)
+pub has-room : (C E used free made : ℕ) → cellsHeld (used + 4) C ≡ true → entriesHeld (free + made) E ≡ true → Split used ≡ roomAnswer C E used free made
+has-room C E used free made a b = rw (a, b)
 
-pub no-entries : (C E used free n : ℕ) (made : List Words)
-    → cellsHeld (used + 4) C ≡ true
-    → entriesHeld (free + n) E ≡ false
-    → n ≡ length made
-    → Not Room ≡ roomAnswer C E used free made
-no-entries C E used free n made a b e = let b′ : entriesHeld (free + length made) E ≡ false = rw e at b in rw (a, b′)
+pub no-entries : (C E used free made : ℕ) → cellsHeld (used + 4) C ≡ true → entriesHeld (free + made) E ≡ false → Not Room ≡ roomAnswer C E used free made
+no-entries C E used free made a b = rw (a, b)
 
-pub no-cells : (C E used free : ℕ) (made : List Words) → cellsHeld (used + 4) C ≡ false → Not Room ≡ roomAnswer C E used free made
+pub no-cells : (C E used free made : ℕ) → cellsHeld (used + 4) C ≡ false → Not Room ≡ roomAnswer C E used free made
 no-cells C E used free made a = rw a

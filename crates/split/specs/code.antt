@@ -1,2 +1,3 @@
 -- What only contracts between crates and proofs use: the code's numbers, and what follows for them.
-pub mod Lent
+pub mod Accepted
+pub mod Judged

@@ -1,4 +1,4 @@
-// Splitting a cell of a tree in lent tables.
+// Splitting a cell of a tree in lent tables: all checks in their order, read-only (`judge`), and then what is written (`make_split`).
 use celltable::CellWords;
 use four_children::Tally;
 use refusals::Refusal;
@@ -14,15 +14,24 @@ ghost use Rattle.celltable.specs.Ranges.{squareRange, cellOf};
 ghost use Rattle.ranges.specs.Held.{lent};
 ghost use Rattle.four_children.specs.Children.{streamsTo};
 ghost use Rattle.four_children.specs.code.Numbers.{noTally, workedTo, cellsBy, FewEach};
-ghost use Rattle.tables.specs.Tables.{treeLent, cellsUsed, entriesUsed};
-ghost use Rattle.split.specs.Split.{roomAnswer, leafAnswer, cellAnswer, headBy, cellsOf, entriesBy, drawingSplit, countsSplit};
+ghost use Rattle.refusals.specs.declared.Refusal.{Refusal};
+ghost use Rattle.tables.specs.Tables.{tree, treeLent};
+ghost use Rattle.split.specs.declared.Answer.the-variants.{Split, Not};
+ghost use Rattle.split.specs.Split.{words, drawing, stream, madeBy, roomAnswer, leafAnswer, cellAnswer};
 ghost use Rattle.split.specs.Split.{splitAnswer, headAfter, cellsAfter, entriesAfter};
-ghost use Rattle.split.specs.code.Lent.{madeLent};
+ghost use Rattle.split.specs.code.Accepted.{Accepted};
+ghost use Rattle.split.specs.code.Judged.{Told};
 
 // A split's answer: the number of the first child, or why it was refused.
 pub enum Answer {
     Split(u32),
     Not(Refusal),
+}
+
+// What a split would be: its answer and, where it is to be made, the tallies of the four children.
+pub struct Judged {
+    pub answer: Answer,
+    pub children: [Tally; 4],
 }
 
 // The entries of all four children.
@@ -37,21 +46,183 @@ fn entries_of(ts: [Tally; 4]) -> usize
     a.entries + b.entries + c.entries + d.entries
 }
 
+// ---- all checks, in their order
+// A split that is refused.
+fn refused(r: Refusal) -> Judged
+    ensures answer { λ j. ⌜ j .answer ≡ Not r ⌝ }
+{
+    let none = four_children::no_tallies();
+    Judged {
+        answer: Answer::Not(r),
+        children: none,
+    }
+}
+
+// 11, where the four streams have `made` entries. `cells` and `entries` are the lengths of the tables.
+fn judge_room(cells: usize, entries: usize, used: u32, free: u32, made: usize) -> Answer
+    requires { ⌜ (used ≤ 4096) × (free ≤ 65536) × (made ≤ 65536) ⌝ }
+    ensures answer { λ r. ⌜ r ≡ roomAnswer cells entries used free made ⌝ }
+{
+    if tables::cells_held(used + celltable::CHILDREN, cells) {
+        if tables::entries_held((free as usize) + made, entries) {
+            return Answer::Split(used);
+        }
+        return Answer::Not(Refusal::Room);
+    }
+    Answer::Not(Refusal::Room)
+}
+
+// The children of a leaf are worked out, then 11. `cells` is the length of the table of cells.
+fn judge_children(
+    areas: &[u32],
+    xs: &[u32],
+    ys: &[u32],
+    entries: &[u32],
+    b: Bounds,
+    cells: usize,
+    used: u32,
+    free: u32,
+    w: CellWords,
+) -> Judged
+    requires { ⌜ Passed (now entries) (w .first) (w .count) (env (now areas) (now xs) (now ys) b) ⌝ }
+    requires { ⌜ squareRange w ≡ true ⌝ }
+    requires { ⌜ 1 < w .side ⌝ }
+    requires { ⌜ (used ≤ 4096) × (free ≤ 65536) ⌝ }
+    ensures answer { λ j. ⌜ j .answer ≡ roomAnswer cells (length (now (entries .entry))) used free
+        (length (madeBy (now (areas .entry)) (now (xs .entry)) (now (ys .entry)) b w (now (entries .entry)))) ⌝ }
+    ensures children { λ j. ⌜ j .children ≡ workedTo (lent (now (areas .entry)) (now (xs .entry)) (now (ys .entry)) b) (cellOf w)
+        (wordsFrom (now (entries .entry)) (w .first) (w .count)) 4 ⌝ }
+{
+    let first = w.first as usize;
+    let count = w.count as usize;
+    let ts = four_children::count_to(
+        entries,
+        first,
+        count,
+        areas,
+        xs,
+        ys,
+        b,
+        w,
+        celltable::CHILDREN,
+    );
+    let n = entries_of(ts);
+    let a = judge_room(cells, entries.len(), used, free, n);
+    Judged {
+        answer: a,
+        children: ts,
+    }
+}
+
+// 12 over the stream of a leaf and its line count, 10, 11.
+fn judge_leaf(
+    areas: &[u32],
+    xs: &[u32],
+    ys: &[u32],
+    entries: &[u32],
+    b: Bounds,
+    cells: usize,
+    used: u32,
+    free: u32,
+    w: CellWords,
+) -> Judged
+    requires { ⌜ squareRange w ≡ true ⌝ }
+    requires { ⌜ (used ≤ 4096) × (free ≤ 65536) ⌝ }
+    ensures answer { λ j. ⌜ j .answer ≡
+        leafAnswer (now (areas .entry)) (now (xs .entry)) (now (ys .entry)) b w (now (entries .entry)) cells used free ⌝ }
+    ensures children { λ j. ⌜ Told j (lent (now (areas .entry)) (now (xs .entry)) (now (ys .entry)) b) (cellOf w)
+        (wordsFrom (now (entries .entry)) (w .first) (w .count)) ⌝ }
+{
+    let first = w.first as usize;
+    let count = w.count as usize;
+    let c = stream::check_stream(entries, first, count, free as usize, areas, xs, ys, b);
+    if c.fits & (c.lines == w.lines) {
+        if w.side == 1 {
+            return refused(Refusal::Smallest);
+        }
+        return judge_children(areas, xs, ys, entries, b, cells, used, free, w);
+    }
+    refused(Refusal::Broken)
+}
+
+// 12 over cell i, whose words are w, 9, and then the leaf.
+fn judge_cell(
+    areas: &[u32],
+    xs: &[u32],
+    ys: &[u32],
+    cells: &[u32],
+    entries: &[u32],
+    b: Bounds,
+    i: usize,
+    used: u32,
+    free: u32,
+    w: CellWords,
+) -> Judged
+    requires { ⌜ (used ≤ 4096) × (free ≤ 65536) ⌝ }
+    requires { ⌜ (i < used) × (used * 8 ≤ length (now cells)) ⌝ }
+    requires { ⌜ w ≡ cellAt (now cells) i ⌝ }
+    ensures answer { λ j. ⌜ j .answer ≡
+        cellAnswer (now (areas .entry)) (now (xs .entry)) (now (ys .entry)) b w (now (entries .entry)) (now (cells .entry)) i used free ⌝ }
+    ensures children { λ j. ⌜ Told j (lent (now (areas .entry)) (now (xs .entry)) (now (ys .entry)) b) (cellOf w)
+        (wordsFrom (now (entries .entry)) (w .first) (w .count)) ⌝ }
+{
+    if celltable::cell_fits(cells, i, used as usize, free as usize) {
+        if w.child == 0 {
+            return judge_leaf(areas, xs, ys, entries, b, cells.len(), used, free, w);
+        }
+        return refused(Refusal::AlreadySplit);
+    }
+    refused(Refusal::Broken)
+}
+
+// All checks of a split of cell i, in this order: 7, 8, 12, 9, 10, 11.
+pub fn judge(
+    plan: &[u32],
+    areas: &[u32],
+    xs: &[u32],
+    ys: &[u32],
+    head: &[u32],
+    cells: &[u32],
+    entries: &[u32],
+    i: u32,
+) -> Judged
+    ensures answer { λ j. ⌜ j .answer ≡ splitAnswer (treeLent plan areas xs ys head cells entries) i ⌝ }
+    ensures children { λ j. ⌜ Told j (drawing (treeLent plan areas xs ys head cells entries) i)
+        (cellOf (words (treeLent plan areas xs ys head cells entries) i)) (stream (treeLent plan areas xs ys head cells entries) i) ⌝ }
+{
+    if xs.len() == ys.len() {
+        let used = tables::cells_used(head);
+        if i < used {
+            if tables::counts_fit(plan, areas, xs, ys, head, cells, entries) {
+                let free = head[celltable::ENTRIES];
+                let n = i as usize;
+                let w = celltable::read_cell(cells, n);
+                let b = tables::bounds_in(plan, w.y, w.side);
+                return judge_cell(areas, xs, ys, cells, entries, b, n, used, free, w);
+            }
+            return refused(Refusal::Broken);
+        }
+        return refused(Refusal::NoCell);
+    }
+    refused(Refusal::Argument)
+}
+
+// ---- what is written
 // The four children from cell `used` on, and the first of them at cell i.
-fn put_cells(cells: &mut [u32], i: usize, used: u32, free: u32, w: CellWords, ts: [Tally; 4])
+fn put_cells(cells: &mut [u32], i: u32, used: u32, free: u32, w: CellWords, ts: [Tally; 4])
     requires { ⌜ squareRange w ≡ true ⌝ }
     requires { ⌜ 1 < w .side ⌝ }
     requires { ⌜ (used + 4) * 8 ≤ length (now cells) ⌝ }
     requires { ⌜ (used ≤ 4096) × (free ≤ 65536) ⌝ }
     requires { ⌜ FewEach ts ⌝ }
     requires { ⌜ i * 8 + 8 ≤ length (now cells) ⌝ }
-    ensures cells { λ _. ⌜ now (cells .exit) ≡ putChildAt (cellsBy (cellOf w) ts (now (cells .entry)) used free 4) i used ⌝ }
+    ensures cells { λ _. ⌜ now (cells .exit) ≡ putChildAt (cellsBy (cellOf w) ts (now (cells .entry)) i used free 4) i used ⌝ }
 {
-    four_children::put_four(cells, used, free, w, ts);
-    celltable::put_child(cells, i, used);
+    four_children::put_four(cells, i, used, free, w, ts);
+    celltable::put_child(cells, i as usize, used);
 }
 
-// Writes what a split makes. There is room for it.
+// Writes a split of cell i, whose words are w: there is room for it.
 fn put_split(
     head: &mut [u32],
     cells: &mut [u32],
@@ -60,10 +231,9 @@ fn put_split(
     xs: &[u32],
     ys: &[u32],
     b: Bounds,
-    i: usize,
+    i: u32,
     used: u32,
     free: u32,
-    n: u32,
     w: CellWords,
     ts: [Tally; 4],
 )
@@ -76,10 +246,11 @@ fn put_split(
         ≤ length (now entries) ⌝ }
     requires { ⌜ FewEach ts ⌝ }
     requires { ⌜ (used + 4) * 8 ≤ length (now cells) ⌝ }
-    requires { ⌜ (used ≤ 4096) × (free ≤ 65536) × (n ≤ 65536) ⌝ }
+    requires { ⌜ (used ≤ 4096) × (free ≤ 65536) ⌝ }
     requires { ⌜ (i * 8 + 8 ≤ length (now cells)) × (2 ≤ length (now head)) ⌝ }
-    ensures head { λ _. ⌜ now (head .exit) ≡ set (set (now (head .entry)) 0 (used + 4)) 1 (free + n) ⌝ }
-    ensures cells { λ _. ⌜ now (cells .exit) ≡ putChildAt (cellsBy (cellOf w) ts (now (cells .entry)) used free 4) i used ⌝ }
+    ensures head { λ _. ⌜ now (head .exit) ≡ set (set (now (head .entry)) 0 (used + 4)) 1 (free + (getD ts 0 noTally .entries
+        + getD ts 1 noTally .entries + getD ts 2 noTally .entries + getD ts 3 noTally .entries)) ⌝ }
+    ensures cells { λ _. ⌜ now (cells .exit) ≡ putChildAt (cellsBy (cellOf w) ts (now (cells .entry)) i used free 4) i used ⌝ }
     ensures entries { λ _. ⌜ now (entries .exit) ≡ written (now (entries .entry)) free (streamsTo
         (lent (now (areas .entry)) (now (xs .entry)) (now (ys .entry)) b) (cellOf w) (wordsFrom (now (entries .entry)) (w .first) (w .count)) 4) ⌝ }
 {
@@ -98,149 +269,12 @@ fn put_split(
         ts,
     );
     put_cells(cells, i, used, free, w, ts);
-    tables::put_head(head, used + celltable::CHILDREN, free + n);
-}
-
-// 11, and then the split.
-pub fn split_in_room(
-    head: &mut [u32],
-    cells: &mut [u32],
-    entries: &mut [u32],
-    areas: &[u32],
-    xs: &[u32],
-    ys: &[u32],
-    b: Bounds,
-    i: usize,
-    used: u32,
-    free: u32,
-    w: CellWords,
-) -> Answer
-    requires { ⌜ Passed (now entries) (w .first) (w .count) (env (now areas) (now xs) (now ys) b) ⌝ }
-    requires { ⌜ squareRange w ≡ true ⌝ }
-    requires { ⌜ 1 < w .side ⌝ }
-    requires { ⌜ w .first + w .count ≤ free ⌝ }
-    requires { ⌜ (used ≤ 4096) × (free ≤ 65536) ⌝ }
-    requires { ⌜ (i < used) × (2 ≤ length (now head)) ⌝ }
-    ensures answer { λ r. ⌜ r ≡ roomAnswer (length (now (cells .entry))) (length (now (entries .entry))) used free (madeLent areas xs ys b w entries) ⌝ }
-    ensures head { λ r. ⌜ now (head .exit) ≡ headBy r (now (head .entry)) used free (madeLent areas xs ys b w entries) ⌝ }
-    ensures cells { λ r. ⌜ now (cells .exit) ≡
-        cellsOf r (lent (now (areas .entry)) (now (xs .entry)) (now (ys .entry)) b) w (wordsFrom (now (entries .entry)) (w .first) (w .count))
-        (now (cells .entry)) i used free ⌝ }
-    ensures entries { λ r. ⌜ now (entries .exit) ≡ entriesBy r (now (entries .entry)) free (madeLent areas xs ys b w entries) ⌝ }
-{
-    let first = w.first as usize;
-    let count = w.count as usize;
-    let ts = four_children::count_to(
-        entries,
-        first,
-        count,
-        areas,
-        xs,
-        ys,
-        b,
-        w,
-        celltable::CHILDREN,
-    );
     let n = entries_of(ts);
-    let all = (free as usize) + n;
-    if tables::cells_held(used + celltable::CHILDREN, cells.len()) {
-        if tables::entries_held(all, entries.len()) {
-            put_split(
-                head,
-                cells,
-                entries,
-                areas,
-                xs,
-                ys,
-                b,
-                i,
-                used,
-                free,
-                n as u32,
-                w,
-                ts,
-            );
-            return Answer::Split(used);
-        }
-        return Answer::Not(Refusal::Room);
-    }
-    Answer::Not(Refusal::Room)
+    tables::put_head(head, used + celltable::CHILDREN, free + (n as u32));
 }
 
-// 12 over the stream of a leaf, 10, 11, and then the split.
-fn split_leaf(
-    head: &mut [u32],
-    cells: &mut [u32],
-    entries: &mut [u32],
-    areas: &[u32],
-    xs: &[u32],
-    ys: &[u32],
-    b: Bounds,
-    i: usize,
-    used: u32,
-    free: u32,
-    w: CellWords,
-) -> Answer
-    requires { ⌜ squareRange w ≡ true ⌝ }
-    requires { ⌜ w .first + w .count ≤ free ⌝ }
-    requires { ⌜ (used ≤ 4096) × (free ≤ 65536) ⌝ }
-    requires { ⌜ (i < used) × (2 ≤ length (now head)) ⌝ }
-    ensures answer { λ r. ⌜ r ≡
-        leafAnswer (now (areas .entry)) (now (xs .entry)) (now (ys .entry)) b w (now (entries .entry)) (length (now (cells .entry))) used free ⌝ }
-    ensures head { λ r. ⌜ now (head .exit) ≡ headBy r (now (head .entry)) used free (madeLent areas xs ys b w entries) ⌝ }
-    ensures cells { λ r. ⌜ now (cells .exit) ≡
-        cellsOf r (lent (now (areas .entry)) (now (xs .entry)) (now (ys .entry)) b) w (wordsFrom (now (entries .entry)) (w .first) (w .count))
-        (now (cells .entry)) i used free ⌝ }
-    ensures entries { λ r. ⌜ now (entries .exit) ≡ entriesBy r (now (entries .entry)) free (madeLent areas xs ys b w entries) ⌝ }
-{
-    let first = w.first as usize;
-    let count = w.count as usize;
-    let c = stream::check_stream(entries, first, count, free as usize, areas, xs, ys, b);
-    if c.fits {
-        if w.side == 1 {
-            return Answer::Not(Refusal::Smallest);
-        }
-        return split_in_room(head, cells, entries, areas, xs, ys, b, i, used, free, w);
-    }
-    Answer::Not(Refusal::Broken)
-}
-
-// 12 over cell i, whose words are w, 9, and then the leaf.
-fn split_cell(
-    head: &mut [u32],
-    cells: &mut [u32],
-    entries: &mut [u32],
-    areas: &[u32],
-    xs: &[u32],
-    ys: &[u32],
-    b: Bounds,
-    i: usize,
-    used: u32,
-    free: u32,
-    w: CellWords,
-) -> Answer
-    requires { ⌜ (used ≤ 4096) × (free ≤ 65536) ⌝ }
-    requires { ⌜ (i < used) × (2 ≤ length (now head)) ⌝ }
-    requires { ⌜ (i * 8 + 8 ≤ length (now cells)) × (w ≡ cellAt (now cells) i) ⌝ }
-    ensures answer { λ r. ⌜ r ≡
-        cellAnswer (now (areas .entry)) (now (xs .entry)) (now (ys .entry)) b w (now (entries .entry)) (now (cells .entry)) i used free ⌝ }
-    ensures head { λ r. ⌜ now (head .exit) ≡ headBy r (now (head .entry)) used free (madeLent areas xs ys b w entries) ⌝ }
-    ensures cells { λ r. ⌜ now (cells .exit) ≡
-        cellsOf r (lent (now (areas .entry)) (now (xs .entry)) (now (ys .entry)) b) w (wordsFrom (now (entries .entry)) (w .first) (w .count))
-        (now (cells .entry)) i used free ⌝ }
-    ensures entries { λ r. ⌜ now (entries .exit) ≡ entriesBy r (now (entries .entry)) free (madeLent areas xs ys b w entries) ⌝ }
-{
-    if celltable::cell_fits(cells, i, used as usize, free as usize) {
-        if w.child == 0 {
-            return split_leaf(head, cells, entries, areas, xs, ys, b, i, used, free, w);
-        }
-        return Answer::Not(Refusal::AlreadySplit);
-    }
-    Answer::Not(Refusal::Broken)
-}
-
-// 12 over the areas and corners in use, and then the cell. The head has passed.
-fn split_counted(
+// Writes a split of cell i that no check refuses, with the tallies of its four children.
+fn make_split(
     plan: &[u32],
     areas: &[u32],
     xs: &[u32],
@@ -248,57 +282,22 @@ fn split_counted(
     head: &mut [u32],
     cells: &mut [u32],
     entries: &mut [u32],
-    i: usize,
-    used: u32,
-    free: u32,
-) -> Answer
-    requires { ⌜ (used ≤ 4096) × (free ≤ 65536) × (used * 8 ≤ length (now cells)) ⌝ }
-    requires { ⌜ (i < used) × (2 ≤ length (now head)) ⌝ }
-    requires { ⌜ 3 ≤ length (now plan) ⌝ }
-    requires { ⌜ (used ≡ cellsUsed (now head)) × (free ≡ entriesUsed (now head)) ⌝ }
-    ensures answer { λ r. ⌜ r ≡ drawingSplit (treeLent plan areas xs ys head cells entries) i ⌝ }
-    ensures head { λ r. ⌜ now (head .exit) ≡ headAfter (treeLent plan areas xs ys head cells entries) i r ⌝ }
-    ensures cells { λ r. ⌜ now (cells .exit) ≡ cellsAfter (treeLent plan areas xs ys head cells entries) i r ⌝ }
-    ensures entries { λ r. ⌜ now (entries .exit) ≡ entriesAfter (treeLent plan areas xs ys head cells entries) i r ⌝ }
+    i: u32,
+    ts: [Tally; 4],
+)
+    requires { ⌜ Accepted (tree (now plan) (now areas) (now xs) (now ys) (now head) (now cells) (now entries)) i ⌝ }
+    requires { ⌜ ts ≡ workedTo (drawing (tree (now plan) (now areas) (now xs) (now ys) (now head) (now cells) (now entries)) i)
+        (cellOf (words (tree (now plan) (now areas) (now xs) (now ys) (now head) (now cells) (now entries)) i))
+        (stream (tree (now plan) (now areas) (now xs) (now ys) (now head) (now cells) (now entries)) i) 4 ⌝ }
+    ensures head { λ _. ⌜ now (head .exit) ≡ headAfter (treeLent plan areas xs ys head cells entries) i (Split 0) ⌝ }
+    ensures cells { λ _. ⌜ now (cells .exit) ≡ cellsAfter (treeLent plan areas xs ys head cells entries) i (Split 0) ⌝ }
+    ensures entries { λ _. ⌜ now (entries .exit) ≡ entriesAfter (treeLent plan areas xs ys head cells entries) i (Split 0) ⌝ }
 {
-    let w = celltable::read_cell(cells, i);
+    let used = head[celltable::CELLS];
+    let free = head[celltable::ENTRIES];
+    let w = celltable::read_cell(cells, i as usize);
     let b = tables::bounds_in(plan, w.y, w.side);
-    let n = entries.len();
-    if stream::used_range(n, free as usize, areas.len(), xs.len(), ys.len(), b) {
-        return split_cell(head, cells, entries, areas, xs, ys, b, i, used, free, w);
-    }
-    Answer::Not(Refusal::Broken)
-}
-
-// 12 over the head and the plan's length, and then the counts. Cell i is in use.
-fn split_headed(
-    plan: &[u32],
-    areas: &[u32],
-    xs: &[u32],
-    ys: &[u32],
-    head: &mut [u32],
-    cells: &mut [u32],
-    entries: &mut [u32],
-    i: usize,
-    used: u32,
-) -> Answer
-    requires { ⌜ i < used ⌝ }
-    requires { ⌜ used ≡ cellsUsed (now head) ⌝ }
-    ensures answer { λ r. ⌜ r ≡ countsSplit (treeLent plan areas xs ys head cells entries) i ⌝ }
-    ensures head { λ r. ⌜ now (head .exit) ≡ headAfter (treeLent plan areas xs ys head cells entries) i r ⌝ }
-    ensures cells { λ r. ⌜ now (cells .exit) ≡ cellsAfter (treeLent plan areas xs ys head cells entries) i r ⌝ }
-    ensures entries { λ r. ⌜ now (entries .exit) ≡ entriesAfter (treeLent plan areas xs ys head cells entries) i r ⌝ }
-{
-    let n = cells.len();
-    let k = entries.len();
-    if celltable::head_fits(head, n, k) {
-        if read::PLAN_COUNTS <= plan.len() {
-            let free = head[celltable::ENTRIES];
-            return split_counted(plan, areas, xs, ys, head, cells, entries, i, used, free);
-        }
-        return Answer::Not(Refusal::Broken);
-    }
-    Answer::Not(Refusal::Broken)
+    put_split(head, cells, entries, areas, xs, ys, b, i, used, free, w, ts);
 }
 
 // Splits cell i: four cells of half its side, each with the stream that document 01 defines. Any tables may be handed in.
@@ -318,12 +317,16 @@ pub fn split(
     ensures cells { λ r. ⌜ now (cells .exit) ≡ cellsAfter (treeLent plan areas xs ys head cells entries) i r ⌝ }
     ensures entries { λ r. ⌜ now (entries .exit) ≡ entriesAfter (treeLent plan areas xs ys head cells entries) i r ⌝ }
 {
-    if xs.len() == ys.len() {
-        let used = tables::cells_used(head);
-        if i < used {
-            return split_headed(plan, areas, xs, ys, head, cells, entries, i as usize, used);
+    let j = judge(plan, areas, xs, ys, head, cells, entries, i);
+    let a = j.answer;
+    match a {
+        Answer::Split(n) => {
+            let ts = j.children;
+            make_split(plan, areas, xs, ys, head, cells, entries, i, ts);
+            return Answer::Split(n);
         }
-        return Answer::Not(Refusal::NoCell);
+        Answer::Not(r) => {
+            return Answer::Not(r);
+        }
     }
-    Answer::Not(Refusal::Argument)
 }

@@ -13,7 +13,7 @@ use Rattle.tables.specs.Tables.{Tree, entriesUsed}
 use Rattle.split.specs.Split.{words, drawing, stream, splitAnswer}
 use Rattle.split_laws.specs.After.{splitTree}
 use Rattle.split_laws.specs.Entries.{childAfter, NotUsedAgain}
-use Rattle.split_laws.proofs.Accepted.{split-able, able-entries}
+use Rattle.split.proofs.Accepted.{split-able, able-entries}
 use Rattle.split_laws.proofs.Rows.{streams-up}
 use Rattle.split_laws.proofs.Trees.{tree-free, tree-cell, tree-child, tree-stream}
 

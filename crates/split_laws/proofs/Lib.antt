@@ -1,5 +1,4 @@
--- When a split is accepted, what it leaves as it was, and what it makes.
-pub mod Accepted
+-- What a split leaves as it was, and what it makes.
 pub mod Rows
 pub mod Kept
 pub mod Trees

@@ -18,9 +18,9 @@ use Rattle.split.specs.declared.Answer.the-variants.{Split}
 use Rattle.tables.specs.Tables.{Tree, cellsUsed, entriesUsed}
 use Rattle.split.specs.Split.{words, splitAnswer}
 use Rattle.split_laws.specs.After.{splitTree}
-use Rattle.split_laws.specs.code.Accepted.{Accepted}
+use Rattle.split.specs.code.Accepted.{Accepted}
 use Rattle.tables.proofs.Counts.{used-more}
-use Rattle.split_laws.proofs.Accepted.{split-accepted}
+use Rattle.split.proofs.Accepted.{split-accepted}
 use Rattle.split_laws.proofs.Trees.{tree-used, tree-free, tree-length-entries, tree-keeps-cell, tree-cell, tree-stream}
 
 -- a cell in range, in a table with the same words there but for its first child, which is among the cells in use, and as many entries in use or more

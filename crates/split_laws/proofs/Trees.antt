@@ -19,9 +19,9 @@ use Rattle.tables.specs.Tables.{Tree, tree, cellsUsed, entriesUsed, boundsOf, c
 use Rattle.split.specs.Split.{words, drawing, stream, made, splitAnswer, headAfter, cellsAfter, entriesAfter}
 use Rattle.tables.proofs.Heads.{used-is}
 use Rattle.split_laws.specs.After.{splitTree}
-use Rattle.split_laws.specs.code.Accepted.{Accepted}
+use Rattle.split.specs.code.Accepted.{Accepted}
 use Rattle.tables.proofs.Counts.{counts-plan, counts-used, counts-long, counts-of, used-more, head-fits}
-use Rattle.split_laws.proofs.Accepted.{split-accepted}
+use Rattle.split.proofs.Accepted.{split-accepted}
 use Rattle.split_laws.proofs.Kept.{
   split-length-head,
   split-length-cells,

@@ -1,4 +1,3 @@
--- The tables of a tree after a split, what becomes of its entries, and what holds where it is not refused.
+-- The tables of a tree after a split, and what becomes of its entries.
 pub mod After
 pub mod Entries
-pub mod code

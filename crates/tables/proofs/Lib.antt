@@ -1,4 +1,5 @@
--- Laws of the numbers in use and of room.
+-- Laws of the numbers in use, of room, and of a leaf that passes.
 pub mod Heads
 pub mod Rooms
 pub mod Counts
+pub mod Leaves

@@ -25,27 +25,58 @@ put-cells-requires c κs =
         (
           p .1 .1 .1 .1 .1 .1 .1 .0,
           (
-            (p .1 .1 .1 .1 .1 .1 .1 .1 .0 .0, p .1 .1 .1 .1 .1 .1 .1 .1 .0 .1),
+            p .1 .1 .1 .1 .1 .1 .1 .1 .0,
             (p .1 .1 .1 .1 .1 .1 .0, p .1 .1 .1 .1 .1 .1 .1 .1 .1 .0),
           ),
         ),
       ),
     )
 
+entries-of-requires : tie.Need-entries-of-requires
+entries-of-requires c κs =
+    let p = c .before .before .before .before .before .before .before .before .before .before .before .before .before .before .before .before .pre in
+    p .1 .1 .1 .1 .1 .1 .0
+
 add-put-head : tie.Need-add-put-head
 add-put-head c =
-    let at-entry = c .before .before .before .before .before .before .before .before .before .before .before .before .before .before .before .before .before in
-    record { fits = omega (arith, at-entry .pre .1 .1 .1 .1 .1 .1 .1 .1 .0 .0) }
+    let p = c .before .before .before .before .before .before .before .before .before .before .before .before .before .before .before .before .before .before .pre in
+    record { fits = omega (arith, p .1 .1 .1 .1 .1 .1 .1 .1 .0 .0) }
+
+cast-put-head : tie.Need-cast-put-head
+cast-put-head c =
+    let p = c .before .before .before .before .before .before .before .before .before .before .before .before .before .before .before .before .before .before .pre in
+    let f = p .1 .1 .1 .1 .1 .1 .0 in
+    record {
+      fits = omega (
+        arith,
+        c .before .entries-of .ensures,
+        f .few 0 (omega arith),
+        f .few 1 (omega arith),
+        f .few 2 (omega arith),
+        f .few 3 (omega arith),
+      );
+    }
 
 add-put-head-2 : tie.Need-add-put-head-2
 add-put-head-2 c =
-    let at-entry = c .before .before .before .before .before .before .before .before .before .before .before .before .before .before .before .before .before in
-    record { fits = omega (arith, at-entry .pre .1 .1 .1 .1 .1 .1 .1 .1 .0 .1, at-entry .pre .1 .1 .1 .1 .1 .1 .1 .1 .0 .2) }
+    let p = c .before .before .before .before .before .before .before .before .before .before .before .before .before .before .before .before .before .before .pre in
+    let f = p .1 .1 .1 .1 .1 .1 .0 in
+    record {
+      fits = omega (
+        arith,
+        p .1 .1 .1 .1 .1 .1 .1 .1 .0 .1,
+        c .before .entries-of .ensures,
+        f .few 0 (omega arith),
+        f .few 1 (omega arith),
+        f .few 2 (omega arith),
+        f .few 3 (omega arith),
+      );
+    }
 
 put-head-requires : tie.Need-put-head-requires
 put-head-requires c κs =
-    let at-entry = c .before .before .before .before .before .before .before .before .before .before .before .before .before .before .before .before .before in
-    at-entry .pre .1 .1 .1 .1 .1 .1 .1 .1 .1 .1
+    let p = c .before .before .before .before .before .before .before .before .before .before .before .before .before .before .before .before .before .before .pre in
+    p .1 .1 .1 .1 .1 .1 .1 .1 .1 .1
 
 same-length : tie.Need-same-length
 same-length c = search needs
@@ -59,9 +90,12 @@ same-length-3 c = search needs
 returns : tie.Need-returns
 returns c =
     let after-put-head = c .before .before in
-    let after-put-cells = after-put-head .before .before .before .before in
-    let after-write-four = after-put-cells .before .before .before .before in
-    (after-put-head .put-head .ensures, (after-put-cells .put-cells .ensures, after-write-four .write-four .ensures))
+    let after-entries-of = c .before .before .before .before in
+    let after-put-cells = c .before .before .before .before .before .before .before in
+    let after-write-four = c .before .before .before .before .before .before .before .before .before .before .before in (
+      rw (← after-entries-of .entries-of .ensures) (after-put-head .put-head .ensures),
+      (after-put-cells .put-cells .ensures, after-write-four .write-four .ensures),
+    )
 
 pub put-split-spec : {M : Type 1} → statement M
 put-split-spec =
@@ -71,7 +105,9 @@ put-split-spec =
     cast-count
     write-four-requires
     put-cells-requires
+    entries-of-requires
     add-put-head
+    cast-put-head
     add-put-head-2
     put-head-requires
     same-length

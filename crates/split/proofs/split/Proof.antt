@@ -1,24 +1,24 @@
+use mathlib.Core.Path.{refl, sym, _∙_}
+use denote.Ref.{now}
+use Rattle.tables.specs.Tables.{tree}
+use Rattle.split.proofs.Accepted.{split-accepted}
 use borrow.Author.Needs.{needs}
 use Rattle.split.proofs.split.Statement.{statement}
 use Rattle.split.proofs.split.Tie as tie
-use mathlib.Core.Path.{_∙_, refl}
-use mathlib.Core.Bool.{cond}
-use native.Mathlib.Omega.{arith}
-use denote.Ref.{now}
-use lib.Dec.{eqb, ltb}
-use lib.ListN.{length}
-use borrow.Author.Tests.{eq-eqb, ne-eqb, lt-ltb, le-ltb}
-use Rattle.refusals.specs.declared.Refusal.the-variants.{NoCell, Argument}
-use Rattle.split.specs.declared.Answer.the-variants.{Not}
-use Rattle.tables.specs.Tables.{tree, cellsUsed}
-use Rattle.split.specs.Split.{countsSplit}
-use Rattle.laws.proofs.Choices.{pick-true, pick-false}
 
-cells-used-requires : tie.Need-cells-used-requires
-cells-used-requires c κs = search needs
+judge-requires : tie.Need-judge-requires
+judge-requires c κs = search needs
 
-split-headed-requires : tie.Need-split-headed-requires
-split-headed-requires c κs = search needs
+enum-known-a : tie.Need-enum-known-a
+enum-known-a c = search needs
+
+make-split-requires : tie.Need-make-split-requires
+make-split-requires c κs =
+    let a = c .before .before .before .before .before .before .before .before .before .before .before .before .before .before .before .before .before .before .args in
+    let T = tree (now (a .plan)) (now (a .areas)) (now (a .xs)) (now (a .ys)) (now (a .head)) (now (a .cells)) (now (a .entries)) in
+    let j = c .before .before .before .before .before .before .before .judge in
+    let e = sym (j .ensures .0) ∙ c .before .before .before .before .before .a .given .1 in
+    (split-accepted T (a .i) _ e, j .ensures .1 _ (c .before .before .before .before .before .a .given .1))
 
 same-length : tie.Need-same-length
 same-length c = search needs
@@ -31,62 +31,40 @@ same-length-3 c = search needs
 
 returns : tie.Need-returns
 returns c =
-    let after-split-headed = c .before .before .before .before .before .before in
-    let at-if2 = after-split-headed .before .before .before .before in
-    let after-cells-used = at-if2 .before in
-    let at-if1 = after-cells-used .before .before in
-    let at-entry = at-if1 .before .before .before .before .before .before .before .before in
-    let a = at-entry .args in
-    let T = tree (now (a .plan)) (now (a .areas)) (now (a .xs)) (now (a .ys)) (now (a .head)) (now (a .cells)) (now (a .entries)) in
-    let e = after-split-headed .split-headed .ensures in (
-      e .0
-          ∙ (pick-true (ltb (a .i) (cellsUsed (now (a .head)))) (countsSplit T (a .i)) (Not NoCell)
-          (lt-ltb (a .i) (cellsUsed (now (a .head))) (omega (arith, after-cells-used .cells-used .ensures, at-if2 .if2 .taken)))
-          ∙ pick-true (eqb (length (now (a .xs))) (length (now (a .ys))))
-          (cond (ltb (a .i) (cellsUsed (now (a .head)))) (countsSplit T (a .i)) (Not NoCell)) (Not Argument)
-          (eq-eqb (length (now (a .xs))) (length (now (a .ys))) (at-if1 .if1 .taken))),
-      e .1,
-    )
+    let j = c .before .before .before .before .before .before .before .before .before .before .before .before .before .before .judge in
+    let m = c .before .before .before .before .before .before .make-split .ensures in
+    (sym (c .before .before .before .before .before .before .before .before .before .before .before .before .a .given .1) ∙ j .ensures .0, m)
+
+enum-known-a-2 : tie.Need-enum-known-a-2
+enum-known-a-2 c = search needs
 
 same-length-4 : tie.Need-same-length-4
 same-length-4 c = search needs
 
+same-length-5 : tie.Need-same-length-5
+same-length-5 c = search needs
+
+same-length-6 : tie.Need-same-length-6
+same-length-6 c = search needs
+
 returns-2 : tie.Need-returns-2
 returns-2 c =
-    let after-cells-used = c .before in
-    let at-if1 = after-cells-used .before .before in
-    let at-entry = at-if1 .before .before .before .before .before .before .before .before in
-    let a = at-entry .args in
-    let T = tree (now (a .plan)) (now (a .areas)) (now (a .xs)) (now (a .ys)) (now (a .head)) (now (a .cells)) (now (a .entries)) in (
-      pick-false (ltb (a .i) (cellsUsed (now (a .head)))) (countsSplit T (a .i)) (Not NoCell)
-          (le-ltb (a .i) (cellsUsed (now (a .head))) (omega (arith, after-cells-used .cells-used .ensures, c .if2 .left)))
-          ∙ pick-true (eqb (length (now (a .xs))) (length (now (a .ys))))
-          (cond (ltb (a .i) (cellsUsed (now (a .head)))) (countsSplit T (a .i)) (Not NoCell)) (Not Argument)
-          (eq-eqb (length (now (a .xs))) (length (now (a .ys))) (at-if1 .if1 .taken)),
-      (refl, (refl, refl)),
-    )
-
-returns-3 : tie.Need-returns-3
-returns-3 c =
-    let at-entry = c .before .before .before .before .before .before .before .before in
-    let a = at-entry .args in
-    let T = tree (now (a .plan)) (now (a .areas)) (now (a .xs)) (now (a .ys)) (now (a .head)) (now (a .cells)) (now (a .entries)) in (
-      pick-false (eqb (length (now (a .xs))) (length (now (a .ys))))
-          (cond (ltb (a .i) (cellsUsed (now (a .head)))) (countsSplit T (a .i)) (Not NoCell)) (Not Argument)
-          (ne-eqb (length (now (a .xs))) (length (now (a .ys))) (c .if1 .left)),
-      (refl, (refl, refl)),
-    )
+    let j = c .before .before .before .judge in
+    (sym (c .before .a2 .given .1) ∙ j .ensures .0, (refl, (refl, refl)))
 
 pub split-spec : {M : Type 1} → statement M
 split-spec =
     tie.close
     (tie.spec
-    cells-used-requires
-    split-headed-requires
+    judge-requires
+    enum-known-a
+    make-split-requires
     same-length
     same-length-2
     same-length-3
     returns
+    enum-known-a-2
     same-length-4
-    returns-2
-    returns-3)
+    same-length-5
+    same-length-6
+    returns-2)

@@ -4,9 +4,8 @@ use mathlib.Core.Path.{_≡_}
 use Prim.Native.Nat.{ℕ, _+_, _*_, _≤_, _<_}
 use lib.ListN.{length}
 use Rattle.celltable.specs.Ranges.{cellRange}
-use Rattle.stream.specs.Grammar.{checkStream}
-use Rattle.tables.specs.Tables.{Tree, cellsUsed, entriesUsed, countsIn}
+use Rattle.tables.specs.Tables.{Tree, cellsUsed, entriesUsed, countsIn, leafPasses}
 use Rattle.split.specs.Split.{words, against, made}
 
 -- a leaf of a side over 1, in tables whose numbers in use, whose cell i and whose stream pass: of all refusals only 11 is left
 pub record Splittable (t : Tree) (i : ℕ) : Type 0 where
@@ -15,7 +14,7 @@ pub record Splittable (t : Tree) (i : ℕ) : Type 0 where
   pub in-use : i < cellsUsed (t .head)
   pub cell : cellRange (t .cells) i (cellsUsed (t .head)) (entriesUsed (t .head)) ≡ true
   pub leaf : words t i .child ≡ 0
-  pub passes : checkStream (t .entries) (words t i .first) (words t i .count) (entriesUsed (t .head)) (against t i) ≡ true
+  pub passes : leafPasses (t .entries) (words t i .first) (words t i .count) (words t i .lines) (entriesUsed (t .head)) (against t i) ≡ true
   pub halves : 1 < words t i .side
 
 -- and there is room

@@ -3,23 +3,23 @@ use mathlib.Core.Path.{_≡_, refl, sym, ap, _∙_}
 use mathlib.Core.Bool.{Bool, true, false, cond}
 use Prim.Native.Nat.{ℕ, _+_, _≤_}
 use native.Mathlib.Omega.{arith}
-use lib.Dec.{eqb, ltb, leb}
+use lib.Dec.{eqb, ltb}
 use lib.ListN.{length}
 use borrow.Author.Tests.{eqb-true, eqb-false, ltb-true, eq-eqb, ne-eqb, lt-ltb}
 use Rattle.laws.proofs.Booleans.{clash}
 use Rattle.refusals.specs.declared.Refusal.{Refusal}
 use Rattle.refusals.specs.declared.Refusal.the-variants.{Argument, NoCell, AlreadySplit, Smallest, Room, Broken}
-use Rattle.stream.specs.Grammar.{usedRange, checkStream, Passed}
+use Rattle.stream.specs.Grammar.{Passed}
 use Rattle.stream.proofs.Passed.{passed}
-use Rattle.celltable.specs.Ranges.{squareRange, cellRange, headRange, cellsHeld, entriesHeld}
+use Rattle.celltable.specs.Ranges.{squareRange, cellRange, cellsHeld, entriesHeld}
 use Rattle.celltable.proofs.Ranges.{passes-range, passes-entries, square-fits}
 use Rattle.split.specs.declared.Answer.{Answer}
 use Rattle.split.specs.declared.Answer.the-variants.{Split, Not}
-use Rattle.tables.specs.Tables.{Tree, cellsUsed, entriesUsed, boundsOf}
-use Rattle.split.specs.Split.{words, against, made, roomAnswer, cellSplit, drawingSplit, countsSplit, splitAnswer}
+use Rattle.tables.specs.Tables.{Tree, cellsUsed, entriesUsed, countsIn, leafPasses}
+use Rattle.split.specs.Split.{words, against, made, roomAnswer, cellSplit, countsSplit, splitAnswer}
 use Rattle.tables.proofs.Rooms.{cells-room, entries-room}
-use Rattle.split_laws.specs.code.Accepted.{Splittable, Accepted}
-use Rattle.tables.proofs.Counts.{counts-head, counts-plan, counts-used, counts-of}
+use Rattle.split.specs.code.Accepted.{Splittable, Accepted}
+use Rattle.tables.proofs.Leaves.{leaf-stream}
 
 abbrev isSplit : Answer → Bool
 isSplit (Split n) = true
@@ -53,10 +53,10 @@ module _ (t : Tree) (i : ℕ) where
   free = entriesUsed (t .head)
 
   abbrev roomed : Answer
-  roomed = roomAnswer (length (t .cells)) (length (t .entries)) used free (made t i)
+  roomed = roomAnswer (length (t .cells)) (length (t .entries)) used free (length (made t i))
 
   abbrev streamed : Bool
-  streamed = checkStream (t .entries) (words t i .first) (words t i .count) free (against t i)
+  streamed = leafPasses (t .entries) (words t i .first) (words t i .count) (words t i .lines) free (against t i)
 
   abbrev sized : Answer
   sized = cond (eqb (words t i .side) 1) (Not Smallest) roomed
@@ -64,24 +64,18 @@ module _ (t : Tree) (i : ℕ) where
   abbrev leafed : Answer
   leafed = cond streamed sized (Not Broken)
 
-  abbrev drawn : Bool
-  drawn = usedRange (length (t .entries)) free (length (t .areas)) (length (t .xs)) (length (t .ys)) (boundsOf (t .plan) (words t i))
-
   -- all but 11 is settled
   pub able-answer : Splittable t i
-      → splitAnswer t i ≡ roomAnswer (length (t .cells)) (length (t .entries)) (cellsUsed (t .head)) (entriesUsed (t .head)) (made t i)
+      → splitAnswer t i ≡ roomAnswer (length (t .cells)) (length (t .entries)) (cellsUsed (t .head)) (entriesUsed (t .head)) (length (made t i))
   able-answer s =
       chosen (eqb (length (t .xs)) (length (t .ys))) (cond (ltb i used) (countsSplit t i) (Not NoCell)) (Not Argument)
       (eq-eqb (length (t .xs)) (length (t .ys)) (s .pair))
       ∙ (chosen (ltb i used) (countsSplit t i) (Not NoCell) (lt-ltb i used (s .in-use))
-      ∙ (chosen (headRange (t .head) (length (t .cells)) (length (t .entries)))
-      (cond (leb 3 (length (t .plan))) (drawingSplit t i) (Not Broken)) (Not Broken) (counts-head t (s .counts))
-      ∙ (chosen (leb 3 (length (t .plan))) (drawingSplit t i) (Not Broken) (counts-plan t (s .counts))
-      ∙ (chosen drawn (cellSplit t i) (Not Broken) (counts-used t (s .counts) i)
+      ∙ (chosen (countsIn t) (cellSplit t i) (Not Broken) (s .counts)
       ∙ (chosen (cellRange (t .cells) i used free) (cond (eqb (words t i .child) 0) leafed (Not AlreadySplit)) (Not Broken) (s .cell)
       ∙ (chosen (eqb (words t i .child) 0) leafed (Not AlreadySplit) (eq-eqb (words t i .child) 0 (s .leaf))
       ∙ (chosen streamed sized (Not Broken) (s .passes)
-      ∙ ap (λ (b : Bool). cond b (Not Smallest) roomed) (ne-eqb (words t i .side) 1 (λ e. omega (arith, e, s .halves))))))))))
+      ∙ ap (λ (b : Bool). cond b (Not Smallest) roomed) (ne-eqb (words t i .side) 1 (λ e. omega (arith, e, s .halves))))))))
 
   -- the numbers of a leaf that may be split
   module _ (s : Splittable t i) where
@@ -92,7 +86,9 @@ module _ (t : Tree) (i : ℕ) where
     able-entries = passes-entries (t .cells) i used free (s .cell)
 
     pub able-stream : Passed (t .entries) (words t i .first) (words t i .count) (against t i)
-    able-stream = passed (t .entries) (words t i .first) (words t i .count) free (against t i) (s .passes)
+    able-stream =
+        passed (t .entries) (words t i .first) (words t i .count) free (against t i)
+        (leaf-stream (t .entries) (words t i .first) (words t i .count) (words t i .lines) free (against t i) (s .passes))
 
   module _ (n : ℕ) (e : splitAnswer t i ≡ Split n) where
     e1 : (eqb (length (t .xs)) (length (t .ys)) ≡ true) × (cond (ltb i used) (countsSplit t i) (Not NoCell) ≡ Split n)
@@ -101,28 +97,20 @@ module _ (t : Tree) (i : ℕ) where
     e2 : (ltb i used ≡ true) × (countsSplit t i ≡ Split n)
     e2 = taken (ltb i used) (countsSplit t i) NoCell n (e1 .1)
 
-    e3 : (headRange (t .head) (length (t .cells)) (length (t .entries)) ≡ true) × (cond (leb 3 (length (t .plan))) (drawingSplit t i) (Not Broken) ≡ Split n)
-    e3 =
-        taken (headRange (t .head) (length (t .cells)) (length (t .entries)))
-        (cond (leb 3 (length (t .plan))) (drawingSplit t i) (Not Broken)) Broken n (e2 .1)
+    e3 : (countsIn t ≡ true) × (cellSplit t i ≡ Split n)
+    e3 = taken (countsIn t) (cellSplit t i) Broken n (e2 .1)
 
-    e4 : (leb 3 (length (t .plan)) ≡ true) × (drawingSplit t i ≡ Split n)
-    e4 = taken (leb 3 (length (t .plan))) (drawingSplit t i) Broken n (e3 .1)
+    e4 : (cellRange (t .cells) i used free ≡ true) × (cond (eqb (words t i .child) 0) leafed (Not AlreadySplit) ≡ Split n)
+    e4 = taken (cellRange (t .cells) i used free) (cond (eqb (words t i .child) 0) leafed (Not AlreadySplit)) Broken n (e3 .1)
 
-    e5 : (drawn ≡ true) × (cellSplit t i ≡ Split n)
-    e5 = taken drawn (cellSplit t i) Broken n (e4 .1)
+    e5 : (eqb (words t i .child) 0 ≡ true) × (leafed ≡ Split n)
+    e5 = taken (eqb (words t i .child) 0) leafed AlreadySplit n (e4 .1)
 
-    e6 : (cellRange (t .cells) i used free ≡ true) × (cond (eqb (words t i .child) 0) leafed (Not AlreadySplit) ≡ Split n)
-    e6 = taken (cellRange (t .cells) i used free) (cond (eqb (words t i .child) 0) leafed (Not AlreadySplit)) Broken n (e5 .1)
+    e6 : (streamed ≡ true) × (sized ≡ Split n)
+    e6 = taken streamed sized Broken n (e5 .1)
 
-    e7 : (eqb (words t i .child) 0 ≡ true) × (leafed ≡ Split n)
-    e7 = taken (eqb (words t i .child) 0) leafed AlreadySplit n (e6 .1)
-
-    e8 : (streamed ≡ true) × (sized ≡ Split n)
-    e8 = taken streamed sized Broken n (e7 .1)
-
-    e9 : (eqb (words t i .side) 1 ≡ false) × (roomed ≡ Split n)
-    e9 = passed-by (eqb (words t i .side) 1) roomed Smallest n (e8 .1)
+    e7 : (eqb (words t i .side) 1 ≡ false) × (roomed ≡ Split n)
+    e7 = passed-by (eqb (words t i .side) 1) roomed Smallest n (e6 .1)
 
     abbrev room1 : Bool
     room1 = cellsHeld (used + 4) (length (t .cells))
@@ -131,7 +119,7 @@ module _ (t : Tree) (i : ℕ) where
     room2 = entriesHeld (free + length (made t i)) (length (t .entries))
 
     f1 : (room1 ≡ true) × (cond room2 (Split used) (Not Room) ≡ Split n)
-    f1 = taken room1 (cond room2 (Split used) (Not Room)) Room n (e9 .1)
+    f1 = taken room1 (cond room2 (Split used) (Not Room)) Room n (e7 .1)
 
     f2 : (room2 ≡ true) × (Split used ≡ Split n)
     f2 = taken room2 (Split used) Room n (f1 .1)
@@ -140,12 +128,12 @@ module _ (t : Tree) (i : ℕ) where
     split-able =
         record {
           pair = eqb-true (length (t .xs)) (length (t .ys)) (e1 .0);
-          counts = counts-of t (e3 .0) (e4 .0) i (e5 .0);
+          counts = e3 .0;
           in-use = ltb-true i used (e2 .0);
-          cell = e6 .0;
-          leaf = eqb-true (words t i .child) 0 (e7 .0);
-          passes = e8 .0;
-          halves = omega (arith, square-fits (words t i) (passes-range (t .cells) i used free (e6 .0)) .some-side, eqb-false (words t i .side) 1 (e9 .0));
+          cell = e4 .0;
+          leaf = eqb-true (words t i .child) 0 (e5 .0);
+          passes = e6 .0;
+          halves = omega (arith, square-fits (words t i) (passes-range (t .cells) i used free (e4 .0)) .some-side, eqb-false (words t i .side) 1 (e7 .0));
         }
 
     -- what an accepted split says of the tables
