@@ -1,4 +1,5 @@
--- The cells of a history: each lies on the grid, those of a split cell are its quarters, and the leaves tile the grid.
+-- The cells of a history: each lies on the grid, those of a split cell are its quarters, each but cell 0 is one of its parent's four, and the leaves tile
+-- the grid.
 use mathlib.Core.Path.{_≡_, refl, sym, ap, _∙_, subst}
 use mathlib.Core.List.{List, [], _∷_}
 use Prim.Native.Nat.{ℕ, zero, suc, _+_, _*_, _≤_, _<_}
@@ -10,7 +11,22 @@ use Rattle.cells.specs.Cells.{Position, Cell, cell, level, root, Holds, Quarter
 use Rattle.cells.proofs.Cells.{root-holds, child-holds, holds-up}
 use Rattle.celltable.specs.Descent.{placeOf}
 use Rattle.celltable.proofs.Grid.{Gridded, root-gridded, child-gridded}
-use Rattle.demand.specs.History.{Node, node, nodeCell, nodeFirst, begun, cellIn, firstIn, quarters, splitAt, afterSplits, LeafAt, Tiled}
+use Rattle.demand.specs.History.{
+  Node,
+  node,
+  nodeCell,
+  nodeFirst,
+  nodeParent,
+  begun,
+  cellIn,
+  firstIn,
+  parentIn,
+  quarters,
+  splitAt,
+  afterSplits,
+  LeafAt,
+  Tiled,
+}
 
 -- a cell that was split: it had more than one position, and its four cells are its quarters, numbered in a row
 pub record Divided (H : List Node) (i j : ℕ) : Type 0 where
@@ -18,12 +34,25 @@ pub record Divided (H : List Node) (i j : ℕ) : Type 0 where
   pub in-use : j + 4 ≤ length H
   pub quarter : (q : Quarter) → cellIn H (j + placeOf q) ≡ child (cellIn H i) q
 
+-- the parent of cell i is a split cell, and cell i is one of its four
+pub record Hangs (H : List Node) (i : ℕ) : Type 0 where
+  pub in-use : parentIn H i < length H
+  pub parted : firstIn H (parentIn H i) ≡ 0 → ⊥
+  pub quarter : Quarter
+  pub place : i ≡ firstIn H (parentIn H i) + placeOf quarter
+
 pub record Grown (H : List Node) : Type 0 where
   pub some : 0 < length H
   pub first : cellIn H 0 ≡ root
   pub on-grid : (i : ℕ) → i < length H → Gridded (cellIn H i)
   pub divided : (i : ℕ) → i < length H → (firstIn H i ≡ 0 → ⊥) → Divided H i (firstIn H i)
+  pub first-parent : parentIn H 0 ≡ 0
+  pub hangs : (i : ℕ) → i < length H → (i ≡ 0 → ⊥) → Hangs H i
   pub tiled : Tiled H
+
+-- it lies on that quarter of its parent's square
+pub hangs-child : (H : List Node) (i : ℕ) → Grown H → (k : Hangs H i) → cellIn H i ≡ child (cellIn H (parentIn H i)) (k .quarter)
+hangs-child H i g k = ap (cellIn H) (k .place) ∙ g .divided (parentIn H i) (k .in-use) (k .parted) .quarter (k .quarter)
 
 -- ---- one cell
 
@@ -42,6 +71,8 @@ begun-grown =
       first = refl;
       on-grid = one-on-grid;
       divided = λ i h n. absurd (n (one-whole i));
+      first-parent = refl;
+      hangs = λ i h z. absurd (z (omega arith));
       tiled =
           record {
             some-leaf = λ p g. (0, record { leaf = record { in-use = omega arith; undivided = refl }; holds = root-holds p g });
@@ -88,7 +119,9 @@ one-quarter (cell x y (suc k)) p highHigh highHigh h i j = refl
 
 -- ---- a split of cell i
 pub one-longer : (H : List Node) (i : ℕ) → length (splitAt H i) ≡ length H + 4
-one-longer H i = length-append (set H i (node (cellIn H i) (length H))) (quarters (cellIn H i)) ∙ rw (length-set H i (node (cellIn H i) (length H)))
+one-longer H i =
+    length-append (set H i (node (cellIn H i) (length H) (parentIn H i))) (quarters (cellIn H i) i)
+    ∙ rw (length-set H i (node (cellIn H i) (length H) (parentIn H i)))
 
 pub splits-longer : (H : List Node) (is : List ℕ) → length (afterSplits H is) ≡ length H + 4 * length is
 splits-longer H [] = omega arith
@@ -105,30 +138,34 @@ module _ (H : List Node) (i : ℕ) (h : i < length H) where
   K = splitAt H i
 
   abbrev none : Node
-  none = node root 0
+  none = node root 0 0
+
+  -- cell i once it is split
+  abbrev parted-node : Node
+  parted-node = node c n (parentIn H i)
 
   pub split-length : length K ≡ n + 4
   split-length = one-longer H i
 
-  in-front : (m : ℕ) → m < n → getD K m none ≡ getD (set H i (node c n)) m none
-  in-front m g = List·getD-append (set H i (node c n)) (quarters c) none m (omega (arith, length-set H i (node c n)))
+  in-front : (m : ℕ) → m < n → getD K m none ≡ getD (set H i parted-node) m none
+  in-front m g = List·getD-append (set H i parted-node) (quarters c i) none m (omega (arith, length-set H i parted-node))
 
   at-other : (m : ℕ) → m < n → (m ≡ i → ⊥) → getD K m none ≡ getD H m none
-  at-other m g e = in-front m g ∙ getD-set-other H i m (node c n) none e
+  at-other m g e = in-front m g ∙ getD-set-other H i m parted-node none e
 
-  at-split : getD K i none ≡ node c n
-  at-split = in-front i h ∙ getD-set-same H i (node c n) none h
+  at-split : getD K i none ≡ parted-node
+  at-split = in-front i h ∙ getD-set-same H i parted-node none h
 
-  quarter-at : (q : Quarter) → getD (quarters c) (placeOf q) none ≡ node (child c q) 0
+  quarter-at : (q : Quarter) → getD (quarters c i) (placeOf q) none ≡ node (child c q) 0 i
   quarter-at lowLow = refl
   quarter-at highLow = refl
   quarter-at lowHigh = refl
   quarter-at highHigh = refl
 
-  at-quarter : (q : Quarter) → getD K (n + placeOf q) none ≡ node (child c q) 0
+  at-quarter : (q : Quarter) → getD K (n + placeOf q) none ≡ node (child c q) 0 i
   at-quarter q =
-      ap (λ (k : ℕ). getD K (k + placeOf q) none) (sym (length-set H i (node c n)))
-      ∙ (getD-append-add (set H i (node c n)) (quarters c) (placeOf q) none ∙ quarter-at q)
+      ap (λ (k : ℕ). getD K (k + placeOf q) none) (sym (length-set H i parted-node))
+      ∙ (getD-append-add (set H i parted-node) (quarters c i) (placeOf q) none ∙ quarter-at q)
 
   pub cell-old : (m : ℕ) → m < n → cellIn K m ≡ cellIn H m
   cell-old m g = go (ℕ-discrete m i)
@@ -148,6 +185,16 @@ module _ (H : List Node) (i : ℕ) (h : i < length H) where
 
   pub first-new : (q : Quarter) → firstIn K (n + placeOf q) ≡ 0
   first-new q = ap nodeFirst (at-quarter q)
+
+  pub parent-old : (m : ℕ) → m < n → parentIn K m ≡ parentIn H m
+  parent-old m g = go (ℕ-discrete m i)
+    where
+      go : Dec (m ≡ i) → parentIn K m ≡ parentIn H m
+      go (yes e) = rw e (ap nodeParent at-split)
+      go (no e) = ap nodeParent (at-other m g e)
+
+  pub parent-new : (q : Quarter) → parentIn K (n + placeOf q) ≡ i
+  parent-new q = ap nodeParent (at-quarter q)
 
   -- where a cell of the split history comes from
   pub data From (m : ℕ) : Type 0 where
@@ -197,6 +244,33 @@ module _ (H : List Node) (i : ℕ) (h : i < length H) where
         })
     divided-by m (divides e) z = subst (λ (x : ℕ). Divided K x (firstIn K x)) (sym e) (subst (Divided K i) (sym first-split) divided-here)
     divided-by m (new q e) z = absurd (z (ap (firstIn K) e ∙ first-new q))
+
+    -- a cell that was there keeps its parent; that parent is not cell i, which was a leaf
+    hangs-old : (m : ℕ) → m < n → (m ≡ 0 → ⊥) → Hangs K m
+    hangs-old m l z =
+        let k = g .hangs m l z in
+        let e = parent-old m l in
+        let f : firstIn K (parentIn K m) ≡ firstIn H (parentIn H m) =
+        ap (firstIn K) e ∙ first-other (parentIn H m) (k .in-use) (λ o. k .parted (ap (firstIn H) o ∙ w)) in
+        record {
+          in-use = omega (arith, e, k .in-use, split-length);
+          parted = λ o. k .parted (sym f ∙ o);
+          quarter = k .quarter;
+          place = k .place ∙ ap (λ (x : ℕ). x + placeOf (k .quarter)) (sym f);
+        }
+
+    hangs-by : (m : ℕ) → From m → (m ≡ 0 → ⊥) → Hangs K m
+    hangs-by m (kept l e) z = hangs-old m l z
+    hangs-by m (divides e) z = hangs-old m (omega arith) z
+    hangs-by m (new q e) z =
+        let p : parentIn K m ≡ i = ap (parentIn K) e ∙ parent-new q in
+        let f : firstIn K (parentIn K m) ≡ n = ap (firstIn K) p ∙ first-split in
+        record {
+          in-use = omega (arith, p, split-length);
+          parted = λ o. omega (arith, f, o, some-cells);
+          quarter = q;
+          place = e ∙ ap (λ (x : ℕ). x + placeOf q) (sym f);
+        }
 
     -- a leaf that holds a position
     pub data Found (p : Position) (m : ℕ) : Type 0 where
@@ -250,6 +324,8 @@ module _ (H : List Node) (i : ℕ) (h : i < length H) where
           first = cell-old 0 some-cells ∙ g .first;
           on-grid = λ m l. grid-by m (comes m l);
           divided = λ m l z. divided-by m (comes m l) z;
+          first-parent = parent-old 0 some-cells ∙ g .first-parent;
+          hangs = λ m l z. hangs-by m (comes m l) z;
           tiled =
               record {
                 some-leaf = λ p o. let s = g .tiled .some-leaf p o in some-by p (s .0) (s .1) (ℕ-discrete (s .0) i);

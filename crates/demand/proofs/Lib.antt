@@ -1,5 +1,6 @@
 -- Demand 3 and its proof.
 pub mod History
+pub mod Upward
 pub mod Made
 pub mod Paints
 pub mod Sound

@@ -13,7 +13,7 @@ use Rattle.celltable.specs.Table.{cellAt, withChild}
 use Rattle.celltable.specs.Ranges.{cellOf}
 use Rattle.celltable.specs.Descent.{quarterAt}
 use Rattle.celltable.proofs.Table.{length-put-child, put-child-same, put-child-other}
-use Rattle.four_children.specs.Children.{wordsWith, wordsOfChild, entriesOfChild, streamsTo, cellsTo}
+use Rattle.four_children.specs.Children.{wordsWith, wordsOfChild, entriesOfChild, linesOfChild, streamsTo, cellsTo}
 use Rattle.split.specs.declared.Answer.the-variants.{Split}
 use Rattle.tables.specs.Tables.{Tree, cellsUsed, entriesUsed}
 use Rattle.split.specs.Split.{words, drawing, stream, made, splitAnswer, headAfter, cellsAfter, entriesAfter}
@@ -38,13 +38,13 @@ module _ (t : Tree) (i n : ℕ) (e : splitAnswer t i ≡ Split n) where
 
   -- ---- the lengths of the tables
   abbrev rows : List ℕ
-  rows = cellsTo (drawing t i) (cellOf (words t i)) (stream t i) (t .cells) used free 4
+  rows = cellsTo (drawing t i) (cellOf (words t i)) (stream t i) (t .cells) i used free 4
 
   pub split-length-head : length (headAfter t i (Split n)) ≡ length (t .head)
   split-length-head = simp length-set
 
   pub split-length-cells : length (cellsAfter t i (Split n)) ≡ length (t .cells)
-  split-length-cells = length-put-child rows i used ∙ length-cells-to (drawing t i) (cellOf (words t i)) (stream t i) (t .cells) used free 4
+  split-length-cells = length-put-child rows i used ∙ length-cells-to (drawing t i) (cellOf (words t i)) (stream t i) (t .cells) i used free 4
 
   pub split-length-entries : length (entriesAfter t i (Split n)) ≡ length (t .entries)
   split-length-entries = length-written (t .entries) free (made t i)
@@ -64,15 +64,15 @@ module _ (t : Tree) (i n : ℕ) (e : splitAnswer t i ≡ Split n) where
   -- ---- the cells
   -- each cell but the one that is split is as it was
   pub split-keeps-cell : (j : ℕ) → j < cellsUsed (t .head) → (j ≡ i → ⊥) → cellAt (cellsAfter t i (Split n)) j ≡ cellAt (t .cells) j
-  split-keeps-cell j h f = put-child-other rows i j used f ∙ cells-to-keeps (drawing t i) (cellOf (words t i)) (stream t i) (t .cells) used free 4 j h
+  split-keeps-cell j h f = put-child-other rows i j used f ∙ cells-to-keeps (drawing t i) (cellOf (words t i)) (stream t i) (t .cells) i used free 4 j h
 
   -- that one has its first child, and nothing else is changed
   pub split-cell : cellAt (cellsAfter t i (Split n)) i ≡ withChild (words t i) (cellsUsed (t .head))
   split-cell =
       put-child-same rows i used
-      (omega (arith, length-cells-to (drawing t i) (cellOf (words t i)) (stream t i) (t .cells) used free 4, A .cells, A .able .in-use))
+      (omega (arith, length-cells-to (drawing t i) (cellOf (words t i)) (stream t i) (t .cells) i used free 4, A .cells, A .able .in-use))
       ∙ ap (λ (w : CellWords). withChild w used)
-      (cells-to-keeps (drawing t i) (cellOf (words t i)) (stream t i) (t .cells) used free 4 i (A .able .in-use))
+      (cells-to-keeps (drawing t i) (cellOf (words t i)) (stream t i) (t .cells) i used free 4 i (A .able .in-use))
 
   -- child q
   pub split-child : (q : ℕ)
@@ -80,10 +80,10 @@ module _ (t : Tree) (i n : ℕ) (e : splitAnswer t i ≡ Split n) where
       → cellAt (cellsAfter t i (Split n)) (cellsUsed (t .head) + q)
       ≡ wordsWith (child (cellOf (words t i)) (quarterAt q))
       (entriesUsed (t .head) + length (streamsTo (drawing t i) (cellOf (words t i)) (stream t i) q))
-      (entriesOfChild (drawing t i) (cellOf (words t i)) (stream t i) q)
+      (entriesOfChild (drawing t i) (cellOf (words t i)) (stream t i) q) (linesOfChild (drawing t i) (cellOf (words t i)) (stream t i) q) i
   split-child q h =
       put-child-other rows i (used + q) used (λ d. omega (arith, A .able .in-use))
-      ∙ cells-to-child (drawing t i) (cellOf (words t i)) (stream t i) (t .cells) used free 4 q h (A .cells)
+      ∙ cells-to-child (drawing t i) (cellOf (words t i)) (stream t i) (t .cells) i used free 4 q h (A .cells)
 
   -- ---- the streams
   -- those in the entries that were in use are as they were

@@ -10,10 +10,9 @@ use borrow.Author.Tests.{leb-true, le-leb, lt-ltb}
 use Rattle.laws.proofs.Booleans.{or-right, cond-left, cond-right}
 use Rattle.stream.specs.Table.{wordsFrom}
 use Rattle.stream.specs.Grammar.{Env, usedRange, runRange, accepts, checkStream}
-use Rattle.celltable.specs.declared.CellWords.{CellWords}
-use Rattle.celltable.specs.Table.{cellAt, withChild}
-use Rattle.celltable.specs.Ranges.{squareRange, rootRange, childRange, entryRange, cellRange}
-use Rattle.celltable.proofs.Ranges.{entries-more, range-parts, passes-range, passes-run, passes-root, range-more}
+use Rattle.celltable.specs.Ranges.{cellRange}
+use Rattle.celltable.proofs.Ranges.{child-more, passes-children}
+use Rattle.celltable.proofs.Parents.{range-more}
 use Rattle.split.specs.declared.Answer.the-variants.{Split}
 use Rattle.tables.specs.Tables.{Tree, cellsUsed, entriesUsed}
 use Rattle.split.specs.Split.{words, splitAnswer}
@@ -22,20 +21,6 @@ use Rattle.split.specs.code.Accepted.{Accepted}
 use Rattle.tables.proofs.Counts.{used-more}
 use Rattle.split.proofs.Accepted.{split-accepted}
 use Rattle.split_laws.proofs.Trees.{tree-used, tree-free, tree-length-entries, tree-keeps-cell, tree-cell, tree-stream}
-
--- a cell in range, in a table with the same words there but for its first child, which is among the cells in use, and as many entries in use or more
-pub child-range : (t t′ : List ℕ) (i used free child used′ free′ : ℕ)
-    → cellAt t′ i ≡ withChild (cellAt t i) child
-    → child + 3 < used′
-    → free ≤ free′
-    → cellRange t i used free ≡ true
-    → cellRange t′ i used′ free′ ≡ true
-child-range t t′ i used free child used′ free′ e c f h =
-    range-parts t′ i used′ free′ (ap squareRange e ∙ passes-range t i used free h)
-    (ap (λ (w : CellWords). childRange (w .child) used′) e ∙ or-right (eqb child 0) (ltb (child + 3) used′) (lt-ltb (child + 3) used′ c))
-    (ap (λ (w : CellWords). entryRange (w .first) (w .count) free′) e
-    ∙ entries-more (cellAt t i .first) (cellAt t i .count) free free′ f (passes-run t i used free h))
-    (ap (λ (w : CellWords). rootRange w i) e ∙ passes-root t i used free h)
 
 -- a run of entries in use, with more in use
 run-more : (first count used used′ : ℕ) → used ≤ used′ → runRange first count used ≡ true → runRange first count used′ ≡ true
@@ -85,22 +70,32 @@ module _ (t : Tree) (i n : ℕ) (e : splitAnswer t i ≡ Split n) where
   A : Accepted t i
   A = split-accepted t i n e
 
+  -- a cell that was split is as it was
+  same : (p : ℕ) → p < cellsUsed (t .head) → (words t p .child ≡ 0 → ⊥) → words (splitTree t i) p ≡ words t p
+  same p h f = tree-keeps-cell t i n e p h (λ z. f (ap (λ (k : ℕ). words t k .child) z ∙ A .able .leaf))
+
   -- each cell but the one that is split
   pub tree-range : (j : ℕ) → j < cellsUsed (t .head) → (j ≡ i → ⊥) → cellRange (t .cells) j (cellsUsed (t .head)) (entriesUsed (t .head)) ≡ true
       → cellRange (splitTree t i .cells) j (cellsUsed (splitTree t i .head)) (entriesUsed (splitTree t i .head)) ≡ true
   tree-range j h f r =
       let u = tree-used t i n e in
       let g = tree-free t i n e in
-      range-more (t .cells) (splitTree t i .cells) j (cellsUsed (t .head)) (entriesUsed (t .head)) (cellsUsed (splitTree t i .head))
-      (entriesUsed (splitTree t i .head)) (tree-keeps-cell t i n e j h f) (omega arith) (omega arith) r
+      range-more (t .cells) (splitTree t i .cells) j (cellsUsed (t .head)) (cellsUsed (splitTree t i .head)) (words t j .child)
+      (tree-keeps-cell t i n e j h f) (omega arith) same (entriesUsed (t .head)) (entriesUsed (splitTree t i .head)) (omega arith)
+      (child-more (words t j .child) (cellsUsed (t .head)) (cellsUsed (splitTree t i .head)) (omega arith)
+      (passes-children (t .cells) j (cellsUsed (t .head)) (entriesUsed (t .head)) r))
+      r
 
   -- and that one, which has children now
   pub tree-range-split : cellRange (splitTree t i .cells) i (cellsUsed (splitTree t i .head)) (entriesUsed (splitTree t i .head)) ≡ true
   tree-range-split =
       let u = tree-used t i n e in
       let g = tree-free t i n e in
-      child-range (t .cells) (splitTree t i .cells) i (cellsUsed (t .head)) (entriesUsed (t .head)) (cellsUsed (t .head))
-      (cellsUsed (splitTree t i .head)) (entriesUsed (splitTree t i .head)) (tree-cell t i n e) (omega arith) (omega arith) (A .able .cell)
+      let k : ℕ = cellsUsed (t .head) in
+      range-more (t .cells) (splitTree t i .cells) i (cellsUsed (t .head)) (cellsUsed (splitTree t i .head)) k (tree-cell t i n e) (omega arith) same
+      (entriesUsed (t .head)) (entriesUsed (splitTree t i .head)) (omega arith)
+      (or-right (eqb k 0) (ltb (k + 3) (cellsUsed (splitTree t i .head))) (lt-ltb (k + 3) (cellsUsed (splitTree t i .head)) (omega arith)))
+      (A .able .cell)
 
   -- every stream, read against anything
   pub tree-check : (first count : ℕ) (v : Env)

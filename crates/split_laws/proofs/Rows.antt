@@ -13,36 +13,36 @@ use Rattle.stream.proofs.Table.{from-agree, written-append, written-keeps, writ
 use Rattle.celltable.specs.declared.CellWords.{CellWords}
 use Rattle.celltable.specs.Table.{cellAt}
 use Rattle.celltable.proofs.Table.{length-put-cell, put-cell-same, put-cell-other}
-use Rattle.four_children.specs.Children.{wordsWith, cellOfChild, wordsOfChild, entriesOfChild, streamsTo, cellsTo}
+use Rattle.four_children.specs.Children.{wordsWith, cellOfChild, wordsOfChild, entriesOfChild, linesOfChild, streamsTo, cellsTo}
 use Rattle.four_children.proofs.Filled.{length-child, streams-more}
 
 -- ---- the rows
-module _ (D : Drawing) (c : Cell) (ws : List Words) (t : List ℕ) (used free : ℕ) where
-  -- the words of child q
+module _ (D : Drawing) (c : Cell) (ws : List Words) (t : List ℕ) (i used free : ℕ) where
+  -- the words of child q of cell i
   abbrev pub wordsAt : ℕ → CellWords
-  wordsAt q = wordsWith (cellOfChild D c ws q) (free + length (streamsTo D c ws q)) (entriesOfChild D c ws q)
+  wordsAt q = wordsWith (cellOfChild D c ws q) (free + length (streamsTo D c ws q)) (entriesOfChild D c ws q) (linesOfChild D c ws q) i
 
-  pub length-cells-to : (n : ℕ) → length (cellsTo D c ws t used free n) ≡ length t
+  pub length-cells-to : (n : ℕ) → length (cellsTo D c ws t i used free n) ≡ length t
   unfolding cellsTo
   length-cells-to zero = refl
-  length-cells-to (suc n) = length-put-cell (cellsTo D c ws t used free n) (used + n) (wordsAt n) ∙ length-cells-to n
+  length-cells-to (suc n) = length-put-cell (cellsTo D c ws t i used free n) (used + n) (wordsAt n) ∙ length-cells-to n
 
   -- the cells before them are as they were
-  pub cells-to-keeps : (n j : ℕ) → j < used → cellAt (cellsTo D c ws t used free n) j ≡ cellAt t j
+  pub cells-to-keeps : (n j : ℕ) → j < used → cellAt (cellsTo D c ws t i used free n) j ≡ cellAt t j
   unfolding cellsTo
   cells-to-keeps zero j h = refl
-  cells-to-keeps (suc n) j h = put-cell-other (cellsTo D c ws t used free n) (used + n) j (wordsAt n) (λ e. omega arith) ∙ cells-to-keeps n j h
+  cells-to-keeps (suc n) j h = put-cell-other (cellsTo D c ws t i used free n) (used + n) j (wordsAt n) (λ e. omega arith) ∙ cells-to-keeps n j h
 
-  pub cells-to-child : (n q : ℕ) → q < n → (used + n) * 8 ≤ length t → cellAt (cellsTo D c ws t used free n) (used + q) ≡ wordsAt q
+  pub cells-to-child : (n q : ℕ) → q < n → (used + n) * 8 ≤ length t → cellAt (cellsTo D c ws t i used free n) (used + q) ≡ wordsAt q
   unfolding cellsTo
   cells-to-child zero q h r = absurd (omega arith)
   cells-to-child (suc n) q h r = go (ℕ-discrete q n) (λ l. cells-to-child n q l (omega arith))
     where
       go : Dec (q ≡ n)
-          → (q < n → cellAt (cellsTo D c ws t used free n) (used + q) ≡ wordsAt q)
-          → cellAt (cellsTo D c ws t used free (suc n)) (used + q) ≡ wordsAt q
-      go (yes e) f = rw e (put-cell-same (cellsTo D c ws t used free n) (used + n) (wordsAt n) (omega (arith, length-cells-to n)))
-      go (no e) f = put-cell-other (cellsTo D c ws t used free n) (used + n) (used + q) (wordsAt n) (λ d. e (omega arith)) ∙ f (omega arith)
+          → (q < n → cellAt (cellsTo D c ws t i used free n) (used + q) ≡ wordsAt q)
+          → cellAt (cellsTo D c ws t i used free (suc n)) (used + q) ≡ wordsAt q
+      go (yes e) f = rw e (put-cell-same (cellsTo D c ws t i used free n) (used + n) (wordsAt n) (omega (arith, length-cells-to n)))
+      go (no e) f = put-cell-other (cellsTo D c ws t i used free n) (used + n) (used + q) (wordsAt n) (λ d. e (omega arith)) ∙ f (omega arith)
 
 -- ---- the streams
 module _ (D : Drawing) (c : Cell) (ws : List Words) where

@@ -13,7 +13,7 @@ use Rattle.stream.specs.Grammar.{usedRange}
 use Rattle.celltable.specs.Table.{cellAt, withChild}
 use Rattle.celltable.specs.Ranges.{headRange, cellOf}
 use Rattle.celltable.specs.Descent.{quarterAt}
-use Rattle.four_children.specs.Children.{wordsWith, wordsOfChild, entriesOfChild, streamsTo}
+use Rattle.four_children.specs.Children.{wordsWith, wordsOfChild, entriesOfChild, linesOfChild, streamsTo}
 use Rattle.split.specs.declared.Answer.the-variants.{Split, Not}
 use Rattle.tables.specs.Tables.{Tree, tree, cellsUsed, entriesUsed, boundsOf, countsIn}
 use Rattle.split.specs.Split.{words, drawing, stream, made, splitAnswer, headAfter, cellsAfter, entriesAfter}
@@ -112,7 +112,7 @@ module _ (t : Tree) (i n : ℕ) (e : splitAnswer t i ≡ Split n) where
       rw le
       (used-more (length (t .entries)) (entriesUsed (t .head)) (entriesUsed (splitTree t i .head)) (length (t .areas)) (length (t .xs))
       (length (t .ys)) (boundsOf (t .plan) (words t i)) (omega (arith, A .entries)) (omega (arith, A .few-entries))
-      (counts-used t (A .able .counts) i))
+      (counts-used t (A .able .counts) (words t i)))
 
   drawn-any : (j : ℕ)
       → usedRange (length (splitTree t i .entries)) (entriesUsed (splitTree t i .head)) (length (splitTree t i .areas))
@@ -126,7 +126,7 @@ module _ (t : Tree) (i n : ℕ) (e : splitAnswer t i ≡ Split n) where
 
   -- they pass as before
   pub tree-counts : countsIn (splitTree t i) ≡ true
-  tree-counts = counts-of (splitTree t i) headed planned 0 (drawn-any 0)
+  tree-counts = counts-of (splitTree t i) headed planned (words (splitTree t i) 0) (drawn-any 0)
 
   -- ---- the cells
   pub tree-keeps-cell : (j : ℕ) → j < cellsUsed (t .head) → (j ≡ i → ⊥) → words (splitTree t i) j ≡ words t j
@@ -140,7 +140,7 @@ module _ (t : Tree) (i n : ℕ) (e : splitAnswer t i ≡ Split n) where
       → words (splitTree t i) (cellsUsed (t .head) + q)
       ≡ wordsWith (child (cellOf (words t i)) (quarterAt q))
       (entriesUsed (t .head) + length (streamsTo (drawing t i) (cellOf (words t i)) (stream t i) q))
-      (entriesOfChild (drawing t i) (cellOf (words t i)) (stream t i) q)
+      (entriesOfChild (drawing t i) (cellOf (words t i)) (stream t i) q) (linesOfChild (drawing t i) (cellOf (words t i)) (stream t i) q) i
   tree-child q h = ap (λ (x : List ℕ). cellAt x (cellsUsed (t .head) + q)) tree-cells ∙ split-child t i n e q h
 
   -- ---- the streams
