@@ -1,6 +1,6 @@
 -- The way to a leaf, test by test; and what the leaf that is found says: 12 has passed over it, and it holds the position.
 use mathlib.Core.Path.{_≡_, refl, sym, ap, ap₂, subst, _∙_}
-use mathlib.Core.Bool.{Bool, true, false, cond}
+use mathlib.Core.Bool.{Bool, true, false, cond, _&&_}
 use Prim.Native.Nat.{ℕ, _+_, _≤_}
 use lib.Dec.{eqb, ltb}
 use lib.ListN.{getD}
@@ -11,7 +11,7 @@ use Rattle.stream.specs.declared.Checked.{Checked}
 use Rattle.stream.specs.Grammar.{Env, env, Passed}
 use Rattle.stream.specs.code.Checks.{checked}
 use Rattle.stream.proofs.Passed.{passed}
-use Rattle.stream.proofs.Uniform.{fits-is, lines-is, uniform-is}
+use Rattle.stream.proofs.Uniform.{lines-is, uniform-is}
 use Rattle.celltable.specs.declared.Leaf.{Leaf}
 use Rattle.celltable.specs.declared.Found.{Found}
 use Rattle.celltable.specs.declared.Found.the-variants.{At, Broken}
@@ -26,6 +26,7 @@ use Rattle.find_leaf.specs.declared.LeafRead.the-variants as Reads
 use Rattle.find_leaf.specs.Leaf.{positionRange, leafBounds, streamFound, leafIn}
 use Rattle.find_leaf.specs.code.Numbers.{readBy, leafRead}
 use Rattle.tables.proofs.Counts.{counts-fit}
+use Rattle.tables.proofs.Leaves.{leaf-told, leaf-stream}
 
 pub on-grid : (x y : ℕ) → positionRange x y ≡ true → OnGrid (at x y)
 on-grid x y h =
@@ -36,7 +37,7 @@ module _ (t : Tree) where
   wayIn x y = descendIn (t .cells) (cellsUsed (t .head)) (entriesUsed (t .head)) x y
 
   abbrev pub passesIn : Leaf → Bool
-  passesIn l = leafPasses (t .entries) (l .first) (l .count) (entriesUsed (t .head)) (env (t .areas) (t .xs) (t .ys) (leafBounds t l))
+  passesIn l = leafPasses (t .entries) (l .first) (l .count) (l .lines) (entriesUsed (t .head)) (env (t .areas) (t .xs) (t .ys) (leafBounds t l))
 
   module _ (x y : ℕ) where
     -- ---- the tests
@@ -88,7 +89,9 @@ module _ (t : Tree) where
     -- 12 has passed over the whole leaf
     pub leaf-passed : (l : Leaf) → leafIn t x y ≡ At l → Passed (t .entries) (l .first) (l .count) (env (t .areas) (t .xs) (t .ys) (leafBounds t l))
     leaf-passed l e =
-        passed (t .entries) (l .first) (l .count) (entriesUsed (t .head)) (env (t .areas) (t .xs) (t .ys) (leafBounds t l)) (leaf-landed l e .stream)
+        passed (t .entries) (l .first) (l .count) (entriesUsed (t .head)) (env (t .areas) (t .xs) (t .ys) (leafBounds t l))
+        (leaf-stream (t .entries) (l .first) (l .count) (l .lines) (entriesUsed (t .head)) (env (t .areas) (t .xs) (t .ys) (leafBounds t l))
+        (leaf-landed l e .stream))
 
     -- its square holds the position, and its depth is the steps
     pub leaf-holds : (l : Leaf) → positionRange x y ≡ true → leafIn t x y ≡ At l → LeafFound (t .cells) (cellsUsed (t .head)) (entriesUsed (t .head)) (at x y) l
@@ -126,14 +129,15 @@ module _ (t : Tree) where
         checked-is : c ≡ checked (t .entries) (l .first) (l .count) (entriesUsed (t .head)) v
         checked-is = rw ef at q
 
-        passes-is : c .fits ≡ passesIn l
-        passes-is = fits-is (t .entries) (l .first) (l .count) (entriesUsed (t .head)) v c checked-is
+        passes-is : (c .fits && eqb (c .lines) (l .lines)) ≡ passesIn l
+        passes-is = leaf-told (t .entries) (l .first) (l .count) (l .lines) (entriesUsed (t .head)) v c checked-is
 
-        pub read-unfit : c .fits ≡ false → Reads.Broken ≡ leafRead t x y
+        pub read-unfit : (c .fits && eqb (c .lines) (l .lines)) ≡ false → Reads.Broken ≡ leafRead t x y
         read-unfit g = ap (readBy t) (leaf-unfit l h (sym e ∙ way-is) (sym passes-is ∙ g))
 
-        pub read-met : c .fits ≡ true → Reads.At l (c .lines) (eqb (c .segments) 0) ≡ leafRead t x y
+        pub read-met : (c .fits && eqb (c .lines) (l .lines)) ≡ true → Reads.At l (c .lines) (eqb (c .segments) 0) ≡ leafRead t x y
         read-met g =
-            ap₂ (Reads.At l) (lines-is (t .entries) (l .first) (l .count) (entriesUsed (t .head)) v c checked-is g)
-            (uniform-is (t .entries) (l .first) (l .count) (entriesUsed (t .head)) v c checked-is g)
+            let fits : c .fits ≡ true = and-left (c .fits) (eqb (c .lines) (l .lines)) g in
+            ap₂ (Reads.At l) (lines-is (t .entries) (l .first) (l .count) (entriesUsed (t .head)) v c checked-is fits)
+            (uniform-is (t .entries) (l .first) (l .count) (entriesUsed (t .head)) v c checked-is fits)
             ∙ ap (readBy t) (leaf-met l h (sym e ∙ way-is) (sym passes-is ∙ g))

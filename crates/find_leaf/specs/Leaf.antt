@@ -1,4 +1,4 @@
--- Document 01, "Cells" and "From the state", and document 02, Item 4: the leaf that holds a position, in a tree in lent tables.
+-- Document 01, "Cells" and "From the state", and document 02, Items 4 and 5: the leaf that holds a position, in a tree in lent tables.
 use mathlib.Core.Bool.{Bool, cond, _&&_}
 use mathlib.Core.List.{List}
 use Prim.Native.Nat.{ℕ}
@@ -46,10 +46,10 @@ module _ (t : Tree) where
   abbrev pub leafStream : Leaf → List Words
   leafStream l = wordsFrom (t .entries) (l .first) (l .count)
 
-  -- 12: "a number met in ... the whole leaf when answering ... is outside its range, or that ... stream breaks the grammar"
+  -- 12: "a number met in ... the whole leaf when answering ... is outside its range, or that ... stream breaks the grammar"; and its line count
   abbrev pub streamFound : Found → Found
   streamFound (At l) =
-      cond (leafPasses (t .entries) (l .first) (l .count) (entriesUsed (t .head)) (env (t .areas) (t .xs) (t .ys) (leafBounds l))) (At l) Broken
+      cond (leafPasses (t .entries) (l .first) (l .count) (l .lines) (entriesUsed (t .head)) (env (t .areas) (t .xs) (t .ys) (leafBounds l))) (At l) Broken
   streamFound Broken = Broken
 
   -- 12 over the numbers in use, then "the path down and the whole leaf when answering"

@@ -8,7 +8,7 @@ ghost use Prim.Native.Nat.{_≤_};
 ghost use lib.ListN.{length, getD};
 ghost use Rattle.stream.specs.Grammar.{env, bounds};
 ghost use Rattle.stream.specs.code.Checks.{checked};
-ghost use Rattle.tables.specs.Tables.{treeLent, countsIn};
+ghost use Rattle.tables.specs.Tables.{treeLent};
 ghost use Rattle.find_leaf.specs.Leaf.{positionRange, leafIn, foundBy, findAnswer};
 ghost use Rattle.find_leaf.specs.code.Numbers.{leafRead, reportN};
 
@@ -37,7 +37,7 @@ pub enum Answer {
     Not(Refusal),
 }
 
-// 12 over the stream of a leaf.
+// What the check of a leaf's stream says.
 fn check_leaf(
     plan: &[u32],
     areas: &[u32],
@@ -59,7 +59,7 @@ fn check_leaf(
     stream::check_stream(entries, first, count, free, areas, xs, ys, b)
 }
 
-// The leaf that holds (x, y), with what its stream holds. 12 over the numbers in use, the cells on the way, and the leaf's stream.
+// The leaf that holds (x, y), with what its stream holds. 12 over the numbers in use, the cells on the way, and the leaf's stream and line count.
 pub fn read_leaf(
     plan: &[u32],
     areas: &[u32],
@@ -73,14 +73,14 @@ pub fn read_leaf(
 ) -> LeafRead
     ensures answer { λ r. ⌜ r ≡ leafRead (treeLent plan areas xs ys head cells entries) x y ⌝ }
 {
-    if counts_fit(plan, areas, xs, ys, head, cells, entries) {
+    if tables::counts_fit(plan, areas, xs, ys, head, cells, entries) {
         let used = laws::wide(head[celltable::CELLS]);
         let free = laws::wide(head[celltable::ENTRIES]);
         let f = celltable::descend(cells, used, free, x, y);
         match f {
             Found::At(l) => {
                 let c = check_leaf(plan, areas, xs, ys, entries, free, l);
-                if c.fits {
+                if c.fits & (c.lines == l.lines) {
                     return LeafRead::At(l, c.lines, c.segments == 0);
                 }
                 return LeafRead::Broken;

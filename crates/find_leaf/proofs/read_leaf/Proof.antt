@@ -64,7 +64,7 @@ check-leaf-requires c κs =
 returns : tie.Need-returns
 returns c =
     let at-if2 = c .before in
-    let after-check-leaf = at-if2 .before in
+    let after-check-leaf = at-if2 .before .before .before .before in
     let after-f = after-check-leaf .before .before in
     let after-descend = after-f .before .before in
     let after-wide2 = after-descend .before in
@@ -81,7 +81,7 @@ returns c =
 
 returns-2 : tie.Need-returns-2
 returns-2 c =
-    let after-check-leaf = c .before in
+    let after-check-leaf = c .before .before .before .before in
     let after-f = after-check-leaf .before .before in
     let after-descend = after-f .before .before in
     let after-wide2 = after-descend .before in
