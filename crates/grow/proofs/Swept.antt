@@ -1,13 +1,15 @@
 -- One ascending sweep that reads no cell twice is growing: the same tables, splits and answer as "the lowest numbered leaf ..., again and again".
 use mathlib.Core.Path.{_≡_, refl, sym, ap, subst, _∙_}
-use mathlib.Core.Logic.{_⊎_, inl, inr}
-use mathlib.Core.Bool.{Bool, true, false}
+use mathlib.Core.Bool.{Bool, true, false, cond}
 use Prim.Native.Nat.{ℕ, _+_, _≤_, _<_}
 use native.Mathlib.Omega.{arith}
 use native.Mathlib.Decide.{ℕ-discrete}
+use lib.Dec.{eqb}
 use lib.ListN.{length, getD}
 use Rattle.laws.proofs.Booleans.{clash}
-use Rattle.refusals.specs.declared.Refusal.the-variants.{Room, Broken}
+use Rattle.refusals.specs.Refusals.{numberOf}
+use Rattle.refusals.specs.declared.Refusal.{Refusal}
+use Rattle.refusals.specs.declared.Refusal.the-variants.{Broken}
 use Rattle.split.specs.declared.Answer as Splitting
 use Rattle.split.specs.declared.Answer.the-variants as split
 use Rattle.tables.specs.Tables.{Tree, cellsUsed, entriesUsed, countsIn}
@@ -15,7 +17,7 @@ use Rattle.split.specs.Split.{splitAnswer}
 use Rattle.tables.proofs.Heads.{used-is}
 use Rattle.split_laws.specs.After.{splitTree}
 use Rattle.tables.proofs.Counts.{counts-long}
-use Rattle.split_laws.proofs.Trees.{tree-refused, tree-xs, tree-ys, tree-used, tree-length-head, tree-length-cells, tree-length-entries, tree-counts}
+use Rattle.split_laws.proofs.Trees.{tree-refused, tree-used, tree-length-head, tree-length-cells, tree-length-entries, tree-counts}
 use Rattle.grow.specs.declared.Answer.the-variants.{Done, Full, Not}
 use Rattle.grow.specs.declared.Tried.{Tried}
 use Rattle.grow.specs.declared.Tried.the-variants.{Bad, Past, Wanted}
@@ -43,15 +45,14 @@ use Rattle.grow.specs.Grow.{
   answerBy,
   answerOf,
 }
-use Rattle.grow.specs.code.Numbers.{pastN, splitN, byRoom, turnBy, treeBy}
-use Rattle.grow.proofs.Tries.{past-keeps, past-split, wanted-answer}
+use Rattle.grow.specs.code.Numbers.{pastN, splitN, byAnswer, turnBy, treeBy}
+use Rattle.grow.proofs.Tries.{past-keeps, past-split}
 use Rattle.grow.proofs.Fuel.{grown-step}
 use Rattle.grow.proofs.Rounds.{round-wanted, round-bad, round-done}
 
 -- the sweep began with the tables t₀ and stands at s with the tables t: every cell below the next one is passed over, and growing from here
 -- gives what growing from the start gives, but for the splits so far
 pub record Sweeping (n l : ℕ) (t₀ t : Tree) (s : Sweep) : Type 0 where
-  pub pair : length (t .xs) ≡ length (t .ys)
   pub counts : countsIn t ≡ true
   pub used : s .used ≡ cellsUsed (t .head)
   pub free : s .free ≡ entriesUsed (t .head)
@@ -69,12 +70,10 @@ abbrev startN : (used free : ℕ) → Sweep
 startN used free = record { cell = 0; used = used; free = free; splits = 0 }
 
 pub sweeping-begin : (n l : ℕ) (t : Tree)
-    → length (t .xs) ≡ length (t .ys)
     → countsIn t ≡ true
     → Sweeping n l t t (startN (getD (t .head) 0 0) (getD (t .head) 1 0))
-sweeping-begin n l t p c =
+sweeping-begin n l t c =
     record {
-      pair = p;
       counts = c;
       used = sym (used-is (t .head) (counts-long t c));
       free = refl;
@@ -89,7 +88,7 @@ sweeping-begin n l t p c =
       size-entries = refl;
     }
 
-module _ (n l : ℕ) (few : l ≤ 16) (t₀ t : Tree) (s : Sweep) (S : Sweeping n l t₀ t s) where
+module _ (n l : ℕ) (t₀ t : Tree) (s : Sweep) (S : Sweeping n l t₀ t s) where
   abbrev i : ℕ
   i = s .cell
 
@@ -108,7 +107,6 @@ module _ (n l : ℕ) (few : l ≤ 16) (t₀ t : Tree) (s : Sweep) (S : Sweeping 
     pub sweeping-past : tried t n l (s .cell) ≡ Past → Sweeping n l t₀ t (pastN s)
     sweeping-past e =
         record {
-          pair = S .pair;
           counts = S .counts;
           used = S .used;
           free = S .free;
@@ -134,7 +132,6 @@ module _ (n l : ℕ) (few : l ≤ 16) (t₀ t : Tree) (s : Sweep) (S : Sweeping 
         pub sweeping-split : Sweeping n l t₀ (splitTree t (s .cell)) (splitN s (entriesUsed (splitTree t (s .cell) .head)))
         sweeping-split =
             record {
-              pair = ap length (tree-xs t i) ∙ (S .pair ∙ ap length (sym (tree-ys t i)));
               counts = tree-counts t i k a;
               used = omega (arith, S .used, tree-used t i k a);
               free = refl;
@@ -167,10 +164,17 @@ module _ (n l : ℕ) (few : l ≤ 16) (t₀ t : Tree) (s : Sweep) (S : Sweeping 
   sweep-done h = by-round done none-left (round-done n l t i (S .past) (S .counts) (omega (arith, S .used)) (omega (arith, S .used, S .low))) refl
 
   module _ (h : s .cell < s .used) where
-    sweep-full : tried t n l (s .cell) ≡ Wanted
-        → splitAnswer t (s .cell) ≡ split.Not Room
+    -- a split that is refused ends it, with 11 or with 12
+    refused-round : (r : Refusal) → splitAnswer t i ≡ split.Not r → tried t n l i ≡ Wanted → round n l t ≡ cond (eqb (numberOf r) 11) full broken
+    refused-round r a e = rounded h e ∙ ap (roundAt i) a
+
+    sweep-full : (r : Refusal) → tried t n l i ≡ Wanted → splitAnswer t i ≡ split.Not r → eqb (numberOf r) 11 ≡ true
         → (Full (s .splits) ≡ answerOf (grown n l t₀)) × (t ≡ grown n l t₀ .after)
-    sweep-full e a = by-round full no-room (rounded h e ∙ ap (roundAt i) a) refl
+    sweep-full r e a k = by-round full no-room (refused-round r a e ∙ ap (λ (b : Bool). cond b full broken) k) refl
+
+    sweep-broken : (r : Refusal) → tried t n l i ≡ Wanted → splitAnswer t i ≡ split.Not r → eqb (numberOf r) 11 ≡ false
+        → (Not Broken ≡ answerOf (grown n l t₀)) × (t ≡ grown n l t₀ .after)
+    sweep-broken r e a k = by-round broken not-passed (refused-round r a e ∙ ap (λ (b : Bool). cond b full broken) k) refl
 
     sweep-bad : tried t n l (s .cell) ≡ Bad → (Not Broken ≡ answerOf (grown n l t₀)) × (t ≡ grown n l t₀ .after)
     sweep-bad e = by-round broken not-passed (round-bad n l t i (S .past) (S .counts) (in-use h) e) refl
@@ -196,25 +200,48 @@ module _ (n l : ℕ) (few : l ≤ 16) (t₀ t : Tree) (s : Sweep) (S : Sweeping 
     sweepIn NoRoom = s
     sweepIn Stopped = s
 
+    -- a refused split is no turn that goes on
+    not-further : (b : Bool) (s′ : Sweep) → cond b NoRoom Stopped ≡ Further s′ → ⊥
+    not-further true s′ f = clash (ap isFurther f)
+    not-further false s′ f = clash (ap isFurther f)
+
     by-split : (x : Splitting.Answer) (s′ : Sweep)
         → tried t n l i ≡ Wanted
         → splitAnswer t i ≡ x
-        → byRoom x s (splitTree t i .head) ≡ Further s′
+        → byAnswer x s (splitTree t i .head) ≡ Further s′
         → Sweeping n l t₀ (splitTree t i) s′
     by-split (split.Split k) s′ e a f = subst (Sweeping n l t₀ (splitTree t i)) (ap sweepIn f) (sweeping-split h e k a)
-    by-split (split.Not r) s′ e a f = clash (ap isFurther f)
+    by-split (split.Not r) s′ e a f = absurd (not-further (eqb (numberOf r) 11) s′ f)
 
     pub turn-further : (x : Tried) (s′ : Sweep) → tried t n l (s .cell) ≡ x → turnBy x t s ≡ Further s′ → Sweeping n l t₀ (treeBy x t (s .cell)) s′
     turn-further Bad s′ e f = clash (ap isFurther f)
     turn-further Past s′ e f = subst (Sweeping n l t₀ t) (ap sweepIn f) (sweeping-past h e)
     turn-further Wanted s′ e f = by-split (splitAnswer t i) s′ e refl f
 
-    room-by : tried t n l i ≡ Wanted
-        → byRoom (splitAnswer t i) s (splitTree t i .head) ≡ NoRoom
-        → (splitAnswer t i ≡ split.Split (cellsUsed (t .head))) ⊎ (splitAnswer t i ≡ split.Not Room)
+    -- which of the two ends
+    is-full : (b : Bool) → cond b NoRoom Stopped ≡ NoRoom → b ≡ true
+    is-full true f = refl
+    is-full false f = clash (ap isNoRoom f)
+
+    is-stopped : (b : Bool) → cond b NoRoom Stopped ≡ Stopped → b ≡ false
+    is-stopped true f = clash (ap isStopped f)
+    is-stopped false f = refl
+
+    full-by : (x : Splitting.Answer)
+        → tried t n l i ≡ Wanted
+        → splitAnswer t i ≡ x
+        → byAnswer x s (splitTree t i .head) ≡ NoRoom
         → (Full (s .splits) ≡ answerOf (grown n l t₀)) × (splitTree t i ≡ grown n l t₀ .after)
-    room-by e f (inl a) = clash (ap isNoRoom (ap (λ (x : Splitting.Answer). byRoom x s (splitTree t i .head)) (sym a) ∙ f))
-    room-by e f (inr a) = let p = sweep-full e a in (p .0, tree-refused t i Room a ∙ p .1)
+    full-by (split.Split k) e a f = clash (ap isNoRoom f)
+    full-by (split.Not r) e a f = let p = sweep-full r e a (is-full (eqb (numberOf r) 11) f) in (p .0, tree-refused t i r a ∙ p .1)
+
+    stopped-by : (x : Splitting.Answer)
+        → tried t n l i ≡ Wanted
+        → splitAnswer t i ≡ x
+        → byAnswer x s (splitTree t i .head) ≡ Stopped
+        → (Not Broken ≡ answerOf (grown n l t₀)) × (splitTree t i ≡ grown n l t₀ .after)
+    stopped-by (split.Split k) e a f = clash (ap isStopped f)
+    stopped-by (split.Not r) e a f = let p = sweep-broken r e a (is-stopped (eqb (numberOf r) 11) f) in (p .0, tree-refused t i r a ∙ p .1)
 
     pub turn-full : (x : Tried)
         → tried t n l (s .cell) ≡ x
@@ -222,11 +249,7 @@ module _ (n l : ℕ) (few : l ≤ 16) (t₀ t : Tree) (s : Sweep) (S : Sweeping 
         → (Full (s .splits) ≡ answerOf (grown n l t₀)) × (treeBy x t (s .cell) ≡ grown n l t₀ .after)
     turn-full Bad e f = clash (sym (ap isStopped f))
     turn-full Past e f = clash (ap isNoRoom f)
-    turn-full Wanted e f = room-by e f (wanted-answer n l few t i (S .pair) (S .counts) (in-use h) e)
-
-    not-stopped : (x : Splitting.Answer) → byRoom x s (splitTree t i .head) ≡ Stopped → ⊥
-    not-stopped (split.Split k) f = clash (ap isStopped f)
-    not-stopped (split.Not r) f = clash (ap isStopped f)
+    turn-full Wanted e f = full-by (splitAnswer t i) e refl f
 
     pub turn-stopped : (x : Tried)
         → tried t n l (s .cell) ≡ x
@@ -234,11 +257,11 @@ module _ (n l : ℕ) (few : l ≤ 16) (t₀ t : Tree) (s : Sweep) (S : Sweeping 
         → (Not Broken ≡ answerOf (grown n l t₀)) × (treeBy x t (s .cell) ≡ grown n l t₀ .after)
     turn-stopped Bad e f = sweep-bad e
     turn-stopped Past e f = clash (ap isStopped f)
-    turn-stopped Wanted e f = absurd (not-stopped (splitAnswer t i) f)
+    turn-stopped Wanted e f = stopped-by (splitAnswer t i) e refl f
 
-    moves-by : (x : Splitting.Answer) (s′ : Sweep) → byRoom x s (splitTree t i .head) ≡ Further s′ → s′ .cell ≡ s .cell + 1
+    moves-by : (x : Splitting.Answer) (s′ : Sweep) → byAnswer x s (splitTree t i .head) ≡ Further s′ → s′ .cell ≡ s .cell + 1
     moves-by (split.Split k) s′ f = sym (ap (λ (q : Sweep). q .cell) (ap sweepIn f))
-    moves-by (split.Not r) s′ f = clash (ap isFurther f)
+    moves-by (split.Not r) s′ f = absurd (not-further (eqb (numberOf r) 11) s′ f)
 
     -- the next turn is at the next cell
     pub turn-moves : (x : Tried) (s′ : Sweep) → turnBy x t s ≡ Further s′ → s′ .cell ≡ s .cell + 1

@@ -1,4 +1,4 @@
--- Document 01, "Cells" and "From the state": growing a tree in lent tables: the answer, and every table afterwards.
+-- Document 01, "Cells" and "From the state", and document 02, Item 5: growing a tree in lent tables: the answer, and every table afterwards.
 use mathlib.Core.Bool.{Bool, cond, _&&_}
 use mathlib.Core.List.{List, [], _∷_}
 use Prim.Native.Nat.{ℕ, zero, suc, _+_, _-_}
@@ -6,16 +6,12 @@ use lib.Dec.{eqb, ltb, leb}
 use lib.ListN.{length}
 use Rattle.refusals.specs.Refusals.{numberOf}
 use Rattle.refusals.specs.declared.Refusal.the-variants.{Argument, Broken}
-use Rattle.stream.specs.declared.Words.{Words}
-use Rattle.stream.specs.Entry.{linesIn}
-use Rattle.stream.specs.Table.{wordsFrom}
-use Rattle.stream.specs.Grammar.{Env}
 use Rattle.celltable.specs.declared.CellWords.{CellWords}
 use Rattle.celltable.specs.Ranges.{cellRange, levelOf}
 use Rattle.split.specs.declared.Answer as Splitting
 use Rattle.split.specs.declared.Answer.the-variants as split
-use Rattle.tables.specs.Tables.{Tree, cellsUsed, entriesUsed, countsIn, leafPasses}
-use Rattle.split.specs.Split.{words, against, splitAnswer}
+use Rattle.tables.specs.Tables.{Tree, cellsUsed, entriesUsed, countsIn}
+use Rattle.split.specs.Split.{words, splitAnswer}
 use Rattle.split_laws.specs.After.{splitTree}
 use Rattle.grow.specs.declared.Answer.{Answer}
 use Rattle.grow.specs.declared.Answer.the-variants.{Done, Full, Not}
@@ -32,22 +28,18 @@ depthAt side = 16 - levelOf side
 abbrev pub wantedBy : (n l side lines : ℕ) → Bool
 wantedBy n l side lines = ltb n lines && ltb (depthAt side) l
 
-abbrev pub isWanted : (n l : ℕ) → CellWords → List Words → Bool
-isWanted n l w ws = wantedBy n l (w .side) (linesIn ws)
-
--- a leaf is read with its stream, whatever its depth
-abbrev pub triedLeaf : (n l : ℕ) → (entries : List ℕ) → (free : ℕ) → Env → CellWords → Tried
-triedLeaf n l entries free v w =
-    cond (leafPasses entries (w .first) (w .count) free v) (cond (isWanted n l w (wordsFrom entries (w .first) (w .count))) Wanted Past) Bad
+-- document 02: "growing reads the count instead of the stream, but for the leaf it splits"
+abbrev pub triedLeaf : (n l : ℕ) → CellWords → Tried
+triedLeaf n l w = cond (wantedBy n l (w .side) (w .lines)) Wanted Past
 
 -- cell i, whose words are w
-abbrev pub triedCell : (n l : ℕ) → (entries cells : List ℕ) → (i used free : ℕ) → Env → CellWords → Tried
-triedCell n l entries cells i used free v w = cond (cellRange cells i used free) (cond (eqb (w .child) 0) (triedLeaf n l entries free v w) Past) Bad
+abbrev pub triedCell : (n l : ℕ) → (cells : List ℕ) → (i used free : ℕ) → CellWords → Tried
+triedCell n l cells i used free w = cond (cellRange cells i used free) (cond (eqb (w .child) 0) (triedLeaf n l w) Past) Bad
 
 unfoldable pub tried : Tree → (n l i : ℕ) → Tried
-tried t n l i = triedCell n l (t .entries) (t .cells) i (cellsUsed (t .head)) (entriesUsed (t .head)) (against t i) (words t i)
+tried t n l i = triedCell n l (t .cells) i (cellsUsed (t .head)) (entriesUsed (t .head)) (words t i)
 
--- ---- "splits the lowest numbered leaf ...": "Growing reads cells from 0 upward, leaves with their streams, up to the one it splits"
+-- ---- "splits the lowest numbered leaf ...": "Growing reads cells from 0 upward, ... up to the one it splits"
 pub data Lowest : Type 0 where
   none : Lowest
   bad : Lowest
@@ -63,7 +55,7 @@ unfoldable pub lowestFrom : Tree → (n l i m : ℕ) → Lowest
 lowestFrom t n l i zero = none
 lowestFrom t n l i (suc m) = orNext (tried t n l i) i (lowestFrom t n l (i + 1) m)
 
--- ---- one round: "it says "done" when there is none, "full" when that split would be refused with 11"
+-- ---- one round: "it says "done" when there is none, "full" when that split would be refused with 11"; the split tries the stream of the leaf, by 12
 pub data Round : Type 0 where
   splits : ℕ → Round
   done : Round

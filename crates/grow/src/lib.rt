@@ -1,21 +1,20 @@
 // Growing a tree in lent tables: one ascending sweep over the cells.
 use celltable::CellWords;
 use refusals::Refusal;
-use stream::Bounds;
 ghost use mathlib.Core.Path.{_≡_};
-ghost use mathlib.Core.Bool.{true};
+ghost use mathlib.Core.Bool.{true, cond};
 ghost use Prim.Native.Nat.{_+_, _*_, _≤_, _<_};
+ghost use lib.Dec.{eqb};
 ghost use lib.ListN.{length};
-ghost use Rattle.stream.specs.Table.{wordsFrom};
-ghost use Rattle.stream.specs.Grammar.{env, Passed};
+ghost use Rattle.refusals.specs.Refusals.{numberOf};
 ghost use Rattle.celltable.specs.Table.{cellAt};
 ghost use Rattle.celltable.specs.Ranges.{sideRange, squareRange};
-ghost use Rattle.ranges.specs.Held.{lent};
 ghost use Rattle.tables.specs.Tables.{tree, treeLent, cellsUsed, entriesUsed, countsIn};
-ghost use Rattle.split.specs.Split.{roomAnswer, headBy, cellsOf, entriesBy};
-ghost use Rattle.split.specs.code.Lent.{madeLent};
+ghost use Rattle.split_laws.specs.After.{splitTree};
+ghost use Rattle.grow.specs.declared.Tried.the-variants.{Wanted};
+ghost use Rattle.grow.specs.declared.Turn.the-variants.{NoRoom, Stopped};
 ghost use Rattle.grow.specs.Grow.{depthAt, wantedBy, triedLeaf, triedCell, tried, grown, answerOf, growAnswer, growTree};
-ghost use Rattle.grow.specs.code.Numbers.{pastN, splitN, byRoom, turnBy, treeBy};
+ghost use Rattle.grow.specs.code.Numbers.{pastN, splitN, turnBy, treeBy};
 
 // Growing's answer: done or full with the splits made, or why it was refused.
 pub enum Answer {
@@ -66,58 +65,35 @@ fn is_wanted(lines: u32, side: u32, threshold: u32, limit: u32) -> bool
     requires { ⌜ sideRange side ≡ true ⌝ }
     ensures answer { λ r. ⌜ r ≡ wantedBy threshold limit side lines ⌝ }
 {
-    let d = depth_of(side);
-    (threshold < lines) & (d < limit)
-}
-
-// A leaf is read with its stream, whatever its depth.
-fn try_leaf(
-    entries: &[u32],
-    areas: &[u32],
-    xs: &[u32],
-    ys: &[u32],
-    b: Bounds,
-    free: u32,
-    w: CellWords,
-    threshold: u32,
-    limit: u32,
-) -> Tried
-    requires { ⌜ squareRange w ≡ true ⌝ }
-    ensures answer { λ r. ⌜ r ≡ triedLeaf threshold limit (now (entries .entry)) free (env (now (areas .entry)) (now (xs .entry)) (now (ys .entry)) b) w ⌝ }
-{
-    let first = w.first as usize;
-    let count = w.count as usize;
-    let c = stream::check_stream(entries, first, count, free as usize, areas, xs, ys, b);
-    if c.fits {
-        if is_wanted(c.lines, w.side, threshold, limit) {
-            return Tried::Wanted;
-        }
-        return Tried::Past;
+    if threshold < lines {
+        let d = depth_of(side);
+        return d < limit;
     }
-    Tried::Bad
+    false
 }
 
-// The next cell of the sweep, whose words are w.
-fn try_cell(
-    cells: &[u32],
-    entries: &[u32],
-    areas: &[u32],
-    xs: &[u32],
-    ys: &[u32],
-    b: Bounds,
-    s: Sweep,
-    w: CellWords,
-    threshold: u32,
-    limit: u32,
-) -> Tried
-    requires { ⌜ (s .cell * 8 + 8 ≤ length (now cells)) × (w ≡ cellAt (now cells) (s .cell)) ⌝ }
-    ensures answer { λ r. ⌜ r ≡
-        triedCell threshold limit (now (entries .entry)) (now (cells .entry)) (s .cell) (s .used) (s .free)
-        (env (now (areas .entry)) (now (xs .entry)) (now (ys .entry)) b) w ⌝ }
+// A leaf, whose words are w, by its line count and its depth.
+fn try_leaf(w: CellWords, threshold: u32, limit: u32) -> Tried
+    requires { ⌜ squareRange w ≡ true ⌝ }
+    ensures answer { λ r. ⌜ r ≡ triedLeaf threshold limit w ⌝ }
 {
-    if celltable::cell_fits(cells, s.cell as usize, s.used as usize, s.free as usize) {
+    if is_wanted(w.lines, w.side, threshold, limit) {
+        return Tried::Wanted;
+    }
+    Tried::Past
+}
+
+// The next cell of the sweep. No stream is read.
+fn try_cell(cells: &[u32], s: Sweep, threshold: u32, limit: u32) -> Tried
+    requires { ⌜ (s .cell < s .used) × (s .used * 8 ≤ length (now cells)) ⌝ }
+    ensures answer { λ r. ⌜ r ≡
+        triedCell threshold limit (now (cells .entry)) (s .cell) (s .used) (s .free) (cellAt (now (cells .entry)) (s .cell)) ⌝ }
+{
+    let i = s.cell as usize;
+    let w = celltable::read_cell(cells, i);
+    if celltable::cell_fits(cells, i, s.used as usize, s.free as usize) {
         if w.child == 0 {
-            return try_leaf(entries, areas, xs, ys, b, s.free, w, threshold, limit);
+            return try_leaf(w, threshold, limit);
         }
         return Tried::Past;
     }
@@ -153,53 +129,48 @@ fn split_past(s: Sweep, head: &[u32]) -> Sweep
     }
 }
 
-// A leaf to split: 11, or the split.
+// Why the sweep ends where a split is refused.
+fn ended_by(r: Refusal) -> Turn
+    ensures answer { λ t. ⌜ t ≡ cond (eqb (numberOf r) 11) NoRoom Stopped ⌝ }
+{
+    let n = refusals::number(r);
+    if n == 11 {
+        return Turn::NoRoom;
+    }
+    Turn::Stopped
+}
+
+// The leaf is split; 12 over its stream comes before 11.
 fn split_wanted(
-    head: &mut [u32],
-    cells: &mut [u32],
-    entries: &mut [u32],
+    plan: &[u32],
     areas: &[u32],
     xs: &[u32],
     ys: &[u32],
-    b: Bounds,
+    head: &mut [u32],
+    cells: &mut [u32],
+    entries: &mut [u32],
     s: Sweep,
-    w: CellWords,
 ) -> Turn
-    requires { ⌜ Passed (now entries) (w .first) (w .count) (env (now areas) (now xs) (now ys) b) ⌝ }
-    requires { ⌜ squareRange w ≡ true ⌝ }
-    requires { ⌜ 1 < w .side ⌝ }
-    requires { ⌜ w .first + w .count ≤ s .free ⌝ }
-    requires { ⌜ (s .used ≤ 4096) × (s .free ≤ 65536) ⌝ }
-    requires { ⌜ (s .cell < s .used) × (2 ≤ length (now head)) ⌝ }
-    requires { ⌜ s .splits ≤ s .cell ⌝ }
-    ensures answer { λ r. ⌜ r ≡
-        byRoom (roomAnswer (length (now (cells .entry))) (length (now (entries .entry))) (s .used) (s .free) (madeLent areas xs ys b w entries)) s
-        (now (head .exit)) ⌝ }
-    ensures head { λ _. ⌜ now (head .exit) ≡
-        headBy (roomAnswer (length (now (cells .entry))) (length (now (entries .entry))) (s .used) (s .free) (madeLent areas xs ys b w entries))
-        (now (head .entry)) (s .used) (s .free) (madeLent areas xs ys b w entries) ⌝ }
-    ensures cells { λ _. ⌜ now (cells .exit) ≡
-        cellsOf (roomAnswer (length (now (cells .entry))) (length (now (entries .entry))) (s .used) (s .free) (madeLent areas xs ys b w entries))
-        (lent (now (areas .entry)) (now (xs .entry)) (now (ys .entry)) b) w (wordsFrom (now (entries .entry)) (w .first) (w .count))
-        (now (cells .entry)) (s .cell) (s .used) (s .free) ⌝ }
-    ensures entries { λ _. ⌜ now (entries .exit) ≡
-        entriesBy (roomAnswer (length (now (cells .entry))) (length (now (entries .entry))) (s .used) (s .free) (madeLent areas xs ys b w entries))
-        (now (entries .entry)) (s .free) (madeLent areas xs ys b w entries) ⌝ }
+    requires { ⌜ (s .cell ≤ 4096) × (s .used ≤ 4096) × (s .splits ≤ 4096) ⌝ }
+    requires { ⌜ 2 ≤ length (now head) ⌝ }
+    ensures answer { λ r. ⌜ r ≡ turnBy Wanted (treeLent plan areas xs ys head cells entries) s ⌝ }
+    ensures head { λ _. ⌜ now (head .exit) ≡ splitTree (treeLent plan areas xs ys head cells entries) (s .cell) .head ⌝ }
+    ensures cells { λ _. ⌜ now (cells .exit) ≡ splitTree (treeLent plan areas xs ys head cells entries) (s .cell) .cells ⌝ }
+    ensures entries { λ _. ⌜ now (entries .exit) ≡ splitTree (treeLent plan areas xs ys head cells entries) (s .cell) .entries ⌝ }
 {
-    let i = s.cell as usize;
-    let a = split::split_in_room(head, cells, entries, areas, xs, ys, b, i, s.used, s.free, w);
+    let a = split::split(plan, areas, xs, ys, head, cells, entries, s.cell);
     match a {
         split::Answer::Split(n) => {
             let after = split_past(s, head);
             return Turn::Further(after);
         }
         split::Answer::Not(r) => {
-            return Turn::NoRoom;
+            return ended_by(r);
         }
     }
 }
 
-// One turn of the sweep: the next cell is read and tried, and split where it is wanted.
+// One turn of the sweep: the next cell is tried, and split where it is wanted.
 fn take_turn(
     plan: &[u32],
     areas: &[u32],
@@ -213,10 +184,8 @@ fn take_turn(
     s: Sweep,
 ) -> Turn
     requires { ⌜ countsIn (tree (now plan) (now areas) (now xs) (now ys) (now head) (now cells) (now entries)) ≡ true ⌝ }
-    requires { ⌜ length (now xs) ≡ length (now ys) ⌝ }
     requires { ⌜ (s .used ≡ cellsUsed (now head)) × (s .free ≡ entriesUsed (now head)) ⌝ }
     requires { ⌜ (s .cell < s .used) × (s .splits ≤ s .cell) ⌝ }
-    requires { ⌜ limit ≤ 16 ⌝ }
     ensures answer { λ r. ⌜ r ≡ turnBy (tried (treeLent plan areas xs ys head cells entries) threshold limit (s .cell))
         (treeLent plan areas xs ys head cells entries) s ⌝ }
     ensures head { λ _. ⌜ now (head .exit) ≡ treeBy (tried (treeLent plan areas xs ys head cells entries) threshold limit (s .cell))
@@ -226,10 +195,7 @@ fn take_turn(
     ensures entries { λ _. ⌜ now (entries .exit) ≡ treeBy (tried (treeLent plan areas xs ys head cells entries) threshold limit (s .cell))
         (treeLent plan areas xs ys head cells entries) (s .cell) .entries ⌝ }
 {
-    let i = s.cell as usize;
-    let w = celltable::read_cell(cells, i);
-    let b = tables::bounds_in(plan, w.y, w.side);
-    let t = try_cell(cells, entries, areas, xs, ys, b, s, w, threshold, limit);
+    let t = try_cell(cells, s, threshold, limit);
     match t {
         Tried::Bad => {
             return Turn::Stopped;
@@ -239,7 +205,7 @@ fn take_turn(
             return Turn::Further(next);
         }
         Tried::Wanted => {
-            return split_wanted(head, cells, entries, areas, xs, ys, b, s, w);
+            return split_wanted(plan, areas, xs, ys, head, cells, entries, s);
         }
     }
 }
@@ -258,8 +224,6 @@ fn sweep_up(
     limit: u32,
 ) -> Answer
     requires { ⌜ countsIn (tree (now plan) (now areas) (now xs) (now ys) (now head) (now cells) (now entries)) ≡ true ⌝ }
-    requires { ⌜ length (now xs) ≡ length (now ys) ⌝ }
-    requires { ⌜ limit ≤ 16 ⌝ }
     ensures answer { λ r. ⌜ r ≡ answerOf (grown threshold limit (treeLent plan areas xs ys head cells entries)) ⌝ }
     ensures head { λ _. ⌜ now (head .exit) ≡ grown threshold limit (treeLent plan areas xs ys head cells entries) .after .head ⌝ }
     ensures cells { λ _. ⌜ now (cells .exit) ≡ grown threshold limit (treeLent plan areas xs ys head cells entries) .after .cells ⌝ }
@@ -322,7 +286,7 @@ pub fn grow(
 {
     if xs.len() == ys.len() {
         if limit <= celltable::DEEPEST {
-            if find_leaf::counts_fit(plan, areas, xs, ys, head, cells, entries) {
+            if tables::counts_fit(plan, areas, xs, ys, head, cells, entries) {
                 return sweep_up(plan, areas, xs, ys, head, cells, entries, threshold, limit);
             }
             return Answer::Not(Refusal::Broken);

@@ -13,9 +13,7 @@ sweep-up-requires : tie.Need-sweep-up-requires
 sweep-up-requires c κs =
     let at-if3 = c .before .before .before in
     let after-counts-fit = at-if3 .before in
-    let at-if2 = after-counts-fit .before .before .before .before in
-    let at-if1 = at-if2 .before in
-    (sym (after-counts-fit .counts-fit .ensures) ∙ at-if3 .if3 .taken, (at-if1 .if1 .taken, at-if2 .if2 .taken))
+    sym (after-counts-fit .counts-fit .ensures) ∙ at-if3 .if3 .taken
 
 same-length : tie.Need-same-length
 same-length c = search needs

@@ -1,47 +1,18 @@
+use denote.Ref.{now}
+use Rattle.tables.specs.Tables.{tree}
+use Rattle.grow.proofs.Turned.{head-is, cells-is, entries-is, turn-split, turn-refused}
 use borrow.Author.Needs.{needs}
 use Rattle.grow.proofs.split_wanted.Statement.{statement}
 use Rattle.grow.proofs.split_wanted.Tie as tie
-use mathlib.Core.Path.{ap, _∙_}
-use native.Mathlib.Omega.{arith}
-use denote.Ref.{now}
-use lib.ListN.{length}
-use Rattle.stream.specs.Table.{wordsFrom}
-use Rattle.ranges.specs.Held.{lent}
-use Rattle.split.specs.declared.Answer.{Answer}
-use Rattle.split.specs.Split.{roomAnswer, madeBy, headBy, cellsOf, entriesBy}
-use Rattle.grow.proofs.Turned.{room-yes, room-no, length-head-by}
 
-cast-i : tie.Need-cast-i
-cast-i c = search needs
-
-split-in-room-requires : tie.Need-split-in-room-requires
-split-in-room-requires c κs =
-    let at-entry = c .before .before .before .before .before .before .before .before .before .before in
-    let p = at-entry .pre in
-    (p .0, (p .1 .0, (p .1 .1 .0, (p .1 .1 .1 .0, (p .1 .1 .1 .1 .0, p .1 .1 .1 .1 .1 .0)))))
+split-requires : tie.Need-split-requires
+split-requires c κs = search needs
 
 enum-known-a : tie.Need-enum-known-a
 enum-known-a c = search needs
 
 split-past-requires : tie.Need-split-past-requires
-split-past-requires c κs =
-    let after-split-in-room = c .before .before .before .before .before .before .before .before .before .before in
-    let at-entry = after-split-in-room .before .before .before .before .before .before .before .before .before .before .before in
-    let a = at-entry .args in
-    let p = at-entry .pre in
-    let e = after-split-in-room .split-in-room .ensures in
-    let u = p .1 .1 .1 .1 .0 .0 in
-    let v = p .1 .1 .1 .1 .1 .0 .0 in
-    let q = p .1 .1 .1 .1 .1 .1 in (
-      (omega arith, omega arith, omega arith),
-      omega (
-        arith,
-        ap length (e .1 .0),
-        length-head-by (after-split-in-room .split-in-room .result) (now (a .head)) (a .s .used) (a .s .free)
-            (madeBy (now (a .areas)) (now (a .xs)) (now (a .ys)) (a .b) (a .w) (now (a .entries))),
-        p .1 .1 .1 .1 .1 .0 .1,
-      ),
-    )
+split-past-requires c κs = search needs
 
 same-length : tie.Need-same-length
 same-length c = search needs
@@ -54,31 +25,19 @@ same-length-3 c = search needs
 
 returns : tie.Need-returns
 returns c =
-    let after-a = c .before .before .before in
-    let after-split-in-room = after-a .before .before .before .before .before .before .before .before in
-    let at-entry = after-split-in-room .before .before .before .before .before .before .before .before .before .before .before in
-    let a = at-entry .args in
-    let e = after-split-in-room .split-in-room .ensures in
-    let M = madeBy (now (a .areas)) (now (a .xs)) (now (a .ys)) (a .b) (a .w) (now (a .entries)) in
-    let R = roomAnswer (length (now (a .cells))) (length (now (a .entries))) (a .s .used) (a .s .free) M in (
-      room-yes (after-split-in-room .split-in-room .result) R (e .0) (a .s) _ _ (c .split-past .result) (after-a .a .given .1)
-          (c .split-past .ensures),
-      (
-        e .1 .0 ∙ ap (λ (x : Answer). headBy x (now (a .head)) (a .s .used) (a .s .free) M) (e .0),
-        (
-          e .1 .1 .0
-              ∙ ap
-              (λ (x : Answer).
-              cellsOf x (lent (now (a .areas)) (now (a .xs)) (now (a .ys)) (a .b)) (a .w)
-              (wordsFrom (now (a .entries)) (a .w .first) (a .w .count)) (now (a .cells)) (a .s .cell) (a .s .used) (a .s .free))
-              (e .0),
-          e .1 .1 .1 ∙ ap (λ (x : Answer). entriesBy x (now (a .entries)) (a .s .free) M) (e .0),
-        ),
-      ),
+    let a = c .before .before .before .before .before .before .before .before .before .before .before .before .before .before .before .before .before .before .before .before .before .before .args in
+    let T = tree (now (a .plan)) (now (a .areas)) (now (a .xs)) (now (a .ys)) (now (a .head)) (now (a .cells)) (now (a .entries)) in
+    let x = c .before .before .before .before .before .before .before .before .before .before .before .split .result in
+    let e = c .before .before .before .before .before .before .before .before .before .before .before .split .ensures in (
+      turn-split T (a .s) x (e .0) _ (c .split-past .result) _ (c .before .before .before .a .given .1) (c .split-past .ensures) (e .1 .0),
+      (head-is T (a .s) x (e .0) _ (e .1 .0), (cells-is T (a .s) x (e .0) _ (e .1 .1 .0), entries-is T (a .s) x (e .0) _ (e .1 .1 .1))),
     )
 
 enum-known-a-2 : tie.Need-enum-known-a-2
 enum-known-a-2 c = search needs
+
+ended-by-requires : tie.Need-ended-by-requires
+ended-by-requires c κs = search needs
 
 same-length-4 : tie.Need-same-length-4
 same-length-4 c = search needs
@@ -91,34 +50,19 @@ same-length-6 c = search needs
 
 returns-2 : tie.Need-returns-2
 returns-2 c =
-    let after-a2 = c .before in
-    let after-split-in-room = after-a2 .before .before .before .before .before .before .before .before in
-    let at-entry = after-split-in-room .before .before .before .before .before .before .before .before .before .before .before in
-    let a = at-entry .args in
-    let e = after-split-in-room .split-in-room .ensures in
-    let M = madeBy (now (a .areas)) (now (a .xs)) (now (a .ys)) (a .b) (a .w) (now (a .entries)) in
-    let R = roomAnswer (length (now (a .cells))) (length (now (a .entries))) (a .s .used) (a .s .free) M in (
-      room-no (after-split-in-room .split-in-room .result) R (e .0) (a .s) _ _ (after-a2 .a2 .given .1),
-      (
-        e .1 .0 ∙ ap (λ (x : Answer). headBy x (now (a .head)) (a .s .used) (a .s .free) M) (e .0),
-        (
-          e .1 .1 .0
-              ∙ ap
-              (λ (x : Answer).
-              cellsOf x (lent (now (a .areas)) (now (a .xs)) (now (a .ys)) (a .b)) (a .w)
-              (wordsFrom (now (a .entries)) (a .w .first) (a .w .count)) (now (a .cells)) (a .s .cell) (a .s .used) (a .s .free))
-              (e .0),
-          e .1 .1 .1 ∙ ap (λ (x : Answer). entriesBy x (now (a .entries)) (a .s .free) M) (e .0),
-        ),
-      ),
+    let a = c .before .before .before .before .before .before .before .before .before .before .before .before .before .before .before .before .before .before .before .before .before .args in
+    let T = tree (now (a .plan)) (now (a .areas)) (now (a .xs)) (now (a .ys)) (now (a .head)) (now (a .cells)) (now (a .entries)) in
+    let x = c .before .before .before .before .before .before .before .before .before .before .split .result in
+    let e = c .before .before .before .before .before .before .before .before .before .before .split .ensures in (
+      turn-refused T (a .s) x (e .0) _ (c .ended-by .result) (c .before .before .a2 .given .1) (c .ended-by .ensures),
+      (head-is T (a .s) x (e .0) _ (e .1 .0), (cells-is T (a .s) x (e .0) _ (e .1 .1 .0), entries-is T (a .s) x (e .0) _ (e .1 .1 .1))),
     )
 
 pub split-wanted-spec : {M : Type 1} → statement M
 split-wanted-spec =
     tie.close
     (tie.spec
-    cast-i
-    split-in-room-requires
+    split-requires
     enum-known-a
     split-past-requires
     same-length
@@ -126,6 +70,7 @@ split-wanted-spec =
     same-length-3
     returns
     enum-known-a-2
+    ended-by-requires
     same-length-4
     same-length-5
     same-length-6

@@ -23,7 +23,7 @@ slice-read-used c =
     let a = at-entry .args in
     let p = at-entry .pre in
     let T = tree (now (a .plan)) (now (a .areas)) (now (a .xs)) (now (a .ys)) (now (a .head)) (now (a .cells)) (now (a .entries)) in
-    omega (arith, counts-long T (p .0))
+    omega (arith, counts-long T p)
 
 slice-read-free : tie.Need-slice-read-free Inv-loop μ-loop
 slice-read-free c =
@@ -31,7 +31,7 @@ slice-read-free c =
     let a = at-entry .args in
     let p = at-entry .pre in
     let T = tree (now (a .plan)) (now (a .areas)) (now (a .xs)) (now (a .ys)) (now (a .head)) (now (a .cells)) (now (a .entries)) in
-    omega (arith, counts-long T (p .0))
+    omega (arith, counts-long T p)
 
 loop-holds : tie.Need-loop-holds Inv-loop μ-loop
 loop-holds c =
@@ -39,7 +39,7 @@ loop-holds c =
     let a = at-entry .args in
     let p = at-entry .pre in
     let T = tree (now (a .plan)) (now (a .areas)) (now (a .xs)) (now (a .ys)) (now (a .head)) (now (a .cells)) (now (a .entries)) in
-    sweeping-begin (a .threshold) (a .limit) T (p .1 .0) (p .0)
+    sweeping-begin (a .threshold) (a .limit) T p
 
 take-turn-requires : tie.Need-take-turn-requires Inv-loop μ-loop
 take-turn-requires c κs =
@@ -48,7 +48,7 @@ take-turn-requires c κs =
     let at-entry = at-loop .before .before .before .before .before .before .before .before .before .before in
     let p = at-entry .pre in
     let I = at-loop .loop .inv in
-    (I .counts, (I .pair, ((I .used, I .free), ((at-if1 .if1 .taken, I .fewer), p .1 .1))))
+    (I .counts, ((I .used, I .free), (at-if1 .if1 .taken, I .fewer)))
 
 enum-known-r : tie.Need-enum-known-r Inv-loop μ-loop
 enum-known-r c = search needs
@@ -64,7 +64,7 @@ loop-less c =
     let p = at-entry .pre in
     let T = tree (now (a .plan)) (now (a .areas)) (now (a .xs)) (now (a .ys)) (now (a .head)) (now (a .cells)) (now (a .entries)) in
     let e = after-take-turn .take-turn .ensures in
-    loop-nearer (a .threshold) (a .limit) (p .1 .1) T (now (a .plan)) (now (a .areas)) (now (a .xs)) (now (a .ys)) (at-loop .loop .head)
+    loop-nearer (a .threshold) (a .limit) T (now (a .plan)) (now (a .areas)) (now (a .xs)) (now (a .ys)) (at-loop .loop .head)
     (at-loop .loop .cells) (at-loop .loop .entries) (at-loop .loop .s) (at-loop .loop .inv) (at-if1 .if1 .taken) _ _ _
     (after-take-turn .take-turn .result) (e .0) (e .1 .0) (e .1 .1 .0) (e .1 .1 .1) _ (after-r .r .given .1)
 
@@ -79,7 +79,7 @@ loop-again c =
     let p = at-entry .pre in
     let T = tree (now (a .plan)) (now (a .areas)) (now (a .xs)) (now (a .ys)) (now (a .head)) (now (a .cells)) (now (a .entries)) in
     let e = after-take-turn .take-turn .ensures in
-    loop-on (a .threshold) (a .limit) (p .1 .1) T (now (a .plan)) (now (a .areas)) (now (a .xs)) (now (a .ys)) (at-loop .loop .head)
+    loop-on (a .threshold) (a .limit) T (now (a .plan)) (now (a .areas)) (now (a .xs)) (now (a .ys)) (at-loop .loop .head)
     (at-loop .loop .cells) (at-loop .loop .entries) (at-loop .loop .s) (at-loop .loop .inv) (at-if1 .if1 .taken) _ _ _
     (after-take-turn .take-turn .result) (e .0) (e .1 .0) (e .1 .1 .0) (e .1 .1 .1) _ (after-r .r .given .1)
 
@@ -105,10 +105,10 @@ returns c =
     let p = at-entry .pre in
     let T = tree (now (a .plan)) (now (a .areas)) (now (a .xs)) (now (a .ys)) (now (a .head)) (now (a .cells)) (now (a .entries)) in
     let e = after-take-turn .take-turn .ensures in
-    let Q = full-tree (a .threshold) (a .limit) (p .1 .1) T (now (a .plan)) (now (a .areas)) (now (a .xs)) (now (a .ys))
+    let Q = full-tree (a .threshold) (a .limit) T (now (a .plan)) (now (a .areas)) (now (a .xs)) (now (a .ys))
     (at-loop .loop .head) (at-loop .loop .cells) (at-loop .loop .entries) (at-loop .loop .s) (at-loop .loop .inv) (at-if1 .if1 .taken) _ _ _
     (after-take-turn .take-turn .result) (e .0) (e .1 .0) (e .1 .1 .0) (e .1 .1 .1) (c .enum-told .given .1) in (
-      loop-full (a .threshold) (a .limit) (p .1 .1) T (now (a .plan)) (now (a .areas)) (now (a .xs)) (now (a .ys)) (at-loop .loop .head)
+      loop-full (a .threshold) (a .limit) T (now (a .plan)) (now (a .areas)) (now (a .xs)) (now (a .ys)) (at-loop .loop .head)
           (at-loop .loop .cells) (at-loop .loop .entries) (at-loop .loop .s) (at-loop .loop .inv) (at-if1 .if1 .taken) _ _ _
           (after-take-turn .take-turn .result) (e .0) (e .1 .0) (e .1 .1 .0) (e .1 .1 .1) (c .enum-told .given .1),
       (ap (λ (u : Tree). u .head) Q, (ap (λ (u : Tree). u .cells) Q, ap (λ (u : Tree). u .entries) Q)),
@@ -136,10 +136,10 @@ returns-2 c =
     let p = at-entry .pre in
     let T = tree (now (a .plan)) (now (a .areas)) (now (a .xs)) (now (a .ys)) (now (a .head)) (now (a .cells)) (now (a .entries)) in
     let e = after-take-turn .take-turn .ensures in
-    let Q = stopped-tree (a .threshold) (a .limit) (p .1 .1) T (now (a .plan)) (now (a .areas)) (now (a .xs)) (now (a .ys))
+    let Q = stopped-tree (a .threshold) (a .limit) T (now (a .plan)) (now (a .areas)) (now (a .xs)) (now (a .ys))
     (at-loop .loop .head) (at-loop .loop .cells) (at-loop .loop .entries) (at-loop .loop .s) (at-loop .loop .inv) (at-if1 .if1 .taken) _ _ _
     (after-take-turn .take-turn .result) (e .0) (e .1 .0) (e .1 .1 .0) (e .1 .1 .1) (c .enum-told2 .given .1) in (
-      loop-stopped (a .threshold) (a .limit) (p .1 .1) T (now (a .plan)) (now (a .areas)) (now (a .xs)) (now (a .ys)) (at-loop .loop .head)
+      loop-stopped (a .threshold) (a .limit) T (now (a .plan)) (now (a .areas)) (now (a .xs)) (now (a .ys)) (at-loop .loop .head)
           (at-loop .loop .cells) (at-loop .loop .entries) (at-loop .loop .s) (at-loop .loop .inv) (at-if1 .if1 .taken) _ _ _
           (after-take-turn .take-turn .result) (e .0) (e .1 .0) (e .1 .1 .0) (e .1 .1 .1) (c .enum-told2 .given .1),
       (ap (λ (u : Tree). u .head) Q, (ap (λ (u : Tree). u .cells) Q, ap (λ (u : Tree). u .entries) Q)),
@@ -161,7 +161,7 @@ returns-3 c =
     let a = at-entry .args in
     let p = at-entry .pre in
     let T = tree (now (a .plan)) (now (a .areas)) (now (a .xs)) (now (a .ys)) (now (a .head)) (now (a .cells)) (now (a .entries)) in
-    let D = sweep-done (a .threshold) (a .limit) (p .1 .1) T
+    let D = sweep-done (a .threshold) (a .limit) T
     (tree (now (a .plan)) (now (a .areas)) (now (a .xs)) (now (a .ys)) (at-loop .loop .head) (at-loop .loop .cells)
     (at-loop .loop .entries))
     (at-loop .loop .s) (at-loop .loop .inv) (c .if1 .left) in
