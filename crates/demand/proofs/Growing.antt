@@ -13,10 +13,9 @@ use Rattle.laws.proofs.Booleans.{and-left, and-right, and-both, clash}
 use Rattle.cells.specs.Cells.{level}
 use Rattle.cells.specs.Drawings.{Drawing}
 use Rattle.stream.specs.Entry.{linesIn}
-use Rattle.stream.specs.Grammar.{checkStream}
 use Rattle.split.specs.declared.Answer as Splitting
-use Rattle.tables.specs.Tables.{Tree, cellsUsed, entriesUsed}
-use Rattle.split.specs.Split.{words, against, stream, splitAnswer}
+use Rattle.tables.specs.Tables.{Tree, cellsUsed}
+use Rattle.split.specs.Split.{words, splitAnswer}
 use Rattle.split_laws.specs.After.{splitTree}
 use Rattle.tables.proofs.Counts.{used-most}
 use Rattle.open.specs.Open.{drawingTables}
@@ -24,7 +23,7 @@ use Rattle.grow.specs.declared.Tried.{Tried}
 use Rattle.grow.specs.declared.Tried.the-variants.{Bad, Past, Wanted}
 use Rattle.grow.specs.Grow.{
   depthAt,
-  isWanted,
+  wantedBy,
   tried,
   Lowest,
   none,
@@ -55,7 +54,7 @@ use Rattle.demand.specs.Demand as Demand
 use Rattle.demand.specs.Demand.{NoneWanted, FullAt}
 use Rattle.demand.proofs.History.{one-longer}
 use Rattle.demand.proofs.Sound.{Sound}
-use Rattle.demand.proofs.Passing.{cell-is, cell-passes, leaf-passes}
+use Rattle.demand.proofs.Passing.{cell-is, cell-passes}
 use Rattle.demand.proofs.Splits.{tables-split, drawing-split}
 use Rattle.demand.proofs.Outcomes.{Roomed, fits, short, leaf-roomed}
 
@@ -93,43 +92,40 @@ module _ (D : Drawing) (n l : ℕ) (few : l ≤ 16) where
     wanted : Wants H i → Sees H i Wanted
 
   module _ (t : Tree) (H : List Node) (s : Sound t H) (same : drawingOf t ≡ D) (i : ℕ) (h : i < length H) where
+    abbrev count : ℕ
+    count = words t i .lines
+
     abbrev wants : Bool
-    wants = isWanted n l (words t i) (stream t i)
+    wants = wantedBy n l (words t i .side) count
 
-    abbrev streamed : Bool
-    streamed = checkStream (t .entries) (words t i .first) (words t i .count) (entriesUsed (t .head)) (against t i)
-
-    lines-are : Leaf H i → linesIn (stream t i) ≡ linesIn (wordsOfCell D (cellIn H i))
-    lines-are o = ap linesIn (s .streams i o ∙ ap (λ (E : Drawing). wordsOfCell E (cellIn H i)) same)
+    lines-are : Leaf H i → count ≡ linesIn (wordsOfCell D (cellIn H i))
+    lines-are o = s .line-counts i o ∙ ap linesIn (s .streams i o ∙ ap (λ (E : Drawing). wordsOfCell E (cellIn H i)) same)
 
     depth-is : depthAt (words t i .side) ≡ 16 - level (cellIn H i)
     depth-is = ap (λ (k : ℕ). 16 - k) (ap level (cell-is t H s i h))
 
     sees-leaf : Leaf H i → (b : Bool) → wants ≡ b → Sees H i (cond b Wanted Past)
     sees-leaf o true e =
-        let a = ltb-true n (linesIn (stream t i)) (and-left (ltb n (linesIn (stream t i))) (ltb (depthAt (words t i .side)) l) e) in
-        let d = ltb-true (depthAt (words t i .side)) l (and-right (ltb n (linesIn (stream t i))) (ltb (depthAt (words t i .side)) l) e) in
+        let a = ltb-true n count (and-left (ltb n count) (ltb (depthAt (words t i .side)) l) e) in
+        let d = ltb-true (depthAt (words t i .side)) l (and-right (ltb n count) (ltb (depthAt (words t i .side)) l) e) in
         wanted (record { leaf = o; lines = omega (arith, lines-are o); shallow = omega (arith, depth-is) })
     sees-leaf o false e =
         past
         (λ w. clash
         (sym e
-        ∙ and-both (ltb n (linesIn (stream t i))) (ltb (depthAt (words t i .side)) l) (lt-ltb n (linesIn (stream t i)) (omega (arith, w .lines, lines-are o)))
+        ∙ and-both (ltb n count) (ltb (depthAt (words t i .side)) l) (lt-ltb n count (omega (arith, w .lines, lines-are o)))
         (lt-ltb (depthAt (words t i .side)) l (omega (arith, w .shallow, depth-is)))))
 
-    sees-cell : (b : Bool) → eqb (words t i .child) 0 ≡ b → Sees H i (cond b (cond streamed (cond wants Wanted Past) Bad) Past)
+    sees-cell : (b : Bool) → eqb (words t i .child) 0 ≡ b → Sees H i (cond b (cond wants Wanted Past) Past)
     sees-cell true e =
         let o : Leaf H i = record { in-use = h; undivided = sym (s .firsts i h) ∙ eqb-true (words t i .child) 0 e } in
-        subst (Sees H i) (sym (ap (λ (b : Bool). cond b (cond wants Wanted Past) Bad) (leaf-passes t H s i o))) (sees-leaf o wants refl)
+        sees-leaf o wants refl
     sees-cell false e = past (λ w. eqb-false (words t i .child) 0 e (s .firsts i h ∙ w .leaf .undivided))
 
     sees : Sees H i (tried t n l i)
     unfolding tried
     sees =
-        subst (Sees H i)
-        (sym
-        (ap (λ (b : Bool). cond b (cond (eqb (words t i .child) 0) (cond streamed (cond wants Wanted Past) Bad) Past) Bad)
-        (cell-passes t H s i h)))
+        subst (Sees H i) (sym (ap (λ (b : Bool). cond b (cond (eqb (words t i .child) 0) (cond wants Wanted Past) Past) Bad) (cell-passes t H s i h)))
         (sees-cell (eqb (words t i .child) 0) refl)
 
   -- ---- the lowest wanted leaf, among the cells from i on and below e

@@ -13,6 +13,7 @@ use Rattle.drawing.specs.Tables.{drawnIn}
 use Rattle.drawing.proofs.Rows as Rows
 use Rattle.drawing.proofs.Theorems.{passes-holding}
 use Rattle.cells.specs.Cells.{root}
+use Rattle.stream.specs.Entry.{linesIn}
 use Rattle.stream.specs.Table.{wordsFrom}
 use Rattle.stream.specs.Grammar.{bounds, usedRange}
 use Rattle.stream.proofs.Table.{written-read, length-written}
@@ -30,7 +31,7 @@ use Rattle.open.specs.declared.Answer.{Answer}
 use Rattle.open.specs.declared.Answer.the-variants.{Opened}
 use Rattle.open.specs.Open.{rootWords, drawingTables, streamOpened, openAnswer, openTree}
 use Rattle.open.proofs.Accepted.{Accepts, open-accepts}
-use Rattle.demand.specs.History.{begun, cellIn, firstIn, Leaf}
+use Rattle.demand.specs.History.{begun, cellIn, firstIn, parentIn, Leaf}
 use Rattle.demand.specs.Stands.{drawingOf, wordsOfCell}
 use Rattle.demand.specs.code.Opened.{openedBy}
 use Rattle.demand.proofs.History.{begun-grown}
@@ -69,6 +70,9 @@ module _ (t : Tree) (n : ℕ) (a : Accepts t n) (long : 3 ≤ length (t .plan)) 
   abbrev u : Tree
   u = openedBy t (Opened n)
 
+  abbrev lines : ℕ
+  lines = linesIn (streamOpened t)
+
   opened-drawn : Drawn t
   opened-drawn = accepted-drawn t (a .counts) (a .drawing)
 
@@ -85,13 +89,13 @@ module _ (t : Tree) (n : ℕ) (a : Accepts t n) (long : 3 ≤ length (t .plan)) 
   used-one = used-is (u .head) (omega (arith, head-length, a .head-room)) ∙ head-cells
 
   cells-length : length (u .cells) ≡ length (t .cells)
-  cells-length = length-put-cell (t .cells) 0 (rootWords n)
+  cells-length = length-put-cell (t .cells) 0 (rootWords n lines)
 
   entries-length : length (u .entries) ≡ length (t .entries)
   entries-length = length-written (t .entries) 0 (streamOpened t)
 
-  root-cell : words u 0 ≡ rootWords n
-  root-cell = put-cell-same (t .cells) 0 (rootWords n) (omega (arith, a .cells-room))
+  root-cell : words u 0 ≡ rootWords n lines
+  root-cell = put-cell-same (t .cells) 0 (rootWords n lines) (omega (arith, a .cells-room))
 
   opened-counts : countsIn u ≡ true
   opened-counts =
@@ -99,7 +103,7 @@ module _ (t : Tree) (n : ℕ) (a : Accepts t n) (long : 3 ≤ length (t .plan)) 
       (head-fits (u .head) (length (u .cells)) (length (u .entries)) (omega (arith, head-length, a .head-room)) (omega (arith, head-cells))
       (omega (arith, head-cells, cells-length, a .cells-room)) (omega (arith, head-cells))
       (omega (arith, head-entries, entries-length, a .entries-room)) (omega (arith, head-entries, a .few)))
-      (le-leb 3 (length (t .plan)) long) 0
+      (le-leb 3 (length (t .plan)) long) (words u 0)
       (used-in t opened-drawn (length (u .entries)) (entriesUsed (u .head)) (omega (arith, head-entries, entries-length, a .entries-room))
       (omega (arith, head-entries, a .few)) (words u 0 .y) (words u 0 .side))
 
@@ -111,6 +115,10 @@ module _ (t : Tree) (n : ℕ) (a : Accepts t n) (long : 3 ≤ length (t .plan)) 
   firsts zero h = ap (λ (w : CellWords). w .child) root-cell
   firsts (suc i) h = absurd (omega arith)
 
+  parents : (i : ℕ) → i < 1 → words u i .parent ≡ parentIn begun i
+  parents zero h = ap (λ (w : CellWords). w .parent) root-cell
+  parents (suc i) h = absurd (omega arith)
+
   entries : (i : ℕ) → i < 1 → words u i .first + words u i .count ≤ entriesUsed (u .head)
   entries zero h = subst (λ (w : CellWords). w .first + w .count ≤ entriesUsed (u .head)) (sym root-cell) (omega (arith, head-entries))
   entries (suc i) h = absurd (omega arith)
@@ -119,12 +127,18 @@ module _ (t : Tree) (n : ℕ) (a : Accepts t n) (long : 3 ≤ length (t .plan)) 
   unfolding elementsOpened wordsOpened
   stream-opened = refl
 
-  streams : (i : ℕ) → Leaf begun i → stream u i ≡ wordsOfCell (drawingOf t) (cellIn begun i)
-  streams zero l =
+  root-stream : stream u 0 ≡ streamOpened t
+  root-stream =
       ap (λ (w : CellWords). wordsFrom (u .entries) (w .first) (w .count)) root-cell
-      ∙ (ap (wordsFrom (u .entries) 0) (a .entries)
-      ∙ (written-read (t .entries) 0 (streamOpened t) (omega (arith, a .entries, a .entries-room)) ∙ stream-opened))
+      ∙ (ap (wordsFrom (u .entries) 0) (a .entries) ∙ written-read (t .entries) 0 (streamOpened t) (omega (arith, a .entries, a .entries-room)))
+
+  streams : (i : ℕ) → Leaf begun i → stream u i ≡ wordsOfCell (drawingOf t) (cellIn begun i)
+  streams zero l = root-stream ∙ stream-opened
   streams (suc i) l = absurd (omega (arith, l .in-use))
+
+  line-counts : (i : ℕ) → Leaf begun i → words u i .lines ≡ linesIn (stream u i)
+  line-counts zero l = ap (λ (w : CellWords). w .lines) root-cell ∙ sym (ap linesIn root-stream)
+  line-counts (suc i) l = absurd (omega (arith, l .in-use))
 
   opened-sound : Sound u begun
   opened-sound =
@@ -135,8 +149,10 @@ module _ (t : Tree) (n : ℕ) (a : Accepts t n) (long : 3 ≤ length (t .plan)) 
         grown = begun-grown;
         squares = squares;
         firsts = firsts;
+        parents = parents;
         entries = entries;
         streams = streams;
+        line-counts = line-counts;
       }
 
 pub open-sound : (t : Tree) (n : ℕ) → openAnswer t ≡ Opened n → Sound (openTree t) begun

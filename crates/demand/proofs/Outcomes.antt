@@ -5,7 +5,7 @@ use mathlib.Core.List.{List}
 use Prim.Native.Nat.{ℕ, zero, suc, _+_, _<_}
 use native.Mathlib.Omega.{arith}
 use native.Mathlib.Nat.{one-le-pow, two-pow-succ}
-use lib.Dec.{eqb, ltb, leb}
+use lib.Dec.{eqb, ltb}
 use lib.ListN.{length}
 use borrow.Author.Tests.{eqb-true, eqb-false, ltb-true, eq-eqb}
 use Rattle.refusals.specs.declared.Refusal.{Refusal}
@@ -13,15 +13,13 @@ use Rattle.refusals.specs.declared.Refusal.the-variants.{Argument, NoCell, Alre
 use Rattle.refusals.specs.Refusals.{numberOf}
 use Rattle.cells.specs.Cells.{Cell, cell, level, side}
 use Rattle.cells.proofs.Cells.{some-side}
-use Rattle.stream.specs.Grammar.{usedRange, checkStream}
-use Rattle.celltable.specs.Ranges.{cellRange, headRange, cellsHeld, entriesHeld}
+use Rattle.celltable.specs.Ranges.{cellRange, cellsHeld, entriesHeld}
 use Rattle.split.specs.declared.Answer.{Answer}
 use Rattle.split.specs.declared.Answer.the-variants.{Split, Not}
-use Rattle.tables.specs.Tables.{Tree, cellsUsed, entriesUsed, boundsOf}
-use Rattle.split.specs.Split.{words, against, made, roomAnswer, drawingSplit, cellSplit, countsSplit, splitAnswer}
+use Rattle.tables.specs.Tables.{Tree, cellsUsed, entriesUsed, countsIn, leafPasses}
+use Rattle.split.specs.Split.{words, against, made, roomAnswer, cellSplit, countsSplit, splitAnswer}
 use Rattle.split_laws.specs.After.{splitTree}
 use Rattle.split.specs.code.Accepted.{Splittable}
-use Rattle.tables.proofs.Counts.{counts-head, counts-plan, counts-used}
 use Rattle.split.proofs.Accepted.{able-answer, chosen}
 use Rattle.demand.specs.History.{Node, cellIn, splitAt, Leaf}
 use Rattle.demand.proofs.Sound.{Sound}
@@ -58,10 +56,10 @@ module _ (t : Tree) (H : List Node) (i : ℕ) (s : Sound t H) where
   free = entriesUsed (t .head)
 
   abbrev room : Answer
-  room = roomAnswer (length (t .cells)) (length (t .entries)) used free (made t i)
+  room = roomAnswer (length (t .cells)) (length (t .entries)) used free (length (made t i))
 
   abbrev streamed : Bool
-  streamed = checkStream (t .entries) (words t i .first) (words t i .count) free (against t i)
+  streamed = leafPasses (t .entries) (words t i .first) (words t i .count) (words t i .lines) free (against t i)
 
   abbrev sized : Answer
   sized = cond (eqb (words t i .side) 1) (Not Smallest) room
@@ -76,13 +74,8 @@ module _ (t : Tree) (H : List Node) (i : ℕ) (s : Sound t H) where
     -- 12 does not meet the numbers in use, nor the cell
     counted : countsSplit t i ≡ celled
     counted =
-        chosen (headRange (t .head) (length (t .cells)) (length (t .entries)))
-        (cond (leb 3 (length (t .plan))) (drawingSplit t i) (Not Broken)) (Not Broken) (counts-head t (s .counts))
-        ∙ (chosen (leb 3 (length (t .plan))) (drawingSplit t i) (Not Broken) (counts-plan t (s .counts))
-        ∙ (chosen
-        (usedRange (length (t .entries)) free (length (t .areas)) (length (t .xs)) (length (t .ys)) (boundsOf (t .plan) (words t i)))
-        (cellSplit t i) (Not Broken) (counts-used t (s .counts) i)
-        ∙ chosen (cellRange (t .cells) i used free) celled (Not Broken) (cell-passes t H s i h)))
+        chosen (countsIn t) (cellSplit t i) (Not Broken) (s .counts)
+        ∙ chosen (cellRange (t .cells) i used free) celled (Not Broken) (cell-passes t H s i h)
 
     module _ (l : Leaf H i) where
       -- the stream of a leaf passes

@@ -3,17 +3,19 @@
 use mathlib.Core.Path.{_≡_, refl, sym, ap, _∙_, subst}
 use mathlib.Core.Bool.{true}
 use mathlib.Core.List.{List}
-use Prim.Native.Nat.{ℕ, _+_, _≤_, _<_}
+use Prim.Native.Nat.{ℕ, zero, suc, _+_, _-_, _≤_, _<_}
+use native.Mathlib.Omega.{arith}
 use lib.ListN.{length, getD}
 use Rattle.paint.specs.Areas.{paintAt, materialOf}
 use Rattle.paint.specs.Colours.{colourOf}
 use Rattle.pruning.specs.Sides.{paint, flat}
-use Rattle.cells.specs.Cells.{at, Cell, Holds}
+use Rattle.cells.specs.Cells.{at, Cell, level, Holds}
 use Rattle.cells.specs.Drawings.{Drawing}
 use Rattle.cells.specs.Streams.{Each, Winds, source, made, shownIn}
 use Rattle.cells.specs.Elements.{elementsOf, entriesOf, decode, roleIn}
 use Rattle.cells.proofs.Streams.{made-shown, source-shown, made-winds}
 use Rattle.cells.proofs.Elements.{decode-elements, made-on-side}
+use Rattle.stream.specs.Entry.{linesIn}
 use Rattle.stream.specs.Grammar.{bounds}
 use Rattle.evaluate.specs.Reading.{setAt}
 use Rattle.ranges.specs.code.Valid.{Valid}
@@ -23,10 +25,11 @@ use Rattle.celltable.specs.Table.{cellAt}
 use Rattle.celltable.proofs.Grid.{SaysCell, on-square}
 use Rattle.tables.specs.Tables.{Tree, cellsUsed, entriesUsed, countsIn}
 use Rattle.split.specs.Split.{stream}
-use Rattle.demand.specs.History.{Node, cellIn, firstIn, Leaf}
+use Rattle.demand.specs.History.{Node, cellIn, firstIn, parentIn, Leaf, upIn, Around}
 use Rattle.demand.specs.NoTree.{setShown}
-use Rattle.demand.specs.Stands.{drawingOf, wordsOfCell, LeafStands, Stands}
+use Rattle.demand.specs.Stands.{drawingOf, wordsOfCell, LeafStands, upAt, Stands}
 use Rattle.demand.proofs.History.{Grown}
+use Rattle.demand.proofs.Upward.{upward}
 use Rattle.demand.proofs.Made.{words-say, words-stream}
 use Rattle.demand.proofs.Paints.{material-held, colour-held}
 
@@ -43,8 +46,10 @@ pub record Sound (t : Tree) (H : List Node) : Type 0 where
   pub grown : Grown H
   pub squares : (i : ℕ) → i < length H → SaysCell (cellAt (t .cells) i) (cellIn H i)
   pub firsts : (i : ℕ) → i < length H → cellAt (t .cells) i .child ≡ firstIn H i
+  pub parents : (i : ℕ) → i < length H → cellAt (t .cells) i .parent ≡ parentIn H i
   pub entries : (i : ℕ) → i < length H → cellAt (t .cells) i .first + cellAt (t .cells) i .count ≤ entriesUsed (t .head)
   pub streams : (i : ℕ) → Leaf H i → stream t i ≡ wordsOfCell (drawingOf t) (cellIn H i)
+  pub line-counts : (i : ℕ) → Leaf H i → cellAt (t .cells) i .lines ≡ linesIn (stream t i)
 
 -- ---- the words of a stream that is made from the drawing
 module _ (t : Tree) (d : Drawn t) (c : Cell) where
@@ -75,6 +80,13 @@ module _ (t : Tree) (d : Drawn t) (c : Cell) where
             ∙ colour-held D (d .valid) (t .areas) (t .xs) (t .ys) _ (d .held 0 0) (at x y);
       }
 
+-- ---- the parents that the words say are the history's, all the way up
+walk-up : (t : Tree) (H : List Node) → Sound t H → (k i : ℕ) → i < length H → k ≤ 16 - level (cellIn H i) → upAt t k i ≡ upIn H k i
+walk-up t H s zero i h l = refl
+walk-up t H s (suc k) i h l =
+    let a : Around H i 1 = upward H (s .grown) .around i 1 h (omega arith) in
+    ap (upAt t k) (s .parents i h) ∙ walk-up t H s k (parentIn H i) (a .in-use) (omega (arith, a .level-is))
+
 -- over the drawing that the tables hold
 sound-stands-held : (t : Tree) (H : List Node) → Sound t H → Stands (drawingOf t) t H
 sound-stands-held t H s =
@@ -83,6 +95,10 @@ sound-stands-held t H s =
       in-use = s .in-use;
       squares = λ i h. on-square (cellAt (t .cells) i) (cellIn H i) (s .squares i h);
       children = s .firsts;
+      parents = s .parents;
+      line-counts = s .line-counts;
+      walk = λ i k h l. walk-up t H s k i h l;
+      upward = upward H (s .grown);
       tiled = s .grown .tiled;
       leaves = λ i l. subst (LeafStands (drawingOf t) t (cellIn H i)) (sym (s .streams i l)) (cell-stands t (s .drawn) (cellIn H i));
     }

@@ -6,7 +6,6 @@ use native.Mathlib.Omega.{arith}
 use lib.Dec.{eqb}
 use lib.ListN.{length}
 use borrow.Author.Tests.{eqb-true}
-use Rattle.refusals.specs.declared.Refusal.{Refusal}
 use Rattle.refusals.specs.declared.Refusal.the-variants.{Argument, Room, Broken}
 use Rattle.grammar.specs.declared.Counts.{Counts}
 use Rattle.grammar.specs.declared.Verdict.{Verdict}
@@ -18,13 +17,11 @@ use Rattle.tables.specs.Tables.{Tree}
 use Rattle.open.specs.declared.Answer.the-variants.{Opened, Not}
 use Rattle.open.specs.Open.{rootWords, roomFor, drawingTables, streamOpened, drawingAnswer, openAnswer}
 use Rattle.open.proofs.Rooms.{room-says, few-words}
+use Rattle.open.proofs.Answers.{not-opened}
 
--- cell 0 is the leaf on the square of the definition's root
-pub root-words : (n : ℕ) → rootWords n ≡ wordsWith root 0 n
-root-words n = refl
-
-not-opened : {A : Type 0} (r : Refusal) (n : ℕ) → Not r ≡ Opened n → A
-not-opened r n e = absurd (let z : _≡_ {A = ℕ} 0 1 = cc in omega arith)
+-- cell 0 is the leaf on the square of the definition's root, its own parent
+pub root-words : (n lines : ℕ) → rootWords n lines ≡ wordsWith root 0 n lines 0
+root-words n lines = refl
 
 module _ (t : Tree) where
   pub record Accepts (n : ℕ) : Type 0 where

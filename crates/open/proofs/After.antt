@@ -1,8 +1,8 @@
--- The tables that an accepted opening leaves: one cell in use, cell 0 and its stream, and all of them pass 12.
+-- The tables that an accepted opening leaves: one cell in use, cell 0 and its stream; the head and the stream pass 12.
 use mathlib.Core.Path.{_≡_, sym, ap, subst, _∙_}
 use mathlib.Core.Bool.{true}
 use mathlib.Core.List.{List}
-use Prim.Native.Nat.{ℕ, _+_, _/_}
+use Prim.Native.Nat.{ℕ, _/_}
 use native.Mathlib.Omega.{arith}
 use lib.ListN.{length, getD, set, length-set}
 use lib.Seq.{getD-set-same, getD-set-other}
@@ -10,14 +10,14 @@ use borrow.Author.Tests.{le-leb}
 use Rattle.grammar.specs.declared.Counts.{Counts}
 use Rattle.drawing.proofs.Rows.{drawn}
 use Rattle.stream.specs.declared.Bounds.{Bounds}
+use Rattle.stream.specs.Entry.{linesIn}
 use Rattle.stream.specs.Table.{wordsFrom}
 use Rattle.stream.specs.Grammar.{env, bounds, Passed}
 use Rattle.stream.proofs.Table.{length-written, written-read}
 use Rattle.celltable.specs.declared.CellWords.{CellWords}
 use Rattle.celltable.specs.Table.{cellAt}
-use Rattle.celltable.specs.Ranges.{powerUpTo, squareRange, rootRange, childRange, entryRange, headRange, cellRange}
+use Rattle.celltable.specs.Ranges.{headRange}
 use Rattle.celltable.proofs.Table.{length-put-cell, put-cell-same}
-use Rattle.celltable.proofs.Ranges.{range-parts}
 use Rattle.root_stream.specs.Opened.{elementsOpened}
 use Rattle.root_stream.proofs.Opened.{accepted-opened, opened-passed}
 use Rattle.tables.specs.Tables.{Tree, cellsUsed, entriesUsed, boundsOf}
@@ -25,14 +25,6 @@ use Rattle.open.specs.declared.Answer.the-variants.{Opened}
 use Rattle.open.specs.Open.{rootWords, drawingTables, streamOpened, headOpened, cellsOpened, entriesOpened}
 use Rattle.open.proofs.Rooms.{elements-words}
 use Rattle.open.proofs.Accepted.{Accepts}
-
--- cell 0 alone, with n entries in use
-pub root-passes : (t : List ℕ) (n : ℕ) → cellAt t 0 ≡ rootWords n → cellRange t 0 1 n ≡ true
-unfolding powerUpTo
-root-passes t n e =
-    range-parts t 0 1 n (ap squareRange e) (ap (λ (w : CellWords). childRange (w .child) 1) e)
-    (ap (λ (w : CellWords). entryRange (w .first) (w .count) n) e ∙ le-leb (0 + n) n (omega arith))
-    (ap (λ (w : CellWords). rootRange w 0) e)
 
 module _ (t : Tree) (n : ℕ) (a : Accepts t n) where
   abbrev head′ : List ℕ
@@ -44,12 +36,16 @@ module _ (t : Tree) (n : ℕ) (a : Accepts t n) where
   abbrev entries′ : List ℕ
   entries′ = entriesOpened t (Opened n)
 
+  -- the words of cell 0
+  abbrev root′ : CellWords
+  root′ = rootWords n (linesIn (streamOpened t))
+
   -- ---- the tables are as long as they were
   pub head-length : length head′ ≡ length (t .head)
   head-length = length-set (set (t .head) 0 1) 1 n ∙ length-set (t .head) 0 1
 
   pub cells-length : length cells′ ≡ length (t .cells)
-  cells-length = length-put-cell (t .cells) 0 (rootWords n)
+  cells-length = length-put-cell (t .cells) 0 root′
 
   pub entries-length : length entries′ ≡ length (t .entries)
   entries-length = length-written (t .entries) 0 (streamOpened t)
@@ -77,18 +73,18 @@ module _ (t : Tree) (n : ℕ) (a : Accepts t n) where
       )
 
   -- ---- cell 0 and its stream
-  pub cell-is : cellAt cells′ 0 ≡ rootWords n
-  cell-is = put-cell-same (t .cells) 0 (rootWords n) (omega (arith, a .cells-room))
+  pub cell-is : cellAt cells′ 0 ≡ rootWords n (linesIn (streamOpened t))
+  cell-is = put-cell-same (t .cells) 0 root′ (omega (arith, a .cells-room))
 
   pub stream-is : wordsFrom entries′ 0 n ≡ streamOpened t
   stream-is =
       ap (wordsFrom entries′ 0) (a .entries) ∙ written-read (t .entries) 0 (streamOpened t) (omega (arith, a .entries, a .entries-room))
 
   -- the areas and corners in use are those that the plan says
-  pub bounds-are : bounds (a .counts .areas) (a .counts .corners) 0 65536 ≡ boundsOf (t .plan) (rootWords n)
+  pub bounds-are : bounds (a .counts .areas) (a .counts .corners) 0 65536 ≡ boundsOf (t .plan) root′
   bounds-are = ap (λ (k : Counts). bounds (k .areas) (k .corners) 0 65536) (drawn (drawingTables t) (a .counts) (a .drawing) .used)
 
-  pub stream-passes : Passed entries′ 0 n (env (t .areas) (t .xs) (t .ys) (boundsOf (t .plan) (rootWords n)))
+  pub stream-passes : Passed entries′ 0 n (env (t .areas) (t .xs) (t .ys) (boundsOf (t .plan) root′))
   stream-passes =
       let b : Bounds = bounds (a .counts .areas) (a .counts .corners) 0 65536 in
       let m : length (elementsOpened (drawingTables t)) ≡ n = sym (elements-words (drawingTables t)) ∙ sym (a .entries) in

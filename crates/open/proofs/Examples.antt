@@ -28,6 +28,7 @@ none-head : headOpened (none [] (7 ∷ seven)) (Opened 0) ≡ 1 ∷ 0 ∷ 7 ∷ 
 none-head = refl
 
 none-cells : cellsOpened (none [] (7 ∷ 7 ∷ seven)) (Opened 0) ≡ 0 ∷ 0 ∷ 65536 ∷ 0 ∷ 0 ∷ 0 ∷ 0 ∷ 0 ∷ 7 ∷ []
+unfolding rebuilt joined elementsOpened wordsOpened
 none-cells = refl
 
 none-entries : entriesOpened (none [] (7 ∷ seven)) (Opened 0) ≡ 7 ∷ []

@@ -1,2 +1,3 @@
 -- Opening a tree.
 pub mod Open
+pub mod code

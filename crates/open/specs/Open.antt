@@ -1,4 +1,4 @@
--- Document 01, "Cells" and "From the state": opening a tree over a lent drawing: the answer, and every table afterwards.
+-- Document 01, "Cells" and "From the state", and document 02, Item 5: opening a tree over a lent drawing: the answer, and every table afterwards.
 use mathlib.Core.Bool.{Bool, cond, _&&_}
 use mathlib.Core.List.{List}
 use Prim.Native.Nat.{ℕ}
@@ -9,6 +9,7 @@ use Rattle.grammar.specs.declared.Verdict.{Verdict}
 use Rattle.grammar.specs.declared.Verdict.the-variants.{Accepted, Refused}
 use Rattle.drawing.specs.Tables.{Tables, tables, drawingVerdict}
 use Rattle.stream.specs.declared.Words.{Words}
+use Rattle.stream.specs.Entry.{linesIn}
 use Rattle.stream.specs.Table.{written}
 use Rattle.celltable.specs.declared.CellWords.{CellWords}
 use Rattle.celltable.specs.Table.{putCellAt}
@@ -19,9 +20,10 @@ use Rattle.open.specs.declared.Answer.{Answer}
 use Rattle.open.specs.declared.Answer.the-variants.{Opened, Not}
 
 -- "Cell 0 is the square of side 65,536 at (0, 0)": a leaf, whose n entries are the first; its first number where it has none, which document 01 leaves free,
--- is 0
-abbrev pub rootWords : ℕ → CellWords
-rootWords n = record { x = 0; y = 0; side = 65536; child = 0; first = 0; count = n }
+-- is 0; document 02, Item 5: "Each cell carries its parent's number (its own for cell 0) and its line count, curves included. Opening and splitting set
+-- both"
+abbrev pub rootWords : (n lines : ℕ) → CellWords
+rootWords n lines = record { x = 0; y = 0; side = 65536; child = 0; first = 0; count = n; lines = lines; parent = 0 }
 
 -- 11: "cells, entries or another output table too short for the whole result", which is the two words of the head, one cell and n entries; the
 -- lengths of the tables
@@ -57,7 +59,7 @@ module _ (t : Tree) where
   headOpened (Not r) = t .head
 
   abbrev pub cellsOpened : Answer → List ℕ
-  cellsOpened (Opened n) = putCellAt (t .cells) 0 (rootWords n)
+  cellsOpened (Opened n) = putCellAt (t .cells) 0 (rootWords n (linesIn streamOpened))
   cellsOpened (Not r) = t .cells
 
   abbrev pub entriesOpened : Answer → List ℕ

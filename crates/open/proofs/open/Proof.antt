@@ -1,22 +1,21 @@
 use borrow.Author.Needs.{needs}
 use Rattle.open.proofs.open.Statement.{statement}
 use Rattle.open.proofs.open.Tie as tie
-use mathlib.Core.Path.{sym, _∙_, refl}
-use denote.Ref.{now}
-use Rattle.tables.specs.Tables.{tree}
-use Rattle.open.proofs.Answers.{unequal, broken, passed}
+use mathlib.Core.Path.{refl, sym, _∙_}
 
-check-drawing-requires : tie.Need-check-drawing-requires
-check-drawing-requires c κs = search needs
+judge-requires : tie.Need-judge-requires
+judge-requires c κs = search needs
 
-enum-known-v : tie.Need-enum-known-v
-enum-known-v c = search needs
+enum-known-a : tie.Need-enum-known-a
+enum-known-a c = search needs
 
-open-accepted-requires : tie.Need-open-accepted-requires
-open-accepted-requires c κs =
-    let after-v = c .before .before .before .before in
-    let after-check-drawing = after-v .before .before in
-    sym (after-check-drawing .check-drawing .ensures) ∙ after-v .v .given .1
+put-opened-requires : tie.Need-put-opened-requires
+put-opened-requires c κs =
+    let after-a = c .before .before .before .before .before in
+    let after-judge = after-a .before .before in
+    let e = after-judge .judge .ensures in
+    let is = after-a .a .given .1 in
+    (sym (e .0) ∙ is, e .1 _ is)
 
 same-length : tie.Need-same-length
 same-length c = search needs
@@ -29,46 +28,44 @@ same-length-3 c = search needs
 
 returns : tie.Need-returns
 returns c =
-    let after-open-accepted = c .before .before .before .before .before .before in
-    let after-v = after-open-accepted .before .before .before .before .before in
-    let after-check-drawing = after-v .before .before in
-    let at-if1 = after-check-drawing .before in
-    let at-entry = at-if1 .before .before .before .before .before .before .before .before in
-    let a = at-entry .args in
-    let T = tree (now (a .plan)) (now (a .areas)) (now (a .xs)) (now (a .ys)) (now (a .head)) (now (a .cells)) (now (a .entries)) in
-    let e = after-open-accepted .open-accepted .ensures in
-    (e .0 ∙ passed T _ (at-if1 .if1 .taken) (sym (after-check-drawing .check-drawing .ensures) ∙ after-v .v .given .1), e .1)
+    let after-put-opened = c .before .before .before .before .before .before in
+    let after-a = after-put-opened .before .before .before .before .before .before in
+    let after-judge = after-a .before .before in
+    let e = after-judge .judge .ensures in
+    let is = after-a .a .given .1 in
+    (sym is ∙ e .0, after-put-opened .put-opened .ensures)
 
-enum-told : tie.Need-enum-told
-enum-told c = search needs
+enum-known-a-2 : tie.Need-enum-known-a-2
+enum-known-a-2 c = search needs
+
+same-length-4 : tie.Need-same-length-4
+same-length-4 c = search needs
+
+same-length-5 : tie.Need-same-length-5
+same-length-5 c = search needs
+
+same-length-6 : tie.Need-same-length-6
+same-length-6 c = search needs
 
 returns-2 : tie.Need-returns-2
 returns-2 c =
-    let after-check-drawing = c .before .before in
-    let at-if1 = after-check-drawing .before in
-    let at-entry = at-if1 .before .before .before .before .before .before .before .before in
-    let a = at-entry .args in
-    let T = tree (now (a .plan)) (now (a .areas)) (now (a .xs)) (now (a .ys)) (now (a .head)) (now (a .cells)) (now (a .entries)) in
-    (broken T _ _ (at-if1 .if1 .taken) (sym (after-check-drawing .check-drawing .ensures) ∙ c .enum-told .given .1), (refl, (refl, refl)))
-
-returns-3 : tie.Need-returns-3
-returns-3 c =
-    let at-entry = c .before .before .before .before .before .before .before .before in
-    let a = at-entry .args in
-    let T = tree (now (a .plan)) (now (a .areas)) (now (a .xs)) (now (a .ys)) (now (a .head)) (now (a .cells)) (now (a .entries)) in
-    (unequal T (c .if1 .left), (refl, (refl, refl)))
+    let after-a2 = c .before in
+    let after-judge = after-a2 .before .before in
+    (sym (after-a2 .a2 .given .1) ∙ after-judge .judge .ensures .0, (refl, (refl, refl)))
 
 pub open-spec : {M : Type 1} → statement M
 open-spec =
     tie.close
     (tie.spec
-    check-drawing-requires
-    enum-known-v
-    open-accepted-requires
+    judge-requires
+    enum-known-a
+    put-opened-requires
     same-length
     same-length-2
     same-length-3
     returns
-    enum-told
-    returns-2
-    returns-3)
+    enum-known-a-2
+    same-length-4
+    same-length-5
+    same-length-6
+    returns-2)
