@@ -10,16 +10,13 @@ use borrow.Author.Tests.{eqb-true, eqb-false, ltb-true, ltb-false}
 use Rattle.laws.proofs.Booleans.{and-right}
 use Rattle.refusals.specs.Refusals.{numberOf}
 use Rattle.cells.specs.Cells.{cell, side, Quarter, child}
-use Rattle.stream.specs.Entry.{linesIn}
-use Rattle.stream.specs.Table.{wordsFrom}
-use Rattle.stream.specs.Grammar.{checkStream}
 use Rattle.celltable.specs.declared.CellWords.{CellWords}
 use Rattle.celltable.specs.Ranges.{cellRange, levelOf}
 use Rattle.celltable.specs.Descent.{quarterAt}
 use Rattle.split.specs.declared.Answer as Splitting
 use Rattle.split.specs.declared.Answer.the-variants as split
 use Rattle.tables.specs.Tables.{Tree, cellsUsed, entriesUsed, countsIn}
-use Rattle.split.specs.Split.{words, against, splitAnswer}
+use Rattle.split.specs.Split.{words, splitAnswer}
 use Rattle.split_laws.specs.After.{splitTree}
 use Rattle.split_laws.proofs.Trees.{tree-used, tree-keeps-cell, tree-cell, tree-child}
 use Rattle.open.specs.declared.Answer.{Answer}
@@ -30,7 +27,7 @@ use Rattle.open.proofs.After.{cells-used, cell-is}
 use Rattle.grow.specs.declared.Tried.{Tried}
 use Rattle.grow.specs.declared.Tried.the-variants.{Bad, Past, Wanted}
 use Rattle.grow.specs.Grow.{
-  isWanted,
+  wantedBy,
   tried,
   Lowest,
   none,
@@ -64,22 +61,20 @@ abbrev pub Shallow : Tree → Type 0
 Shallow t = (j : ℕ) → j < cellsUsed (t .head) → 4096 ≤ words t j .side
 
 -- ---- a cell that growing splits has a depth below 4
-wanted-passes : (a b c d : Bool) → cond a (cond b (cond c (cond d Wanted Past) Bad) Past) Bad ≡ Wanted → d ≡ true
-wanted-passes true true true true e = refl
-wanted-passes true true true false e = absurd (let z : _≡_ {A = ℕ} 0 1 = cc in omega arith)
-wanted-passes true true false d e = absurd (let z : _≡_ {A = ℕ} 0 1 = cc in omega arith)
-wanted-passes true false c d e = absurd (let z : _≡_ {A = ℕ} 0 1 = cc in omega arith)
-wanted-passes false b c d e = absurd (let z : _≡_ {A = ℕ} 0 1 = cc in omega arith)
+wanted-passes : (a b d : Bool) → cond a (cond b (cond d Wanted Past) Past) Bad ≡ Wanted → d ≡ true
+wanted-passes true true true e = refl
+wanted-passes true true false e = absurd (let z : _≡_ {A = ℕ} 0 1 = cc in omega arith)
+wanted-passes true false d e = absurd (let z : _≡_ {A = ℕ} 0 1 = cc in omega arith)
+wanted-passes false b d e = absurd (let z : _≡_ {A = ℕ} 0 1 = cc in omega arith)
 
 module _ (t : Tree) (n : ℕ) where
   wanted-level : (i : ℕ) → tried t n 4 i ≡ Wanted → 13 ≤ levelOf (words t i .side)
   unfolding tried
   wanted-level i e =
       let w = words t i in
-      let ws = wordsFrom (t .entries) (w .first) (w .count) in
       let d = wanted-passes (cellRange (t .cells) i (cellsUsed (t .head)) (entriesUsed (t .head))) (eqb (w .child) 0)
-      (checkStream (t .entries) (w .first) (w .count) (entriesUsed (t .head)) (against t i)) (isWanted n 4 w ws) e in
-      omega (arith, ltb-true (16 - levelOf (w .side)) 4 (and-right (ltb n (linesIn ws)) (ltb (16 - levelOf (w .side)) 4) d))
+      (wantedBy n 4 (w .side) (w .lines)) e in
+      omega (arith, ltb-true (16 - levelOf (w .side)) 4 (and-right (ltb n (w .lines)) (ltb (16 - levelOf (w .side)) 4) d))
 
   lowest-wanted : (m i j : ℕ) → lowestFrom t n 4 i m ≡ at j → tried t n 4 j ≡ Wanted
   unfolding lowestFrom

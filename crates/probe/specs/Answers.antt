@@ -35,7 +35,7 @@ square x y side = record { x = x; y = y; side = side }
 
 -- a leaf on this square, with an empty stream
 abbrev pub leafOn : Square → CellWords
-leafOn s = record { x = s .x; y = s .y; side = s .side; child = 0; first = 0; count = 0 }
+leafOn s = record { x = s .x; y = s .y; side = s .side; child = 0; first = 0; count = 0; lines = 0; parent = 0 }
 
 -- "a cell's side a power of two up to 65,536 and its low corner on the grid in multiples of that side"
 unfoldable pub squareFits : Square → Bool

@@ -114,6 +114,8 @@ fn leaf_on(s: Square) -> CellWords
         child: 0,
         first: 0,
         count: 0,
+        lines: 0,
+        parent: 0,
     }
 }
 
