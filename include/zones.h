@@ -1,4 +1,4 @@
-/* zones.h, version 0.5.0: which drawn area a position lies in.
+/* zones.h, version 0.6.0: which drawn area a position lies in.
  *
  * This header is the manual of libzones.a (made by: rt staticlib zones). A surveyor draws areas, a drawing is a
  * file of records; the library reads it into tables, opens a tree of map cells over it, and answers positions,
@@ -55,9 +55,9 @@ extern "C" {
  * met since. A new MINOR may change tables, records and answers: compile your program again, and read a drawing
  * again rather than keep its tables. A new PATCH changes none of them. */
 #define ZONES_VERSION_MAJOR 0
-#define ZONES_VERSION_MINOR 5
+#define ZONES_VERSION_MINOR 6
 #define ZONES_VERSION_PATCH 0
-#define ZONES_VERSION "0.5.0"
+#define ZONES_VERSION "0.6.0"
 
 /* 3  ANSWERS AND REFUSALS
  *
@@ -197,8 +197,8 @@ static inline const char *zones_refusal_text(uint32_t number) {
 #define ZONES_HEAD_CELLS 0   /* cells in use */
 #define ZONES_HEAD_ENTRIES 1 /* entries in use */
 
-/* cells: eight words a cell; the last two are not looked at. The table holds as many whole cells as its length
- * has, up to ZONES_MOST_CELLS. */
+/* cells: eight words a cell. The table holds as many whole cells as its length has, up to ZONES_MOST_CELLS. Of the cell
+ * that is split, ZONES_CELL_CHILD alone changes: entries and lines stay those of its own stream. */
 #define ZONES_CELL_WORDS 8
 #define ZONES_CELL_X 0           /* low corner */
 #define ZONES_CELL_Y 1
@@ -206,6 +206,8 @@ static inline const char *zones_refusal_text(uint32_t number) {
 #define ZONES_CELL_CHILD 3       /* the first of its four children, which are numbered in a row; 0 for a leaf */
 #define ZONES_CELL_FIRST 4       /* its first entry */
 #define ZONES_CELL_COUNT 5       /* its entries */
+#define ZONES_CELL_LINES 6       /* those that are lines or curves */
+#define ZONES_CELL_PARENT 7      /* the number of its parent, the cell whose split made it; 0 for cell 0 */
 #define ZONES_GRID_SIDE 65536
 #define ZONES_CHILDREN 4         /* of a split, in order: low x low y, high x low y, low x high y, high x high y */
 #define ZONES_MOST_DEPTH 16      /* of a cell; there the side is 1 */
@@ -274,6 +276,19 @@ static inline const char *zones_refusal_text(uint32_t number) {
  *
  * 0 says nothing about the positions around. A leaf with a line, a curve or a shortcut in its stream has 0, even where
  * all its positions show the same. A tree that is cut finer has more leaves with 1, and smaller ones. */
+
+/* Upward from a leaf. Each cell has the number of its parent, the cell whose split made it: the square of twice the
+ * side around it. The parent taken as often as the leaf is deep is cell 0, the whole grid. A map editor that walks
+ * upward needs no call for it:
+ *
+ *     struct zones_cell cell = zones_cell_of(&map, leaf.cell);    // leaf: from zones_map_find_leaf
+ *     for (uint32_t k = 0; k < leaf.steps; k++) {
+ *         cell = zones_cell_of(&map, cell.parent);
+ *         outline(cell.x, cell.y, cell.side);                     // your own, for the square
+ *     }
+ *
+ * So it is in tables that the library alone wrote. Where others wrote to them, the parents of cells that no call has
+ * looked at may be any numbers, and may go in a circle: count the steps, as here, and do not wait for cell 0. */
 
 /* Pixels: a row has 4,096 of 16 by 16 units, and there are 4,096 rows. Row 0 is that of the lowest y. */
 #define ZONES_PIXELS 4096 /* of a row; rows too */
@@ -383,7 +398,11 @@ typedef uint64_t zones_length;
  *   ZONES_PLAN_COUNTS words or head fewer than ZONES_HEAD_WORDS; the areas, corners, cells or entries in use are more
  *   than their tables hold or than the limits; no cell is in use; or, in a cell or stream that the call looks at, a
  *   number is out of its range or the stream breaks the grammar. It comes where others wrote to the tables, where they
- *   are lent shorter than before, or where another drawing was read into them since the opening. */
+ *   are lent shorter than before, or where another drawing was read into them since the opening.
+ * - A cell that is looked at is tried with its parent: that of cell 0 is 0, that of any other cell is a split cell in
+ *   use that has it as one of its four children, and the cell lies on that quarter of the parent's square. Nothing else
+ *   of the parent is looked at. The stream of a leaf is tried with the leaf's line count, ZONES_CELL_LINES: it is the
+ *   number of lines and curves in the stream. The line count of a split cell is not compared. */
 
 /* zones_read: reads a file of records into the four tables of a drawing.
  *
@@ -435,7 +454,8 @@ uint64_t zones_write(ZONES_DRAWING, uint8_t *out, zones_length out_len);
  *                         record
  *
  * What head, cells and entries held before does not matter.
- * Result: the entries of cell 0. Writes head, the words of cell 0 and those of its entries.
+ * Result: the entries of cell 0. Writes head, the words of cell 0 and those of its entries; cell 0 has the lines of its
+ * stream, and itself as its parent.
  * Refusals:
  *    7  xs and ys are of unequal length
  *   12  the tables do not hold what reading some file leaves
@@ -451,11 +471,12 @@ uint64_t zones_open(ZONES_DRAWING, ZONES_TREE);
  *   cell                   its number
  *
  * Result: the number of its first child; the others are the next three. Writes head, the cell's word
- * ZONES_CELL_CHILD, and the new cells and entries behind those in use.
+ * ZONES_CELL_CHILD, and the new cells and entries behind those in use; each new cell has the lines of its own stream,
+ * and the cell that is split as its parent.
  * Refusals:
  *    7  xs and ys are of unequal length
  *    8  the number is not below the cells in use (none where head is too short)
- *   12  as said above; looked at are the cell and, if it is a leaf, its stream
+ *   12  as said above; looked at are the cell and, if it is a leaf, its whole stream
  *    9  it is split already
  *   10  its side is 1
  *   11  cells or entries is too short for the four children
@@ -464,7 +485,8 @@ uint64_t zones_split(ZONES_DRAWING, ZONES_TREE, uint32_t cell);
 
 /* zones_grow: splits the lowest numbered leaf with more lines (curves count as lines) than the threshold and a depth
  * below the limit, again and again, until there is none (done) or there is no room for the next split (full). A tree
- * that is full is as right as one that is done.
+ * that is full is as right as one that is done. How many lines a leaf has is read from its word ZONES_CELL_LINES, and
+ * no stream is read but that of the leaf that is split.
  *
  *   plan, areas, xs, ys    as zones_read left them
  *   head, cells, entries   as zones_open, zones_split or zones_grow left them, to be written; as long as is wished
@@ -475,7 +497,8 @@ uint64_t zones_split(ZONES_DRAWING, ZONES_TREE, uint32_t cell);
  * splits write.
  * Refusals:
  *    7  xs and ys are of unequal length, or the limit is over ZONES_MOST_DEPTH
- *   12  as said above; looked at are the cells from 0 upward, leaves with their streams. Cells split before it
+ *   12  as said above; looked at are the cells from 0 upward, and the whole stream of the leaf that is split, also
+ *       where there is no room for the split. A broken stream of another leaf does not stop it. Cells split before it
  *       remain
  */
 uint64_t zones_grow(ZONES_DRAWING, ZONES_TREE, uint32_t threshold, uint32_t limit);
@@ -616,6 +639,17 @@ static inline struct zones_map zones_map_of(struct zones_memory *memory) {
     return map;
 }
 
+/* A cell of the tree: the words of the table by name. */
+struct zones_cell {
+    uint32_t x, y;    /* its low corner */
+    uint32_t side;
+    uint32_t child;   /* the first of its four children; 0 for a leaf */
+    uint32_t first;   /* its first entry */
+    uint32_t entries; /* of its stream */
+    uint32_t lines;   /* lines and curves among them */
+    uint32_t parent;  /* its number; 0 for cell 0 */
+};
+
 /* A leaf that was found: the words of zones_find_leaf by name. */
 struct zones_leaf {
     uint32_t cell;    /* its number */
@@ -655,6 +689,24 @@ static inline int zones_shows(const struct zones_spot *spot, uint32_t area) {
  * be asked of an answer from before a split, a growing, an opening or a reading. */
 static inline int zones_reaches(const struct zones_spot *spot, uint32_t x, uint32_t y) {
     return spot->uniform != 0 && x - spot->x < spot->side && y - spot->y < spot->side;
+}
+
+/* A cell of the tree by its number; all 0 where the table of cells does not hold it. */
+static inline struct zones_cell zones_cell_of(const struct zones_map *map, uint32_t number) {
+    struct zones_cell cell = {0, 0, 0, 0, 0, 0, 0, 0};
+    const zones_length at = (zones_length)number * ZONES_CELL_WORDS;
+    if (at + ZONES_CELL_WORDS <= map->cells.length) {
+        const uint32_t *words = map->cells.words + at;
+        cell.x = words[ZONES_CELL_X];
+        cell.y = words[ZONES_CELL_Y];
+        cell.side = words[ZONES_CELL_SIDE];
+        cell.child = words[ZONES_CELL_CHILD];
+        cell.first = words[ZONES_CELL_FIRST];
+        cell.entries = words[ZONES_CELL_COUNT];
+        cell.lines = words[ZONES_CELL_LINES];
+        cell.parent = words[ZONES_CELL_PARENT];
+    }
+    return cell;
 }
 
 /* Tables as the calls of section 7 take them. */

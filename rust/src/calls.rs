@@ -122,24 +122,29 @@ pub fn write(drawing: Drawing<'_>, out: &mut [u8]) -> Result<u32, Refused> {
     on_drawing!(zones_write, drawing, out.as_mut_ptr(), out.len() as u64)
 }
 
-/// Opens a tree over a drawing, of cell 0 alone; gives the entries of cell 0.
+/// Opens a tree over a drawing, of cell 0 alone, which is its own parent; gives the entries of cell 0.
 ///
 /// Refusals: 7, 12, 11. A refusal leaves the tree's tables as they were.
 pub fn open(drawing: Drawing<'_>, tree: TreeMut<'_>) -> Result<u32, Refused> {
     on_tree!(zones_open, drawing, as_mut_ptr tree)
 }
 
-/// Splits a cell in four; gives the number of the first of the four.
+/// Splits a cell in four; gives the number of the first of the four. Each has the lines of its own stream, and the cell that is split
+/// as its parent.
 ///
-/// Refusals: 7, 8, 12, 9, 10, 11. A refusal leaves the tree's tables as they were.
+/// Refusals: 7, 8, 12, 9, 10, 11. 12 looks at the cell with its parent and, if it is a leaf, at its stream with its line count. A
+/// refusal leaves the tree's tables as they were.
 pub fn split(drawing: Drawing<'_>, tree: TreeMut<'_>, cell: u32) -> Result<u32, Refused> {
     on_tree!(zones_split, drawing, as_mut_ptr tree, cell)
 }
 
 /// Splits every leaf with more lines (curves among them) than the threshold and a depth below the limit, lowest number first,
-/// until there is none or no room.
+/// until there is none or no room. How many lines a leaf has is read from its cell, and no stream is read but that of the leaf that
+/// is split.
 ///
-/// Refusals: 7 (the limit is over 16), 12. The cells split before a 12 remain.
+/// Refusals: 7 (the limit is over 16), 12. 12 looks at the cells from 0 upward, each with its parent, and at the stream of the leaf
+/// that is split, with its line count, also where there is no room for the split; a broken stream of another leaf does not stop the
+/// growing. The cells split before a 12 remain.
 pub fn grow(
     drawing: Drawing<'_>,
     tree: TreeMut<'_>,

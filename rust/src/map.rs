@@ -231,9 +231,35 @@ impl Map {
         self.drawing().each_area()
     }
 
+    /// A cell of the tree.
+    pub fn cell(&self, number: u32) -> Option<Cell> {
+        self.tree().cell(number)
+    }
+
     /// The cells of the tree, in order.
     pub fn cells(&self) -> impl Iterator<Item = Cell> + '_ {
         self.tree().each_cell()
+    }
+
+    /// A cell of the tree, its parent, and so on up to cell 0, each with its number: for a map editor that walks upward from a leaf.
+    ///
+    /// ```
+    /// use zones::Map;
+    ///
+    /// let mut map = Map::read(&[])?;
+    /// map.open()?;
+    /// map.split(0)?;
+    /// map.split(2)?;
+    /// let leaf = map.find_leaf(40_000, 30_000)?;
+    /// let squares = map.upward(leaf.cell).map(|(number, cell)| (number, cell.x, cell.y, cell.side));
+    /// assert!(squares.eq([(7, 32_768, 16_384, 16_384), (2, 32_768, 0, 32_768), (0, 0, 0, 65_536)]));
+    /// // As many steps as the leaf is deep; a number that is not in use is nowhere.
+    /// assert_eq!(map.upward(leaf.cell).count() as u32, leaf.steps + 1);
+    /// assert_eq!(map.upward(9).count(), 0);
+    /// # Ok::<(), zones::Refused>(())
+    /// ```
+    pub fn upward(&self, cell: u32) -> impl Iterator<Item = (u32, Cell)> + '_ {
+        self.tree().upward(cell)
     }
 
     /// The cells that are not split.

@@ -1,6 +1,10 @@
 //! What the words of the tables and of the answers say.
 
-use crate::limits::{AREA_WORDS, CELL_WORDS, HEAD_WORDS, LEAF_WORDS, MOST_CELLS, POSITION_WORDS};
+use core::iter;
+
+use crate::limits::{
+    AREA_WORDS, CELL_WORDS, HEAD_WORDS, LEAF_WORDS, MOST_CELLS, MOST_DEPTH, POSITION_WORDS,
+};
 use crate::{Drawing, Tree};
 
 /// What a growing that is full adds to the splits made.
@@ -180,12 +184,16 @@ pub struct Cell {
     /// Its first entry.
     pub first: u32,
     pub entries: u32,
+    /// How many of its entries are lines or curves. A cell that is split keeps first entry, entries and lines of its own stream.
+    pub lines: u32,
+    /// The number of its parent, the cell whose split made it; 0 for cell 0.
+    pub parent: u32,
 }
 
 impl Cell {
     /// The words of a cell.
     pub const fn of(words: &[u32; CELL_WORDS]) -> Cell {
-        let [x, y, side, child, first, entries, _, _] = *words;
+        let [x, y, side, child, first, entries, lines, parent] = *words;
         Cell {
             x,
             y,
@@ -193,6 +201,8 @@ impl Cell {
             child,
             first,
             entries,
+            lines,
+            parent,
         }
     }
 
@@ -217,10 +227,43 @@ impl<'a> Tree<'a> {
         [word(0), word(1)]
     }
 
-    /// The cells in use, in order.
-    pub fn each_cell(self) -> impl Iterator<Item = Cell> + 'a {
+    /// The words of the cells in use.
+    fn rows(self) -> &'a [[u32; CELL_WORDS]] {
         let cells = (self.in_use()[0] as usize).min(MOST_CELLS);
         let rows = self.cells.as_chunks::<CELL_WORDS>().0;
-        rows.iter().take(cells).map(Cell::of)
+        &rows[..cells.min(rows.len())]
+    }
+
+    /// The cells in use, in order.
+    pub fn each_cell(self) -> impl Iterator<Item = Cell> + 'a {
+        self.rows().iter().map(Cell::of)
+    }
+
+    /// A cell in use.
+    pub fn cell(self, number: u32) -> Option<Cell> {
+        self.rows().get(number as usize).map(Cell::of)
+    }
+
+    /// A cell in use, its parent, the parent of that, and so on up to cell 0, each with its number: as many steps as the cell is
+    /// deep. In tables that others wrote, whatever the parents are, it ends after [`MOST_DEPTH`] steps, or before a number that is not
+    /// in use.
+    ///
+    /// ```
+    /// use zones::{Tree, CELL_WORDS, MOST_DEPTH};
+    ///
+    /// // Three cells; the parent of cell 1 is cell 2, and that of cell 2 is cell 1.
+    /// let mut cells = [0; 3 * CELL_WORDS];
+    /// (cells[CELL_WORDS + 7], cells[2 * CELL_WORDS + 7]) = (2, 1);
+    /// let tree = Tree { head: &[3, 0], cells: &cells, entries: &[] };
+    /// assert_eq!(tree.upward(1).count() as u32, 1 + MOST_DEPTH);
+    /// assert!(tree.upward(1).all(|(number, _)| number != 0));
+    /// ```
+    pub fn upward(self, cell: u32) -> impl Iterator<Item = (u32, Cell)> + 'a {
+        let numbered = move |number| Some((number, self.cell(number)?));
+        let above = move |(number, cell): &(u32, Cell)| match number {
+            0 => None,
+            _ => numbered(cell.parent),
+        };
+        iter::successors(numbered(cell), above).take(MOST_DEPTH as usize + 1)
     }
 }

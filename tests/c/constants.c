@@ -396,6 +396,36 @@ static void words_of_trees(void) {
     CHECK(ZONES_CELL_FIRST, memory.cells[ZONES_CELL_FIRST] == 0 && memory.cells[ZONES_CELL_WORDS + ZONES_CELL_FIRST] == 4);
     CHECK(ZONES_CELL_COUNT, memory.cells[ZONES_CELL_COUNT] == 4);
     CHECK(ZONES_CELL_COUNT, next[ZONES_CELL_FIRST] == cell[ZONES_CELL_FIRST] + cell[ZONES_CELL_COUNT] && cell[ZONES_CELL_COUNT] > 1);
+    /* Of the three sides the first quarter keeps all, the next two keep two each, the last none. */
+    CHECK(ZONES_CELL_LINES, memory.cells[ZONES_CELL_LINES] == 3 && memory.cells[ZONES_CELL_WORDS + ZONES_CELL_LINES] == 3);
+    CHECK(ZONES_CELL_LINES, cell[ZONES_CELL_LINES] == 2 && next[ZONES_CELL_LINES] == 2 && next[ZONES_CELL_WORDS + ZONES_CELL_LINES] == 0);
+    CHECK(ZONES_CELL_PARENT, memory.cells[ZONES_CELL_PARENT] == 0 && cell[ZONES_CELL_PARENT] == 0 && next[ZONES_CELL_PARENT] == 0);
+    zones_map_split(&map, 3);
+    for (int k = 5; k < 9; k++) CHECK(ZONES_CELL_PARENT, memory.cells[ZONES_CELL_WORDS * k + ZONES_CELL_PARENT] == 3);
+    CHECK(ZONES_CELL_PARENT, next[ZONES_CELL_PARENT] == 0 && next[ZONES_CELL_CHILD] == 5);
+    CHECK(ZONES_CELL_LINES, next[ZONES_CELL_LINES] == 2 && finds());
+
+    /* (100, 100) lies in cell 1. Its count is compared with its stream, that of cell 0, which is split, is not. */
+    memory.cells[ZONES_CELL_LINES] = 77;
+    CHECK(ZONES_CELL_LINES, finds());
+    memory.cells[ZONES_CELL_WORDS + ZONES_CELL_LINES] = 2;
+    CHECK(ZONES_CELL_LINES, finds_broken() && REFUSED(12, zones_map_split(&map, 1)));
+    memory.cells[ZONES_CELL_WORDS + ZONES_CELL_LINES] = 3;
+    CHECK(ZONES_CELL_LINES, finds());
+    /* Cell 3 is split, but cell 1 is none of its four. */
+    memory.cells[ZONES_CELL_WORDS + ZONES_CELL_PARENT] = 3;
+    CHECK(ZONES_CELL_PARENT, finds_broken() && REFUSED(12, zones_map_split(&map, 1)) && REFUSED(12, zones_map_grow(&map, 9, 9)));
+    triangle();
+    memory.cells[ZONES_CELL_PARENT] = 1;
+    CHECK(ZONES_CELL_PARENT, finds_broken() && REFUSED(12, zones_map_split(&map, 0)) && REFUSED(12, zones_map_grow(&map, 9, 9)));
+    /* Growing takes the lines from the word, and compares them where it splits. */
+    triangle();
+    memory.cells[ZONES_CELL_LINES] = 2;
+    CHECK(ZONES_CELL_LINES, zones_map_grow(&map, 2, 8) == 0 && REFUSED(12, zones_map_grow(&map, 1, 8)));
+    memory.cells[ZONES_CELL_LINES] = 4;
+    CHECK(ZONES_CELL_LINES, zones_map_grow(&map, 4, 8) == 0 && REFUSED(12, zones_map_grow(&map, 3, 8)));
+    memory.cells[ZONES_CELL_LINES] = 3;
+    CHECK(ZONES_CELL_LINES, zones_map_grow(&map, 3, 8) == 0 && zones_map_grow(&map, 2, 1) == 1);
 
     struct zones_leaf leaf;
     triangle();
@@ -426,6 +456,7 @@ static uint32_t *put_entry(uint32_t kind) {
     memset(entry, 0, ZONES_ENTRY_WORDS * sizeof *entry);
     entry[ZONES_ENTRY_KIND] = kind;
     memory.cells[ZONES_CELL_COUNT] = memory.head[ZONES_HEAD_ENTRIES] = ++count;
+    memory.cells[ZONES_CELL_LINES] += kind == ZONES_STREAM_LINE || kind == ZONES_STREAM_CURVE;
     return entry;
 }
 
@@ -436,7 +467,7 @@ static void no_entries(void) {
     read_file();
     zones_map_open(&map);
     count = 0;
-    memory.cells[ZONES_CELL_COUNT] = memory.head[ZONES_HEAD_ENTRIES] = 0;
+    memory.cells[ZONES_CELL_COUNT] = memory.cells[ZONES_CELL_LINES] = memory.head[ZONES_HEAD_ENTRIES] = 0;
 }
 
 static uint64_t set_at(uint32_t x, uint32_t y) {

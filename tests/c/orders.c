@@ -120,7 +120,8 @@ static void triangle(void) {
     zones_map_split(&map, 0);
 }
 
-enum fault { NONE = 0, UNEQUAL = 1, DRAWING = 2, TREE = 4, SHORT = 8 };
+/* PARENT: cell 0 has another than itself. LINES: cell 1, the leaf at (0, 0), has another count than its stream. */
+enum fault { NONE = 0, UNEQUAL = 1, DRAWING = 2, TREE = 4, SHORT = 8, PARENT = 16, LINES = 32 };
 
 /* Tables with these faults. */
 static void with(int faults) {
@@ -128,12 +129,21 @@ static void with(int faults) {
     if (faults & UNEQUAL) map.xs.length--;
     if (faults & DRAWING) memory.areas[7] = 1;
     if (faults & TREE) memory.cells[ZONES_CELL_SIDE] = 3;
+    if (faults & PARENT) memory.cells[ZONES_CELL_PARENT] = 1;
+    if (faults & LINES) memory.cells[ZONES_CELL_WORDS + ZONES_CELL_LINES]++;
     if (faults & SHORT) map.cells.length = map.entries.length = 0;
 }
 
 static uint64_t write_with(int faults) { return with(faults), zones_map_write(&map, bytes, faults & SHORT ? 63 : 64); }
 static uint64_t open_with(int faults) { return with(faults), zones_map_open(&map); }
 static uint64_t grow_with(int faults, uint32_t limit) { return with(faults), zones_map_grow(&map, 0, limit); }
+
+/* With room for no other cell, which is no refusal. */
+static uint64_t grow_full(int faults) {
+    with(faults);
+    map.cells.length = 5 * ZONES_CELL_WORDS;
+    return zones_map_grow(&map, 0, 16);
+}
 
 static uint64_t split_with(int faults, uint32_t cell) {
     with(faults & ~SHORT);
@@ -179,20 +189,31 @@ static void others(void) {
     pair("zones_open", 12, 11, open_with(DRAWING | SHORT), open_with(SHORT));
     pair("zones_split", 7, 8, split_with(UNEQUAL, 5), split_with(NONE, 5));
     pair("zones_split", 8, 12, split_with(TREE, 5), split_with(TREE, 0));
+    pair("zones_split", 8, 12, split_with(PARENT, 5), split_with(PARENT, 0));
     pair("zones_split", 12, 9, split_with(TREE, 0), split_with(NONE, 0));
+    pair("zones_split", 12, 9, split_with(PARENT, 0), split_with(NONE, 0));
+    pair("zones_split", 12, 11, split_with(LINES | SHORT, 1), split_with(SHORT, 1));
     pair("zones_split", 9, 11, split_with(SHORT, 0), split_with(SHORT, 1));
     pair("zones_split", 10, 11, split_at(0, 0), split_at(60000, 60000));
     pair("zones_grow", 7, 12, grow_with(TREE, 17), grow_with(TREE, 16));
     pair("zones_grow", 7, 12, grow_with(TREE | UNEQUAL, 16), grow_with(TREE, 16));
+    pair("zones_grow", 7, 12, grow_with(PARENT, 17), grow_with(PARENT, 16));
+    pair("zones_grow", 7, 12, grow_with(LINES, 17), grow_with(LINES, 16));
+    wrong |= zones_refusal(grow_full(LINES)) != 12 || grow_full(NONE) != ZONES_FULL;
     pair("zones_find_leaf", 7, 12, leaf_with(TREE, 65536), leaf_with(TREE, 0));
     pair("zones_find_leaf", 12, 11, leaf_with(TREE | SHORT, 0), leaf_with(SHORT, 0));
+    pair("zones_find_leaf", 12, 11, leaf_with(PARENT | SHORT, 0), leaf_with(SHORT, 0));
+    pair("zones_find_leaf", 12, 11, leaf_with(LINES | SHORT, 0), leaf_with(SHORT, 0));
     pair("zones_position", 7, 12, spot_with(TREE, 65536), spot_with(TREE, 0));
     pair("zones_position", 12, 11, spot_with(TREE | SHORT, 0), spot_with(SHORT, 0));
+    pair("zones_position", 12, 11, spot_with(LINES | SHORT, 0), spot_with(SHORT, 0));
     pair("zones_pixel_row", 7, 12, row_with(TREE, 4096), row_with(TREE, 0));
+    pair("zones_pixel_row", 7, 12, row_with(LINES, 4096), row_with(LINES, 0));
     pair("zones_zone_log", 7, 7, log_with(NONE, 65536, 2), log_with(NONE, 65536, 3));
     wrong |= zones_place(log_with(NONE, 65536, 2)) != 0 || zones_place(log_with(NONE, 65536, 3)) != 2;
     pair("zones_zone_log", 7, 12, log_with(TREE, 65536, 3), log_with(TREE, 0, 3));
     pair("zones_zone_log", 12, 11, log_with(TREE | SHORT, 0, 3), log_with(SHORT, 0, 3));
+    pair("zones_zone_log", 12, 11, log_with(LINES | SHORT, 0, 3), log_with(SHORT, 0, 3));
 }
 
 int main(void) {

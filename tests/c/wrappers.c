@@ -1,6 +1,6 @@
 /* wrappers DRAWING: each wrapper over the struct beside the call that it makes, with tables of their own: equal answers, equal tables, equal output; on
- * tables at the limits, on short ones, and on tables that are broken. The header stands in a second unit of the program too (nothing.c). Prints how
- * many answers were compared and how many of them were refused. */
+ * tables at the limits, on short ones, and on tables that are broken. Then what is made of answers and tables with no call. The header stands in a second
+ * unit of the program too (nothing.c). Prints how many answers were compared and how many of them were refused. */
 #include "zones.h"
 
 #include <stdio.h>
@@ -74,6 +74,43 @@ static int reach(void) {
     return wrong;
 }
 
+/* A cell has its words by name, and 0 in each where the table does not hold it whole. */
+static int by_name(void) {
+    const uint32_t expected[8] = {108, 109, 110, 111, 112, 113, 114, 115}, none[8] = {0};
+    uint32_t words[16];
+    struct zones_map m = zones_map_of(&a);
+    struct zones_cell cell;
+    int wrong = 0;
+    for (uint32_t k = 0; k < 16; k++) words[k] = 100 + k;
+    m.cells.words = words, m.cells.length = 16;
+    cell = zones_cell_of(&m, 1);
+    wrong |= cell.x != 108 || cell.y != 109 || cell.side != 110 || cell.child != 111 || cell.first != 112 || cell.entries != 113 || cell.lines != 114 ||
+             cell.parent != 115 || memcmp(&cell, expected, sizeof cell) != 0;
+    cell = zones_cell_of(&m, 2), wrong |= memcmp(&cell, none, sizeof cell) != 0;
+    cell = zones_cell_of(&m, 4294967295u), wrong |= memcmp(&cell, none, sizeof cell) != 0;
+    m.cells.length = 15;
+    cell = zones_cell_of(&m, 1), wrong |= memcmp(&cell, none, sizeof cell) != 0;
+    return wrong;
+}
+
+/* Upward from the leaf that holds a position: each parent holds the cell as one of its four and has twice its side, each holds the position, and the last
+ * is cell 0. */
+static int upward(const struct zones_map *map, uint32_t x, uint32_t y) {
+    struct zones_leaf leaf;
+    if (zones_refusal(zones_map_find_leaf(map, x, y, &leaf)) != ZONES_ACCEPTED) return 0;
+    struct zones_cell cell = zones_cell_of(map, leaf.cell);
+    uint32_t number = leaf.cell;
+    int wrong = cell.x != leaf.x || cell.y != leaf.y || cell.side != leaf.side || cell.child != 0 || cell.entries != leaf.entries || cell.lines != leaf.lines;
+    for (uint32_t k = 0; k < leaf.steps; k++) {
+        const struct zones_cell around = zones_cell_of(map, cell.parent);
+        wrong |= around.child == 0 || number - around.child >= ZONES_CHILDREN || around.side != 2 * cell.side || x - around.x >= around.side ||
+                 y - around.y >= around.side;
+        number = cell.parent;
+        cell = around;
+    }
+    return wrong || number != 0 || cell.parent != 0 || cell.side != ZONES_GRID_SIDE;
+}
+
 static int readings(const struct zones_map *lent) {
     const struct zones_map m = *lent;
     static uint8_t one[3 * 700], other[3 * 700];
@@ -81,7 +118,7 @@ static int readings(const struct zones_map *lent) {
     int wrong = 0;
     for (uint32_t k = 0; k < 60; k++) {
         px[k] = k * 1111, py[k] = 65535 - k * 1010;
-        wrong |= read_leaf(lent, px[k], py[k]) | read_spot(lent, px[k], py[k]);
+        wrong |= read_leaf(lent, px[k], py[k]) | read_spot(lent, px[k], py[k]) | upward(lent, px[k], py[k]);
     }
     wrong |= read_leaf(lent, 65536, 1) | read_spot(lent, 1, 65536);
     for (uint32_t row = 0; row < 4200; row += 300) {
@@ -123,7 +160,7 @@ int main(int argc, char **argv) {
     const size_t length = fread(file, 1, sizeof file, drawing);
     fclose(drawing);
     struct zones_map whole = zones_map_of(&a), m = whole;
-    int wrong = nothing() | reach() | every_call(whole, length) | every_call(whole, length - 1);
+    int wrong = nothing() | reach() | by_name() | every_call(whole, length) | every_call(whole, length - 1);
     m.cells.length = 8 * 50, wrong |= every_call(m, length), m = whole;
     m.entries.length = 4 * 90, wrong |= every_call(m, length), m = whole;
     m.head.length = 1, wrong |= every_call(m, length), m = whole;

@@ -8,7 +8,7 @@ use crate::expect;
 use crate::lent::{Lent, LentTables, LentTree};
 use crate::meaning::Drawing;
 use crate::samples::{self, Tables};
-use crate::stream::ENTRY_WORDS;
+use crate::stream::{self, ENTRY_WORDS};
 use crate::tree::{self, End, Growth, TreeMut, CELL_WORDS, HEAD_WORDS};
 use crate::zones::{self, Answer, FULL};
 
@@ -155,7 +155,8 @@ pub fn open(drawing: &LentTables, before: &LentTree) -> (Answer, LentTree) {
             let (now, then) = (after.view(), before.view());
             assert_eq!(now.head[..HEAD_WORDS], [1, entries]);
             assert_eq!(now.head[HEAD_WORDS..], then.head[HEAD_WORDS..]);
-            let cell = [0, 0, WHOLE_SIDE, 0, 0, entries, 0, 0];
+            let lines = stream::lines(&after.tables().stream(0));
+            let cell = [0, 0, WHOLE_SIDE, 0, 0, entries, lines, 0];
             assert_eq!(now.cells[..CELL_WORDS], cell);
             assert_eq!(now.cells[CELL_WORDS..], then.cells[CELL_WORDS..]);
             let behind = ENTRY_WORDS * entries as usize;

@@ -6,6 +6,7 @@ use crate::query;
 use crate::random::Random;
 use crate::samples::Tables;
 use crate::scenes;
+use crate::stream;
 use crate::tally::Tally;
 use crate::tree::{self, TreeTables, CELL_WORDS, CHILD_WORD};
 
@@ -23,14 +24,14 @@ pub fn split_words(before: &TreeTables, after: &TreeTables, number: u32) {
     let end = after.head[1] as usize;
     assert_eq!(before.entries[..4 * entries], after.entries[..4 * entries]);
     assert_eq!(before.entries[4 * end..], after.entries[4 * end..]);
-    // The children's streams follow one another from the first unused entry on.
+    // The children's streams follow one another from the first unused entry on; each child has the
+    // lines of its own.
     let mut next = entries as u32;
     for child in cells as u32..cells as u32 + 4 {
         let cell = after.view().cell(child);
-        assert_eq!((cell.child, cell.first), (0, next));
+        assert_eq!((cell.child, cell.first, cell.parent), (0, next, number));
+        assert_eq!(cell.lines, stream::lines(&after.stream(child)));
         next += cell.count;
-        let row = &after.cells[CELL_WORDS * child as usize..][..CELL_WORDS];
-        assert_eq!(row[6..], [0, 0]);
     }
     assert_eq!(next as usize, end);
 }
@@ -80,8 +81,7 @@ pub fn all_calls(random: &mut Random, tables: &Tables, tree: &TreeTables, tally:
             let cells = |tree: &TreeTables| tree.head[0];
             while cells(&by_hand) < cells(&after) {
                 let next = cells(&by_hand);
-                let parent = |n: &u32| after.cells[CELL_WORDS * *n as usize + CHILD_WORD] == next;
-                let number = (0..next).find(parent).expect("a cell was split");
+                let number = after.view().cell(next).parent;
                 assert!(tree::split(drawing, &mut by_hand.lend(), number).is_ok());
             }
             note("grow with splits", Some(number));

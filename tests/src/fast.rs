@@ -1,7 +1,8 @@
 //! The second implementation in a fast form, for the benchmark: opening, splitting and growing on
 //! the same tables with the same answers. A stream is checked in one pass, a child is made and
-//! pruned in one pass over its parent's stream, and growing sweeps over the cells once. Where a curve
-//! counts is decided by document 000's implicit form, as document 02 says of the quick test.
+//! pruned in one pass over its parent's stream, and growing sweeps over the cells once, by their line
+//! counts. Where a curve counts is decided by document 000's implicit form, as document 02 says of the
+//! quick test.
 
 use std::cmp::Ordering;
 
@@ -14,8 +15,8 @@ use crate::drawing::{
 use crate::meaning::{fill_passes, Drawing, OPAQUE};
 use crate::stream::{self, run_in_range, Entry, InUse, ENTRY_WORDS, MOST_START};
 use crate::tree::{
-    self, Cell, End, Growth, Tree, TreeMut, CELL_WORDS, CHILD_WORD, HEAD_WORDS, MOST_CELLS,
-    MOST_DEPTH, MOST_ENTRIES,
+    self, put_cell, Cell, End, Growth, Tree, TreeMut, CELL_WORDS, CHILD_WORD, HEAD_WORDS,
+    MOST_CELLS, MOST_DEPTH, MOST_ENTRIES,
 };
 
 type Row = [u32; ENTRY_WORDS];
@@ -436,13 +437,34 @@ impl Maker<'_> {
     }
 }
 
-/// Appends the stream of a square, made from a stream that has passed: how many entries it has.
+/// How many entries a stream has, and how many of them are lines or curves.
+#[derive(Clone, Copy)]
+struct Made {
+    count: u32,
+    lines: u32,
+}
+
+impl Made {
+    /// The leaf whose stream it is.
+    fn leaf(self, square: Square, first: u32, parent: u32) -> Cell {
+        Cell {
+            square,
+            child: 0,
+            first,
+            count: self.count,
+            lines: self.lines,
+            parent,
+        }
+    }
+}
+
+/// Appends the stream of a square, made from a stream that has passed.
 fn make(
     drawing: Drawing,
     square: Square,
     entries: impl Iterator<Item = Entry>,
     out: &mut Vec<Row>,
-) -> u32 {
+) -> Made {
     let before = out.len();
     let mut maker = Maker {
         drawing,
@@ -460,8 +482,17 @@ fn make(
         }
     }
     maker.end_area();
-    (maker.out.len() - before) as u32
+    let made = &maker.out[before..];
+    let lines = made.iter().filter(|row| matches!(row[0], LINE | CURVE));
+    Made {
+        count: made.len() as u32,
+        lines: lines.count() as u32,
+    }
 }
+
+/// The kinds of entries that count as lines.
+const LINE: u32 = 5;
+const CURVE: u32 = 8;
 
 // ---- the calls ----
 
@@ -471,12 +502,6 @@ fn rows(entries: &[u32]) -> &[Row] {
 
 fn put_rows(entries: &mut [u32], first: usize, made: &[Row]) {
     entries.as_chunks_mut::<ENTRY_WORDS>().0[first..][..made.len()].copy_from_slice(made);
-}
-
-fn put_cell(cells: &mut [u32], number: usize, square: Square, first: u32, count: u32) {
-    let Square { x, y, side } = square;
-    let words = [x, y, side, 0, first, count, 0, 0];
-    cells[CELL_WORDS * number..][..CELL_WORDS].copy_from_slice(&words);
 }
 
 fn holds_cells(tree: &TreeMut) -> usize {
@@ -503,14 +528,33 @@ pub fn open(drawing: Drawing, tree: &mut TreeMut, made: &mut Vec<Row>) -> Result
     }
     made.clear();
     let whole = stream::of_drawing(drawing);
-    let count = make(drawing, Square::WHOLE, whole.into_iter(), made);
+    let cell = make(drawing, Square::WHOLE, whole.into_iter(), made).leaf(Square::WHOLE, 0, 0);
     if tree.head.len() < HEAD_WORDS || holds_cells(tree) < 1 || holds_entries(tree) < made.len() {
         return Err(refusal(11, 0));
     }
-    put_cell(tree.cells, 0, Square::WHOLE, 0, count);
+    put_cell(tree.cells, 0, cell);
     put_rows(tree.entries, 0, made);
-    tree.head[..HEAD_WORDS].copy_from_slice(&[1, count]);
-    Ok(count)
+    tree.head[..HEAD_WORDS].copy_from_slice(&[1, cell.count]);
+    Ok(cell.count)
+}
+
+/// Whether a cell other than cell 0 is the quarter that it should be of the parent that it names.
+fn held_by_parent(tree: Tree, in_use: InUse, number: u32, cell: Cell) -> bool {
+    if cell.parent as usize >= in_use.cells {
+        return false;
+    }
+    let parent = tree.cell(cell.parent);
+    let (Square { x, y, side }, around) = (cell.square, parent.square);
+    let which = number.wrapping_sub(parent.child);
+    // The parent's low corner, by differences that do not wrap.
+    let low = |at: u32, high: u32| at.checked_sub(side * high);
+    parent.child != 0
+        && parent.child <= number
+        && which < 4
+        && (parent.child as usize) < in_use.cells.saturating_sub(3)
+        && around.side == 2 * side
+        && low(x, which & 1) == Some(around.x)
+        && low(y, which >> 1) == Some(around.y)
 }
 
 /// A cell whose numbers are in range.
@@ -523,12 +567,16 @@ fn checked_cell(tree: Tree, in_use: InUse, number: u32) -> Option<Cell> {
         && (x | y) & (side - 1) == 0
         && (number != 0 || cell.square == Square::WHOLE)
         && (cell.is_leaf() || u64::from(cell.child) + 3 < in_use.cells as u64)
-        && run_in_range(in_use, cell.first, cell.count);
+        && run_in_range(in_use, cell.first, cell.count)
+        && match number {
+            0 => cell.parent == 0,
+            _ => held_by_parent(tree, in_use, number, cell),
+        };
     passes.then_some(cell)
 }
 
-/// Splits a leaf whose stream has passed: the first child, or 10 or 11.
-fn split_checked(
+/// Splits a leaf whose numbers are in range: the first child, or 12, 10 or 11.
+fn split_leaf(
     drawing: Drawing,
     tree: &mut TreeMut,
     in_use: InUse,
@@ -536,10 +584,13 @@ fn split_checked(
     cell: Cell,
     made: &mut Vec<Row>,
 ) -> Result<u32, Refusal> {
+    let stream = &rows(tree.entries)[cell.first as usize..][..cell.count as usize];
+    if lines_of_checked(drawing, in_use, cell.square, stream) != Some(cell.lines) {
+        return Err(refusal(12, 0));
+    }
     let quarters = cell.square.quarters().ok_or(refusal(10, 0))?;
     made.clear();
-    let stream = &rows(tree.entries)[cell.first as usize..][..cell.count as usize];
-    let counts = quarters.map(|quarter| {
+    let streams = quarters.map(|quarter| {
         let entries = stream.iter().filter_map(|row| Entry::decode(*row));
         make(drawing, quarter, entries, made)
     });
@@ -548,9 +599,10 @@ fn split_checked(
     }
     put_rows(tree.entries, in_use.entries, made);
     let mut end = in_use.entries as u32;
-    for (i, (quarter, count)) in quarters.into_iter().zip(counts).enumerate() {
-        put_cell(tree.cells, in_use.cells + i, quarter, end, count);
-        end += count;
+    for (i, (quarter, stream)) in quarters.into_iter().zip(streams).enumerate() {
+        let child = stream.leaf(quarter, end, number);
+        put_cell(tree.cells, in_use.cells + i, child);
+        end += child.count;
     }
     let child = in_use.cells as u32;
     tree.cells[CELL_WORDS * number as usize + CHILD_WORD] = child;
@@ -576,13 +628,12 @@ pub fn split(
     if !cell.is_leaf() {
         return Err(refusal(9, 0));
     }
-    let stream = &rows(tree.entries)[cell.first as usize..][..cell.count as usize];
-    lines_of_checked(drawing, in_use, cell.square, stream).ok_or(refusal(12, 0))?;
-    split_checked(drawing, tree, in_use, number, cell, made)
+    split_leaf(drawing, tree, in_use, number, cell, made)
 }
 
-/// Refusals: 7, 12. A leaf that was passed by stays so, and a split makes cells behind all others:
-/// one sweep upward finds the same leaves as beginning from cell 0 each time. `made` is scratch.
+/// Refusals: 7, 12. A cell that was passed by stays so, its parent too, and a split makes cells behind
+/// all others: one sweep upward finds the same leaves as beginning from cell 0 each time. `made` is
+/// scratch.
 pub fn grow(
     drawing: Drawing,
     tree: &mut TreeMut,
@@ -597,19 +648,17 @@ pub fn grow(
     let (mut number, mut splits) = (0, 0);
     while (number as usize) < in_use.cells {
         let cell = checked_cell(tree.view(), in_use, number).ok_or(refusal(12, 0))?;
-        if cell.is_leaf() {
-            let stream = &rows(tree.entries)[cell.first as usize..][..cell.count as usize];
-            let lines = lines_of_checked(drawing, in_use, cell.square, stream);
-            let lines = lines.ok_or(refusal(12, 0))?;
-            if lines > threshold && cell.square.depth() < limit {
-                if split_checked(drawing, tree, in_use, number, cell, made).is_err() {
+        if cell.is_leaf() && cell.lines > threshold && cell.square.depth() < limit {
+            match split_leaf(drawing, tree, in_use, number, cell, made) {
+                Ok(_) => splits += 1,
+                Err(Refusal { number: 11, .. }) => {
                     let end = End::Full;
                     return Ok(Growth { end, splits });
                 }
-                splits += 1;
-                in_use.cells = tree.head[0] as usize;
-                in_use.entries = tree.head[1] as usize;
+                Err(refused) => return Err(refused),
             }
+            in_use.cells = tree.head[0] as usize;
+            in_use.entries = tree.head[1] as usize;
         }
         number += 1;
     }

@@ -1,7 +1,8 @@
 //! Trees written by others: "Tables that pass 12 but were written by others are read for what they
 //! say." Their numbers are in range and their streams keep the grammar, but no splitting made
 //! them: areas are repeated and out of order, lines join any two corners, curves begin at any corner
-//! whose next two make one, nothing is pruned, cells share entries, children stand anywhere.
+//! whose next two make one, nothing is pruned, cells share entries, children stand anywhere, before
+//! their parents too, and a split cell has any line count.
 
 use crate::class::Square;
 use crate::curve;
@@ -10,7 +11,7 @@ use crate::random::Random;
 use crate::samples::Tables;
 use crate::scenes::square_in;
 use crate::stream::{Entry, ENTRY_WORDS, MOST_START};
-use crate::tree::{TreeTables, CELL_WORDS};
+use crate::tree::{put_cell, Cell, TreeTables};
 
 /// A stream for a square that passes 12, over the areas and corners of a drawing.
 pub fn stream(random: &mut Random, tables: &Tables, square: Square) -> Vec<Entry> {
@@ -180,8 +181,10 @@ pub fn tree_of(
     splits: usize,
     mut stream: impl FnMut(&mut Random, &Tables, Square) -> Vec<Entry>,
 ) -> TreeTables {
-    // Squares of the cells in the order of splitting, and for each its block of four children.
+    // Squares of the cells in the order of splitting, and for each its parent and its block of four
+    // children.
     let mut squares = vec![Square::WHOLE];
+    let mut parents = vec![0];
     let mut blocks = vec![None];
     for block in 0..splits {
         let leaves: Vec<usize> = (0..squares.len())
@@ -194,6 +197,7 @@ pub fn tree_of(
         };
         blocks[leaf] = Some(block);
         squares.extend(squares[leaf].quarters().expect("a side above 1"));
+        parents.extend([leaf; 4]);
         blocks.extend([None; 4]);
     }
     // The blocks in another order.
@@ -207,31 +211,26 @@ pub fn tree_of(
     };
     let more = random.pick(&[0, 3, 4, 9, 30]);
     let mut tree = TreeTables::new(squares.len() + more, 0);
-    let mut runs: Vec<(u32, u32)> = vec![(0, 0)];
+    let mut rows = vec![Cell::leaf(Square::WHOLE, 0, &[], 0)];
     for (cell, square) in squares.iter().enumerate() {
-        let run = match random.one_in(8) {
-            true => random.pick(&runs),
+        let mut row = match random.one_in(8) {
+            // The entries of another, or none.
+            true => random.pick(&rows),
             false => {
                 let stream = stream(random, tables, *square);
                 let first = tree.entries.len() / ENTRY_WORDS;
                 tree.entries.extend(words(random, &stream));
-                (first as u32, stream.len() as u32)
+                Cell::leaf(*square, first as u32, &stream, 0)
             }
         };
-        runs.push(run);
-        let child = blocks[cell].map_or(0, |block| 4 * places[block] as u32 + 1);
-        let row = [
-            square.x,
-            square.y,
-            square.side,
-            child,
-            run.0,
-            run.1,
-            random.word(),
-            random.word(),
-        ];
-        let at = CELL_WORDS * place_of(cell);
-        tree.cells[at..at + CELL_WORDS].copy_from_slice(&row);
+        rows.push(row);
+        (row.square, row.parent) = (*square, place_of(parents[cell]) as u32);
+        if let Some(block) = blocks[cell] {
+            row.child = 4 * places[block] as u32 + 1;
+            let any = random.word();
+            row.lines = random.pick(&[row.lines, row.lines + 1, any]);
+        }
+        put_cell(&mut tree.cells, place_of(cell), row);
     }
     tree.head = vec![
         squares.len() as u32,

@@ -1,5 +1,5 @@
-//! A second implementation of document 01, with Items 1 and 2 of document 02, and what is needed to
-//! compare the library with it.
+//! A second implementation of document 01, with Items 1, 2, 4 and 5 of document 02, and what is needed
+//! to compare the library with it.
 
 #![deny(unsafe_code)]
 

@@ -1,8 +1,10 @@
 //! The tree: opening, splitting, growing and finding leaves. Document 01, "Cells", "From the
-//! input" and "From the state", over the tables of docs/TABLES.md and these three:
+//! input" and "From the state", with the parents and line counts of document 02, Item 5, over the
+//! tables of docs/TABLES.md and these three:
 //!
 //! head     word 0 cells in use, word 1 entries in use
-//! cells    8 words a cell: x, y, side, first child (0 for a leaf), first entry, entries, 0, 0
+//! cells    8 words a cell: x, y, side, first child (0 for a leaf), first entry, entries, lines and
+//!          curves, parent (0 for cell 0)
 //! entries  4 words an entry
 
 use crate::class::{Square, WHOLE_SIDE};
@@ -21,8 +23,10 @@ pub const MOST_ENTRIES: usize = 65_536;
 /// "a depth limit 0 to 16"
 pub const MOST_DEPTH: u32 = 16;
 
-/// Which word of a cell is its first child.
+/// Which word of a cell is its first child, its line count, its parent.
 pub const CHILD_WORD: usize = 3;
+pub const LINES_WORD: usize = 6;
+pub const PARENT_WORD: usize = 7;
 
 // ---- the lent tables ----
 
@@ -134,11 +138,14 @@ impl Tree<'_> {
             child: row[CHILD_WORD],
             first: row[4],
             count: row[5],
+            lines: row[LINES_WORD],
+            parent: row[PARENT_WORD],
         }
     }
 }
 
-/// What a cell's words say.
+/// What a cell's words say. Document 02, Item 5: "Each cell carries its parent's number (its own for
+/// cell 0) and its line count, curves included."
 #[derive(Clone, Copy, PartialEq, Eq, Debug)]
 pub struct Cell {
     pub square: Square,
@@ -146,6 +153,8 @@ pub struct Cell {
     pub child: u32,
     pub first: u32,
     pub count: u32,
+    pub lines: u32,
+    pub parent: u32,
 }
 
 impl Cell {
@@ -153,9 +162,22 @@ impl Cell {
         self.child == 0
     }
 
-    fn words(&self) -> [u32; CELL_WORDS] {
+    /// A leaf of a square with a stream that begins at an entry.
+    pub fn leaf(square: Square, first: u32, stream: &[Entry], parent: u32) -> Cell {
+        Cell {
+            square,
+            child: 0,
+            first,
+            count: stream.len() as u32,
+            lines: stream::lines(stream),
+            parent,
+        }
+    }
+
+    pub fn words(&self) -> [u32; CELL_WORDS] {
         let Square { x, y, side } = self.square;
-        [x, y, side, self.child, self.first, self.count, 0, 0]
+        let (child, first, count) = (self.child, self.first, self.count);
+        [x, y, side, child, first, count, self.lines, self.parent]
     }
 }
 
@@ -179,9 +201,40 @@ pub fn in_use(drawing: Drawing, tree: Tree) -> Option<InUse> {
     in_range.then_some(in_use)
 }
 
+/// Whether the four children of a split cell are in use: "child ... numbers below what is in use".
+fn children_in_use(in_use: InUse, cell: Cell) -> bool {
+    u64::from(cell.child) + 3 < in_use.cells as u64
+}
+
+/// Document 02, Item 5: "Cell 0 with another parent than itself, or any other cell whose parent is
+/// not a split cell holding it as one of its four, is met by 12 wherever it is used". Each of the four
+/// is "on its own square", a quarter of the parent's. No other number of the parent is tried.
+fn has_its_parent(tree: Tree, in_use: InUse, number: u32, cell: Cell) -> bool {
+    if number == 0 {
+        return cell.parent == 0;
+    }
+    if cell.parent as usize >= in_use.cells {
+        return false;
+    }
+    let parent = tree.cell(cell.parent);
+    let holds = !parent.is_leaf() && children_in_use(in_use, parent);
+    let which = number.checked_sub(parent.child).filter(|which| *which < 4);
+    which.is_some_and(|which| holds && is_quarter(parent.square, which, cell.square))
+}
+
+/// Whether a square is this quarter of another, "low x low y, high x low y, low x high y, high x high
+/// y", whose numbers may be any words.
+fn is_quarter(whole: Square, which: u32, quarter: Square) -> bool {
+    let side = u64::from(quarter.side);
+    let low = |whole: u32, high: u32| u64::from(whole) + side * u64::from(high);
+    u64::from(whole.side) == 2 * side
+        && u64::from(quarter.x) == low(whole.x, which % 2)
+        && u64::from(quarter.y) == low(whole.y, which / 2)
+}
+
 /// A cell that is in use, if its numbers are in range: "a cell's side a power of two up to 65,536
-/// and its low corner on the grid in multiples of that side; cell 0 ... on its own square"; "child
-/// and entry numbers below what is in use".
+/// and its low corner on the grid in multiples of that side; cell 0 and each child on its own
+/// square"; "child and entry numbers below what is in use".
 fn checked_cell(tree: Tree, in_use: InUse, number: u32) -> Option<Cell> {
     let cell = tree.cell(number);
     let Square { x, y, side } = cell.square;
@@ -191,17 +244,20 @@ fn checked_cell(tree: Tree, in_use: InUse, number: u32) -> Option<Cell> {
         && y < WHOLE_SIDE
         && x % side == 0
         && y % side == 0;
-    let last_child = u64::from(cell.child) + 3;
     let in_range = on_grid
         && (number != 0 || cell.square == Square::WHOLE)
-        && (cell.is_leaf() || last_child < in_use.cells as u64)
-        && run_in_range(in_use, cell.first, cell.count);
+        && (cell.is_leaf() || children_in_use(in_use, cell))
+        && run_in_range(in_use, cell.first, cell.count)
+        && has_its_parent(tree, in_use, number, cell);
     in_range.then_some(cell)
 }
 
+/// The stream of a leaf whose numbers are in range. Document 02, Item 5: 12 meets it too "where its
+/// stream is read, ... a leaf whose count differs; a split cell's count is not compared."
 fn checked_stream(drawing: Drawing, tree: Tree, in_use: InUse, cell: Cell) -> Option<Vec<Entry>> {
     let (first, count) = (cell.first, cell.count);
-    stream::check(drawing, in_use, cell.square, tree.entries, first, count)
+    let stream = stream::check(drawing, in_use, cell.square, tree.entries, first, count);
+    stream.filter(|stream| stream::lines(stream) == cell.lines)
 }
 
 fn unequal(drawing: Drawing) -> bool {
@@ -216,7 +272,7 @@ fn put_stream(entries: &mut [u32], first: usize, stream: &[Entry]) {
     entries[ENTRY_WORDS * first..][..words.len()].copy_from_slice(&words);
 }
 
-fn put_cell(cells: &mut [u32], number: usize, cell: Cell) {
+pub fn put_cell(cells: &mut [u32], number: usize, cell: Cell) {
     cells[CELL_WORDS * number..][..CELL_WORDS].copy_from_slice(&cell.words());
 }
 
@@ -249,12 +305,8 @@ pub fn open(drawing: Drawing, tree: &mut TreeMut) -> Result<(), Refusal> {
     {
         return Err(refusal(11, 0));
     }
-    let cell = Cell {
-        square: Square::WHOLE,
-        child: 0,
-        first: 0,
-        count: stream.len() as u32,
-    };
+    // Document 02, Item 5: "Opening and splitting set both".
+    let cell = Cell::leaf(Square::WHOLE, 0, &stream, 0);
     put_cell(tree.cells, 0, cell);
     put_stream(tree.entries, 0, &stream);
     tree.head[..HEAD_WORDS].copy_from_slice(&[1, cell.count]);
@@ -295,12 +347,7 @@ pub fn split(drawing: Drawing, tree: &mut TreeMut, number: u32) -> Result<u32, R
     // "their entries are written from the first unused entry onward, child by child."
     let mut end = in_use.entries;
     for (i, (square, stream)) in quarters.into_iter().zip(&streams).enumerate() {
-        let child = Cell {
-            square,
-            child: 0,
-            first: end as u32,
-            count: stream.len() as u32,
-        };
+        let child = Cell::leaf(square, end as u32, stream, number);
         // "numbered onward from the cells in use"
         put_cell(tree.cells, in_use.cells + i, child);
         put_stream(tree.entries, end, stream);
@@ -329,7 +376,8 @@ pub struct Growth {
 }
 
 /// "the lowest numbered leaf with more lines than the threshold and a depth below the limit".
-/// "Growing reads cells from 0 upward, leaves with their streams, up to the one it splits".
+/// "Growing reads cells from 0 upward, ... up to the one it splits"; document 02, Item 5: "growing
+/// reads the count instead of the stream, but for the leaf it splits."
 fn leaf_to_split(
     drawing: Drawing,
     tree: Tree,
@@ -339,11 +387,8 @@ fn leaf_to_split(
     let in_use = in_use(drawing, tree).ok_or(refusal(12, 0))?;
     for number in 0..in_use.cells as u32 {
         let cell = checked_cell(tree, in_use, number).ok_or(refusal(12, 0))?;
-        if cell.is_leaf() {
-            let stream = checked_stream(drawing, tree, in_use, cell).ok_or(refusal(12, 0))?;
-            if stream::lines(&stream) > threshold && cell.square.depth() < limit {
-                return Ok(Some(number));
-            }
+        if cell.is_leaf() && cell.lines > threshold && cell.square.depth() < limit {
+            return Ok(Some(number));
         }
     }
     Ok(None)
@@ -372,6 +417,8 @@ pub fn grow(
                 let end = End::Full;
                 return Ok(Growth { end, splits });
             }
+            // The leaf's stream is read by its split.
+            Err(refused @ Refusal { number: 12, .. }) => return Err(refused),
             Err(other) => panic!("growing splits a checked leaf, and met {other:?}"),
         }
     }

@@ -4,9 +4,9 @@ use crate::drawing::AREA_WORDS;
 use crate::random::Random;
 use crate::samples::Tables;
 use crate::stream::ENTRY_WORDS;
-use crate::tree::{TreeTables, CELL_WORDS, CHILD_WORD};
+use crate::tree::{TreeTables, CELL_WORDS, CHILD_WORD, LINES_WORD, PARENT_WORD};
 
-/// Ways to damage the tables in one word or one length.
+/// Ways to damage the tables, most of them in one word or one length.
 #[derive(Clone, Copy, PartialEq, Eq, Debug)]
 pub enum TreeDamage {
     CellsInUse,
@@ -15,7 +15,14 @@ pub enum TreeDamage {
     CellChild,
     CellFirst,
     CellCount,
-    CellUnnamed,
+    CellLines,
+    CellParent,
+    /// Two cells have each the other's parent.
+    ParentsExchanged,
+    ParentLeaf,
+    /// A cell numbered above: now and then one with all the words of the right parent, so that both hold
+    /// the cell.
+    ParentAbove,
     EntryKind,
     EntryWord,
     EntriesSwapped,
@@ -32,14 +39,18 @@ pub enum TreeDamage {
     PairUnequal,
 }
 
-pub const TREE_DAMAGES: [TreeDamage; 21] = [
+pub const TREE_DAMAGES: [TreeDamage; 25] = [
     TreeDamage::CellsInUse,
     TreeDamage::EntriesInUse,
     TreeDamage::CellSquare,
     TreeDamage::CellChild,
     TreeDamage::CellFirst,
     TreeDamage::CellCount,
-    TreeDamage::CellUnnamed,
+    TreeDamage::CellLines,
+    TreeDamage::CellParent,
+    TreeDamage::ParentsExchanged,
+    TreeDamage::ParentLeaf,
+    TreeDamage::ParentAbove,
     TreeDamage::EntryKind,
     TreeDamage::EntryWord,
     TreeDamage::EntriesSwapped,
@@ -79,6 +90,29 @@ fn change(random: &mut Random, table: &mut [u32], words: impl Iterator<Item = us
     }
 }
 
+/// The parent of a cell becomes a leaf: any tree has one.
+fn parent_leaf(random: &mut Random, tree: &mut TreeTables) {
+    let cell = random.below(tree.head[0] as usize);
+    let leaf = random.pick(&tree.leaves());
+    tree.cells[CELL_WORDS * cell + PARENT_WORD] = leaf;
+}
+
+/// The parent of a cell becomes one above it, which may take over the words of the right one.
+fn parent_above(random: &mut Random, tree: &mut TreeTables) {
+    let cells = tree.head[0] as usize;
+    let cell = random.below(cells);
+    if cell + 1 == cells {
+        return;
+    }
+    let above = random.within(cell + 1..=cells - 1);
+    let parent = tree.cells[CELL_WORDS * cell + PARENT_WORD] as usize;
+    tree.cells[CELL_WORDS * cell + PARENT_WORD] = above as u32;
+    if random.one_in(2) {
+        let words = CELL_WORDS * parent..CELL_WORDS * (parent + 1);
+        tree.cells.copy_within(words, CELL_WORDS * above);
+    }
+}
+
 fn shorten<T>(random: &mut Random, table: &mut Vec<T>) {
     let less = match random.below(3) {
         0 => 1,
@@ -109,10 +143,14 @@ pub fn damage_tree(
         TreeDamage::CellChild => change(random, &mut tree.cells, words_of_cells(CHILD_WORD)),
         TreeDamage::CellFirst => change(random, &mut tree.cells, words_of_cells(4)),
         TreeDamage::CellCount => change(random, &mut tree.cells, words_of_cells(5)),
-        TreeDamage::CellUnnamed => {
-            let word = random.within(6..=7);
-            change(random, &mut tree.cells, words_of_cells(word));
+        TreeDamage::CellLines => change(random, &mut tree.cells, words_of_cells(LINES_WORD)),
+        TreeDamage::CellParent => change(random, &mut tree.cells, words_of_cells(PARENT_WORD)),
+        TreeDamage::ParentsExchanged => {
+            let [one, other] = [0; 2].map(|_| CELL_WORDS * random.below(cells) + PARENT_WORD);
+            tree.cells.swap(one, other);
         }
+        TreeDamage::ParentLeaf => parent_leaf(random, tree),
+        TreeDamage::ParentAbove => parent_above(random, tree),
         TreeDamage::EntryKind => change(random, &mut tree.entries, words_of_entries(0)),
         TreeDamage::EntryWord => {
             let word = random.within(1..=3);

@@ -15,7 +15,10 @@ use zones_tests::samples::{self, Tables};
 use zones_tests::scenes;
 use zones_tests::stream::{Entry, ENTRY_WORDS, MOST_START};
 use zones_tests::tally::Tally;
-use zones_tests::tree::{self, TreeTables, CELL_WORDS, CHILD_WORD, MOST_CELLS, MOST_ENTRIES};
+use zones_tests::tree::{
+    self, put_cell, Cell, TreeTables, CELL_WORDS, CHILD_WORD, LINES_WORD, MOST_CELLS, MOST_ENTRIES,
+    PARENT_WORD,
+};
 use zones_tests::tree_damage::TREE_DAMAGES;
 use zones_tests::zones::{self, Answer, FULL};
 
@@ -346,8 +349,15 @@ fn breaks(tables: &Tables, tree: &TreeTables, leaf: u32) -> Vec<Break> {
     at("first", true, Change::Cell(4, u32::MAX));
     at("count", true, Change::Cell(5, entries + 1 - cell.first));
     at("count", true, Change::Cell(5, u32::MAX));
-    at("unnamed", false, Change::Cell(6, u32::MAX));
-    at("unnamed", false, Change::Cell(7, u32::MAX));
+    let lines = cell.lines;
+    for lines in [lines + 1, lines.wrapping_sub(1), u32::MAX] {
+        at("lines", true, Change::Cell(LINES_WORD, lines));
+    }
+    // Every other cell in use, leaves and split ones, and two that are not.
+    let others = (0..used).filter(|other| *other != cell.parent);
+    for parent in others.chain([used, u32::MAX]) {
+        at("parent", true, Change::Cell(PARENT_WORD, parent));
+    }
     for kind in [1, 2, 3, 4, 5, 6, 7, 8] {
         at("kind", true, Change::Entry(kind, 0, 0));
         at("kind", true, Change::Entry(kind, 0, 9));
@@ -435,7 +445,7 @@ fn each_range_of_12_at_its_end_and_beyond() {
     let random = &mut Random::for_test(93);
     let mut tally = Tally::default();
     let mut rounds = 0;
-    while rounds < 150 {
+    while rounds < 250 {
         let (tables, tree) = grown(random);
         let leaf = random.pick(&tree.leaves());
         // Streams with something to break, mostly.
@@ -481,6 +491,8 @@ fn each_range_of_12_at_its_end_and_beyond() {
         "child",
         "first",
         "count",
+        "lines",
+        "parent",
         "kind",
         "area number",
         "start",
@@ -497,7 +509,7 @@ fn each_range_of_12_at_its_end_and_beyond() {
     for name in ["cells in use", "entries in use", "child", "start", "sign"] {
         tally.reached(&format!("{name} passed"), 30);
     }
-    for name in ["first row", "row behind", "coordinate", "unnamed", "curve"] {
+    for name in ["first row", "row behind", "coordinate", "curve"] {
         tally.reached(&format!("{name} passed"), 30);
     }
 }
@@ -560,8 +572,7 @@ fn shortcuts_over_all_rows() {
         tree.entries = foreign::words(random, &stream);
         tree.entries.extend([0; 400]);
         tree.head = vec![1, stream.len() as u32];
-        let cell = [0, 0, 65_536, 0, 0, stream.len() as u32, 0, 0];
-        tree.cells[..CELL_WORDS].copy_from_slice(&cell);
+        put_cell(&mut tree.cells, 0, Cell::leaf(Square::WHOLE, 0, &stream, 0));
         let mut sample = Sample::longer(random, tables, &tree);
         tally.note_call("split", sample.split(0));
         // A start number beyond its range is written, and refused when it is met.

@@ -39,6 +39,35 @@ fn same_tree(map: &Map, second: &TreeTables) {
     let leaves = |tree: &TreeTables| tree.leaves().len();
     assert_eq!(map.leaves().count(), leaves(second));
     assert_eq!(map.cells().count(), cells);
+    (0..cells as u32).for_each(|number| same_cell(map, second, number));
+    let unused = cells as u32;
+    assert!(map.cell(unused).is_none() && map.upward(unused).next().is_none());
+}
+
+/// A cell by its number, and the cells upward from it, as many as it is deep.
+fn same_cell(map: &Map, second: &TreeTables, number: u32) {
+    let cell = |number: u32| second.view().cell(number);
+    let named = |found: zones::Cell| tree::Cell {
+        square: Square {
+            x: found.x,
+            y: found.y,
+            side: found.side,
+        },
+        child: found.child,
+        first: found.first,
+        count: found.entries,
+        lines: found.lines,
+        parent: found.parent,
+    };
+    assert_eq!(map.cell(number).map(named), Some(cell(number)));
+    let mut next = number;
+    let mut steps = 0;
+    for (above, found) in map.upward(number) {
+        assert_eq!((above, named(found)), (next, cell(next)));
+        next = cell(next).parent;
+        steps += 1;
+    }
+    assert_eq!((next, steps), (0, cell(number).square.depth() + 1));
 }
 
 /// An answer that reaches a position is what shows there; it reaches where the leaf is uniform and holds

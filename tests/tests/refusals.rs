@@ -2,6 +2,7 @@
 //! Each chosen case is called by the library and by the second implementation, which agree in all
 //! that can be seen, and its answer is the one that is named.
 
+use zones_tests::class::Square;
 use zones_tests::compare::{self, LEAF_WORDS};
 use zones_tests::drawing::{AREA_WORDS, CLIP};
 use zones_tests::expect;
@@ -16,7 +17,7 @@ use zones_tests::samples::{self, Tables};
 use zones_tests::scenes::{self, contour, painted, square_at};
 use zones_tests::stream::{self, Entry, ENTRY_WORDS};
 use zones_tests::tally::Tally;
-use zones_tests::tree::{self, TreeTables, CELL_WORDS};
+use zones_tests::tree::{self, put_cell, Cell, TreeTables, CELL_WORDS, LINES_WORD, PARENT_WORD};
 use zones_tests::tree_damage::{damage_tree, TREE_DAMAGES};
 use zones_tests::zones::{Answer, FULL};
 
@@ -153,6 +154,16 @@ fn at(cell: u32, word: usize) -> usize {
     CELL_WORDS * cell as usize + word
 }
 
+/// Puts a square in place of a cell's.
+fn put_square(tree: &mut TreeTables, cell: u32, square: [u32; 3]) {
+    tree.cells[at(cell, 0)..at(cell, 3)].copy_from_slice(&square);
+}
+
+/// Leaves a cell without entries.
+fn empty(tree: &mut TreeTables, cell: u32) {
+    tree.cells[at(cell, 5)..=at(cell, LINES_WORD)].fill(0);
+}
+
 /// A drawing of a clip group and two areas.
 fn small_drawing() -> Tables {
     let records = [
@@ -259,19 +270,21 @@ fn three_areas() -> Tables {
 fn lone_cell(stream: &[Entry]) -> Case {
     let mut tree = TreeTables::new(9, stream.len());
     tree.head = vec![1, stream.len() as u32];
-    tree.cells[..6].copy_from_slice(&[0, 0, 65_536, 0, 0, stream.len() as u32]);
+    put_cell(&mut tree.cells, 0, Cell::leaf(Square::WHOLE, 0, stream, 0));
     tree.entries = stream::words(stream);
     tree.entries.extend(vec![0; ENTRY_WORDS * 20_000]);
     let tables = three_areas();
     Case { tables, tree }
 }
 
-/// Whether cell 0, a leaf, passes 12, as every call that reads it says.
+/// Whether cell 0, a leaf, passes 12, as every call that reads its stream says: growing too where it
+/// has a line, and so may be split.
 #[track_caller]
 fn passes(case: &Case) -> bool {
-    let grown = case.grow(u32::MAX, 16).0;
-    let answers = [case.find(3, 4), case.position(3, 4).0, case.split(0), grown];
-    let passes = grown.is_ok();
+    let mut answers = vec![case.find(3, 4), case.position(3, 4).0, case.split(0)];
+    let passes = answers[0].is_ok();
+    let below = case.tree.view().cell(0).lines.checked_sub(1);
+    answers.extend(below.map(|threshold| case.grow(threshold, 1).0));
     for answer in answers {
         assert!(answer.is_ok() == passes && (passes || answer == Err((12, 0))));
     }
@@ -281,7 +294,18 @@ fn passes(case: &Case) -> bool {
 #[test]
 fn streams_that_pass_and_streams_that_do_not() {
     let expect = |expected: bool, stream: &[Entry]| {
-        assert_eq!(passes(&lone_cell(stream)), expected, "{stream:?}");
+        let case = lone_cell(stream);
+        assert_eq!(passes(&case), expected, "{stream:?}");
+        // Growing does not read the stream of a leaf that it does not split.
+        let lines = stream::lines(stream);
+        for (threshold, limit) in [(lines, 16), (u32::MAX, 16), (0, 0)] {
+            assert_eq!(case.grow(threshold, limit), (Ok(0), case.clone()));
+        }
+        // One line more or less is said than there is.
+        for other in [lines + 1, lines.wrapping_sub(1)] {
+            let other = case.changed(|case| case.tree.cells[LINES_WORD] = other);
+            assert!(!passes(&other), "{stream:?}");
+        }
     };
     let (open, bar, close, bare) = (Entry::Open, Entry::Bar, Entry::Close, Entry::Passes);
     let (paint, clip) = (area_entry(0, 0), area_entry(1, 0));
@@ -530,9 +554,12 @@ fn numbers_of_cells() {
     // A split cell's stream is not met.
     let unread = case.changed(|case| case.tree.entries[0] = 99);
     assert_eq!((unread.split(0), unread.find(0, 0)), (nine, Ok(5)));
+    // A child that is not on its quarter is met by a split and by growing too.
     let moved = case.changed(|case| case.tree.cells[at(2, 0)] = 0);
-    assert_eq!((moved.split(2), moved.find(40_000, 0)), (Ok(9), twelve));
-    // Squares: a power of two, on its grid.
+    assert_eq!((moved.split(2), moved.find(40_000, 0)), (twelve, twelve));
+    assert_eq!(moved.grow(u32::MAX, 16), (twelve, moved.clone()));
+    // Squares: a power of two, on its grid. Cell 5 is the low quarter of cell 1, whose own square is
+    // not tried with it.
     for (x, y, side, passes) in [
         (32_768, 0, 0, false),
         (32_768, 0, 131_072, false),
@@ -543,12 +570,14 @@ fn numbers_of_cells() {
         (0, 0, 65_536, true),
     ] {
         let moved = case.changed(|case| {
-            case.tree.cells[at(2, 0)..at(2, 3)].copy_from_slice(&[x, y, side]);
+            put_square(&mut case.tree, 5, [x, y, side]);
             // Without entries, so that no row is outside.
-            case.tree.cells[at(2, 5)] = 0;
+            empty(&mut case.tree, 5);
         });
+        assert_eq!(moved.split(5), twelve, "{x} {y} {side}");
+        let along = moved.changed(|case| put_square(&mut case.tree, 1, [x, y, 2 * side]));
         let expected = if passes { Ok(9) } else { twelve };
-        assert_eq!(moved.split(2), expected, "{x} {y} {side}");
+        assert_eq!(along.split(5), expected, "{x} {y} {side}");
     }
     // A descent meets the cells on its path and the leaf's stream, and nothing else.
     let bad_leaf = case.changed(|case| case.tree.cells[at(4, 5)] = entries);
@@ -679,12 +708,31 @@ fn refusals_at_side_1() {
             assert_eq!(full.split(leaf), ten);
         }
         // A number out of its range: 12 before 10, and by every reading.
-        for (word, value) in [(0, x ^ 1), (1, y ^ 1), (2, 0), (2, 3), (4, entries + 1)] {
+        let parent = case.tree.view().cell(leaf).parent;
+        for (word, value) in [
+            (0, x ^ 1),
+            (1, y ^ 1),
+            (2, 0),
+            (2, 3),
+            (4, entries + 1),
+            (LINES_WORD, 1),
+            (PARENT_WORD, leaf),
+            (PARENT_WORD, parent + 1),
+            (PARENT_WORD, cells),
+        ] {
             let moved = case.changed(|case| case.tree.cells[at(leaf, word)] = value);
-            // Another square of side 1 is a cell's too, but not the one on this path.
-            let split = if word < 2 { ten } else { twelve };
-            assert_eq!(moved.split(leaf), split, "{word} {value}");
+            assert_eq!(moved.split(leaf), twelve, "{word} {value}");
             moved.readings_refused(x, y, 12);
+            if word < 2 {
+                // Another square of side 1, where its parent is beside it, is a cell's too, but not the
+                // one on this path.
+                let along = moved.changed(|case| {
+                    let low = &mut case.tree.cells[at(parent, word)];
+                    *low = low.wrapping_add(value).wrapping_sub([x, y][word]);
+                });
+                assert_eq!(along.split(leaf), ten, "{word} {value}");
+                along.readings_refused(x, y, 12);
+            }
         }
         // A first child: split already, before 10; its children's number before that. No child of it
         // is on its own square.
@@ -710,7 +758,8 @@ fn streams_at_side_1() {
             case.tree.entries[ENTRY_WORDS * first as usize..][..words.len()]
                 .copy_from_slice(&words);
             let count = stream.len() as u32;
-            case.tree.cells[at(leaf, 4)..at(leaf, 6)].copy_from_slice(&[first, count]);
+            let of_stream = [first, count, stream::lines(stream)];
+            case.tree.cells[at(leaf, 4)..=at(leaf, LINES_WORD)].copy_from_slice(&of_stream);
             case.tree.head[1] += count;
         })
     };
@@ -741,9 +790,15 @@ fn streams_at_side_1() {
                 assert!(passes || answer == Err((12, 0)), "{stream:?}");
             }
         }
-        // A split cell's stream is not met.
-        let divided = case.changed(|case| case.tree.cells[at(leaf, 3)] = 1);
-        assert_eq!(divided.split(leaf), Err((9, 0)), "{stream:?}");
+        // A count that differs is 12 before 10.
+        let other = case.changed(|case| case.tree.cells[at(leaf, LINES_WORD)] += 1);
+        assert_eq!(other.split(leaf), Err((12, 0)), "{stream:?}");
+        other.readings_refused(x, y, 12);
+        // A split cell's stream is not met, nor is its count.
+        for case in [&case, &other] {
+            let divided = case.changed(|case| case.tree.cells[at(leaf, 3)] = 1);
+            assert_eq!(divided.split(leaf), Err((9, 0)), "{stream:?}");
+        }
     }
     // Growing leaves it alone, however many lines it has: its depth is not below 16.
     let lines = |cell: &u32| stream::lines(&deep.tree.stream(*cell));
@@ -793,6 +848,30 @@ fn tables_longer_than_their_limits() {
     assert_eq!(less.split(2), Err((11, 0)));
 }
 
+/// Takes all 4,096 cells in use: behind the first nine of the small tree quarters of quarters without
+/// entries, so that growing passes them. The last three have no fourth: their parent holds the cell
+/// before them too, which has another parent.
+fn take_all_cells(tree: &mut TreeTables) {
+    let (mut next, mut parent) = (9, 2);
+    while next < 4_096 {
+        // These two stay leaves.
+        if parent != 4 && parent != 8 {
+            let child = next.min(4_092);
+            tree.cells[at(parent, 3)] = child;
+            let quarters = tree.view().cell(parent).square.quarters();
+            let quarters = quarters.expect("a side above 1");
+            let unused = (child..).zip(quarters).filter(|(cell, _)| *cell >= next);
+            for (cell, square) in unused {
+                let leaf = Cell::leaf(square, 0, &[], parent);
+                put_cell(&mut tree.cells, cell as usize, leaf);
+            }
+            next = child + 4;
+        }
+        parent += 1;
+    }
+    tree.head[0] = next;
+}
+
 /// "areas, corners and entries in use at most what their tables and limits hold": in tables that
 /// hold more, so that the limit refuses and not the length.
 #[test]
@@ -802,34 +881,33 @@ fn numbers_in_use_at_their_limits_and_beyond() {
         tables.areas.resize(AREA_WORDS * 70, 0);
         tables.xs.resize(2_060, 0);
         tables.ys.resize(2_060, 0);
-        // The other cells are leaves, so that growing passes them.
-        let leaf = [0, 0, 1, 0, 0, 0, 0, 0];
-        tree.cells.truncate(at(9, 0));
-        tree.cells.extend(leaf.repeat(4_200 - 9));
+        tree.cells.resize(at(4_200, 0), 0);
         tree.entries.resize(ENTRY_WORDS * 70_000, 0);
     });
+    let all_cells = ample.changed(|case| take_all_cells(&mut case.tree));
+    assert_eq!(all_cells.tree.head[0], 4_096);
     let leaf = ample.find(40_000, 40_000).expect("a leaf is found");
     type Word = fn(&mut Case) -> &mut u32;
-    let words: [(Word, u32, u32); 4] = [
-        (|case| &mut case.tables.plan[1], 64, 4),
-        (|case| &mut case.tables.plan[2], 2_048, 4),
-        (|case| &mut case.tree.head[0], 4_096, 0),
-        (|case| &mut case.tree.head[1], 65_536, 4),
+    let words: [(&Case, Word, u32, u32); 4] = [
+        (&ample, |case| &mut case.tables.plan[1], 64, 4),
+        (&ample, |case| &mut case.tables.plan[2], 2_048, 4),
+        (&all_cells, |case| &mut case.tree.head[0], 4_096, 0),
+        (&ample, |case| &mut case.tree.head[1], 65_536, 4),
     ];
-    for (word, limit, room) in words {
-        let most = ample.changed(|case| *word(case) = limit);
+    for (case, word, limit, room) in words {
+        let most = case.changed(|case| *word(case) = limit);
         for answer in most.readings(40_000, 40_000) {
             assert!(answer.is_ok(), "{limit}: {answer:?}");
         }
         assert_eq!(most.split(0), Err((9, 0)), "{limit}");
         assert_eq!(most.grow(u32::MAX, 16), (Ok(0), most.clone()), "{limit}");
         // A leaf without entries asks for no entry, and four cells.
-        let empty = most.changed(|case| case.tree.cells[at(leaf, 5)] = 0);
-        let cells = empty.tree.head[0];
+        let without = most.changed(|case| empty(&mut case.tree, leaf));
+        let cells = without.tree.head[0];
         let expected = if room > 0 { Ok(cells) } else { Err((11, 0)) };
-        assert_eq!(empty.split(leaf), expected, "{limit}");
+        assert_eq!(without.split(leaf), expected, "{limit}");
 
-        let beyond = ample.changed(|case| *word(case) = limit + 1);
+        let beyond = case.changed(|case| *word(case) = limit + 1);
         beyond.readings_refused(40_000, 40_000, 12);
         for cell in [0, leaf] {
             assert_eq!(beyond.split(cell), Err((12, 0)), "{limit}");
@@ -845,7 +923,7 @@ fn numbers_in_use_at_their_limits_and_beyond() {
     // The last split that there is room for.
     let last = ample.changed(|case| {
         case.tree.head = vec![4_092, 65_536];
-        case.tree.cells[at(leaf, 5)] = 0;
+        empty(&mut case.tree, leaf);
     });
     let after = last.divided(&[leaf]);
     assert_eq!(after.tree.head, [4_096, 65_536]);
@@ -900,10 +978,22 @@ fn growing_and_its_refusals() {
     let damaged = case.changed(|case| case.tree.cells[at(4, 5)] = case.tree.head[1] + 1);
     let expected = (Err((12, 0)), damaged.divided(&[2, 3]));
     assert_eq!(damaged.grow(0, 2), expected);
-    // Thin and deep leaves are read too.
+    // Thin and deep leaves are read too, without their streams.
     for (threshold, limit) in [(u32::MAX, 16), (0, 0)] {
         let grown = damaged.grow(threshold, limit);
         assert_eq!(grown, (Err((12, 0)), damaged.clone()));
+    }
+    let first = case.tree.view().cell(4).first as usize;
+    let unread = case.changed(|case| case.tree.entries[ENTRY_WORDS * first] = 99);
+    let miscounted = case.changed(|case| case.tree.cells[at(4, LINES_WORD)] += 1);
+    for case in [unread, miscounted] {
+        for (threshold, limit) in [(u32::MAX, 16), (0, 0), (0, 1)] {
+            assert_eq!(case.grow(threshold, limit), (Ok(0), case.clone()));
+        }
+        assert_eq!(case.grow(0, 2), (Err((12, 0)), case.divided(&[2, 3])));
+        // 12 before 11: the splits of cells 2 and 3 leave no room for those of cell 4.
+        let full = case.changed(|case| case.tree.cells.truncate(at(17, 0)));
+        assert_eq!(full.grow(0, 2), (Err((12, 0)), full.divided(&[2, 3])));
     }
     // Depth 0 splits nothing, depth 1 cell 0 alone.
     let fresh = Case::opened(small_drawing(), 40, 1_000);

@@ -118,9 +118,10 @@ fn expect_position(scene: &Scene, tree: &TreeTables, x: u32, y: u32) {
     assert_eq!(found, Ok(spot), "at {x}, {y}");
 }
 
-/// The history of a tree: which squares its cells have.
+/// The history of a tree: which squares and parents its cells have.
 struct History {
     squares: Vec<Square>,
+    parents: Vec<u32>,
     leaf: Vec<bool>,
 }
 
@@ -128,6 +129,7 @@ impl History {
     fn new() -> History {
         History {
             squares: vec![Square::WHOLE],
+            parents: vec![0],
             leaf: vec![true],
         }
     }
@@ -136,18 +138,22 @@ impl History {
         self.leaf[number as usize] = false;
         let quarters = self.squares[number as usize].quarters();
         self.squares.extend(quarters.expect("a side above 1"));
+        self.parents.extend([number; 4]);
         self.leaf.extend([true; 4]);
     }
 
-    /// The tree has these cells, and each leaf's stream is the drawing's in its square.
+    /// The tree has these cells, and each leaf's stream and line count are the drawing's in its
+    /// square.
     fn expect(&self, drawing: Drawing, tree: &TreeTables, streams: bool) {
         assert_eq!(tree.head[0] as usize, self.squares.len());
         for (number, square) in self.squares.iter().enumerate() {
             let cell = tree.view().cell(number as u32);
             assert_eq!((cell.square, cell.is_leaf()), (*square, self.leaf[number]));
+            assert_eq!(cell.parent, self.parents[number]);
             if cell.is_leaf() && streams {
                 let stream = tree.stream(number as u32);
                 assert_eq!(stream, tree::stream_in(drawing, *square), "{square:?}");
+                assert_eq!(cell.lines, stream::lines(&stream), "{square:?}");
             }
         }
     }

@@ -20,7 +20,7 @@ use zones_tests::samples::{self, Tables};
 use zones_tests::scenes::{self, contour, painted, square_at, Look};
 use zones_tests::stream::{self, Entry, ENTRY_WORDS, MOST_START};
 use zones_tests::tally::Tally;
-use zones_tests::tree::{Leaf, TreeTables, CELL_WORDS};
+use zones_tests::tree::{put_cell, Cell, Leaf, TreeTables, CELL_WORDS, LINES_WORD, PARENT_WORD};
 use zones_tests::zones::{self, Answer};
 
 const TWELVE: Answer = Answer::Refused {
@@ -328,9 +328,8 @@ fn tree_by_hand(streams: &[Vec<Entry>]) -> TreeTables {
     }
     for (square, stream) in squares.iter().zip(streams) {
         let first = (tree.entries.len() / ENTRY_WORDS) as u32;
-        let Square { x, y, side } = *square;
-        let cell = [x, y, side, 0, first, stream.len() as u32, 0, 0];
-        tree.cells.extend(cell);
+        let leaf = Cell::leaf(*square, first, stream, 0);
+        tree.cells.extend(leaf.words());
         tree.entries.extend(stream::words(stream));
     }
     let cells = tree.cells.len() / CELL_WORDS;
@@ -584,8 +583,9 @@ fn foreign_pixel_sized(random: &mut Random) -> (Tables, Sample) {
             1 => foreign::uniform_stream(random, &tables, square),
             _ => continue,
         };
-        let at = CELL_WORDS * cell as usize;
-        tree.cells[at + 4..at + 6].copy_from_slice(&[tree.head[1], stream.len() as u32]);
+        let parent = tree.view().cell(cell).parent;
+        let leaf = Cell::leaf(square, tree.head[1], &stream, parent);
+        put_cell(&mut tree.cells, cell as usize, leaf);
         tree.entries.extend(foreign::words(random, &stream));
         tree.head[1] += stream.len() as u32;
     }
@@ -811,6 +811,10 @@ fn logs_and_rows_over_trees_written_by_others() {
 enum Broken {
     Side,
     Count,
+    /// One line more or less than there is.
+    Lines,
+    /// The leaf itself, which is not split.
+    Parent,
     Kind,
     /// An opening that nothing closes: the stream still has no line, curve or shortcut.
     Open,
@@ -820,9 +824,11 @@ enum Broken {
     Passes,
 }
 
-const BROKEN: [Broken; 6] = [
+const BROKEN: [Broken; 8] = [
     Broken::Side,
     Broken::Count,
+    Broken::Lines,
+    Broken::Parent,
     Broken::Kind,
     Broken::Open,
     Broken::Area,
@@ -841,6 +847,14 @@ fn break_leaf(tree: &mut TreeTables, cell: u32, broken: Broken) {
             tree.cells[row + 5] = tree.head[1] + 1;
             return;
         }
+        Broken::Lines => {
+            tree.cells[row + LINES_WORD] ^= 1;
+            return;
+        }
+        Broken::Parent => {
+            tree.cells[row + PARENT_WORD] = cell;
+            return;
+        }
         Broken::Kind => [9, 0, 0, 0],
         Broken::Open => Entry::Open.encode(),
         Broken::Area => Entry::Area {
@@ -852,8 +866,7 @@ fn break_leaf(tree: &mut TreeTables, cell: u32, broken: Broken) {
     };
     let at = ENTRY_WORDS * tree.head[1] as usize;
     tree.entries.splice(at..at, entry);
-    tree.cells[row + 4] = tree.head[1];
-    tree.cells[row + 5] = 1;
+    tree.cells[row + 4..=row + LINES_WORD].copy_from_slice(&[tree.head[1], 1, 0]);
     tree.head[1] += 1;
 }
 

@@ -401,13 +401,16 @@ impl<'a> Plain<'a> {
         if !in_use {
             return None;
         }
-        let (mut number, mut square) = (0, (0, 0, WHOLE_SIDE));
+        let (mut number, mut from, mut square) = (0, 0, (0, 0, WHOLE_SIDE));
         loop {
             let cell = &self.cells[number as usize];
-            let [low_x, low_y, side, child, first, count, ..] = *cell;
+            let [low_x, low_y, side, child, first, count, _, parent] = *cell;
             let last = u64::from(child) + 3;
+            // The cell that the path comes from holds it; another may too.
+            let held = parent == from || number > 0 && self.holds(cells, parent, number, square);
             if (low_x, low_y, side) != square
                 || u64::from(first) + u64::from(count) > u64::from(entries)
+                || !held
             {
                 return None;
             }
@@ -419,18 +422,35 @@ impl<'a> Plain<'a> {
             }
             let half = side / 2;
             let (right, upper) = (u32::from(x >= low_x + half), u32::from(y >= low_y + half));
-            number = child + right + 2 * upper;
+            (number, from) = (child + right + 2 * upper, number);
             square = (low_x + half * right, low_y + half * upper, half);
         }
     }
 
+    /// Whether a cell is split, with its four in use, and holds another on its square.
+    fn holds(&self, cells: u32, parent: u32, number: u32, (x, y, side): (u32, u32, u32)) -> bool {
+        if parent >= cells {
+            return false;
+        }
+        let [around_x, around_y, around_side, child, ..] = self.cells[parent as usize];
+        let which = number.wrapping_sub(child);
+        let low = |at: u32, high: u32| at.checked_sub(side * high);
+        child != 0
+            && which < 4
+            && u64::from(child) + 3 < u64::from(cells)
+            && around_side == 2 * side
+            && low(x, which & 1) == Some(around_x)
+            && low(y, which >> 1) == Some(around_y)
+    }
+
     fn stream_passes(&self, leaf: &[u32; CELL_WORDS]) -> bool {
-        let [_, low, side, _, first, count, ..] = *leaf;
+        let [_, low, side, _, first, count, lines, _] = *leaf;
         let stream = &self.entries[first as usize..][..count as usize];
         let [areas_used, corners_used] = [self.drawing.plan[1], self.drawing.plan[2]];
         // Two bits for each open group, the innermost lowest: the role of the side that it stands
         // on, and whether its bar was met.
         let (mut groups, mut depth, mut areas, mut segments) = (0_u32, 0, 0, 0);
+        let mut lines_met = 0;
         let mut after_area = false;
         let corner = |n: u32| {
             n < corners_used
@@ -468,6 +488,7 @@ impl<'a> Plain<'a> {
                 }
                 5 => {
                     segments += 1;
+                    lines_met += 1;
                     after_area && segments <= MOST_CORNERS && corner(p) && corner(q)
                 }
                 6 => {
@@ -487,7 +508,7 @@ impl<'a> Plain<'a> {
             }
             after_area = (4..=6).contains(&kind);
         }
-        depth == 0 && stream.len() <= MOST_RECORDS
+        depth == 0 && stream.len() <= MOST_RECORDS && lines_met == lines
     }
 }
 

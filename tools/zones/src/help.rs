@@ -48,10 +48,11 @@ drawing in words the line and column.
 
 pub const WHERE: &str = "\
 Prints the material and the colour at a position, the areas that show there,
-front first, the leaf of the tree around it, and how far the answer reaches: all
-of the leaf, where its stream has no line, curve or shortcut; else this position
-is all that is said, and those around may show the same. The options of the tree
-change the leaf and the reach, never what shows.
+front first, the leaf of the tree around it, the numbers of the cells around the
+leaf, from its parent up to cell 0, and how far the answer reaches: all of the
+leaf, where its stream has no line, curve or shortcut; else this position is all
+that is said, and those around may show the same. The options of the tree change
+the leaf, the cells around it and the reach, never what shows.
 
   FILE            a file of records or a drawing in words; - is standard input
   X, Y            the position: whole numbers from 0 to 65,535, y upward

@@ -1,4 +1,4 @@
-//! `zones where`: what shows at a position, and the leaf around it.
+//! `zones where`: what shows at a position, the leaf around it, and the cells around that.
 
 use zones::{Leaf, Map, Position, Refused, MOST_POSITION};
 
@@ -23,10 +23,11 @@ pub fn run(args: &Args) -> Result<(), Fault> {
         material, colour, ..
     } = position;
     let [red, green, blue] = colour;
+    let parents = parents_text(&map, &leaf);
     let leaf = leaf_text(&leaf);
     let reach = reach_text(&position);
     output::print(&format!(
-        "position  {x},{y}\nmaterial  {material}\ncolour    {red} {green} {blue}\n{areas}{leaf}{reach}"
+        "position  {x},{y}\nmaterial  {material}\ncolour    {red} {green} {blue}\n{areas}{leaf}{parents}{reach}"
     ))
 }
 
@@ -85,6 +86,17 @@ fn leaf_text(leaf: &Leaf) -> String {
     } = leaf;
     let square = square_text(*x, *y, *side);
     format!("leaf      cell {cell}: {square}; depth {steps}, entries {entries}, lines {lines}\n")
+}
+
+/// The cells around the leaf, from its parent up to cell 0.
+fn parents_text(map: &Map, leaf: &Leaf) -> String {
+    let cells = map.upward(leaf.cell).skip(1);
+    let numbers: Vec<String> = cells.map(|(number, _)| number.to_string()).collect();
+    match &numbers[..] {
+        [] => "parents   none, the leaf is the whole grid\n".to_string(),
+        [number] => format!("parents   cell {number}\n"),
+        numbers => format!("parents   cells {}\n", numbers.join(", ")),
+    }
 }
 
 /// How far the answer reaches: the whole leaf, or no further than is asked.

@@ -5,7 +5,7 @@ mod common;
 use std::fs;
 use std::process::Stdio;
 
-use common::{command, done, fed, python, run, sample, scratch, Ran, SAMPLES};
+use common::{command, done, fed, python, run, sample, scratch, top, Ran, SAMPLES};
 
 const DONE: i32 = 0;
 const REFUSED: i32 = 1;
@@ -416,18 +416,22 @@ fn positions() {
         words
     );
     let rest: Vec<&str> = text.lines().skip(5).collect();
-    let [leaf, reach] = rest[..] else {
-        panic!("two lines more: {text}");
+    let [leaf, parents, reach] = rest[..] else {
+        panic!("three lines more: {text}");
     };
     assert!(leaf.starts_with("leaf      cell "), "{leaf}");
+    let depth = format!("; depth {}, ", parents.split(", ").count());
+    assert!(leaf.contains(&depth), "{leaf}\n{parents}");
+    assert!(parents.starts_with("parents   cells ") && parents.ends_with(", 0"));
     assert!(reach.starts_with("reach     "), "{reach}");
     let records = at("samples/pit.zones", "45000", "31000");
     let said = expected.replace("AT", "").replace("OVER", "");
-    assert_eq!(records, format!("{said}{leaf}\n{reach}\n"));
+    assert_eq!(records, format!("{said}{leaf}\n{parents}\n{reach}\n"));
     assert_eq!(
         at("samples/quarter.zones", "65535", "65535"),
         "position  65535,65535\nmaterial  0\ncolour    255 255 255\nareas     none, the white ground\n\
          leaf      cell 0: x 0 to 65535, y 0 to 65535; depth 0, entries 2, lines 1\n\
+         parents   none, the leaf is the whole grid\n\
          reach     this position: the leaf's stream has a line, a curve or a shortcut\n"
     );
     let split = done(&[
@@ -443,10 +447,46 @@ fn positions() {
     assert!(
         split.ends_with(
             "leaf      cell 1: x 0 to 32767, y 0 to 32767; depth 1, entries 1, lines 0\n\
+             parents   cell 0\n\
              reach     the same for x 0 to 32767, y 0 to 32767\n"
         ),
         "{split}"
     );
+}
+
+/// The table of docs/HOW.md: the leaf of the pit floor and the cells around it.
+#[test]
+fn upward_as_the_page_has_it() {
+    let page = fs::read_to_string(top().join("docs/HOW.md")).expect("the page");
+    let rows = page
+        .lines()
+        .skip_while(|line| *line != "## Walking upward from a leaf");
+    let rows = rows.skip_while(|line| !line.starts_with("| depth |"));
+    let rows = rows.skip(2).take_while(|line| line.starts_with('|'));
+    let said: Vec<Vec<u32>> = rows.map(numbers).collect();
+
+    let records = sample("pit.zones");
+    let map = zones::Map::grown(&records, zones::ADVISED_THRESHOLD, zones::ADVISED_DEPTH);
+    let map = map.expect("it is read, opened and grown");
+    let leaf = map.find_leaf(40_000, 30_000).expect("a leaf");
+    let cells = map.upward(leaf.cell).zip((0..=leaf.steps).rev());
+    let found = cells
+        .map(|((number, cell), depth)| vec![depth, number, cell.x, cell.y, cell.side, cell.lines]);
+    assert_eq!(found.collect::<Vec<_>>(), said);
+
+    let printed = done(&["where", "samples/pit.zones", "40000", "30000"]);
+    let printed = String::from_utf8(printed).expect("text");
+    let mut parents = printed
+        .lines()
+        .filter_map(|line| line.strip_prefix("parents "));
+    let around: Vec<u32> = said[1..].iter().map(|row| row[1]).collect();
+    assert_eq!(parents.next().map(numbers), Some(around));
+}
+
+/// The numbers of a text, whatever stands between them.
+fn numbers(text: &str) -> Vec<u32> {
+    let words = text.split(|letter: char| !letter.is_ascii_digit());
+    words.filter_map(|word| word.parse().ok()).collect()
 }
 
 #[test]
@@ -642,8 +682,8 @@ fn help() {
     assert!(whole.contains("Exit status: 0 done; 1 refused"));
     assert!(whole.lines().all(|line| line.len() <= 80));
     assert_eq!(done(&["help"]), whole.as_bytes());
-    assert_eq!(done(&["--version"]), b"zones 0.5.0\n");
-    assert_eq!(done(&["-V"]), b"zones 0.5.0\n");
+    assert_eq!(done(&["--version"]), b"zones 0.6.0\n");
+    assert_eq!(done(&["-V"]), b"zones 0.6.0\n");
 }
 
 #[test]

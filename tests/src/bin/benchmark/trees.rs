@@ -2,6 +2,7 @@
 
 use std::hint::black_box;
 
+use zones_tests::class::Square;
 use zones_tests::compare::grow_answer;
 use zones_tests::drawing::{AREA_WORDS, PAINT};
 use zones_tests::fast;
@@ -11,7 +12,7 @@ use zones_tests::random::Random;
 use zones_tests::samples::{self, Tables};
 use zones_tests::scenes;
 use zones_tests::stream::Entry;
-use zones_tests::tree::{TreeTables, CELL_WORDS, CHILD_WORD};
+use zones_tests::tree::{put_cell, Cell, TreeTables, CHILD_WORD};
 use zones_tests::zones::{self, Answer, FULL};
 
 use crate::timing::{by_turns, compare};
@@ -111,8 +112,7 @@ fn one_cell(random: &mut Random, stream: &[Entry]) -> TreeTables {
     tree.entries = foreign::words(random, stream);
     tree.entries.extend(vec![0; 4 * tree.entries.len()]);
     tree.head = vec![1, count];
-    let cell = [0, 0, 65_536, 0, 0, count, 0, 0];
-    tree.cells[..CELL_WORDS].copy_from_slice(&cell);
+    put_cell(&mut tree.cells, 0, Cell::leaf(Square::WHOLE, 0, stream, 0));
     tree
 }
 
