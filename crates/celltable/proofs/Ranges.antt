@@ -108,12 +108,10 @@ child-more child used used′ u h = go (eqb child 0) refl
 pub entries-more : (first count entries entries′ : ℕ) → entries ≤ entries′ → entryRange first count entries ≡ true → entryRange first count entries′ ≡ true
 entries-more first count entries entries′ n h = le-leb (first + count) entries′ (omega (arith, leb-true (first + count) entries h))
 
--- a cell that is one of the four has no lower number than the first
-pub child-least : (first used i : ℕ) → isChild first used i ≡ true → first ≤ i
-child-least first used i h =
-    let rest : Bool = leb first i && leb i (first + 3) in
-    leb-true first i
-    (and-left (leb first i) (leb i (first + 3)) (and-right (ltb (first + 3) used) rest (and-right (leb 1 first) (ltb (first + 3) used && rest) h)))
+-- a cell that is one of the four has no lower number than the first; a, b and d are the other tests
+pub child-least : (first i : ℕ) (a b d : Bool) → (a && (b && (leb first i && d))) ≡ true → first ≤ i
+child-least first i a b d h =
+    leb-true first i (and-left (leb first i) d (and-right b (leb first i && d) (and-right a (b && (leb first i && d)) h)))
 
 -- ---- the parent, test by test: w are the words of cell i
 module _ (t : List ℕ) (i used : ℕ) (w : CellWords) (e : w ≡ cellAt t i) where

@@ -96,7 +96,8 @@ module _ (t : Tree) (H : List Node) (i n : ℕ) (s : Sound t H) (e : splitAnswer
   new-words q =
       ap (λ (k : ℕ). words u (k + placeOf q)) (sym used-is)
       ∙ (tree-child t i n e (placeOf q) (few-places q)
-      ∙ ap (λ (c : Cell). wordsWith c (streamFirst (placeOf q)) (streamCount (placeOf q)) (streamLines (placeOf q)) i) (λ d. child (cell-is t H s i h d) (place-quarter q d)))
+      ∙ ap (λ (c : Cell). wordsWith c (streamFirst (placeOf q)) (streamCount (placeOf q)) (streamLines (placeOf q)) i)
+      (λ d. child (cell-is t H s i h d) (place-quarter q d)))
 
   new-stream : (q : Quarter) → stream u (length H + placeOf q) ≡ wordsOfCell (drawingOf t) (child (cellIn H i) q)
   new-stream q =
@@ -128,7 +129,8 @@ module _ (t : Tree) (H : List Node) (i n : ℕ) (s : Sound t H) (e : splitAnswer
   squares-by m (new q z) =
       let p : SaysCell (words u (length H + placeOf q)) (cellIn K (length H + placeOf q)) = subst
       (λ (x : CellWords). SaysCell x (cellIn K (length H + placeOf q))) (sym (new-words q))
-      (subst (SaysCell (wordsWith (child (cellIn H i) q) (streamFirst (placeOf q)) (streamCount (placeOf q)) (streamLines (placeOf q)) i)) (sym (cell-new H i h q))
+      (subst (SaysCell (wordsWith (child (cellIn H i) q) (streamFirst (placeOf q)) (streamCount (placeOf q)) (streamLines (placeOf q)) i))
+      (sym (cell-new H i h q))
       (record { same-x = refl; same-y = refl; same-side = refl })) in
       subst (λ (k : ℕ). SaysCell (words u k) (cellIn K k)) (sym z) p
 

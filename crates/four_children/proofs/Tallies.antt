@@ -29,7 +29,8 @@ element-is (named n z) = (refl, omega arith)
 element-is (segment (drawn l)) = (refl, omega arith)
 element-is (segment (shortcut z lo hi)) = (refl, omega arith)
 
-pub total-is : (rs : List Element) → (total elementSize rs ≡ length rs + 65536 * total lineOne rs + 4294967296 * total areaOne rs) × (total lineOne rs ≤ length rs)
+pub total-is : (rs : List Element)
+    → (total elementSize rs ≡ length rs + 65536 * total lineOne rs + 4294967296 * total areaOne rs) × (total lineOne rs ≤ length rs)
 total-is [] = (refl, omega arith)
 total-is (r ∷ rs) =
     let a = element-is r in

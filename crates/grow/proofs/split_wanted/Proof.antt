@@ -25,11 +25,14 @@ same-length-3 c = search needs
 
 returns : tie.Need-returns
 returns c =
-    let a = c .before .before .before .before .before .before .before .before .before .before .before .before .before .before .before .before .before .before .before .before .before .before .args in
+    let after-a = c .before .before .before in
+    let after-split = after-a .before .before .before .before .before .before .before .before in
+    let at-entry = after-split .before .before .before .before .before .before .before .before .before .before .before in
+    let a = at-entry .args in
     let T = tree (now (a .plan)) (now (a .areas)) (now (a .xs)) (now (a .ys)) (now (a .head)) (now (a .cells)) (now (a .entries)) in
-    let x = c .before .before .before .before .before .before .before .before .before .before .before .split .result in
-    let e = c .before .before .before .before .before .before .before .before .before .before .before .split .ensures in (
-      turn-split T (a .s) x (e .0) _ (c .split-past .result) _ (c .before .before .before .a .given .1) (c .split-past .ensures) (e .1 .0),
+    let x = after-split .split .result in
+    let e = after-split .split .ensures in (
+      turn-split T (a .s) x (e .0) _ (c .split-past .result) _ (after-a .a .given .1) (c .split-past .ensures) (e .1 .0),
       (head-is T (a .s) x (e .0) _ (e .1 .0), (cells-is T (a .s) x (e .0) _ (e .1 .1 .0), entries-is T (a .s) x (e .0) _ (e .1 .1 .1))),
     )
 
@@ -50,11 +53,14 @@ same-length-6 c = search needs
 
 returns-2 : tie.Need-returns-2
 returns-2 c =
-    let a = c .before .before .before .before .before .before .before .before .before .before .before .before .before .before .before .before .before .before .before .before .before .args in
+    let after-a2 = c .before .before in
+    let after-split = after-a2 .before .before .before .before .before .before .before .before in
+    let at-entry = after-split .before .before .before .before .before .before .before .before .before .before .before in
+    let a = at-entry .args in
     let T = tree (now (a .plan)) (now (a .areas)) (now (a .xs)) (now (a .ys)) (now (a .head)) (now (a .cells)) (now (a .entries)) in
-    let x = c .before .before .before .before .before .before .before .before .before .before .split .result in
-    let e = c .before .before .before .before .before .before .before .before .before .before .split .ensures in (
-      turn-refused T (a .s) x (e .0) _ (c .ended-by .result) (c .before .before .a2 .given .1) (c .ended-by .ensures),
+    let x = after-split .split .result in
+    let e = after-split .split .ensures in (
+      turn-refused T (a .s) x (e .0) _ (c .ended-by .result) (after-a2 .a2 .given .1) (c .ended-by .ensures),
       (head-is T (a .s) x (e .0) _ (e .1 .0), (cells-is T (a .s) x (e .0) _ (e .1 .1 .0), entries-is T (a .s) x (e .0) _ (e .1 .1 .1))),
     )
 

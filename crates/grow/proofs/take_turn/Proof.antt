@@ -14,8 +14,9 @@ use Rattle.grow.proofs.take_turn.Tie as tie
 
 try-cell-requires : tie.Need-try-cell-requires
 try-cell-requires c κs =
-    let a = c .before .before .before .before .before .before .before .before .args in
-    let p = c .before .before .before .before .before .before .before .before .pre in
+    let at-entry = c .before .before .before .before .before .before .before .before in
+    let a = at-entry .args in
+    let p = at-entry .pre in
     let T = tree (now (a .plan)) (now (a .areas)) (now (a .xs)) (now (a .ys)) (now (a .head)) (now (a .cells)) (now (a .entries)) in
     (p .1 .1 .0, omega (arith, used-within T (p .0), p .1 .0 .0))
 
@@ -27,10 +28,12 @@ same-length c = search needs
 
 returns : tie.Need-returns
 returns c =
-    let a = c .before .before .before .before .before .before .before .before .before .before .before .args in
-    let p = c .before .before .before .before .before .before .before .before .before .before .before .pre in
+    let after-try-cell = c .before .before in
+    let at-entry = after-try-cell .before .before .before .before .before .before .before .before .before in
+    let a = at-entry .args in
+    let p = at-entry .pre in
     let T = tree (now (a .plan)) (now (a .areas)) (now (a .xs)) (now (a .ys)) (now (a .head)) (now (a .cells)) (now (a .entries)) in
-    let E = tried-here (a .threshold) (a .limit) T (a .s) (c .before .before .try-cell .result) (p .1 .0 .0) (p .1 .0 .1) (c .before .before .try-cell .ensures)
+    let E = tried-here (a .threshold) (a .limit) T (a .s) (after-try-cell .try-cell .result) (p .1 .0 .0) (p .1 .0 .1) (after-try-cell .try-cell .ensures)
     ∙ c .enum-told .given .1 in (
       sym (ap (λ (x : Tried). turnBy x T (a .s)) E),
       (
@@ -44,8 +47,9 @@ enum-told-2 c = search needs
 
 past-requires : tie.Need-past-requires
 past-requires c κs =
-    let a = c .before .before .before .before .before .before .before .before .before .before .before .args in
-    let p = c .before .before .before .before .before .before .before .before .before .before .before .pre in
+    let at-entry = c .before .before .before .before .before .before .before .before .before .before .before in
+    let a = at-entry .args in
+    let p = at-entry .pre in
     let T = tree (now (a .plan)) (now (a .areas)) (now (a .xs)) (now (a .ys)) (now (a .head)) (now (a .cells)) (now (a .entries)) in
     omega (arith, used-most T (p .0), p .1 .0 .0, p .1 .1 .0)
 
@@ -54,11 +58,14 @@ same-length-2 c = search needs
 
 returns-2 : tie.Need-returns-2
 returns-2 c =
-    let a = c .before .before .before .before .before .before .before .before .before .before .before .before .args in
-    let p = c .before .before .before .before .before .before .before .before .before .before .before .before .pre in
+    let after-enum-told2 = c .before in
+    let after-try-cell = after-enum-told2 .before .before in
+    let at-entry = after-try-cell .before .before .before .before .before .before .before .before .before in
+    let a = at-entry .args in
+    let p = at-entry .pre in
     let T = tree (now (a .plan)) (now (a .areas)) (now (a .xs)) (now (a .ys)) (now (a .head)) (now (a .cells)) (now (a .entries)) in
-    let E = tried-here (a .threshold) (a .limit) T (a .s) (c .before .before .before .try-cell .result) (p .1 .0 .0) (p .1 .0 .1) (c .before .before .before .try-cell .ensures)
-    ∙ c .before .enum-told2 .given .1 in (
+    let E = tried-here (a .threshold) (a .limit) T (a .s) (after-try-cell .try-cell .result) (p .1 .0 .0) (p .1 .0 .1) (after-try-cell .try-cell .ensures)
+    ∙ after-enum-told2 .enum-told2 .given .1 in (
       ap (λ (q : Sweep). Further q) (c .past .ensures) ∙ sym (ap (λ (x : Tried). turnBy x T (a .s)) E),
       (
         sym (ap (λ (x : Tried). treeBy x T (a .s .cell) .head) E),
@@ -71,8 +78,9 @@ enum-told-3 c = search needs
 
 split-wanted-requires : tie.Need-split-wanted-requires
 split-wanted-requires c κs =
-    let a = c .before .before .before .before .before .before .before .before .before .before .before .before .before .before .args in
-    let p = c .before .before .before .before .before .before .before .before .before .before .before .before .before .before .pre in
+    let at-entry = c .before .before .before .before .before .before .before .before .before .before .before .before .before .before in
+    let a = at-entry .args in
+    let p = at-entry .pre in
     let T = tree (now (a .plan)) (now (a .areas)) (now (a .xs)) (now (a .ys)) (now (a .head)) (now (a .cells)) (now (a .entries)) in
     let u = used-most T (p .0) in
     let e = p .1 .0 .0 in
@@ -90,12 +98,16 @@ same-length-5 c = search needs
 
 returns-3 : tie.Need-returns-3
 returns-3 c =
-    let a = c .before .before .before .before .before .before .before .before .before .before .before .before .before .before .before .before .before .before .before .before .before .args in
-    let p = c .before .before .before .before .before .before .before .before .before .before .before .before .before .before .before .before .before .before .before .before .before .pre in
+    let after-split-wanted = c .before .before .before .before .before .before in
+    let after-enum-told3 = after-split-wanted .before .before .before .before in
+    let after-try-cell = after-enum-told3 .before .before in
+    let at-entry = after-try-cell .before .before .before .before .before .before .before .before .before in
+    let a = at-entry .args in
+    let p = at-entry .pre in
     let T = tree (now (a .plan)) (now (a .areas)) (now (a .xs)) (now (a .ys)) (now (a .head)) (now (a .cells)) (now (a .entries)) in
-    let E = tried-here (a .threshold) (a .limit) T (a .s) (c .before .before .before .before .before .before .before .before .before .before .before .before .try-cell .result) (p .1 .0 .0) (p .1 .0 .1) (c .before .before .before .before .before .before .before .before .before .before .before .before .try-cell .ensures)
-    ∙ c .before .before .before .before .before .before .before .before .before .before .enum-told3 .given .1 in
-    let e = c .before .before .before .before .before .before .split-wanted .ensures in (
+    let E = tried-here (a .threshold) (a .limit) T (a .s) (after-try-cell .try-cell .result) (p .1 .0 .0) (p .1 .0 .1) (after-try-cell .try-cell .ensures)
+    ∙ after-enum-told3 .enum-told3 .given .1 in
+    let e = after-split-wanted .split-wanted .ensures in (
       e .0 ∙ sym (ap (λ (x : Tried). turnBy x T (a .s)) E),
       (
         e .1 .0 ∙ sym (ap (λ (x : Tried). treeBy x T (a .s .cell) .head) E),

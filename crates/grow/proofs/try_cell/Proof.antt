@@ -28,23 +28,36 @@ cell-fits-requires c κs = search needs
 
 try-leaf-requires : tie.Need-try-leaf-requires
 try-leaf-requires c κs =
-    let a = c .before .before .before .before .before .before .before .before .before .args in
-    ap squareRange (c .before .before .before .before .before .before .read-cell .ensures)
-    ∙ passes-range (now (a .cells)) (a .s .cell) (a .s .used) (a .s .free) (sym (c .before .before .before .cell-fits .ensures) ∙ c .before .before .if1 .taken)
+    let at-if1 = c .before .before in
+    let after-cell-fits = at-if1 .before in
+    let after-read-cell = after-cell-fits .before .before .before in
+    let at-entry = after-read-cell .before .before .before in
+    let a = at-entry .args in
+    ap squareRange (after-read-cell .read-cell .ensures)
+    ∙ passes-range (now (a .cells)) (a .s .cell) (a .s .used) (a .s .free) (sym (after-cell-fits .cell-fits .ensures) ∙ at-if1 .if1 .taken)
 
 returns : tie.Need-returns
 returns c =
-    let a = c .before .before .before .before .before .before .before .before .before .before .args in
-    let w = c .before .before .before .before .before .before .before .read-cell .ensures in
-    cell-leaf _ _ _ _ (sym (c .before .before .before .before .cell-fits .ensures) ∙ c .before .before .before .if1 .taken)
-    (eq-eqb (cellAt (now (a .cells)) (a .s .cell) .child) 0 (sym (ap (λ (v : CellWords). v .child) w) ∙ c .before .if2 .taken))
+    let at-if2 = c .before in
+    let at-if1 = at-if2 .before .before in
+    let after-cell-fits = at-if1 .before in
+    let after-read-cell = after-cell-fits .before .before .before in
+    let at-entry = after-read-cell .before .before .before in
+    let a = at-entry .args in
+    let w = after-read-cell .read-cell .ensures in
+    cell-leaf _ _ _ _ (sym (after-cell-fits .cell-fits .ensures) ∙ at-if1 .if1 .taken)
+    (eq-eqb (cellAt (now (a .cells)) (a .s .cell) .child) 0 (sym (ap (λ (v : CellWords). v .child) w) ∙ at-if2 .if2 .taken))
     (c .try-leaf .ensures ∙ ap (triedLeaf (a .threshold) (a .limit)) w)
 
 returns-2 : tie.Need-returns-2
 returns-2 c =
-    let a = c .before .before .before .before .before .before .before .before .before .args in
-    let w = c .before .before .before .before .before .before .read-cell .ensures in
-    cell-past _ _ _ (sym (c .before .before .before .cell-fits .ensures) ∙ c .before .before .if1 .taken)
+    let at-if1 = c .before .before in
+    let after-cell-fits = at-if1 .before in
+    let after-read-cell = after-cell-fits .before .before .before in
+    let at-entry = after-read-cell .before .before .before in
+    let a = at-entry .args in
+    let w = after-read-cell .read-cell .ensures in
+    cell-past _ _ _ (sym (after-cell-fits .cell-fits .ensures) ∙ at-if1 .if1 .taken)
     (ne-eqb (cellAt (now (a .cells)) (a .s .cell) .child) 0 (λ e. c .if2 .left (ap (λ (v : CellWords). v .child) w ∙ e)))
 
 returns-3 : tie.Need-returns-3

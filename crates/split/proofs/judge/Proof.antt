@@ -17,44 +17,69 @@ counts-fit-requires c κs = search needs
 
 shared-slice-read-free : tie.Need-shared-slice-read-free
 shared-slice-read-free c =
-    let a = c .before .before .before .before .before .before .before .before .before .before .before .before .before .args in
+    let at-if3 = c .before in
+    let after-counts-fit = at-if3 .before in
+    let at-entry = after-counts-fit .before .before .before .before .before .before .before .before .before .before .before in
+    let a = at-entry .args in
     let T = tree (now (a .plan)) (now (a .areas)) (now (a .xs)) (now (a .ys)) (now (a .head)) (now (a .cells)) (now (a .entries)) in
-    let h = sym (c .before .before .counts-fit .ensures) ∙ c .before .if3 .taken in
+    let h = sym (after-counts-fit .counts-fit .ensures) ∙ at-if3 .if3 .taken in
     counts-fit T h .head-long
 
 read-cell-requires : tie.Need-read-cell-requires
 read-cell-requires c κs =
-    let a = c .before .before .before .before .before .before .before .before .before .before .before .before .before .args in
+    let at-if3 = c .before in
+    let after-counts-fit = at-if3 .before in
+    let at-if2 = after-counts-fit .before in
+    let after-cells-used = at-if2 .before in
+    let at-entry = after-cells-used .before .before .before .before .before .before .before .before .before in
+    let a = at-entry .args in
     let T = tree (now (a .plan)) (now (a .areas)) (now (a .xs)) (now (a .ys)) (now (a .head)) (now (a .cells)) (now (a .entries)) in
-    let h = sym (c .before .before .counts-fit .ensures) ∙ c .before .if3 .taken in
-    omega (arith, used-within T h, c .before .before .before .before .cells-used .ensures, c .before .before .before .if2 .taken)
+    let h = sym (after-counts-fit .counts-fit .ensures) ∙ at-if3 .if3 .taken in
+    omega (arith, used-within T h, after-cells-used .cells-used .ensures, at-if2 .if2 .taken)
 
 bounds-in-requires : tie.Need-bounds-in-requires
 bounds-in-requires c κs =
-    let a = c .before .before .before .before .before .before .before .before .before .before .before .before .before .before .args in
+    let at-if3 = c .before .before in
+    let after-counts-fit = at-if3 .before in
+    let at-entry = after-counts-fit .before .before .before .before .before .before .before .before .before .before .before in
+    let a = at-entry .args in
     let T = tree (now (a .plan)) (now (a .areas)) (now (a .xs)) (now (a .ys)) (now (a .head)) (now (a .cells)) (now (a .entries)) in
-    let h = sym (c .before .before .before .counts-fit .ensures) ∙ c .before .before .if3 .taken in
+    let h = sym (after-counts-fit .counts-fit .ensures) ∙ at-if3 .if3 .taken in
     counts-fit T h .plan-long
 
 judge-cell-requires : tie.Need-judge-cell-requires
 judge-cell-requires c κs =
-    let a = c .before .before .before .before .before .before .before .before .before .before .before .before .before .before .before .args in
+    let after-read-cell = c .before in
+    let at-if3 = after-read-cell .before .before in
+    let after-counts-fit = at-if3 .before in
+    let at-if2 = after-counts-fit .before in
+    let after-cells-used = at-if2 .before in
+    let at-entry = after-cells-used .before .before .before .before .before .before .before .before .before in
+    let a = at-entry .args in
     let T = tree (now (a .plan)) (now (a .areas)) (now (a .xs)) (now (a .ys)) (now (a .head)) (now (a .cells)) (now (a .entries)) in
-    let h = sym (c .before .before .before .before .counts-fit .ensures) ∙ c .before .before .before .if3 .taken in
-    let u = c .before .before .before .before .before .before .cells-used .ensures in (
+    let h = sym (after-counts-fit .counts-fit .ensures) ∙ at-if3 .if3 .taken in
+    let u = after-cells-used .cells-used .ensures in (
       (omega (arith, used-most T h, u), free-most T h),
-      ((c .before .before .before .before .before .if2 .taken, omega (arith, used-within T h, u)), c .before .read-cell .ensures),
+      ((at-if2 .if2 .taken, omega (arith, used-within T h, u)), after-read-cell .read-cell .ensures),
     )
 
 returns : tie.Need-returns
 returns c =
-    let a = c .before .before .before .before .before .before .before .before .before .before .before .before .before .before .before .before .args in
+    let after-bounds-in = c .before in
+    let after-read-cell = after-bounds-in .before in
+    let at-if3 = after-read-cell .before .before in
+    let after-counts-fit = at-if3 .before in
+    let at-if2 = after-counts-fit .before in
+    let after-cells-used = at-if2 .before in
+    let at-if1 = after-cells-used .before in
+    let at-entry = at-if1 .before .before .before .before .before .before .before .before in
+    let a = at-entry .args in
     let T = tree (now (a .plan)) (now (a .areas)) (now (a .xs)) (now (a .ys)) (now (a .head)) (now (a .cells)) (now (a .entries)) in
-    let h = sym (c .before .before .before .before .before .counts-fit .ensures) ∙ c .before .before .before .before .if3 .taken in
+    let h = sym (after-counts-fit .counts-fit .ensures) ∙ at-if3 .if3 .taken in
     let e = c .judge-cell .ensures in
-    let w = c .before .before .read-cell .ensures in
-    let b = c .before .bounds-in .ensures in (
-      call-cell T (a .i) _ (c .before .before .before .before .before .before .before .before .if1 .taken) _ (c .before .before .before .before .before .before .before .cells-used .ensures) (c .before .before .before .before .before .before .if2 .taken) _ _ _ h refl w b (e .0),
+    let w = after-read-cell .read-cell .ensures in
+    let b = after-bounds-in .bounds-in .ensures in (
+      call-cell T (a .i) _ (at-if1 .if1 .taken) _ (after-cells-used .cells-used .ensures) (at-if2 .if2 .taken) _ _ _ h refl w b (e .0),
       told-cell T (a .i) (c .judge-cell .result) _ _ w b (e .1),
     )
 
@@ -63,10 +88,16 @@ refused-requires c κs = search needs
 
 returns-2 : tie.Need-returns-2
 returns-2 c =
-    let a = c .before .before .before .before .before .before .before .before .before .before .before .before .before .args in
+    let at-if3 = c .before in
+    let after-counts-fit = at-if3 .before in
+    let at-if2 = after-counts-fit .before in
+    let after-cells-used = at-if2 .before in
+    let at-if1 = after-cells-used .before in
+    let at-entry = at-if1 .before .before .before .before .before .before .before .before in
+    let a = at-entry .args in
     let T = tree (now (a .plan)) (now (a .areas)) (now (a .xs)) (now (a .ys)) (now (a .head)) (now (a .cells)) (now (a .entries)) in (
-      call-uncounted T (a .i) _ (c .before .before .before .before .before .if1 .taken) _ (c .before .before .before .before .cells-used .ensures) (c .before .before .before .if2 .taken)
-          (sym (c .before .before .counts-fit .ensures) ∙ c .before .if3 .left) (c .refused .ensures),
+      call-uncounted T (a .i) _ (at-if1 .if1 .taken) _ (after-cells-used .cells-used .ensures) (at-if2 .if2 .taken)
+          (sym (after-counts-fit .counts-fit .ensures) ∙ at-if3 .if3 .left) (c .refused .ensures),
       λ n e. not-split n _ (sym (c .refused .ensures) ∙ e),
     )
 
@@ -75,9 +106,13 @@ refused-requires-2 c κs = search needs
 
 returns-3 : tie.Need-returns-3
 returns-3 c =
-    let a = c .before .before .before .before .before .before .before .before .before .before .before .args in
+    let at-if2 = c .before in
+    let after-cells-used = at-if2 .before in
+    let at-if1 = after-cells-used .before in
+    let at-entry = at-if1 .before .before .before .before .before .before .before .before in
+    let a = at-entry .args in
     let T = tree (now (a .plan)) (now (a .areas)) (now (a .xs)) (now (a .ys)) (now (a .head)) (now (a .cells)) (now (a .entries)) in (
-      call-beyond T (a .i) _ (c .before .before .before .if1 .taken) _ (c .before .before .cells-used .ensures) (c .before .if2 .left) (c .refused2 .ensures),
+      call-beyond T (a .i) _ (at-if1 .if1 .taken) _ (after-cells-used .cells-used .ensures) (at-if2 .if2 .left) (c .refused2 .ensures),
       λ n e. not-split n _ (sym (c .refused2 .ensures) ∙ e),
     )
 
@@ -86,9 +121,11 @@ refused-requires-3 c κs = search needs
 
 returns-4 : tie.Need-returns-4
 returns-4 c =
-    let a = c .before .before .before .before .before .before .before .before .before .args in
+    let at-if1 = c .before in
+    let at-entry = at-if1 .before .before .before .before .before .before .before .before in
+    let a = at-entry .args in
     let T = tree (now (a .plan)) (now (a .areas)) (now (a .xs)) (now (a .ys)) (now (a .head)) (now (a .cells)) (now (a .entries)) in
-    (call-uneven T (a .i) _ (c .before .if1 .left) (c .refused3 .ensures), λ n e. not-split n _ (sym (c .refused3 .ensures) ∙ e))
+    (call-uneven T (a .i) _ (at-if1 .if1 .left) (c .refused3 .ensures), λ n e. not-split n _ (sym (c .refused3 .ensures) ∙ e))
 
 pub judge-spec : {M : Type 1} → statement M
 judge-spec =

@@ -21,17 +21,29 @@ judge-leaf-requires c κs =
 
 returns : tie.Need-returns
 returns c =
-    let a = c .before .before .before .before .before .before .before .before .before .before .args in
-    let e = c .judge-leaf .ensures in
-    (cell-leaf (now (a .areas)) (now (a .xs)) (now (a .ys)) (now (a .entries)) (a .b) (a .w) (now (a .cells)) (a .i) (a .used) (a .free) _ (sym (c .before .before .before .before .cell-fits .ensures) ∙ c .before .before .before .if1 .taken) (c .before .if2 .taken) (e .0), e .1)
+    let at-if2 = c .before in
+    let at-if1 = at-if2 .before .before in
+    let after-cell-fits = at-if1 .before in
+    let at-entry = after-cell-fits .before .before .before .before .before .before in
+    let a = at-entry .args in
+    let e = c .judge-leaf .ensures in (
+      cell-leaf (now (a .areas)) (now (a .xs)) (now (a .ys)) (now (a .entries)) (a .b) (a .w) (now (a .cells)) (a .i) (a .used) (a .free) _
+          (sym (after-cell-fits .cell-fits .ensures) ∙ at-if1 .if1 .taken) (at-if2 .if2 .taken) (e .0),
+      e .1,
+    )
 
 refused-requires : tie.Need-refused-requires
 refused-requires c κs = search needs
 
 returns-2 : tie.Need-returns-2
 returns-2 c =
-    let a = c .before .before .before .before .before .before .before .before .before .before .args in (
-      cell-parted (now (a .areas)) (now (a .xs)) (now (a .ys)) (now (a .entries)) (a .b) (a .w) (now (a .cells)) (a .i) (a .used) (a .free) _ (sym (c .before .before .before .before .cell-fits .ensures) ∙ c .before .before .before .if1 .taken) (c .before .if2 .left) (c .refused .ensures),
+    let at-if2 = c .before in
+    let at-if1 = at-if2 .before .before in
+    let after-cell-fits = at-if1 .before in
+    let at-entry = after-cell-fits .before .before .before .before .before .before in
+    let a = at-entry .args in (
+      cell-parted (now (a .areas)) (now (a .xs)) (now (a .ys)) (now (a .entries)) (a .b) (a .w) (now (a .cells)) (a .i) (a .used) (a .free) _
+          (sym (after-cell-fits .cell-fits .ensures) ∙ at-if1 .if1 .taken) (at-if2 .if2 .left) (c .refused .ensures),
       λ n e. not-split n _ (sym (c .refused .ensures) ∙ e),
     )
 
@@ -40,8 +52,14 @@ refused-requires-2 c κs = search needs
 
 returns-3 : tie.Need-returns-3
 returns-3 c =
-    let a = c .before .before .before .before .before .before .before .before .args in
-    (cell-broken (now (a .areas)) (now (a .xs)) (now (a .ys)) (now (a .entries)) (a .b) (a .w) (now (a .cells)) (a .i) (a .used) (a .free) _ (sym (c .before .before .cell-fits .ensures) ∙ c .before .if1 .left) (c .refused2 .ensures), λ n e. not-split n _ (sym (c .refused2 .ensures) ∙ e))
+    let at-if1 = c .before in
+    let after-cell-fits = at-if1 .before in
+    let at-entry = after-cell-fits .before .before .before .before .before .before in
+    let a = at-entry .args in (
+      cell-broken (now (a .areas)) (now (a .xs)) (now (a .ys)) (now (a .entries)) (a .b) (a .w) (now (a .cells)) (a .i) (a .used) (a .free) _
+          (sym (after-cell-fits .cell-fits .ensures) ∙ at-if1 .if1 .left) (c .refused2 .ensures),
+      λ n e. not-split n _ (sym (c .refused2 .ensures) ∙ e),
+    )
 
 pub judge-cell-spec : {M : Type 1} → statement M
 judge-cell-spec =

@@ -19,14 +19,16 @@ cast-count c = search needs
 
 count-to-requires : tie.Need-count-to-requires
 count-to-requires c κs =
-    let p = c .before .before .before .before .before .before .pre in
+    let at-entry = c .before .before .before .before .before .before in
+    let p = at-entry .pre in
     (p .0, (p .1 .0, (p .1 .1 .0, omega arith)))
 
 entries-of-requires : tie.Need-entries-of-requires
 entries-of-requires c κs =
     let at-entry = c .before .before .before .before .before .before .before in
     let a = at-entry .args in
-    few-each (now (a .entries)) (now (a .areas)) (now (a .xs)) (now (a .ys)) (a .b) (a .w .first) (a .w .count) (cellOf (a .w)) (c .count-to .result) (at-entry .pre .0) (c .count-to .ensures)
+    few-each (now (a .entries)) (now (a .areas)) (now (a .xs)) (now (a .ys)) (a .b) (a .w .first) (a .w .count) (cellOf (a .w)) (c .count-to .result)
+    (at-entry .pre .0) (c .count-to .ensures)
 
 judge-room-requires : tie.Need-judge-room-requires
 judge-room-requires c κs =
@@ -34,7 +36,8 @@ judge-room-requires c κs =
     let at-entry = c .before .before .before .before .before .before .before .before in
     let a = at-entry .args in
     let p = at-entry .pre in
-    let f = few-each (now (a .entries)) (now (a .areas)) (now (a .xs)) (now (a .ys)) (a .b) (a .w .first) (a .w .count) (cellOf (a .w)) (after-count-to .count-to .result) (p .0) (after-count-to .count-to .ensures) in (
+    let f = few-each (now (a .entries)) (now (a .areas)) (now (a .xs)) (now (a .ys)) (a .b) (a .w .first) (a .w .count) (cellOf (a .w))
+    (after-count-to .count-to .result) (p .0) (after-count-to .count-to .ensures) in (
       p .1 .1 .1 .0,
       p .1 .1 .1 .1,
       omega (arith, c .entries-of .ensures, f .few 0 (omega arith), f .few 1 (omega arith), f .few 2 (omega arith), f .few 3 (omega arith)),

@@ -18,18 +18,30 @@ entries-held-requires c κs = search needs
 
 returns : tie.Need-returns
 returns c =
-    let a = c .before .before .before .before .args in
-    has-room (a .cells) (a .entries) (a .used) (a .free) (a .made) (sym (c .before .before .before .cells-held .ensures) ∙ c .before .before .if1 .taken) (sym (c .before .entries-held .ensures) ∙ c .if2 .taken)
+    let after-entries-held = c .before in
+    let at-if1 = after-entries-held .before in
+    let after-cells-held = at-if1 .before in
+    let at-entry = after-cells-held .before in
+    let a = at-entry .args in
+    has-room (a .cells) (a .entries) (a .used) (a .free) (a .made) (sym (after-cells-held .cells-held .ensures) ∙ at-if1 .if1 .taken)
+    (sym (after-entries-held .entries-held .ensures) ∙ c .if2 .taken)
 
 returns-2 : tie.Need-returns-2
 returns-2 c =
-    let a = c .before .before .before .before .args in
-    no-entries (a .cells) (a .entries) (a .used) (a .free) (a .made) (sym (c .before .before .before .cells-held .ensures) ∙ c .before .before .if1 .taken) (sym (c .before .entries-held .ensures) ∙ c .if2 .left)
+    let after-entries-held = c .before in
+    let at-if1 = after-entries-held .before in
+    let after-cells-held = at-if1 .before in
+    let at-entry = after-cells-held .before in
+    let a = at-entry .args in
+    no-entries (a .cells) (a .entries) (a .used) (a .free) (a .made) (sym (after-cells-held .cells-held .ensures) ∙ at-if1 .if1 .taken)
+    (sym (after-entries-held .entries-held .ensures) ∙ c .if2 .left)
 
 returns-3 : tie.Need-returns-3
 returns-3 c =
-    let a = c .before .before .args in
-    no-cells (a .cells) (a .entries) (a .used) (a .free) (a .made) (sym (c .before .cells-held .ensures) ∙ c .if1 .left)
+    let after-cells-held = c .before in
+    let at-entry = after-cells-held .before in
+    let a = at-entry .args in
+    no-cells (a .cells) (a .entries) (a .used) (a .free) (a .made) (sym (after-cells-held .cells-held .ensures) ∙ c .if1 .left)
 
 pub judge-room-spec : {M : Type 1} → statement M
 judge-room-spec =

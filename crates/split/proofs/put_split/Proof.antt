@@ -34,22 +34,29 @@ put-cells-requires c κs =
 
 entries-of-requires : tie.Need-entries-of-requires
 entries-of-requires c κs =
-    let p = c .before .before .before .before .before .before .before .before .before .before .before .before .before .before .before .before .pre in
+    let earlier = c .before .before .before .before .before .before .before .before .before .before .before .before in
+    let at-entry = earlier .before .before .before .before in
+    let p = at-entry .pre in
     p .1 .1 .1 .1 .1 .1 .0
 
 add-put-head : tie.Need-add-put-head
 add-put-head c =
-    let p = c .before .before .before .before .before .before .before .before .before .before .before .before .before .before .before .before .before .before .pre in
+    let earlier = c .before .before .before .before .before .before .before .before .before .before .before .before in
+    let at-entry = earlier .before .before .before .before .before .before in
+    let p = at-entry .pre in
     record { fits = omega (arith, p .1 .1 .1 .1 .1 .1 .1 .1 .0 .0) }
 
 cast-put-head : tie.Need-cast-put-head
 cast-put-head c =
-    let p = c .before .before .before .before .before .before .before .before .before .before .before .before .before .before .before .before .before .before .pre in
+    let after-entries-of = c .before in
+    let earlier = after-entries-of .before .before .before .before .before .before .before .before .before .before .before .before in
+    let at-entry = earlier .before .before .before .before .before in
+    let p = at-entry .pre in
     let f = p .1 .1 .1 .1 .1 .1 .0 in
     record {
       fits = omega (
         arith,
-        c .before .entries-of .ensures,
+        after-entries-of .entries-of .ensures,
         f .few 0 (omega arith),
         f .few 1 (omega arith),
         f .few 2 (omega arith),
@@ -59,13 +66,16 @@ cast-put-head c =
 
 add-put-head-2 : tie.Need-add-put-head-2
 add-put-head-2 c =
-    let p = c .before .before .before .before .before .before .before .before .before .before .before .before .before .before .before .before .before .before .pre in
+    let after-entries-of = c .before in
+    let earlier = after-entries-of .before .before .before .before .before .before .before .before .before .before .before .before in
+    let at-entry = earlier .before .before .before .before .before in
+    let p = at-entry .pre in
     let f = p .1 .1 .1 .1 .1 .1 .0 in
     record {
       fits = omega (
         arith,
         p .1 .1 .1 .1 .1 .1 .1 .1 .0 .1,
-        c .before .entries-of .ensures,
+        after-entries-of .entries-of .ensures,
         f .few 0 (omega arith),
         f .few 1 (omega arith),
         f .few 2 (omega arith),
@@ -75,7 +85,9 @@ add-put-head-2 c =
 
 put-head-requires : tie.Need-put-head-requires
 put-head-requires c κs =
-    let p = c .before .before .before .before .before .before .before .before .before .before .before .before .before .before .before .before .before .before .pre in
+    let earlier = c .before .before .before .before .before .before .before .before .before .before .before .before in
+    let at-entry = earlier .before .before .before .before .before .before in
+    let p = at-entry .pre in
     p .1 .1 .1 .1 .1 .1 .1 .1 .1 .1
 
 same-length : tie.Need-same-length

@@ -14,11 +14,14 @@ enum-known-a c = search needs
 
 make-split-requires : tie.Need-make-split-requires
 make-split-requires c κs =
-    let a = c .before .before .before .before .before .before .before .before .before .before .before .before .before .before .before .before .before .before .args in
+    let after-a = c .before .before .before .before .before in
+    let after-judge = after-a .before .before in
+    let at-entry = after-judge .before .before .before .before .before .before .before .before .before .before .before in
+    let a = at-entry .args in
     let T = tree (now (a .plan)) (now (a .areas)) (now (a .xs)) (now (a .ys)) (now (a .head)) (now (a .cells)) (now (a .entries)) in
-    let j = c .before .before .before .before .before .before .before .judge in
-    let e = sym (j .ensures .0) ∙ c .before .before .before .before .before .a .given .1 in
-    (split-accepted T (a .i) _ e, j .ensures .1 _ (c .before .before .before .before .before .a .given .1))
+    let j = after-judge .judge in
+    let e = sym (j .ensures .0) ∙ after-a .a .given .1 in
+    (split-accepted T (a .i) _ e, j .ensures .1 _ (after-a .a .given .1))
 
 same-length : tie.Need-same-length
 same-length c = search needs
@@ -31,9 +34,12 @@ same-length-3 c = search needs
 
 returns : tie.Need-returns
 returns c =
-    let j = c .before .before .before .before .before .before .before .before .before .before .before .before .before .before .judge in
-    let m = c .before .before .before .before .before .before .make-split .ensures in
-    (sym (c .before .before .before .before .before .before .before .before .before .before .before .before .a .given .1) ∙ j .ensures .0, m)
+    let after-make-split = c .before .before .before .before .before .before in
+    let after-a = after-make-split .before .before .before .before .before .before in
+    let after-judge = after-a .before .before in
+    let j = after-judge .judge in
+    let m = after-make-split .make-split .ensures in
+    (sym (after-a .a .given .1) ∙ j .ensures .0, m)
 
 enum-known-a-2 : tie.Need-enum-known-a-2
 enum-known-a-2 c = search needs
@@ -49,8 +55,10 @@ same-length-6 c = search needs
 
 returns-2 : tie.Need-returns-2
 returns-2 c =
-    let j = c .before .before .before .judge in
-    (sym (c .before .a2 .given .1) ∙ j .ensures .0, (refl, (refl, refl)))
+    let after-a2 = c .before in
+    let after-judge = after-a2 .before .before in
+    let j = after-judge .judge in
+    (sym (after-a2 .a2 .given .1) ∙ j .ensures .0, (refl, (refl, refl)))
 
 pub split-spec : {M : Type 1} → statement M
 split-spec =
