@@ -1,6 +1,6 @@
 -- The parent of a cell: a quarter of a split cell passes, what it says that a parent passes, and that it still does in a table with the same words there.
-use Prim.Native.Nat.{ℕ, zero, suc, _+_, _*_, _-_, _%_, _^_, _≤_, _<_}
-use mathlib.Core.Path.{_≡_, refl, sym, ap, _∙_, subst}
+use Prim.Native.Nat.{ℕ, zero, suc, _+_, _*_, _-_, _%_, _≤_, _<_}
+use mathlib.Core.Path.{_≡_, refl, sym, ap, _∙_}
 use mathlib.Core.Bool.{Bool, true, false, cond, _&&_}
 use mathlib.Core.List.{List}
 use native.Mathlib.Omega.{arith}
@@ -13,16 +13,7 @@ use Rattle.celltable.specs.declared.CellWords.{CellWords}
 use Rattle.celltable.specs.Table.{cellAt, withChild}
 use Rattle.celltable.specs.Ranges.{squareRange, rootRange, childRange, entryRange, isChild, halfAt, onQuarter, heldBy, parentRange, cellRange}
 use Rattle.celltable.specs.Descent.{placeOf}
-use Rattle.celltable.proofs.Ranges.{
-  child-more,
-  entries-more,
-  range-parts,
-  passes-range,
-  passes-children,
-  passes-run,
-  passes-root,
-  passes-parent,
-}
+use Rattle.celltable.proofs.Ranges.{entries-more, range-parts, passes-range, passes-run, passes-root, passes-parent}
 use Rattle.celltable.proofs.Grid.{SaysCell}
 
 -- ---- a quarter of a split cell passes

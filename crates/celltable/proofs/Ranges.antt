@@ -1,6 +1,6 @@
 -- What it says that a cell passes, and that the numbers in use do: its square is that of a cell of document 01, and the other numbers are below what is in use.
 use Prim.Native.Nat.{ℕ, _+_, _*_, _/_, _%_, _^_, _≤_, _<_}
-use mathlib.Core.Path.{_≡_, refl, sym, ap, _∙_}
+use mathlib.Core.Path.{_≡_, refl}
 use mathlib.Core.Bool.{Bool, true, false, cond, _&&_, _||_}
 use mathlib.Core.List.{List}
 use native.Mathlib.Omega.{arith}
@@ -14,25 +14,7 @@ use Rattle.geometry.specs.code.Reach.{SquareIn}
 use Rattle.cells.specs.Cells.{level, squareOf}
 use Rattle.celltable.specs.declared.CellWords.{CellWords}
 use Rattle.celltable.specs.Table.{cellAt}
-use Rattle.celltable.specs.Ranges.{
-  sideRange,
-  gridRange,
-  squareRange,
-  rootRange,
-  childRange,
-  entryRange,
-  isChild,
-  heldBy,
-  parentRange,
-  cellRange,
-  cellsHeld,
-  entriesHeld,
-  headRange,
-  CellsIn,
-  levelOf,
-  cellOf,
-  squareIn,
-}
+use Rattle.celltable.specs.Ranges.{sideRange, gridRange, squareRange, rootRange, childRange, entryRange, heldBy, parentRange, cellRange, cellsHeld, entriesHeld, headRange, CellsIn, levelOf, cellOf, squareIn}
 
 -- ---- the square of a cell
 

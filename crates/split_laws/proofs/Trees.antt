@@ -47,18 +47,6 @@ pub tree-plan : (t : Tree) (i : ℕ) → splitTree t i .plan ≡ t .plan
 unfolding splitTree
 tree-plan t i = refl
 
-pub tree-areas : (t : Tree) (i : ℕ) → splitTree t i .areas ≡ t .areas
-unfolding splitTree
-tree-areas t i = refl
-
-pub tree-xs : (t : Tree) (i : ℕ) → splitTree t i .xs ≡ t .xs
-unfolding splitTree
-tree-xs t i = refl
-
-pub tree-ys : (t : Tree) (i : ℕ) → splitTree t i .ys ≡ t .ys
-unfolding splitTree
-tree-ys t i = refl
-
 module _ (t : Tree) (i n : ℕ) (e : splitAnswer t i ≡ Split n) where
   pub tree-head : splitTree t i .head ≡ headAfter t i (Split n)
   unfolding splitTree

@@ -4,8 +4,8 @@ use mathlib.Core.Bool.{Bool, true, false, _&&_}
 use mathlib.Core.List.{List}
 use Prim.Native.Nat.{ℕ}
 use lib.Dec.{eqb}
-use borrow.Author.Tests.{eqb-true, eq-eqb}
-use Rattle.laws.proofs.Booleans.{and-left, and-right, and-both}
+use borrow.Author.Tests.{eq-eqb}
+use Rattle.laws.proofs.Booleans.{and-left, and-both}
 use Rattle.stream.specs.declared.Checked.{Checked}
 use Rattle.stream.specs.Entry.{linesIn}
 use Rattle.stream.specs.Table.{wordsFrom}
@@ -34,9 +34,6 @@ module _ (t : List ℕ) (first count lines used : ℕ) (v : Env) where
 
   pub leaf-stream : leafPasses t first count lines used v ≡ true → checkStream t first count used v ≡ true
   leaf-stream h = and-left inStream inCount h
-
-  pub leaf-lines : leafPasses t first count lines used v ≡ true → linesIn (wordsFrom t first count) ≡ lines
-  leaf-lines h = eqb-true (linesIn (wordsFrom t first count)) lines (and-right inStream inCount h)
 
   pub leaf-both : checkStream t first count used v ≡ true → linesIn (wordsFrom t first count) ≡ lines → leafPasses t first count lines used v ≡ true
   leaf-both h e = and-both inStream inCount h (eq-eqb (linesIn (wordsFrom t first count)) lines e)
