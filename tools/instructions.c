@@ -63,7 +63,7 @@ static void lay_stream(uint32_t groups, uint32_t passes, uint32_t lines) {
     plan[1] = groups;
     plan[2] = groups * lines;
     head[1] = n;
-    const uint32_t cell[8] = {0, 0, 65536, 0, 0, n, 0, 0};
+    const uint32_t cell[8] = {0, 0, 65536, 0, 0, n, groups * lines, 0};
     memcpy(cells, cell, sizeof cell);
 }
 
@@ -91,7 +91,7 @@ static void spread_positions(uint64_t *seed) {
 int main(int argc, char **argv) {
     FILE *file = argc == 3 ? fopen(argv[1], "rb") : NULL;
     if (file == NULL) {
-        fprintf(stderr, "usage: instructions DRAWING read|grow|position|row|log|split16|split256|split4096|none\n");
+        fprintf(stderr, "usage: instructions DRAWING read|grow|again|position|row|log|split16|split256|split4096|none\n");
         return 2;
     }
     length = fread(records, 1, sizeof records, file);
@@ -104,6 +104,7 @@ int main(int argc, char **argv) {
         spread_positions(&seed);
         if (strcmp(job, "read") == 0) read_drawing();
         if (strcmp(job, "grow") == 0) grow(0, 7);
+        if (strcmp(job, "again") == 0) accepted("grow", zones_grow(DRAWING, TREE, 4, 8));
         if (strcmp(job, "log") == 0) accepted("log", zones_zone_log(DRAWING, TREE, px, RUN, py, RUN, out, RUN));
         for (int k = 0; k < RUN && strcmp(job, "position") == 0; k++)
             accepted("position", zones_position(DRAWING, TREE, px[k], py[k], out, RUN));

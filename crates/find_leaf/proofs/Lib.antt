@@ -1,4 +1,4 @@
--- Laws of finding a leaf: the numbers in use; what the leaf that is found says; that it is found from each of its positions; the answer; examples.
+-- Laws of finding a leaf: what the leaf that is found says; that it is found from each of its positions; the answer; examples.
 pub mod Landing
 pub mod Same
 pub mod Answers

@@ -4,7 +4,6 @@ use mathlib.Core.Bool.{Bool, true, false, cond, _&&_}
 use mathlib.Core.List.{List}
 use Prim.Native.Nat.{ℕ}
 use lib.Dec.{eqb}
-use lib.ListN.{length, length-set}
 use Rattle.laws.proofs.Booleans.{cond-left}
 use Rattle.refusals.specs.Refusals.{numberOf}
 use Rattle.refusals.specs.declared.Refusal.{Refusal}
@@ -49,10 +48,6 @@ module _ (t : Tree) (s : Sweep) (x : Splitting.Answer) (e : x ≡ splitAnswer t 
 
   pub turn-refused : (r : Refusal) (u : Turn) → x ≡ split.Not r → u ≡ cond (eqb (numberOf r) 11) NoRoom Stopped → u ≡ turnBy Wanted t s
   turn-refused r u f g = g ∙ ap (λ (y : Splitting.Answer). byAnswer y s (splitTree t i .head)) (sym f ∙ e)
-
-pub length-head : (t : Tree) (i : ℕ) (x : Splitting.Answer) → length (headAfter t i x) ≡ length (t .head)
-length-head t i (split.Split k) = simp length-set
-length-head t i (split.Not r) = λ d. length (t .head)
 
 -- ---- what is met at the cell, test by test
 pub side-passes : (w : CellWords) → squareRange w ≡ true → sideRange (w .side) ≡ true

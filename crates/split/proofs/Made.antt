@@ -1,5 +1,5 @@
 -- A split that is accepted, by the numbers that the code holds: what they ask of the tables, and the tables that are left.
-use mathlib.Core.Path.{_≡_, sym, ap, _∙_}
+use mathlib.Core.Path.{_≡_, refl, sym, ap, _∙_}
 use mathlib.Core.Bool.{true}
 use mathlib.Core.List.{List}
 use Prim.Native.Nat.{ℕ, _+_, _*_, _≤_, _<_}
@@ -71,9 +71,6 @@ module _ (t : Tree) (i : ℕ) (A : Accepted t i) (ts : List Tally) (T : ts ≡ w
   made-head x e =
       let n : sumOf ts ≡ length (made t i) = sum-is (drawing t i) (cellOf (words t i)) (stream t i) ts (sumOf ts) T refl in
       e ∙ (λ d. set (set (t .head) 0 (eu d + 4)) 1 (ef d + n d))
-    where
-      refl : sumOf ts ≡ sumOf ts
-      refl = λ d. sumOf ts
 
   pub made-rows : (x : List ℕ) → x ≡ putChildAt (cellsBy (cellOf w) ts (t .cells) i used free 4) i used → x ≡ cellsAfter t i (Split 0)
   made-rows x e =
