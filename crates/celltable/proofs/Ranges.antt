@@ -14,7 +14,24 @@ use Rattle.geometry.specs.code.Reach.{SquareIn}
 use Rattle.cells.specs.Cells.{level, squareOf}
 use Rattle.celltable.specs.declared.CellWords.{CellWords}
 use Rattle.celltable.specs.Table.{cellAt}
-use Rattle.celltable.specs.Ranges.{sideRange, gridRange, squareRange, rootRange, childRange, entryRange, heldBy, parentRange, cellRange, cellsHeld, entriesHeld, headRange, CellsIn, levelOf, cellOf, squareIn}
+use Rattle.celltable.specs.Ranges.{
+  sideRange,
+  gridRange,
+  squareRange,
+  rootRange,
+  childRange,
+  entryRange,
+  heldBy,
+  parentRange,
+  cellRange,
+  cellsHeld,
+  entriesHeld,
+  headRange,
+  CellsIn,
+  levelOf,
+  cellOf,
+  squareIn,
+}
 
 -- ---- the square of a cell
 
