@@ -1,4 +1,4 @@
-/* zones.h, version 0.7.0: which drawn area a position lies in.
+/* zones.h, version 0.6.0: which drawn area a position lies in.
  *
  * This header is the manual of libzones.a (made by: rt staticlib zones). A surveyor draws areas, a drawing is a
  * file of records; the library reads it into tables, opens a tree of map cells over it, and answers positions,
@@ -55,9 +55,9 @@ extern "C" {
  * met since. A new MINOR may change tables, records and answers: compile your program again, and read a drawing
  * again rather than keep its tables. A new PATCH changes none of them. */
 #define ZONES_VERSION_MAJOR 0
-#define ZONES_VERSION_MINOR 7
+#define ZONES_VERSION_MINOR 6
 #define ZONES_VERSION_PATCH 0
-#define ZONES_VERSION "0.7.0"
+#define ZONES_VERSION "0.6.0"
 
 /* 3  ANSWERS AND REFUSALS
  *
@@ -90,14 +90,13 @@ static inline uint32_t zones_place(uint64_t answer) { return (uint32_t)(answer &
 /* Of an accepted call: the result that is named with the call. */
 static inline uint32_t zones_result(uint64_t answer) { return (uint32_t)(answer & 0xffffffffu); }
 
-/* A refusal in words, for people. A text may change with MINOR; a number that no refusal has gets a text too. */
+/* A refusal in words, for people. The text of each number stays; a number that no refusal has gets a text too. */
 static inline const char *zones_refusal_text(uint32_t number) {
     switch (number) {
     case ZONES_ACCEPTED: return "accepted";
     case ZONES_REFUSAL_LENGTH: return "the length of the file is no multiple of 16, or it has over 4,096 records";
     case ZONES_REFUSAL_KIND: return "unknown kind of record";
-    case ZONES_REFUSAL_FIELD:
-        return "a field is out of range, an area's number is not its place, or an unnamed byte is not zero";
+    case ZONES_REFUSAL_FIELD: return "a field is out of range, or an unnamed byte is not zero";
     case ZONES_REFUSAL_UNFIT: return "the record does not fit where it stands, or a group is open at the end";
     case ZONES_REFUSAL_SHORT: return "a contour of under 3 corners";
     case ZONES_REFUSAL_LIMIT: return "the 65th area, the 2,049th corner or the 9th open group";
@@ -125,8 +124,7 @@ static inline const char *zones_refusal_text(uint32_t number) {
  * and including the first that is opaque. docs/DRAWING.md has all of it.
  *
  * In a file a drawing is a row of records of 16 bytes, no header, numbers little-endian; a file of no bytes is the
- * empty drawing. Byte 0 of a record is its kind. Bytes that are not named below are 0. A file from before 0.7.0 has 0 in
- * place of the numbers of areas: it is refused with 3 at its second area, if it has two. */
+ * empty drawing. Byte 0 of a record is its kind. Bytes that are not named below are 0. */
 #define ZONES_RECORD_BYTES 16
 #define ZONES_MOST_RECORDS 4096
 #define ZONES_FILE_BYTES 65536 /* the longest file: ZONES_MOST_RECORDS x ZONES_RECORD_BYTES */
@@ -140,14 +138,13 @@ static inline const char *zones_refusal_text(uint32_t number) {
 #define ZONES_KIND_CONTROL 7 /* control corner of a quadratic Bezier curve; stands between 2 or 3 and 3 */
 
 #define ZONES_RECORD_KIND 0     /* where the bytes of a record stand: every kind */
-#define ZONES_RECORD_ROLE 1     /* kind 1, up to ZONES_RECORD_NUMBER */
+#define ZONES_RECORD_ROLE 1     /* kind 1, up to ZONES_RECORD_MATERIAL */
 #define ZONES_RECORD_RULE 2
 #define ZONES_RECORD_ALPHA 3
 #define ZONES_RECORD_RED 4
 #define ZONES_RECORD_GREEN 5
 #define ZONES_RECORD_BLUE 6
 #define ZONES_RECORD_MATERIAL 8 /* two bytes */
-#define ZONES_RECORD_NUMBER 10  /* two bytes: how many areas, paint and clip, stand before this one in the file */
 #define ZONES_RECORD_X 4        /* kinds 2, 3 and 7: four bytes */
 #define ZONES_RECORD_Y 8        /* the same: four bytes */
 
@@ -158,7 +155,7 @@ static inline const char *zones_refusal_text(uint32_t number) {
 #define ZONES_OPAQUE 255            /* alpha of an area that hides what is behind it; also the highest channel */
 #define ZONES_LEAST_MATERIAL 1      /* of a paint area */
 #define ZONES_MOST_MATERIAL 65535   /* the same; material 0 is the answer where nothing shows */
-#define ZONES_MOST_AREAS 64         /* numbered from 0, front first; the number stands in the record too */
+#define ZONES_MOST_AREAS 64         /* numbered from 0, front first */
 #define ZONES_MOST_CORNERS 2048     /* of all areas together; control corners count */
 #define ZONES_LEAST_CORNERS 3       /* of a contour; control corners do not count */
 #define ZONES_MOST_GROUPS 8         /* open at a time */
@@ -174,8 +171,7 @@ static inline const char *zones_refusal_text(uint32_t number) {
 #define ZONES_PLAN_COUNTS 3    /* words before the kinds: word ZONES_PLAN_COUNTS + i is the kind of record i */
 #define ZONES_PLAN_LENGTH 4099 /* for every drawing */
 
-/* areas: eight words an area, in the order of their numbers, which are not among them; the eighth is 0. Length:
- * ZONES_AREA_WORDS x areas. */
+/* areas: eight words an area; the eighth is 0. Length: ZONES_AREA_WORDS x areas. */
 #define ZONES_AREA_WORDS 8
 #define ZONES_AREA_ROLE 0
 #define ZONES_AREA_RULE 1
@@ -308,7 +304,7 @@ static inline const char *zones_refusal_text(uint32_t number) {
 /* 6  MEMORY, STACK, THRESHOLD AND DEPTH LIMIT
  *
  * Memory. Tables at the limits (struct zones_memory) take 1,214,484 bytes: plan 16,396, areas 2,048, xs and ys 8,192
- * each, head 8, cells 131,072, entries 1,048,576. The archive has 31 KB of code and constants and no variable. Shorter
+ * each, head 8, cells 131,072, entries 1,048,576. The archive has 29 KB of code and constants and no variable. Shorter
  * tables serve smaller drawings (ZONES_TABLES, in section 8); where they are too short for a whole tree, it is cut
  * less, and as right. The samples, grown with the advised numbers below: what is in use, and the bytes of tables just
  * so long:
@@ -323,7 +319,7 @@ static inline const char *zones_refusal_text(uint32_t number) {
  * recursive and no frame depends on the tables: what was measured is the longest path through the object code, so
  * other drawings take no more.
  *
- *     zones_read     378     zones_split    4584     zones_position    967
+ *     zones_read     346     zones_split    4584     zones_position    967
  *     zones_write    538     zones_grow     4648     zones_pixel_row  1271
  *     zones_open    1832     zones_find_leaf 839     zones_zone_log   1271
  *
@@ -422,7 +418,7 @@ typedef uint64_t zones_length;
  *    1  the length is no multiple of ZONES_RECORD_BYTES, or there are over ZONES_MOST_RECORDS
  *       then each record in turn by 2, 3, 13, 4, 5, 6; place: the record, counted from 0
  *    2  its kind is unknown
- *    3  a field is out of range, it is an area whose number is not its place, or an unnamed byte is not 0
+ *    3  a field is out of range, or an unnamed byte is not 0
  *   13  it ends a curve whose three x, or three y, are not in order, or that spans over ZONES_MOST_CURVE_SPAN
  *    4  it does not fit where it stands
  *    5  it ends a contour of under ZONES_LEAST_CORNERS
@@ -436,8 +432,7 @@ uint64_t zones_read(const uint8_t *records, zones_length records_len, uint32_t *
                     uint32_t *areas, zones_length areas_len, uint32_t *xs, zones_length xs_len, uint32_t *ys,
                     zones_length ys_len);
 
-/* zones_write: writes the drawing out as a file of records, byte for byte the one that was read. The number of each
- * area is filled in from the order.
+/* zones_write: writes the drawing out as a file of records, byte for byte the one that was read.
  *
  *   plan, areas, xs, ys   as zones_read left them
  *   out                   at least ZONES_RECORD_BYTES x the records in use; ZONES_FILE_BYTES serves every drawing

@@ -97,17 +97,6 @@ static void draw(uint32_t count) {
     record(6);
 }
 
-/* Fills in the number of each area, or 0, which archives from before 0.7 want. */
-static void number_areas(int filled) {
-    uint8_t number = 0;
-    for (size_t at = 0; at < length; at += 16)
-        if (records[at] == 1) records[at + 10] = filled ? number++ : 0;
-}
-
-static uint64_t read_drawing(void) {
-    return zones_read(records, length, plan, LEN(plan), areas, LEN(areas), xs, LEN(xs), ys, LEN(ys));
-}
-
 /* ---- runs ---- */
 
 /* A truck that drives from one place to the next, 40 units from fix to fix. */
@@ -158,9 +147,7 @@ int main(int argc, char **argv) {
     }
     const char *job = argv[3];
     draw(count);
-    number_areas(1);
-    if (read_drawing() >> 32 == 3) number_areas(0);
-    accepted("read", read_drawing());
+    accepted("read", zones_read(records, length, plan, LEN(plan), areas, LEN(areas), xs, LEN(xs), ys, LEN(ys)));
     accepted("open", zones_open(DRAWING, TREE));
     accepted("grow", zones_grow(DRAWING, TREE, (uint32_t)atoi(argv[2]), 8));
     uint32_t indices[2] = {0, 0};

@@ -128,7 +128,6 @@ static void put_corner(uint8_t kind, uint32_t x, uint32_t y) {
 static void put_area(uint32_t number, uint8_t role) {
     uint8_t *record = put(ZONES_KIND_AREA);
     record[ZONES_RECORD_ROLE] = role;
-    record[ZONES_RECORD_NUMBER] = (uint8_t)number;
     if (role == ZONES_ROLE_PAINT) {
         record[ZONES_RECORD_ALPHA] = 100;
         record[ZONES_RECORD_RED] = (uint8_t)number;

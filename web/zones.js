@@ -22,7 +22,7 @@ const REFUSALS = [
     "",
     "the length of the file is no multiple of 16, or it has over 4,096 records",
     "unknown kind of record",
-    "a field is out of range, an area's number is not its place, or an unnamed byte is not zero",
+    "a field is out of range, or an unnamed byte is not zero",
     "the record does not fit where it stands, or a group is open at the end",
     "a contour of under 3 corners",
     "the 65th area, the 2,049th corner or the 9th open group",

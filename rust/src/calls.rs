@@ -77,8 +77,8 @@ macro_rules! on_tree {
 
 /// Reads a file of records into the tables of a drawing; gives the number of records.
 ///
-/// Refusals, in the order they are tried: 7, 1, each record by 2, 3, 13, 4, 5, 6, the end by 4 and 5, then 11. 3 meets, among
-/// others, an area whose number is not how many areas stand before it. A refusal leaves the tables as they were.
+/// Refusals, in the order they are tried: 7, 1, each record by 2, 3, 13, 4, 5, 6, the end by 4 and 5, then 11. A refusal leaves
+/// the tables as they were.
 ///
 /// ```
 /// use zones::{DrawingMut, Refusal};
@@ -115,7 +115,7 @@ pub fn read(records: &[u8], into: DrawingMut<'_>) -> Result<u32, Refused> {
     })
 }
 
-/// Writes a drawing out as a file of records, the number of each area filled in from the order; gives the number of bytes.
+/// Writes a drawing out as a file of records; gives the number of bytes.
 ///
 /// Refusals: 7, 12, 11. A refusal leaves `out` as it was.
 pub fn write(drawing: Drawing<'_>, out: &mut [u8]) -> Result<u32, Refused> {

@@ -19,7 +19,7 @@ use crate::{Drawing, DrawingMut, Tree, TreeMut};
 /// ```
 /// use zones::{Map, ADVISED_DEPTH, ADVISED_THRESHOLD};
 ///
-/// // Area 0, opaque, of material 7, colour 10 20 30, over the lower left quarter of the grid.
+/// // One opaque area of material 7, colour 10 20 30, over the lower left quarter of the grid.
 /// let area = [1, 0, 0, 255, 10, 20, 30, 0, 7, 0, 0, 0, 0, 0, 0, 0];
 /// let corner = |kind: u8, x: u32, y: u32| {
 ///     let mut record = [0; 16];
@@ -85,16 +85,6 @@ impl Tables {
 impl Map {
     /// Reads a file of records, with room for the most cells and entries of a tree (1.2 MB). There is no tree yet: until
     /// [`open`](Map::open), what is asked of the tree is refused with 12.
-    ///
-    /// ```
-    /// use zones::{Map, Refusal};
-    ///
-    /// // Each area has its number in bytes 10 and 11: how many areas stand before it.
-    /// let area = |number: u8| [1, 0, 0, 255, 10, 20, 30, 0, 7, 0, number, 0, 0, 0, 0, 0];
-    /// assert!(Map::read(&[area(0), area(1)].concat()).is_ok());
-    /// let refused = Map::read(&[area(0), area(0)].concat()).unwrap_err();
-    /// assert_eq!((refused.refusal, refused.place), (Refusal::Field, 1));
-    /// ```
     pub fn read(records: &[u8]) -> Result<Map, Refused> {
         Map::read_with_room(records, MOST_CELLS, MOST_ENTRIES)
     }

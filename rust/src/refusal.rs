@@ -63,7 +63,7 @@ impl Refusal {
         match self {
             Refusal::Length => "the length of the file is no multiple of 16, or it has over 4,096 records",
             Refusal::Kind => "unknown kind of record",
-            Refusal::Field => "a field is out of range, an area's number is not its place, or an unnamed byte is not zero",
+            Refusal::Field => "a field is out of range, or an unnamed byte is not zero",
             Refusal::Unfit => "the record does not fit where it stands, or a group is open at the end",
             Refusal::Short => "a contour of under 3 corners",
             Refusal::Limit => "the 65th area, the 2,049th corner or the 9th open group",

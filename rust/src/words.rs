@@ -142,7 +142,7 @@ pub enum FillRule {
     EvenOdd,
 }
 
-/// An area of a drawing. Its number is its place in the order, and not among the words.
+/// An area of a drawing.
 #[derive(Clone, Copy, PartialEq, Eq, Hash, Debug)]
 pub struct Area {
     pub role: Role,

@@ -27,19 +27,10 @@ static void check(const char *name, int holds, int line) {
 
 /* Files of records. */
 
-/* The areas of the file so far. */
-static unsigned areas_before(void) {
-    unsigned n = 0;
-    for (size_t k = 0; k < length; k += 16) n += file[k] == 1;
-    return n;
-}
-
-/* An area is numbered. */
 static uint8_t *put(unsigned kind) {
     uint8_t *record = file + length;
     memset(record, 0, 16);
     record[0] = (uint8_t)kind;
-    if (kind == 1) record[10] = (uint8_t)areas_before();
     length += 16;
     return record;
 }
@@ -222,15 +213,6 @@ static void kinds_roles_rules(void) {
 
 /* Where the bytes of records and the words of the tables stand. */
 
-/* A third area whose two bytes of the number are these. */
-static uint64_t third(unsigned low, unsigned high) {
-    put_area(0, 0, 0, 1), put(4), put_area(1, 0, 0, 0), put(5), put_area(0, 0, 0, 1);
-    file[length - 16 + ZONES_RECORD_NUMBER] = (uint8_t)low;
-    file[length - 16 + ZONES_RECORD_NUMBER + 1] = (uint8_t)high;
-    put(6);
-    return read_file();
-}
-
 static void bytes_of_records(void) {
     uint8_t *record = put(0);
     record[ZONES_RECORD_KIND] = 4;
@@ -255,16 +237,6 @@ static void bytes_of_records(void) {
     CHECK(ZONES_RECORD_MATERIAL, PASSES(read_file()) && memory.areas[6] == 513);
     put(4), record = put(1), record[ZONES_RECORD_ROLE] = 1, put(5), put(6);
     CHECK(ZONES_RECORD_ROLE, PASSES(read_file()) && memory.areas[0] == 1);
-
-    /* The number of an area is its place; it shows in no word, and is written out. */
-    for (unsigned k = 0; k < 256; k++) {
-        CHECK(ZONES_RECORD_NUMBER, zones_refusal(third(k, 0)) == (k == 2 ? 0u : 3u));
-        CHECK(ZONES_RECORD_NUMBER, zones_refusal(third(2, k)) == (k == 0 ? 0u : 3u));
-    }
-    CHECK(ZONES_RECORD_NUMBER, PASSES(third(2, 0)) && memory.areas[8 + 7] == 0 && memory.areas[16 + 7] == 0);
-    memset(bytes, 255, sizeof bytes);
-    CHECK(ZONES_RECORD_NUMBER, zones_map_write(&map, bytes, sizeof bytes) == 96 && bytes[64 + ZONES_RECORD_NUMBER] == 2);
-    CHECK(ZONES_RECORD_NUMBER, bytes[ZONES_RECORD_NUMBER] == 0 && bytes[32 + ZONES_RECORD_NUMBER] == 1 && bytes[96 + ZONES_RECORD_NUMBER] == 255);
 
     put_area(0, 0, 0, 1);
     for (int k = 0; k < 4; k++) {

@@ -9,8 +9,6 @@ static struct zones_memory memory;
 static struct zones_map map;
 static uint8_t file[ZONES_FILE_BYTES + 64], bytes[ZONES_FILE_BYTES];
 static size_t length;
-/* The areas of the file so far. */
-static unsigned areas;
 static int wrong;
 
 /* Both: the answer where both are met. Second: the answer with the first put right, which shows that the other was met too. */
@@ -25,7 +23,7 @@ static uint8_t *put(unsigned kind) {
     uint8_t *record = file + length;
     memset(record, 0, ZONES_RECORD_BYTES);
     record[ZONES_RECORD_KIND] = (uint8_t)kind;
-    if (kind == ZONES_KIND_AREA) record[ZONES_RECORD_MATERIAL] = 1, record[ZONES_RECORD_NUMBER] = (uint8_t)areas++;
+    if (kind == ZONES_KIND_AREA) record[ZONES_RECORD_MATERIAL] = 1;
     length += ZONES_RECORD_BYTES;
     return record;
 }
@@ -37,7 +35,7 @@ static void put_corner(unsigned kind, uint32_t x, uint32_t y) {
 
 static uint64_t read_file(void) {
     const size_t whole = length;
-    length = areas = 0;
+    length = 0;
     map = zones_map_of(&memory);
     return zones_map_read(&map, file, whole);
 }
@@ -75,19 +73,13 @@ static uint64_t after_corners(int corners, unsigned kind) {
     return read_file();
 }
 
-/* So many areas and then corners, and one area more, of this role and number. */
-static uint64_t another_area(int before, int corners, unsigned role, unsigned number) {
-    for (int k = 0; k < before; k++) put(ZONES_KIND_AREA);
+/* The 65th area, after so many corners. */
+static uint64_t one_area_too_many(int corners) {
+    for (int k = 0; k < ZONES_MOST_AREAS; k++) put(ZONES_KIND_AREA);
     for (int k = 0; k < corners; k++) put_corner(k == 0 ? ZONES_KIND_FIRST : ZONES_KIND_NEXT, 1, 1);
-    uint8_t *record = put(ZONES_KIND_AREA);
-    record[ZONES_RECORD_ROLE] = (uint8_t)role;
-    if (role == ZONES_ROLE_CLIP) record[ZONES_RECORD_MATERIAL] = 0;
-    record[ZONES_RECORD_NUMBER] = (uint8_t)number;
+    put(ZONES_KIND_AREA);
     return read_file();
 }
-
-/* The 65th area, after so many corners. */
-static uint64_t one_area_too_many(int corners, unsigned number) { return another_area(ZONES_MOST_AREAS, corners, ZONES_ROLE_PAINT, number); }
 
 /* The end after a contour of two corners, in a group or not. */
 static uint64_t ended(int group) {
@@ -100,7 +92,7 @@ static uint64_t into_nothing(int open) {
     put(ZONES_KIND_OPEN), put(ZONES_KIND_BAR);
     if (!open) put(ZONES_KIND_CLOSE);
     const size_t whole = length;
-    length = areas = 0;
+    length = 0;
     map = zones_map_of(&memory);
     map.plan.length = 3;
     return zones_map_read(&map, file, whole);
@@ -114,10 +106,7 @@ static void reading(void) {
     pair("zones_read", 3, 13, wide(65537), wide(65536));
     pair("zones_read", 13, 6, one_too_many(60000), one_too_many(3001));
     pair("zones_read", 4, 5, after_corners(2, ZONES_KIND_BAR), after_corners(2, ZONES_KIND_AREA));
-    pair("zones_read", 5, 6, one_area_too_many(2, 64), one_area_too_many(3, 64));
-    pair("zones_read", 3, 4, another_area(1, 0, ZONES_ROLE_CLIP, 0), another_area(1, 0, ZONES_ROLE_CLIP, 1));
-    pair("zones_read", 3, 5, another_area(1, 2, ZONES_ROLE_PAINT, 0), another_area(1, 2, ZONES_ROLE_PAINT, 1));
-    pair("zones_read", 3, 6, one_area_too_many(3, 0), one_area_too_many(3, 64));
+    pair("zones_read", 5, 6, one_area_too_many(2), one_area_too_many(3));
     pair("zones_read", 4, 5, ended(1), ended(0));
     pair("zones_read", 4, 11, into_nothing(1), into_nothing(0));
 }

@@ -5,10 +5,8 @@ use std::hint::black_box;
 use crate::class::{Square, WHOLE_SIDE};
 use crate::drawing::{self, refusal, Refusal};
 use crate::expect;
-use crate::lent::{lent_bytes, Lent, LentTables, LentTree};
+use crate::lent::{Lent, LentTables, LentTree};
 use crate::meaning::Drawing;
-use crate::random::Random;
-use crate::record::Record;
 use crate::samples::{self, Tables};
 use crate::stream::{self, ENTRY_WORDS};
 use crate::tree::{self, End, Growth, TreeMut, CELL_WORDS, HEAD_WORDS};
@@ -66,19 +64,6 @@ pub fn read(records: &Lent<u8>, before: &LentTables) -> (Answer, LentTables) {
         }
     }
     (answer, by_library)
-}
-
-/// Both answer a reading into ample tables so.
-#[track_caller]
-pub fn expect_read(records: &[Record], expected: Answer) {
-    expect_read_bytes(records.as_flattened(), expected);
-}
-
-#[track_caller]
-pub fn expect_read_bytes(bytes: &[u8], expected: Answer) {
-    let random = &mut Random::new(bytes.len() as u64);
-    let (records, tables) = (lent_bytes(random, bytes), LentTables::ample(random));
-    assert_eq!(read(&records, &tables).0, expected);
 }
 
 /// Writes by both into copies of the same buffer.

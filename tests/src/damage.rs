@@ -7,10 +7,7 @@ use crate::drawing::{
 };
 use crate::lent::LentTables;
 use crate::random::Random;
-use crate::record::{
-    delimiter, numbered, put_number, random_area, random_corner, random_record, unnumbered, Record,
-    NUMBER,
-};
+use crate::record::{delimiter, random_area, random_corner, random_record, Record};
 
 /// An index below `end`, often the first or the last.
 fn place(random: &mut Random, end: usize) -> usize {
@@ -28,15 +25,49 @@ fn places_of(records: &[Record], kinds: &[u8]) -> Vec<usize> {
         .collect()
 }
 
-/// Damages records in one random way and gives the bytes of the file. Where areas come, go or change
-/// places, they mostly are numbered again, so that what is behind them is reached.
+/// Damages records in one random way and gives the bytes of the file.
 pub fn damaged(random: &mut Random, mut records: Vec<Record>) -> Vec<u8> {
     if records.is_empty() {
         records.push(random_record(random));
     }
-    match random.below(27) {
-        0..5 => damage_bytes(random, &mut records),
-        5 => {
+    let at = place(random, records.len());
+    match random.below(24) {
+        0 => records[at][random.below(RECORD_BYTES)] ^= 1 << random.below(8),
+        1 => records[at][random.below(RECORD_BYTES)] = random.byte(),
+        2 => _ = records.remove(at),
+        3 => records.insert(at, records[at]),
+        4 => {
+            let other = place(random, records.len());
+            records.swap(at, other);
+        }
+        5 => records.insert(at, random_record(random)),
+        6 => records.truncate(at),
+        7 => records[at][0] = random.within(1..=MOST_KIND.into()) as u8,
+        8 => records[at] = random_record(random),
+        9 => records[at][0] = random.pick(&[0, MOST_KIND + 1, 9, 16, 128 + 1, 255]),
+        10 => {
+            let unnamed: &[usize] = match records[at][0] {
+                AREA => &[7, 10, 11, 12, 13, 14, 15],
+                FIRST | NEXT | CONTROL => &[1, 2, 3, 12, 13, 14, 15],
+                _ => &[1, 2, 3, 4, 5, 6, 7, 8, 9, 10, 11, 12, 13, 14, 15],
+            };
+            records[at][random.pick(unnamed)] = random.within(1..=255) as u8;
+        }
+        11 => out_of_range(random, &mut records),
+        12 => wrong_role(random, &mut records),
+        13..16 => short_contour(random, &mut records),
+        16 => {
+            // A group left open, or one that was never opened.
+            let kind = random.pick(&[OPEN, BAR, CLOSE]);
+            records.push(delimiter(kind));
+        }
+        17 => {
+            let closes = places_of(&records, &[BAR, CLOSE]);
+            if !closes.is_empty() {
+                records.remove(random.pick(&closes));
+            }
+        }
+        18 => {
             let mut bytes = records.concat();
             match random.below(2) {
                 0 => bytes.truncate(random.below(bytes.len())),
@@ -44,94 +75,7 @@ pub fn damaged(random: &mut Random, mut records: Vec<Record>) -> Vec<u8> {
             }
             return bytes;
         }
-        6..9 => records = wrong_number(random, records),
-        _ => {
-            damage_order(random, &mut records);
-            records = mostly_numbered(random, records);
-        }
-    }
-    records.concat()
-}
-
-/// The records with right numbers, but for once in eight.
-pub fn mostly_numbered(random: &mut Random, records: Vec<Record>) -> Vec<Record> {
-    match random.one_in(8) {
-        true => records,
-        false => numbered(records),
-    }
-}
-
-/// Damages the bytes of one record.
-fn damage_bytes(random: &mut Random, records: &mut [Record]) {
-    let at = place(random, records.len());
-    let record = &mut records[at];
-    match random.below(5) {
-        0 => record[random.below(RECORD_BYTES)] ^= 1 << random.below(8),
-        1 => record[random.below(RECORD_BYTES)] = random.byte(),
-        2 => record[0] = random.pick(&[0, MOST_KIND + 1, 9, 16, 128 + 1, 255]),
-        3 => {
-            let unnamed: &[usize] = match record[0] {
-                AREA => &[7, 12, 13, 14, 15],
-                FIRST | NEXT | CONTROL => &[1, 2, 3, 12, 13, 14, 15],
-                _ => &[1, 2, 3, 4, 5, 6, 7, 8, 9, 10, 11, 12, 13, 14, 15],
-            };
-            record[random.pick(unnamed)] = random.within(1..=255) as u8;
-        }
-        _ => out_of_range(random, records),
-    }
-}
-
-/// Gives an area another number than its place: with a wrong low or high byte, with the two exchanged,
-/// that of the area before or behind, that of its record; or takes the numbers away.
-fn wrong_number(random: &mut Random, mut records: Vec<Record>) -> Vec<Record> {
-    let areas = places_of(&records, &[AREA]);
-    if areas.is_empty() || random.one_in(8) {
-        return unnumbered(records);
-    }
-    let at = areas[place(random, areas.len())];
-    let record = &mut records[at];
-    let number = u16::from_le_bytes([record[NUMBER.start], record[NUMBER.end - 1]]);
-    match random.below(7) {
-        0 | 1 => record[NUMBER.start] ^= random.within(1..=255) as u8,
-        2 | 3 => record[NUMBER.end - 1] ^= random.within(1..=255) as u8,
-        4 => put_number(record, number.swap_bytes()),
-        5 => {
-            let other = random.pick(&[number.wrapping_sub(1), number.wrapping_add(1)]);
-            put_number(record, other);
-        }
-        _ => put_number(record, at as u16),
-    }
-    records
-}
-
-/// Adds a record, takes some away, exchanges two or makes one another.
-fn damage_order(random: &mut Random, records: &mut Vec<Record>) {
-    let at = place(random, records.len());
-    match random.below(18) {
-        0 => _ = records.remove(at),
-        1 => records.insert(at, records[at]),
-        2 => {
-            let other = place(random, records.len());
-            records.swap(at, other);
-        }
-        3 => records.insert(at, random_record(random)),
-        4 => records.truncate(at),
-        5 => records[at][0] = random.within(1..=MOST_KIND.into()) as u8,
-        6 => records[at] = random_record(random),
-        7 => wrong_role(random, records),
-        8..11 => short_contour(random, records),
-        11 => {
-            // A group left open, or one that was never opened.
-            let kind = random.pick(&[OPEN, BAR, CLOSE]);
-            records.push(delimiter(kind));
-        }
-        12 => {
-            let closes = places_of(records, &[BAR, CLOSE]);
-            if !closes.is_empty() {
-                records.remove(random.pick(&closes));
-            }
-        }
-        13..17 => damage_curve(random, records),
+        20..24 => damage_curve(random, &mut records),
         _ => {
             // Too many records, by a few; not often, as they are long.
             if random.one_in(6) {
@@ -144,6 +88,7 @@ fn damage_order(random: &mut Random, records: &mut Vec<Record>) {
             }
         }
     }
+    records.concat()
 }
 
 /// Puts a field of an area or corner out of its range.

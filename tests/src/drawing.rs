@@ -1,5 +1,5 @@
-//! The second implementation: records to the drawing's tables and back, from document 01 and Items 2
-//! and 6 of document 02.
+//! The second implementation: records to the drawing's tables and back, from document 01 and Item 2
+//! of document 02.
 
 use crate::curve;
 use crate::zones::Answer;
@@ -105,23 +105,10 @@ pub fn corner_in_range(x: u32, y: u32) -> bool {
     x <= MOST_COORDINATE && y <= MOST_COORDINATE
 }
 
-/// The number that an area record holds. Document 02, Item 6: "Bytes 10 and 11 of an area record now
-/// hold it."
-fn number_of_record(record: &[u8; RECORD_BYTES]) -> usize {
-    u16::from_le_bytes([record[10], record[11]]).into()
-}
-
-/// Whether every field of a record of known kind is in range and its unnamed bytes are zero; so many
-/// areas stand before it.
-fn record_in_range(record: &[u8; RECORD_BYTES], areas: usize) -> bool {
+/// Whether every field of a record of known kind is in range and its unnamed bytes are zero.
+fn record_in_range(record: &[u8; RECORD_BYTES]) -> bool {
     match record[0] {
-        AREA => {
-            // "A number other than the area's place in the order is 3."
-            number_of_record(record) == areas
-                && record[7] == 0
-                && record[12..] == [0; 4]
-                && Area::of_record(record).in_range()
-        }
+        AREA => record[7] == 0 && record[10..] == [0; 6] && Area::of_record(record).in_range(),
         FIRST | NEXT | CONTROL => {
             let (x, y) = corner_of_record(record);
             record[1..4] == [0; 3] && record[12..] == [0; 4] && corner_in_range(x, y)
@@ -277,7 +264,7 @@ pub fn check(records: &[u8]) -> Result<Size, Refusal> {
         if !(AREA..=MOST_KIND).contains(&record[0]) {
             return Err(refusal(2, place));
         }
-        if !record_in_range(record, grammar.size.areas) {
+        if !record_in_range(record) {
             return Err(refusal(3, place));
         }
         let role = record[1].into();
@@ -424,7 +411,7 @@ fn write_or_refuse(
     if out.len() < bytes {
         return Err(refusal(11, 0));
     }
-    let mut rows = (0u16..).zip(areas.chunks_exact(AREA_WORDS));
+    let mut rows = areas.chunks_exact(AREA_WORDS);
     let mut corners = xs.iter().zip(ys);
     let records = out[..bytes].as_chunks_mut::<RECORD_BYTES>().0;
     for (record, kind) in records.iter_mut().zip(&plan[PLAN_COUNTS..]) {
@@ -432,7 +419,7 @@ fn write_or_refuse(
         record[0] = *kind as u8;
         match record[0] {
             AREA => {
-                if let Some((number, row)) = rows.next() {
+                if let Some(row) = rows.next() {
                     let area = Area::of_words(row);
                     let [red, green, blue] = area.colour;
                     let fields = [area.role, area.rule, area.alpha, red, green, blue];
@@ -440,8 +427,6 @@ fn write_or_refuse(
                         *byte = field as u8;
                     }
                     record[8..10].copy_from_slice(&(area.material as u16).to_le_bytes());
-                    // "Writing a drawing out fills it in."
-                    record[10..12].copy_from_slice(&number.to_le_bytes());
                 }
             }
             FIRST | NEXT | CONTROL => {

@@ -1,4 +1,4 @@
-//! A second implementation of document 01, with Items 1, 2, 4, 5 and 6 of document 02, and what is needed
+//! A second implementation of document 01, with Items 1, 2, 4 and 5 of document 02, and what is needed
 //! to compare the library with it.
 
 #![deny(unsafe_code)]

@@ -1,6 +1,4 @@
-//! Single records, chosen and random, and the numbers of areas.
-
-use std::ops::Range;
+//! Single records, chosen and random.
 
 use crate::drawing::{
     AREA, BAR, CLIP, CLOSE, CONTROL, FIRST, MOST_COORDINATE, MOST_KIND, NEXT, OPEN, PAINT,
@@ -10,31 +8,6 @@ use crate::random::Random;
 
 pub type Record = [u8; RECORD_BYTES];
 
-/// The bytes of an area's number.
-pub const NUMBER: Range<usize> = 10..12;
-
-/// Gives an area a number, right or wrong.
-pub fn put_number(record: &mut Record, number: u16) {
-    record[NUMBER].copy_from_slice(&number.to_le_bytes());
-}
-
-/// The records with each area's number filled in: how many areas stand before it.
-pub fn numbered(mut records: Vec<Record>) -> Vec<Record> {
-    let areas = records.iter_mut().filter(|record| record[0] == AREA);
-    for (number, area) in (0..).zip(areas) {
-        put_number(area, number);
-    }
-    records
-}
-
-/// The records as in files from before Item 6 of document 02: each area has the number 0.
-pub fn unnumbered(mut records: Vec<Record>) -> Vec<Record> {
-    let areas = records.iter_mut().filter(|record| record[0] == AREA);
-    areas.for_each(|area| put_number(area, 0));
-    records
-}
-
-/// An area with the number of the first; `numbered` gives it that of its place.
 pub fn area(role: u32, rule: u8, alpha: u8, colour: [u8; 3], material: u16) -> Record {
     let mut record = [0; RECORD_BYTES];
     record[..4].copy_from_slice(&[AREA, role as u8, rule, alpha]);
@@ -68,7 +41,7 @@ pub fn delimiter(kind: u8) -> Record {
 }
 
 /// Records from letters: `p` paint, `c` clip, `2`, `3`, `7`, `(`, `|`, `)`. A curve from 2 to 3 fits, one
-/// from 3 to 3 breaks the order. The areas are numbered.
+/// from 3 to 3 breaks the order.
 pub fn letters(text: &str) -> Vec<Record> {
     let record = |letter| match letter {
         'p' => paint(),
@@ -81,17 +54,7 @@ pub fn letters(text: &str) -> Vec<Record> {
         ')' => delimiter(CLOSE),
         _ => panic!("no record has the letter {letter}"),
     };
-    numbered(text.chars().map(record).collect())
-}
-
-/// All sequences of up to so many of these.
-pub fn sequences<T: Copy>(of: &[T], most: u32) -> impl Iterator<Item = Vec<T>> + '_ {
-    (0..=most).flat_map(move |len| {
-        (0..of.len().pow(len)).map(move |number| {
-            let one = |i| of[number / of.len().pow(i) % of.len()];
-            (0..len).map(one).collect()
-        })
-    })
+    text.chars().map(record).collect()
 }
 
 pub fn random_area(random: &mut Random, role: u32) -> Record {

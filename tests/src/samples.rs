@@ -6,7 +6,7 @@ use crate::drawing::{
     NEXT, OPEN, PAINT, PLAN_COUNTS,
 };
 use crate::random::Random;
-use crate::record::{corner, delimiter, numbered, random_area, random_corner, Record};
+use crate::record::{corner, delimiter, random_area, random_corner, Record};
 
 /// How large a drawing may grow, and what it is mostly made of.
 #[derive(Clone, Copy)]
@@ -155,7 +155,7 @@ pub fn drawing_of(random: &mut Random, shape: &Shape) -> Vec<Record> {
         }
         let all = often_area + often_open + often_on;
         if all == 0 {
-            return numbered(records);
+            return records;
         }
         let chosen = random.below(all);
         if chosen < often_area {
@@ -219,7 +219,7 @@ pub fn full(random: &mut Random, areas: usize, corners: usize, groups: usize) ->
         }
         groups_made += deep;
     }
-    numbered(records)
+    records
 }
 
 /// A drawing of as many records as a file may have: 64 areas and 2,046 corners. (With 2,048
@@ -238,8 +238,7 @@ pub struct Tables {
     pub ys: Vec<u32>,
 }
 
-/// The tables of records, exactly as long as needed, whether or not the records are accepted. They do not
-/// hold the areas' numbers.
+/// The tables of records, exactly as long as needed, whether or not the records are accepted.
 pub fn tables(records: &[Record]) -> Tables {
     let mut tables = Tables {
         plan: vec![0; PLAN_COUNTS],

@@ -13,7 +13,7 @@ use crate::drawing::{
 };
 use crate::meaning::MOST_POSITION;
 use crate::random::Random;
-use crate::record::{self, area, corner, delimiter, numbered, Record};
+use crate::record::{self, area, corner, delimiter, Record};
 use crate::samples::{self, Tables};
 
 /// How large a drawing may grow, what it is mostly made of, and where it lies.
@@ -182,7 +182,7 @@ pub fn of(random: &mut Random, look: &Look) -> Vec<Record> {
         random,
     };
     maker.side(PAINT, 0, look.top, look.areas);
-    numbered(maker.records)
+    maker.records
 }
 
 struct Maker<'a> {
@@ -446,7 +446,7 @@ pub fn square_at(x: u32, y: u32, side: u32) -> Vec<Record> {
     contour(&[(x, y), (x + side, y), (x + side, y + side), (x, y + side)])
 }
 
-/// A paint area of material 7, numbered as the first.
+/// A paint area of material 7.
 pub fn painted(alpha: u8, colour: [u8; 3], contour: Vec<Record>) -> Vec<Record> {
     [vec![area(PAINT, 0, alpha, colour, 7)], contour].concat()
 }
@@ -472,7 +472,7 @@ pub fn faint(random: &mut Random, square: Square) -> Vec<Record> {
         let high = x + (slice + FAINT_SLICES / 2) * side / (2 * FAINT_SLICES);
         records.extend(paint(&[(low, y), (right, y), (right, top), (high, top)]));
     }
-    numbered(records)
+    records
 }
 
 /// Slices of a ramp.
@@ -513,5 +513,5 @@ pub fn zigzags(random: &mut Random) -> Vec<Record> {
             }
         }
     }
-    numbered(records)
+    records
 }

@@ -13,13 +13,6 @@ pub enum Answer {
     Refused { number: u32, place: u32 },
 }
 
-pub fn refused(number: u32, place: usize) -> Answer {
-    Answer::Refused {
-        number,
-        place: place as u32,
-    }
-}
-
 impl From<Result<u32, ::zones::Refused>> for Answer {
     fn from(answer: Result<u32, ::zones::Refused>) -> Answer {
         match answer {

@@ -6,7 +6,7 @@ use std::ops::RangeInclusive;
 
 use zones_tests::bends::{self, Corner};
 use zones_tests::class::{self, Class, Square};
-use zones_tests::compare::{self, expect_read, LEAF_WORDS};
+use zones_tests::compare::{self, LEAF_WORDS};
 use zones_tests::curve::{self, Curve, Segment, MOST_SPAN};
 use zones_tests::damage;
 use zones_tests::drawing::{
@@ -26,7 +26,7 @@ use zones_tests::prune::{prune, prune_in_any_order};
 use zones_tests::query::{self, CHANNELS};
 use zones_tests::random::Random;
 use zones_tests::readings::{shown_words, SHOWN_WORDS, SPOT_WORDS};
-use zones_tests::record::{corner, letters, numbered, sequences, Record};
+use zones_tests::record::{corner, letters, Record};
 use zones_tests::sample::Sample;
 use zones_tests::samples::{self, Tables};
 use zones_tests::scenes::{self, painted};
@@ -34,7 +34,7 @@ use zones_tests::stream::{self, Entry, InUse, ENTRY_WORDS};
 use zones_tests::tally::Tally;
 use zones_tests::tree::{self, TreeTables};
 use zones_tests::tree_damage::{damage_tree, TREE_DAMAGES};
-use zones_tests::zones::{refused, Answer, FULL};
+use zones_tests::zones::{Answer, FULL};
 use zones_tools::words;
 
 // ---- where a curve counts ----
@@ -279,7 +279,7 @@ fn positions_on_and_beside_curves() {
     let mut tally = Tally::default();
     for _ in 0..40 {
         let curves: Vec<[Corner; 3]> = (0..64).map(|_| bends::any_curve(random)).collect();
-        let records = numbered(curves.iter().flat_map(|c| area_of(*c)).collect());
+        let records: Vec<Record> = curves.iter().flat_map(|c| area_of(*c)).collect();
         let mut sample = read_and_open(random, &records);
         sample.grow(random.pick(&[0, 10, 60]), random.pick(&[0, 4, 9, 16]));
         let mut reader = sample.reader();
@@ -371,6 +371,22 @@ fn the_class_at_four_positions_is_the_class_at_all() {
 
 // ---- records ----
 
+fn refused(number: u32, place: usize) -> Answer {
+    Answer::Refused {
+        number,
+        place: place as u32,
+    }
+}
+
+/// Both answer a reading into ample tables so.
+#[track_caller]
+fn expect_read(records: &[Record], expected: Answer) {
+    let random = &mut Random::new(records.len() as u64);
+    let bytes = lent_bytes(random, &records.concat());
+    let tables = LentTables::ample(random);
+    assert_eq!(compare::read(&bytes, &tables).0, expected);
+}
+
 /// Both answer a writing and an opening of the records' tables so: with 12, or accepted.
 #[track_caller]
 fn expect_tables(records: &[Record], accepted: bool) {
@@ -411,22 +427,25 @@ fn every_short_sequence_is_read_and_checked_alike() {
     let out = lent_bytes(random, &[0xA5; RECORD_BYTES * 6]);
     let alphabet = letters("pc237(|)");
     let mut tally = Tally::default();
-    for records in sequences(&alphabet, 6) {
-        let records = numbered(records);
-        let file = Lent::new(1, &records.concat(), 1, || 4);
-        let (read, _) = compare::read(&file, &blank);
-        tally.note_answer(read);
-        let tables = samples::tables(&records);
-        let drawing = LentTables {
-            plan: Lent::new(1, &tables.plan, 1, || 7),
-            areas: Lent::new(1, &tables.areas, 1, || 0),
-            xs: Lent::new(1, &tables.xs, 1, || 0),
-            ys: Lent::new(1, &tables.ys, 1, || 0),
-        };
-        let (written, _) = compare::write(&drawing, &out);
-        match read {
-            Answer::Accepted(records) => assert_eq!(written, Answer::Accepted(16 * records)),
-            Answer::Refused { .. } => assert_eq!(written, refused(12, 0)),
+    for len in 0..=6 {
+        for number in 0..alphabet.len().pow(len) {
+            let letter = |i| alphabet[number / alphabet.len().pow(i) % alphabet.len()];
+            let records: Vec<Record> = (0..len).map(letter).collect();
+            let file = Lent::new(1, &records.concat(), 1, || 4);
+            let (read, _) = compare::read(&file, &blank);
+            tally.note_answer(read);
+            let tables = samples::tables(&records);
+            let drawing = LentTables {
+                plan: Lent::new(1, &tables.plan, 1, || 7),
+                areas: Lent::new(1, &tables.areas, 1, || 0),
+                xs: Lent::new(1, &tables.xs, 1, || 0),
+                ys: Lent::new(1, &tables.ys, 1, || 0),
+            };
+            let (written, _) = compare::write(&drawing, &out);
+            match read {
+                Answer::Accepted(records) => assert_eq!(written, Answer::Accepted(16 * records)),
+                Answer::Refused { .. } => assert_eq!(written, refused(12, 0)),
+            }
         }
     }
     tally.print("short sequences");
@@ -487,7 +506,7 @@ fn what_a_control_corner_counts_toward() {
     expect_accepted(&curves(2));
     // 2,047 corners, and one more of each kind.
     let most = (MOST_CORNERS - 1) / 2;
-    let with = |rest: &str| numbered([curves(most), letters(rest)].concat());
+    let with = |rest: &str| [curves(most), letters(rest)].concat();
     assert_eq!(curves(most).len(), MOST_CORNERS);
     expect_accepted(&curves(most));
     expect_accepted(&with("3"));
@@ -1195,7 +1214,6 @@ fn drawings_of_many_curves() {
             let alpha = random.pick(&[255, 128, 7]);
             records.extend(painted(alpha, [9, 80, 200], contour));
         }
-        let records = numbered(records);
         let tables = samples::tables(&records);
         let scene_tables = tables.clone();
         let scene = Scene::of(Drawing::of(&scene_tables));

@@ -9,7 +9,7 @@ use zones_tests::meaning::{Drawing, Scene};
 use zones_tests::pages;
 use zones_tests::query::CHANNELS;
 use zones_tests::readings::{shown_words, SHOWN_WORDS, SPOT_WORDS};
-use zones_tests::record::{letters, unnumbered};
+use zones_tests::record::letters;
 use zones_tests::samples::Tables;
 use zones_tests::stream::Entry;
 use zones_tests::tree::{TreeTables, MOST_CELLS, MOST_DEPTH, MOST_ENTRIES};
@@ -228,7 +228,6 @@ fn the_log_of_the_complete_drawing() {
 fn the_stream_and_the_refusals_of_the_complete_drawing() {
     let text = paragraph("Opening makes a stream of 14 entries");
     assert!(text.contains("refused, 4 at 21;") && text.ends_with("13 at 11."));
-    assert!(text.contains("with 0 for the number of every area, as before Item 6, 3 at 7;"));
     let (_, tables) = read(&hex());
     let mut tree = TreeTables::new(MOST_CELLS, MOST_ENTRIES);
     let opened = zones::open(Drawing::of(&tables), &mut tree.lend());
@@ -236,8 +235,6 @@ fn the_stream_and_the_refusals_of_the_complete_drawing() {
     let refused = |number, place| Answer::Refused { number, place };
     let bytes = hex();
     assert_eq!(read(&bytes[..16 * 21]).0, refused(4, 21));
-    let old = unnumbered(bytes.as_chunks().0.to_vec());
-    assert_eq!(read(&old.concat()).0, refused(3, 7));
     let mut turned = bytes.clone();
     turned[16 * 10 + 4..16 * 10 + 6].copy_from_slice(&700_u16.to_le_bytes());
     assert_eq!(read(&turned).0, refused(13, 11));

@@ -13,7 +13,7 @@ use zones_tests::drawing::{MOST_RECORDS, RECORD_BYTES};
 use zones_tests::lister;
 use zones_tests::pages::sample;
 use zones_tests::random::Random;
-use zones_tests::record::{letters, put_number};
+use zones_tests::record::letters;
 use zones_tests::scenes::{self, Look};
 use zones_tests::tally::Tally;
 use zones_tools::words;
@@ -107,18 +107,6 @@ fn lengths() {
         printed(&[&most[..5], &most[5..9_000], &most[9_000..]]),
         "0 0 65536 0 0\n"
     );
-}
-
-/// An area whose number is not its place in the order, as in files from before Item 6 of document 02.
-#[test]
-fn numbers_of_areas() {
-    let mut records = letters("pp(c|p)");
-    assert_eq!(expect_same(&records.concat()), "0 0 65536 0 0\n");
-    for place in [5, 3, 1] {
-        put_number(&mut records[place], 0);
-        let said = format!("refused 3 at {place}\n");
-        assert_eq!(expect_same(&records.concat()), said);
-    }
 }
 
 #[test]

@@ -3,7 +3,6 @@
 
 use zones::{Map, Refusal, Refused, CELL_WORDS, HEAD_WORDS};
 use zones_tests::class::Square;
-use zones_tests::damage::mostly_numbered;
 use zones_tests::drawing::{self, MOST_RECORDS};
 use zones_tests::meaning::{numbers, Drawing, Scene};
 use zones_tests::random::Random;
@@ -201,7 +200,6 @@ fn records_that_are_refused() {
             2 => records.insert(at, [random.byte() % 10; 16]),
             _ => records.extend(samples::drawing(random, true)),
         }
-        let records = mostly_numbered(random, records);
         let bytes = records.as_flattened();
         let cut = if random.one_in(20) {
             random.below(16)

@@ -10,7 +10,7 @@ use zones_tests::meaning::{self, Drawing, Scene, PIXEL};
 use zones_tests::query::{CHANNELS, PIXELS};
 use zones_tests::random::Random;
 use zones_tests::readings::{shown_words, SHOWN_WORDS, SPOT_WORDS};
-use zones_tests::record::{letters, numbered, Record};
+use zones_tests::record::{letters, Record};
 use zones_tests::sample::{grown, Sample};
 use zones_tests::samples;
 use zones_tests::scenes::{self, painted, square_at};
@@ -571,7 +571,7 @@ fn as_many_records_as_a_file_may_have() {
 fn as_many_areas_as_a_drawing_may_have() {
     let random = &mut Random::for_test(114);
     let one = |n: u32| painted(254, [0; 3], square_at(n, n, 65_536 - 2 * n));
-    let records = numbered((0..MOST_AREAS as u32).flat_map(one).collect());
+    let records: Vec<Record> = (0..MOST_AREAS as u32).flat_map(one).collect();
     let mut sample = read_and_open(random, &records);
     for cell in 0..2 {
         let blank = lent_words(random, &[77; SPOT_WORDS]);

@@ -14,12 +14,11 @@ use Rattle.geometry.specs.Windings.{adds, sum_of}
 use Rattle.refusals.specs.declared.Refusal.TheVariants as Refusals
 use Rattle.records.specs.declared.Record.{Record}
 use Rattle.records.specs.declared.Record.TheVariants.{Area, First, Next}
-use Rattle.records.specs.Record.{area_range, corner_of}
-use Rattle.records.specs.Bytes.{decoded_raw, unnamed_zero, numbered, named, fields_of}
-use Rattle.grammar.specs.declared.Verdict.{Verdict}
+use Rattle.records.specs.Record.{area_range, corner_of, delimiter_of}
+use Rattle.records.specs.Bytes.{decoded_raw, unnamed_zero, named, fields_of}
 use Rattle.grammar.specs.declared.Verdict.TheVariants.{Accepted}
 use Rattle.grammar.specs.Grammar as Grammar
-use Rattle.read.specs.Reading.{areas_before, decoded_from, records_in, verdict_by, holds, read_answer}
+use Rattle.read.specs.Reading.{decoded_from, records_in, verdict_of, holds, read_answer}
 use Rattle.read.specs.Words.{joined}
 use Rattle.paint.specs.Sets.{each}
 use Rattle.paint.specs.Areas.{material_of}
@@ -49,7 +48,7 @@ use Rattle.answers.specs.Readings.{spot_put}
 use Rattle.demand.specs.Calls.{opens, splits, reads, opening, answer_to, number_by, refusal, output_after, Given, given}
 use Rattle.demand.specs.Demand.{ReadRight}
 use Rattle.demand.specs.Lists.{Listed, own, other, Refused, All_allowed, tables_after_all, nodes_after_all}
-use Rattle.demand.specs.Files.{read_by, read_tree, FileOpened, file_tree, drawing_of_file, Shows, position, call_of, GivesShown}
+use Rattle.demand.specs.Files.{read_tree, FileOpened, file_tree, drawing_of_file, Shows, position, call_of, GivesShown}
 use Rattle.demand.proofs.Lists.{list_goes_on, refused_same}
 use Rattle.demand.proofs.Files.{file_demand, from_file}
 
@@ -127,16 +126,16 @@ abbrev blank : Tree
 blank = tree (zeros 7) (zeros 8) (zeros 3) (zeros 3) (zeros 2) (zeros 72) (zeros 160)
 
 file_read : read_answer file (zeros 7) (zeros 8) (zeros 3) (zeros 3) ≡ Accepted (Grammar.counts 4 1 3)
-unfolding read_answer verdict_by holds areas_before decoded_from decoded_raw unnamed_zero numbered named fields_of area_range corner_of Grammar.checked Grammar.course
+unfolding read_answer verdict_of holds decoded_from decoded_raw unnamed_zero named fields_of area_range corner_of delimiter_of Grammar.checked Grammar.course
 file_read = refl
 
 file_records : records_in file ≡ triangle
-unfolding areas_before decoded_from decoded_raw unnamed_zero numbered named fields_of area_range corner_of
+unfolding decoded_from decoded_raw unnamed_zero named fields_of area_range corner_of delimiter_of
 file_records = refl
 
 read_example : read_tree file blank ≡ example
-unfolding areas_before decoded_from decoded_raw unnamed_zero numbered named fields_of area_range corner_of joined
-read_example = ap (λ (v : Verdict). read_by v file blank) file_read
+unfolding read_answer verdict_of holds decoded_from decoded_raw unnamed_zero named fields_of area_range corner_of delimiter_of Grammar.checked Grammar.course joined
+read_example = refl
 
 pub file_opened : FileOpened file blank
 file_opened =

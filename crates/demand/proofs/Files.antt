@@ -8,7 +8,6 @@ use lib.Dec.{eqb, ltb, leb}
 use lib.ListN.{length}
 use Rattle.laws.proofs.Booleans.{clash}
 use Rattle.refusals.specs.declared.Refusal.TheVariants as Refusals
-use Rattle.records.specs.Bytes.{new_edition}
 use Rattle.grammar.specs.declared.Counts.{Counts}
 use Rattle.grammar.specs.declared.Verdict.{Verdict}
 use Rattle.grammar.specs.declared.Verdict.TheVariants.{Accepted}
@@ -62,7 +61,7 @@ use Rattle.demand.proofs.Lists.{list_goes_on}
 pub file_drawing : (b p a x y : List ℕ) (k : Counts) → read_answer b p a x y ≡ Accepted k → drawing_in (after (Accepted k) b p a x y) ≡ drawing_from (records_in b)
 file_drawing b p a x y k e =
     ap drawing_from
-    (drawn_records (after (Accepted k) b p a x y) (records_in b) (file_accepts new_edition b k (taken b p a x y k e).verdict).range
+    (drawn_records (after (Accepted k) b p a x y) (records_in b) (file_accepts b k (taken b p a x y k e).verdict).range
     (read_leaves b p a x y k e))
 
 file_held : (file : List ℕ) (t : Tree) → FileOpened file t → drawing_of (read_tree file t) ≡ drawing_of_file file

@@ -1,25 +1,23 @@
 -- Lists of records in a file and in tables: what is written is read, and what is read is there.
 use Prim.Native.Nat.{ℕ, zero, suc, ◌+◌, ◌*◌, ◌≤◌, ◌<◌}
 use mathlib.Core.Path.{◌≡◌, refl, sym, ap, subst}
-use mathlib.Core.Bool.{Bool, true, ◌&&◌}
+use mathlib.Core.Bool.{true}
 use mathlib.Core.List.{List, [], ◌∷◌, map}
 use native.Mathlib.Omega.{arith}
 use lib.ListN.{length, get_or}
-use lib.Dec.{leb}
 use Rattle.records.specs.declared.Record.{Record}
 use Rattle.records.specs.declared.Record.TheVariants.{Area, First, Next, Open, Bar, Close, Control}
 use Rattle.records.specs.declared.Decoded.{Decoded}
 use Rattle.records.specs.declared.Decoded.TheVariants.{Good}
 use Rattle.records.specs.Record.{in_range, kind_of}
-use Rattle.records.specs.Bytes.{raw_at, bytes_of, Edition, new_edition}
+use Rattle.records.specs.Bytes.{raw_at, decoded_raw, bytes_of}
 use Rattle.laws.proofs.Booleans.{and_left, and_right, and_both}
-use Rattle.records.proofs.Laws.{told, kind_known}
+use Rattle.records.proofs.Laws.{told}
 use Rattle.grammar.specs.declared.Counts.{Counts}
 use Rattle.grammar.specs.Lists.{good_records, area_one, corner_one, areas_in, corners_in}
 use Rattle.drawing.specs.declared.Cursor.{Cursor}
-use Rattle.read.specs.Words.{words_of_kind, words_of_area, words_of_x, words_of_y, joined, Has, all_range, file_from}
-use Rattle.read.specs.Reading.{areas_before, decoded_at, decoded_from}
-use Rattle.read.proofs.Loops.{before_next}
+use Rattle.read.specs.Words.{words_of_kind, words_of_area, words_of_x, words_of_y, joined, Has, all_range, file_of}
+use Rattle.read.specs.Reading.{decoded_from}
 use Rattle.drawing.specs.Tables.{Tables, record_at, past_record, past_of, rebuilt}
 use Rattle.drawing.proofs.Has.{has_left, has_right, has_join, has_nil, has_at, has_first, has_one_law}
 use Rattle.drawing.proofs.Rowlaws.{byte_read, byte_told, row_read, row_told, RowTold}
@@ -41,76 +39,40 @@ not_cons : {A : Type 0} (d : Decoded) (ds : List Decoded) → d ∷ ds ≡ [] �
 not_cons d ds h = absurd (let z : ◌≡◌ {A = ℕ} 0 1 = cc in omega arith)
 
 -- ---- a file
-
--- each record has a kind of the edition
-abbrev pub all_kinds : Edition → List Record → Bool
-all_kinds e [] = true
-all_kinds e (r ∷ rs) = leb (kind_of r) e.most && all_kinds e rs
-
--- an edition that a record's bytes hold: the kinds are known, and two bytes hold the number of each of 64 areas
-pub record Holdable (e : Edition) : Type 0 where
-  pub kinds : e.most ≤ 7
-  pub numbers : (a : ℕ) → a ≤ 64 → e.number a < 65536
-
-pub new_kinds : (rs : List Record) → all_kinds new_edition rs ≡ true
-new_kinds [] = refl
-new_kinds (r ∷ rs) = and_both (leb (kind_of r) 7) (all_kinds new_edition rs) (kind_known r) (new_kinds rs)
-
-pub new_holdable : Holdable new_edition
-new_holdable = record { kinds = omega arith; numbers = λ a h. omega arith }
-
-pub file_read : (e : Edition) (b : List ℕ) (i : ℕ) (rs : List Record)
-    → Holdable e
-    → all_kinds e rs ≡ true
-    → all_range rs ≡ true
-    → areas_before b i + areas_in rs ≤ 64
-    → Has b (i * 16) (file_from e (areas_before b i) rs)
-    → decoded_from e b i (length rs) ≡ map Good rs
-unfolding decoded_from file_from
-file_read e b i [] l k g f h = refl
-file_read e b i (r ∷ rs) l k g f h =
+pub file_read : (b : List ℕ) (i : ℕ) (rs : List Record) → all_range rs ≡ true → Has b (i * 16) (file_of rs) → decoded_from b i (length rs) ≡ map Good rs
+unfolding decoded_from joined
+file_read b i [] g h = refl
+file_read b i (r ∷ rs) g h =
     let n : i * 16 + 16 ≡ (i + 1) * 16 = omega arith in
-    let bs : List ℕ = bytes_of (e.number (areas_before b i)) r in
-    let fs : List ℕ = file_from e (areas_before b i + area_one r) rs in
-    let at : decoded_at e b i ≡ Good r = byte_read e.most (e.number (areas_before b i)) b i r (l.numbers (areas_before b i) (omega arith))
-    (and_left (leb (kind_of r) e.most) (all_kinds e rs) k) (and_left (in_range r) (all_range rs) g) (has_left b (i * 16) bs fs h) in
-    let a : areas_before b (i + 1) ≡ areas_before b i + area_one r = before_next e b i r at in
-    let t : Has b ((i + 1) * 16) (file_from e (areas_before b (i + 1)) rs) =
-    subst (λ (m : ℕ). Has b ((i + 1) * 16) (file_from e m rs)) (sym a) (has_at b (i * 16 + 16) ((i + 1) * 16) fs n (has_right b (i * 16) bs fs h)) in
     λ d.
-    at d
-    ∷ file_read e b (i + 1) rs l (and_right (leb (kind_of r) e.most) (all_kinds e rs) k) (and_right (in_range r) (all_range rs) g)
-    (omega (arith, a)) t d
+    byte_read b i r (and_left (in_range r) (all_range rs) g) (has_left b (i * 16) (bytes_of r) (file_of rs) h) d
+    ∷ file_read b (i + 1) rs (and_right (in_range r) (all_range rs) g)
+    (has_at b (i * 16 + 16) ((i + 1) * 16) (file_of rs) n (has_right b (i * 16) (bytes_of r) (file_of rs) h)) d
 
-pub file_told : (e : Edition) (b : List ℕ) (i n : ℕ) (rs : List Record)
-    → e.most ≤ 7
+pub file_told : (b : List ℕ) (i n : ℕ) (rs : List Record)
     → ((k : ℕ) → get_or b k 0 < 256)
     → (i + n) * 16 ≤ length b
-    → decoded_from e b i n ≡ map Good rs
-    → Has b (i * 16) (file_from e (areas_before b i) rs)
-unfolding decoded_from file_from
-file_told e b i zero [] m s h q = has_nil b (i * 16) (omega arith)
-file_told e b i zero (r ∷ rs) m s h q = not_nil (Good r) (map Good rs) q
-file_told e b i (suc n) [] m s h q = not_cons (decoded_at e b i) (decoded_from e b (i + 1) n) q
-file_told e b i (suc n) (r ∷ rs) m s h q =
-    let j : (i + 1) * 16 ≡ i * 16 + 16 = omega arith in
-    let at : decoded_at e b i ≡ Good r = head_is (decoded_at e b i) (Good r) (decoded_from e b (i + 1) n) (map Good rs) q in
-    let a : areas_before b (i + 1) ≡ areas_before b i + area_one r = before_next e b i r at in
-    has_join b (i * 16) (bytes_of (e.number (areas_before b i)) r) (file_from e (areas_before b i + area_one r) rs)
-    (byte_told e.most (e.number (areas_before b i)) b i r m s (omega arith) at)
-    (has_at b ((i + 1) * 16) (i * 16 + 16) (file_from e (areas_before b i + area_one r) rs) j
-    (subst (λ (k : ℕ). Has b ((i + 1) * 16) (file_from e k rs)) a
-    (file_told e b (i + 1) n rs m s (omega arith) (tail_is (decoded_at e b i) (Good r) (decoded_from e b (i + 1) n) (map Good rs) q))))
+    → decoded_from b i n ≡ map Good rs
+    → Has b (i * 16) (file_of rs)
+unfolding decoded_from joined
+file_told b i zero [] s h e = has_nil b (i * 16) (omega arith)
+file_told b i zero (r ∷ rs) s h e = not_nil (Good r) (map Good rs) e
+file_told b i (suc n) [] s h e = not_cons (decoded_raw (raw_at b i)) (decoded_from b (i + 1) n) e
+file_told b i (suc n) (r ∷ rs) s h e =
+    let m : (i + 1) * 16 ≡ i * 16 + 16 = omega arith in
+    has_join b (i * 16) (bytes_of r) (file_of rs)
+    (byte_told b i r s (omega arith) (head_is (decoded_raw (raw_at b i)) (Good r) (decoded_from b (i + 1) n) (map Good rs) e))
+    (has_at b ((i + 1) * 16) (i * 16 + 16) (file_of rs) m
+    (file_told b (i + 1) n rs s (omega arith) (tail_is (decoded_raw (raw_at b i)) (Good r) (decoded_from b (i + 1) n) (map Good rs) e)))
 
-pub file_range : (e : Edition) (b : List ℕ) (i n : ℕ) (rs : List Record) → decoded_from e b i n ≡ map Good rs → all_range rs ≡ true
+pub file_range : (b : List ℕ) (i n : ℕ) (rs : List Record) → decoded_from b i n ≡ map Good rs → all_range rs ≡ true
 unfolding decoded_from
-file_range e b i zero [] q = refl
-file_range e b i zero (r ∷ rs) q = not_nil (Good r) (map Good rs) q
-file_range e b i (suc n) [] q = refl
-file_range e b i (suc n) (r ∷ rs) q =
-    and_both (in_range r) (all_range rs)
-    (told e.most (e.number (areas_before b i)) (raw_at b i) r (head_is (decoded_at e b i) (Good r) (decoded_from e b (i + 1) n) (map Good rs) q)).range
-    (file_range e b (i + 1) n rs (tail_is (decoded_at e b i) (Good r) (decoded_from e b (i + 1) n) (map Good rs) q))
+file_range b i zero [] e = refl
+file_range b i zero (r ∷ rs) e = not_nil (Good r) (map Good rs) e
+file_range b i (suc n) [] e = refl
+file_range b i (suc n) (r ∷ rs) e =
+    and_both (in_range r) (all_range rs) (told (raw_at b i) r (head_is (decoded_raw (raw_at b i)) (Good r) (decoded_from b (i + 1) n) (map Good rs) e)).range
+    (file_range b (i + 1) n rs (tail_is (decoded_raw (raw_at b i)) (Good r) (decoded_from b (i + 1) n) (map Good rs) e))
 
 -- ---- tables
 area_long : (r : Record) (n : ℕ) → n * 8 + length (words_of_area r) ≡ (n + area_one r) * 8

@@ -117,23 +117,15 @@ raw_same r s e =
     p15 : r.b15 ≡ s.b15
     p15 = ap (λ (l : List ℕ). get_or l 15 0) e
 
-pub byte_read : (most number : ℕ) (b : List ℕ) (i : ℕ) (r : Record)
-    → number < 65536
-    → leb (kind_of r) most ≡ true
-    → in_range r ≡ true
-    → Has b (i * 16) (bytes_of number r)
-    → decoded_raw most number (raw_at b i) ≡ Good r
-byte_read most number b i r n m g h =
-    ap (decoded_raw most number) (raw_same (raw_at b i) (raw_of number r) (sym (raw_words b i) ∙ h.same)) ∙ raw_again most number r n m g
+pub byte_read : (b : List ℕ) (i : ℕ) (r : Record) → in_range r ≡ true → Has b (i * 16) (bytes_of r) → decoded_raw (raw_at b i) ≡ Good r
+byte_read b i r g h = ap decoded_raw (raw_same (raw_at b i) (raw_of r) (sym (raw_words b i) ∙ h.same)) ∙ raw_again r g
 
-pub byte_told : (most number : ℕ) (b : List ℕ) (i : ℕ) (r : Record)
-    → most ≤ 7
+pub byte_told : (b : List ℕ) (i : ℕ) (r : Record)
     → ((k : ℕ) → get_or b k 0 < 256)
     → i * 16 + 16 ≤ length b
-    → decoded_raw most number (raw_at b i) ≡ Good r
-    → Has b (i * 16) (bytes_of number r)
-byte_told most number b i r m s h e =
-    record { room = h; same = raw_words b i ∙ ap raw_bytes (sym (raw_back most number (raw_at b i) r m small e)) }
+    → decoded_raw (raw_at b i) ≡ Good r
+    → Has b (i * 16) (bytes_of r)
+byte_told b i r s h e = record { room = h; same = raw_words b i ∙ ap raw_bytes (sym (raw_back (raw_at b i) r small e)) }
   where
     small : Small (raw_at b i)
     small =

@@ -2,40 +2,41 @@
 use Prim.Native.Nat.{ℕ, zero, suc, ◌+◌, ◌*◌, ◌-◌, ◌≤◌, ◌<◌}
 use mathlib.Core.Path.{◌≡◌, refl, sym, ap, ap₂, ◌∙◌, subst}
 use mathlib.Core.Bool.{Bool, true, false, cond}
-use mathlib.Core.List.{List, [], ◌∷◌, ◌++◌}
+use mathlib.Core.List.{List, [], ◌∷◌}
 use native.Mathlib.Omega.{arith}
-use native.Mathlib.Nat.{le_refl}
-use lib.ListN.{length, length-append}
+use native.Mathlib.Nat.{add-zero, le_refl}
+use lib.ListN.{length}
 use lib.Seq.{sets, length-sets}
 use lib.Dec.{eqb, leb}
 use borrow.Author.Tests.{leb-true, eqb-true}
-use Rattle.laws.proofs.Booleans.{and_left, and_right}
+use Rattle.laws.proofs.Booleans.{clash, and_left, and_right}
 use Rattle.records.specs.declared.Raw.{Raw}
-use Rattle.refusals.specs.declared.Refusal.TheVariants.{Argument, Broken}
+use Rattle.refusals.specs.declared.Refusal.TheVariants.{Unfit, Short, Limit, Argument, Broken, Curve}
 use Rattle.records.specs.declared.Record.{Record}
 use Rattle.records.specs.declared.Record.TheVariants.{Area, First, Next, Open, Bar, Close, Control}
 use Rattle.records.specs.declared.Decoded.{Decoded}
 use Rattle.records.specs.declared.Decoded.TheVariants.{Good, Bad}
-use Rattle.records.specs.Bytes.{raw_of, raw_bytes, put_raw, bytes_of, new_edition}
+use Rattle.records.specs.Bytes.{raw_of, raw_bytes, put_raw, bytes_of}
 use Rattle.records.proofs.Laws.{put_is}
 use Rattle.grammar.specs.declared.Counts.{Counts}
 use Rattle.grammar.specs.declared.State.{State}
+use Rattle.grammar.specs.declared.Step.{Step}
+use Rattle.grammar.specs.declared.Step.TheVariants.{On, Off}
 use Rattle.grammar.specs.declared.Scan.{Scan}
-use Rattle.grammar.specs.declared.Scan.TheVariants.{At}
+use Rattle.grammar.specs.declared.Scan.TheVariants.{At, Stopped}
 use Rattle.grammar.specs.declared.Verdict.{Verdict}
 use Rattle.grammar.specs.declared.Verdict.TheVariants.{Accepted, Refused}
 use Rattle.grammar.specs.Grammar.{checked}
-use Rattle.grammar.specs.code.Machine.{after_n, advance_n, start_n, scan_n, is_stopped}
+use Rattle.grammar.specs.code.Machine.{breaks_n, fits_n, ends_short_n, in_limit_n, after_n, settled_n, advance_n, start_n, scan_n, is_stopped}
 use Rattle.grammar.specs.Lists.{good_records, area_one, corner_one}
 use Rattle.grammar.proofs.Laws.{sound, stopped_stays, refused_not}
-use Rattle.grammar.proofs.Scans.{after_areas, after_corners, took}
 use Rattle.drawing.specs.declared.Cursor.{Cursor}
-use Rattle.read.specs.Words.{on_good, file_from, file_of}
+use Rattle.read.specs.Words.{joined, on_good, file_of}
 use Rattle.records.specs.Record.{is_good}
 use Rattle.read.specs.Reading.{holds, all_good}
 use Rattle.drawing.specs.Tables.{Tables, Ready, cursor, record_at, past_record, past_of, rebuilt, used_of, rebuilt_in, agreed, counts_judged, drawing_verdict}
 use Rattle.drawing.specs.code.Scanned.{cursor_n}
-use Rattle.read.proofs.Writes.{sets_append}
+use Rattle.read.proofs.Writes.{length_on, turn_table}
 use Rattle.read.proofs.Files.{file_length, Holds, held, all_good_law}
 
 pub re_step : (t : Tables) (u : Counts) (i e : ℕ) (c : Cursor)
@@ -88,12 +89,28 @@ past_corner i c c' (Bad x) h e = rw e (omega arith)
 
 -- ---- the check: the cursor is told by the scan
 after_cursor : (s : State) (r : Record) → cursor_n (At (after_n s r)) ≡ past_record (cursor_n (At s)) r
-after_cursor s r = ap₂ cursor (after_areas s r) (after_corners s r)
+after_cursor s (Area f) = ap (cursor (s.areas + 1)) (sym (add-zero s.corners))
+after_cursor s (First x y) = ap (λ (a : ℕ). cursor a (s.corners + 1)) (sym (add-zero s.areas))
+after_cursor s (Next x y) = ap (λ (a : ℕ). cursor a (s.corners + 1)) (sym (add-zero s.areas))
+after_cursor s Open = ap₂ cursor (sym (add-zero s.areas)) (sym (add-zero s.corners))
+after_cursor s Bar = ap₂ cursor (sym (add-zero s.areas)) (sym (add-zero s.corners))
+after_cursor s Close = ap₂ cursor (sym (add-zero s.areas)) (sym (add-zero s.corners))
+after_cursor s (Control x y) = ap (λ (a : ℕ). cursor a (s.corners + 1)) (sym (add-zero s.areas))
 
 scan_cursor : (s : Scan) (d : Decoded) (i : ℕ) → is_stopped (advance_n s d i) ≡ false → cursor_n (advance_n s d i) ≡ past_of (cursor_n s) d
-scan_cursor s d i h =
-    let g = took s d i h in
-    ap cursor_n g.to ∙ after_cursor g.before g.taken ∙ sym (ap₂ (λ (x : Scan) (y : Decoded). past_of (cursor_n x) y) g.from g.is)
+scan_cursor (Stopped x j) d i h = clash (sym h)
+scan_cursor (At s) (Bad x) i h = clash (sym h)
+scan_cursor (At s) (Good r) i h = go (breaks_n s r) (fits_n s r) (ends_short_n s r) (in_limit_n s r) h
+  where
+    step : (w a b d : Bool) → Step
+    step w a b d = cond w (Off Curve) (cond a (cond b (Off Short) (cond d (On (after_n s r)) (Off Limit))) (Off Unfit))
+
+    go : (w a b d : Bool) → is_stopped (settled_n (step w a b d) i) ≡ false → cursor_n (settled_n (step w a b d) i) ≡ past_record (cursor_n (At s)) r
+    go true a b d e = clash (sym e)
+    go false false b d e = clash (sym e)
+    go false true true d e = clash (sym e)
+    go false true false false e = clash (sym e)
+    go false true false true e = after_cursor s r
 
 pub walk_begin : (t : Tables) (u : Counts) (n : ℕ) (s : Scan)
     → s ≡ start_n
@@ -143,21 +160,9 @@ walk_done t u i e s whole h inv = rw (re_none t u i e (cursor_n s) h) at inv
 -- ---- the bytes: the buffer is b and was b₀; the records from i to n are to come, and their bytes go to `at`
 pub record Copying (t : Tables) (u : Counts) (n : ℕ) (b₀ b : List ℕ) (i at : ℕ) (c : Cursor) : Type 0 where
   pub size : length b ≡ length b₀
-  pub room : at + length (file_from new_edition c.area (good_records (rebuilt t u i c (n - i)))) ≤ length b
+  pub room : at + length (joined bytes_of (good_records (rebuilt t u i c (n - i)))) ≤ length b
   pub good : all_good (rebuilt t u i c (n - i)) ≡ true
-  pub rest : sets b at (file_from new_edition c.area (good_records (rebuilt t u i c (n - i)))) ≡ sets b₀ 0 (file_of (good_records (rebuilt t u 0 (cursor 0 0) n)))
-
--- a record's bytes, and those of the records behind it
-file_on : (c : Cursor) (d : Decoded) (ds : List Decoded)
-    → file_from new_edition c.area (good_records (d ∷ ds)) ≡ on_good (bytes_of c.area) d ++ file_from new_edition (past_of c d).area (good_records ds)
-unfolding file_from
-file_on c (Good r) ds = refl
-file_on c (Bad x) ds = refl
-
-file_on_length : (c : Cursor) (d : Decoded) (ds : List Decoded)
-    → length (file_from new_edition c.area (good_records (d ∷ ds)))
-    ≡ length (on_good (bytes_of c.area) d) + length (file_from new_edition (past_of c d).area (good_records ds))
-file_on_length c d ds = ap length (file_on c d ds) ∙ length-append (on_good (bytes_of c.area) d) (file_from new_edition (past_of c d).area (good_records ds))
+  pub rest : sets b at (joined bytes_of (good_records (rebuilt t u i c (n - i)))) ≡ sets b₀ 0 (joined bytes_of (good_records (rebuilt t u 0 (cursor 0 0) n)))
 
 goods_length : (ds : List Decoded) → length (good_records ds) ≤ length ds
 goods_length [] = le_refl _
@@ -172,7 +177,7 @@ copy_begin t u n b h g =
     let ds : List Decoded = rebuilt t u 0 (cursor 0 0) n in
     record {
       size = refl;
-      room = rw (re_zero t u (cursor 0 0) n) (omega (arith, file_length new_edition 0 (good_records ds), goods_length ds, re_length t u 0 (cursor 0 0) n));
+      room = rw (re_zero t u (cursor 0 0) n) (omega (arith, file_length (good_records ds), goods_length ds, re_length t u 0 (cursor 0 0) n));
       good = rw (re_zero t u (cursor 0 0) n) g;
       rest = rw (re_zero t u (cursor 0 0) n);
     }
@@ -184,17 +189,17 @@ now_room : (t : Tables) (u : Counts) (n : ℕ) (b₀ b : List ℕ) (i at : ℕ) 
     → i < n
     → d ≡ record_at t u i c
     → Copying t u n b₀ b i at c
-    → at + length (file_from new_edition c.area (good_records (d ∷ coming t u n i c d))) ≤ length b
+    → at + length (joined bytes_of (good_records (d ∷ coming t u n i c d))) ≤ length b
 now_room t u n b₀ b i at c d h p k =
-    subst (λ (x : Decoded). at + length (file_from new_edition c.area (good_records (x ∷ coming t u n i c x))) ≤ length b) (sym p)
+    subst (λ (x : Decoded). at + length (joined bytes_of (good_records (x ∷ coming t u n i c x))) ≤ length b) (sym p)
     (rw (re_step t u i n c h) at k.room)
 
 now_rest : (t : Tables) (u : Counts) (n : ℕ) (b₀ b : List ℕ) (i at : ℕ) (c : Cursor) (d : Decoded) → i < n → d ≡ record_at t u i c → Copying t u n b₀ b i at c
-    → sets b at (file_from new_edition c.area (good_records (d ∷ coming t u n i c d))) ≡ sets b₀ 0 (file_of (good_records (rebuilt t u 0 (cursor 0 0) n)))
+    → sets b at (joined bytes_of (good_records (d ∷ coming t u n i c d))) ≡ sets b₀ 0 (joined bytes_of (good_records (rebuilt t u 0 (cursor 0 0) n)))
 now_rest t u n b₀ b i at c d h p k =
     subst
     (λ (x : Decoded).
-    sets b at (file_from new_edition c.area (good_records (x ∷ coming t u n i c x))) ≡ sets b₀ 0 (file_of (good_records (rebuilt t u 0 (cursor 0 0) n))))
+    sets b at (joined bytes_of (good_records (x ∷ coming t u n i c x))) ≡ sets b₀ 0 (joined bytes_of (good_records (rebuilt t u 0 (cursor 0 0) n))))
     (sym p) (rw (re_step t u i n c h) at k.rest)
 
 now_good : (t : Tables) (u : Counts) (n : ℕ) (b₀ b : List ℕ) (i at : ℕ) (c : Cursor) (d : Decoded) → i < n → d ≡ record_at t u i c → Copying t u n b₀ b i at c
@@ -208,54 +213,46 @@ pub copy_good : (t : Tables) (u : Counts) (n : ℕ) (b₀ b : List ℕ) (i at : 
     → is_good (record_at t u i c) ≡ true
 copy_good t u n b₀ b i at c h k = and_left (is_good (record_at t u i c)) _ (now_good t u n b₀ b i at c (record_at t u i c) h refl k)
 
--- a record is as long with any number
-bytes_long : (m n : ℕ) (d : Decoded) → length (on_good (bytes_of m) d) ≡ length (on_good (bytes_of n) d)
-bytes_long m n (Good r) = refl
-bytes_long m n (Bad x) = refl
-
-pub copy_room : (t : Tables) (u : Counts) (n : ℕ) (b₀ b : List ℕ) (i at number : ℕ) (c : Cursor) (d : Decoded)
+pub copy_room : (t : Tables) (u : Counts) (n : ℕ) (b₀ b : List ℕ) (i at : ℕ) (c : Cursor) (d : Decoded)
     → i < n
     → d ≡ record_at t u i c
     → Copying t u n b₀ b i at c
-    → at + length (on_good (bytes_of number) d) ≤ length b
-copy_room t u n b₀ b i at number c d h p k =
-    omega (arith, now_room t u n b₀ b i at c d h p k, file_on_length c d (coming t u n i c d), bytes_long number c.area d)
+    → at + length (on_good bytes_of d) ≤ length b
+copy_room t u n b₀ b i at c d h p k = omega (arith, now_room t u n b₀ b i at c d h p k, length_on bytes_of d (coming t u n i c d))
 
 pub copy_turn : (t : Tables) (u : Counts) (n : ℕ) (b₀ b b' : List ℕ) (i at at' : ℕ) (c c' : Cursor) (d : Decoded)
     → i < n
     → d ≡ record_at t u i c
-    → at' ≡ at + length (on_good (bytes_of c.area) d)
-    → b' ≡ sets b at (on_good (bytes_of c.area) d)
+    → at' ≡ at + length (on_good bytes_of d)
+    → b' ≡ sets b at (on_good bytes_of d)
     → c' ≡ past_of c d
     → Copying t u n b₀ b i at c
     → Copying t u n b₀ b' (i + 1) at' c'
 copy_turn t u n b₀ b b' i at at' c c' d h p q r s k =
     let ds : List Decoded = coming t u n i c d in
-    let l : length b' ≡ length b = ap length r ∙ length-sets b at (on_good (bytes_of c.area) d) in
+    let l : length b' ≡ length b = ap length r ∙ length-sets b at (on_good bytes_of d) in
     rw s
     (record {
       size = l ∙ k.size;
-      room = omega (arith, now_room t u n b₀ b i at c d h p k, file_on_length c d ds);
+      room = omega (arith, now_room t u n b₀ b i at c d h p k, length_on bytes_of d ds);
       good = and_right (is_good d) (all_good ds) (now_good t u n b₀ b i at c d h p k);
-      rest = rw (r, q) (sets_append b at (on_good (bytes_of c.area) d) (file_from new_edition (past_of c d).area (good_records ds)))
-          ∙ ap (sets b at) (sym (file_on c d ds))
-          ∙ now_rest t u n b₀ b i at c d h p k;
+      rest = turn_table bytes_of b b' at at' d ds r q ∙ now_rest t u n b₀ b i at c d h p k;
     })
 
 pub copy_done : (t : Tables) (u : Counts) (n : ℕ) (b₀ b : List ℕ) (i at : ℕ) (c : Cursor)
     → n ≤ i
     → Copying t u n b₀ b i at c
-    → b ≡ sets b₀ 0 (file_of (good_records (rebuilt t u 0 (cursor 0 0) n)))
-unfolding file_from
+    → b ≡ sets b₀ 0 (joined bytes_of (good_records (rebuilt t u 0 (cursor 0 0) n)))
+unfolding joined
 copy_done t u n b₀ b i at c h k = rw (re_none t u i n c h) at k.rest
 
 -- ---- one record's bytes
-pub bytes_table : (t t' : List ℕ) (at number : ℕ) (d : Decoded) (r : Record) (w : Raw)
+pub bytes_table : (t t' : List ℕ) (at : ℕ) (d : Decoded) (r : Record) (w : Raw)
     → d ≡ Good r
-    → w ≡ raw_of number r
+    → w ≡ raw_of r
     → t' ≡ put_raw t at w
-    → t' ≡ sets t at (on_good (bytes_of number) d)
-bytes_table t t' at number d r w q e h = rw q (h ∙ put_is t at w ∙ ap (λ (v : Raw). sets t at (raw_bytes v)) e)
+    → t' ≡ sets t at (on_good bytes_of d)
+bytes_table t t' at d r w q e h = rw q (h ∙ put_is t at w ∙ ap (λ (v : Raw). sets t at (raw_bytes v)) e)
 
 -- ---- what a drawing that passes has
 pub record Drawn (t : Tables) (k : Counts) : Type 0 where

@@ -12,49 +12,42 @@ use Rattle.refusals.specs.declared.Refusal.TheVariants.{Argument, Room}
 use Rattle.records.specs.declared.Fields.{Fields}
 use Rattle.records.specs.declared.Record.{Record}
 use Rattle.records.specs.declared.Record.TheVariants.{Area, First, Next, Open, Bar, Close, Control}
-use Rattle.records.specs.Bytes.{raw_bytes, raw_area, raw_corner, raw_delimiter, bytes_of, Edition, new_edition}
+use Rattle.records.specs.Bytes.{raw_bytes, raw_area, raw_corner, raw_delimiter, bytes_of}
 use Rattle.records.specs.declared.Decoded.TheVariants.{Good}
 use Rattle.grammar.specs.declared.Counts.{Counts}
 use Rattle.grammar.specs.declared.Verdict.{Verdict}
 use Rattle.grammar.specs.declared.Verdict.TheVariants.{Accepted, Refused}
 use Rattle.grammar.specs.Grammar.{checked, counts}
-use Rattle.grammar.specs.Lists.{good_records, area_one, areas_in, corners_in}
+use Rattle.grammar.specs.Lists.{good_records, areas_in, corners_in}
 use Rattle.grammar.proofs.Laws.{sound, refused_not}
-use Rattle.read.specs.Words.{plan_words, area_words, x_words, y_words, file_from, file_of, Has, all_range}
-use Rattle.read.specs.Reading.{areas_before, decoded_from, decoded_by, records_by, verdict_by, records_in, verdict_of, holds, if_room, read_answer, left_by}
+use Rattle.read.specs.Words.{joined, plan_words, area_words, x_words, y_words, file_of, Has, all_range}
+use Rattle.read.specs.Reading.{decoded_from, decoded_in, records_in, verdict_of, holds, if_room, read_answer, left_by}
 use Rattle.drawing.specs.Tables.{Tables, tables, cursor, rebuilt, used_of, rebuilt_in, drawn_in, agreed, counts_judged, drawing_verdict, written_of}
 use Rattle.drawing.specs.Tables.{write_answer}
 use Rattle.drawing.specs.code.Held.{Acceptable, Holding}
 use Rattle.read.proofs.Files.{filed, filed_checked, length_good, kinds_length, areas_length, xs_length, ys_length, file_length, Holds, held}
 use Rattle.drawing.proofs.Rows.{drawn}
 use Rattle.drawing.proofs.Has.{has_sets, has_same, has_first, has_rest, has_cons, has_whole}
-use Rattle.drawing.proofs.Lists.{goods_map, all_kinds, Holdable, new_kinds, new_holdable, file_read, file_told, file_range}
-use Rattle.drawing.proofs.Lists.{From, tables_read, Wide, tables_told}
+use Rattle.drawing.proofs.Lists.{goods_map, file_read, file_told, file_range, From, tables_read, Wide, tables_told}
 
--- ---- files, of any edition that a record's bytes hold
-pub file_accepts : (e : Edition) (b : List ℕ) (k : Counts) → verdict_by e b ≡ Accepted k → Acceptable (records_by e b) k
-file_accepts e b k h =
-    let s = sound (decoded_by e b) k (filed_checked e b k h) in
-    let f = filed e b k h in
+-- ---- files
+pub file_accepts : (b : List ℕ) (k : Counts) → verdict_of b ≡ Accepted k → Acceptable (records_in b) k
+file_accepts b k e =
+    let s = sound (decoded_in b) k (filed_checked b k e) in
+    let f = filed b k e in
     record {
-      range = file_range e b 0 (length b / 16) (records_by e b) s.good;
+      range = file_range b 0 (length b / 16) (records_in b) s.good;
       below = omega (arith, f.below, f.records);
-      fold = ap checked (sym s.good) ∙ filed_checked e b k h;
+      fold = ap checked (sym s.good) ∙ filed_checked b k e;
     }
 
 -- the records of an accepted file, written as bytes, are the file
-pub file_back : (e : Edition) (b : List ℕ) (k : Counts)
-    → Holdable e
-    → ((i : ℕ) → get_or b i 0 < 256)
-    → verdict_by e b ≡ Accepted k
-    → file_from e 0 (records_by e b) ≡ b
-unfolding areas_before
-file_back e b k l small h =
-    let s = sound (decoded_by e b) k (filed_checked e b k h) in
-    let f = filed e b k h in
-    has_whole b (file_from e 0 (records_by e b))
-    (file_told e b 0 (length b / 16) (records_by e b) l.kinds small (omega (arith, f.whole, f.parts)) s.good)
-    (omega (arith, file_length e 0 (records_by e b), f.records, f.whole))
+pub file_back : (b : List ℕ) (k : Counts) → ((i : ℕ) → get_or b i 0 < 256) → verdict_of b ≡ Accepted k → file_of (records_in b) ≡ b
+file_back b k small e =
+    let s = sound (decoded_in b) k (filed_checked b k e) in
+    let f = filed b k e in
+    has_whole b (file_of (records_in b)) (file_told b 0 (length b / 16) (records_in b) small (omega (arith, f.whole, f.parts)) s.good)
+    (omega (arith, file_length (records_in b), f.records, f.whole))
 
 has_self : (w : List ℕ) → Has w 0 w
 has_self w = subst (λ (t : List ℕ). Has t 0 w) same (has_sets w 0 w (omega arith))
@@ -64,31 +57,25 @@ has_self w = subst (λ (t : List ℕ). Has t 0 w) same (has_sets w 0 w (omega ar
         let n : 0 + length w ≡ length w = omega arith in
         sets-eq w w 0 (omega arith) ∙ ap (λ (x : List ℕ). w ++ x) (ap (λ (m : ℕ). drop m w) n ∙ drop-length w) ∙ append-nil w
 
-module _ (e : Edition) (l : Holdable e) (rs : List Record) (k : Counts) (a : Acceptable rs k) (m : all_kinds e rs ≡ true) where
-  abbrev file : List ℕ
-  file = file_from e 0 rs
+whole_file : (rs : List Record) → length (file_of rs) / 16 ≡ length rs
+whole_file rs = omega (arith, file_length rs)
 
-  again_decoded : decoded_by e file ≡ map Good rs
-  unfolding areas_before
-  again_decoded =
-      let n : length file / 16 ≡ length rs = omega (arith, file_length e 0 rs) in
-      let s = sound (map Good rs) k a.fold in
-      let f : 0 + areas_in rs ≤ 64 = omega (arith, s.few, s.areas, ap areas_in (goods_map rs)) in
-      ap (decoded_from e file 0) n ∙ file_read e file 0 rs l m a.range f (has_self file)
+again_decoded : (rs : List Record) → all_range rs ≡ true → decoded_in (file_of rs) ≡ map Good rs
+again_decoded rs g = ap (decoded_from (file_of rs) 0) (whole_file rs) ∙ file_read (file_of rs) 0 rs g (has_self (file_of rs))
 
-  -- acceptable records, written as bytes, are read as they were
-  pub file_again : verdict_by e file ≡ Accepted k
-  unfolding verdict_by
-  file_again =
-      rw (
-        eq-eqb (length file % 16) 0 (omega (arith, file_length e 0 rs)),
-        le-leb (length file / 16) 4096 (omega (arith, file_length e 0 rs, a.below)),
-        again_decoded,
-      )
-      a.fold
+-- acceptable records, written as bytes, are read as they were
+pub file_again : (rs : List Record) (k : Counts) → Acceptable rs k → verdict_of (file_of rs) ≡ Accepted k
+unfolding verdict_of
+file_again rs k a =
+    rw (
+      eq-eqb (length (file_of rs) % 16) 0 (omega (arith, file_length rs)),
+      le-leb (length (file_of rs) / 16) 4096 (omega (arith, file_length rs, a.below)),
+      again_decoded rs a.range,
+    )
+    a.fold
 
-  pub file_records : records_by e file ≡ rs
-  file_records = ap good_records again_decoded ∙ goods_map rs
+pub file_records : (rs : List Record) (k : Counts) → Acceptable rs k → records_in (file_of rs) ≡ rs
+file_records rs k a = ap good_records (again_decoded rs a.range) ∙ goods_map rs
 
 -- ---- tables
 counted : (rs : List Record) (k : Counts) → Acceptable rs k → k ≡ counts (length rs) (areas_in rs) (corners_in rs)
@@ -226,7 +213,7 @@ after v b p a x y =
 pub read_leaves : (b p a x y : List ℕ) (k : Counts) → read_answer b p a x y ≡ Accepted k → Holding (after (Accepted k) b p a x y) (records_in b)
 read_leaves b p a x y k e =
     let t = taken b p a x y k e in
-    let f = filed new_edition b k t.verdict in
+    let f = filed b k t.verdict in
     let rs : List Record = records_in b in
     record {
       plan = has_sets p 0 (plan_words (records_in b)) (omega (arith, t.room.plan, f.records, kinds_length (records_in b)));
@@ -249,12 +236,12 @@ pub read_write : (b p a x y : List ℕ) (k : Counts)
 unfolding write_answer
 read_write b p a x y k small e =
     let t = taken b p a x y k e in
-    let c = file_accepts new_edition b k t.verdict in
+    let c = file_accepts b k t.verdict in
     let h = read_leaves b p a x y k e in
     let q = holding_passes (after (Accepted k) b p a x y) (records_in b) k c h in
     record {
       passes = q;
-      bytes = ap file_of (drawn_records (after (Accepted k) b p a x y) (records_in b) c.range h) ∙ file_back new_edition b k new_holdable small t.verdict;
+      bytes = ap file_of (drawn_records (after (Accepted k) b p a x y) (records_in b) c.range h) ∙ file_back b k small t.verdict;
       answer = λ out. ap (λ (v : Verdict). written_of v (length out)) q;
     }
 
@@ -274,8 +261,8 @@ unfolding read_answer holds
 write_read t k e =
     let d = drawn t k e in
     let q = passes_holding t k e in
-    let v : verdict_of (file_of (drawn_in t)) ≡ Accepted k = file_again new_edition new_holdable (drawn_in t) k q.0 (new_kinds (drawn_in t)) in
-    let r : records_in (file_of (drawn_in t)) ≡ drawn_in t = file_records new_edition new_holdable (drawn_in t) k q.0 (new_kinds (drawn_in t)) in
+    let v : verdict_of (file_of (drawn_in t)) ≡ Accepted k = file_again (drawn_in t) k q.0 in
+    let r : records_in (file_of (drawn_in t)) ≡ drawn_in t = file_records (drawn_in t) k q.0 in
     let h : Holding t (records_in (file_of (drawn_in t))) = subst (λ (rs : List Record). Holding t rs) (sym r) q.1 in
     let l : holds (length t.plan) (length t.areas) (length t.xs) k ≡ true = room_for (length t.plan) (length t.areas)
     (length t.xs) k d.room.header (omega (arith, d.room.plan)) (omega (arith, d.room.areas)) d.room.corners in
@@ -316,8 +303,8 @@ small0 = omega arith
 small1 : 1 < 256
 small1 = omega arith
 
-area_bytes : (number : ℕ) (f : Fields) → Bytes (raw_bytes (raw_area number f))
-area_bytes number f =
+area_bytes : (f : Fields) → Bytes (raw_bytes (raw_area f))
+area_bytes f =
     one (small1)
     (one (rest f.role)
     (one (rest f.rule)
@@ -327,8 +314,7 @@ area_bytes number f =
     (one (rest f.blue)
     (one (small0)
     (one (rest f.material)
-    (one (rest (f.material / 256))
-    (one (rest (number)) (one (rest (number / 256)) (one (small0) (one (small0) (one (small0) (one (small0) none)))))))))))))))
+    (one (rest (f.material / 256)) (one (small0) (one (small0) (one (small0) (one (small0) (one (small0) (one (small0) none)))))))))))))))
 
 corner_bytes : (k x y : ℕ) → k < 256 → Bytes (raw_bytes (raw_corner k x y))
 corner_bytes k x y h =
@@ -356,20 +342,19 @@ delimiter_bytes k h =
     (one (small0)
     (one (small0) (one (small0) (one (small0) (one (small0) (one (small0) (one (small0) (one (small0) (one (small0) none)))))))))))))))
 
-record_bytes : (number : ℕ) (r : Record) → Bytes (bytes_of number r)
-record_bytes number (Area f) = area_bytes number f
-record_bytes number (First x y) = corner_bytes 2 x y (omega arith)
-record_bytes number (Next x y) = corner_bytes 3 x y (omega arith)
-record_bytes number Open = delimiter_bytes 4 (omega arith)
-record_bytes number Bar = delimiter_bytes 5 (omega arith)
-record_bytes number Close = delimiter_bytes 6 (omega arith)
-record_bytes number (Control x y) = corner_bytes 7 x y (omega arith)
+record_bytes : (r : Record) → Bytes (bytes_of r)
+record_bytes (Area f) = area_bytes f
+record_bytes (First x y) = corner_bytes 2 x y (omega arith)
+record_bytes (Next x y) = corner_bytes 3 x y (omega arith)
+record_bytes Open = delimiter_bytes 4 (omega arith)
+record_bytes Bar = delimiter_bytes 5 (omega arith)
+record_bytes Close = delimiter_bytes 6 (omega arith)
+record_bytes (Control x y) = corner_bytes 7 x y (omega arith)
 
-file_bytes : (e : Edition) (a : ℕ) (rs : List Record) → Bytes (file_from e a rs)
-unfolding file_from
-file_bytes e a [] = none
-file_bytes e a (r ∷ rs) =
-    bytes_join (bytes_of (e.number a) r) (file_from e (a + area_one r) rs) (record_bytes (e.number a) r) (file_bytes e (a + area_one r) rs)
+file_bytes : (rs : List Record) → Bytes (file_of rs)
+unfolding joined
+file_bytes [] = none
+file_bytes (r ∷ rs) = bytes_join (bytes_of r) (file_of rs) (record_bytes r) (file_bytes rs)
 
 -- these tables are what reading some accepted file left
 pub record Left (t : Tables) (k : Counts) : Type 0 where
@@ -383,13 +368,7 @@ pub record Left (t : Tables) (k : Counts) : Type 0 where
 pub passes_left : (t : Tables) (k : Counts) → drawing_verdict t ≡ Accepted k → Left t k
 passes_left t k e =
     let r = write_read t k e in
-    record {
-      file = file_of (drawn_in t);
-      bytes = bytes_at (file_of (drawn_in t)) (file_bytes new_edition 0 (drawn_in t));
-      before = t;
-      accepted = r.answer;
-      is = r.same;
-    }
+    record { file = file_of (drawn_in t); bytes = bytes_at (file_of (drawn_in t)) (file_bytes (drawn_in t)); before = t; accepted = r.answer; is = r.same }
 
 pub left_passes : (t : Tables) (k : Counts) → Left t k → drawing_verdict t ≡ Accepted k
 left_passes t k l =

@@ -286,15 +286,14 @@ pub fn check_drawing(plan: &[u32], areas: &[u32], xs: &[u32], ys: &[u32]) -> Ver
 }
 
 // ---- writing
-// Writes one record; `number` is an area's.
-fn put_bytes(out: &mut [u8], at: usize, number: usize, d: Decoded) -> usize
-    requires { at + length (on_good (bytes_of number) d) ≤ length out.old }
-    ensures answer { result ≡ at + length (on_good (bytes_of number) d) }
-    ensures out { out.new ≡ sets out.old at (on_good (bytes_of number) d) }
+fn put_bytes(out: &mut [u8], at: usize, d: Decoded) -> usize
+    requires { at + length (on_good bytes_of d) ≤ length out.old }
+    ensures answer { result ≡ at + length (on_good bytes_of d) }
+    ensures out { out.new ≡ sets out.old at (on_good bytes_of d) }
 {
     match d {
         Decoded::Good(r) => {
-            let b = records::raw_of(number, r);
+            let b = records::raw_of(r);
             records::put_raw(out, at, b);
             at + RECORD_BYTES
         }
@@ -315,7 +314,7 @@ fn write_all(plan: &[u32], areas: &[u32], xs: &[u32], ys: &[u32], used: Counts, 
     let mut i = 0;
     while i < n {
         let d = row_accepted(plan, areas, xs, ys, used, i, c);
-        at = put_bytes(out, at, c.area, d);
+        at = put_bytes(out, at, d);
         c = past(c, d);
         i += 1;
     }

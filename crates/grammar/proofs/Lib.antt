@@ -1,4 +1,3 @@
--- The code answers what the grammar answers; what an accepted list of records has; what a scan that goes on has met.
+-- The code answers what the grammar answers; what an accepted list of records has.
 pub mod Meaning
 pub mod Laws
-pub mod Scans

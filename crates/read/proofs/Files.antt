@@ -13,20 +13,20 @@ use Rattle.records.specs.declared.Record.{Record}
 use Rattle.records.specs.declared.Record.TheVariants.{Area, First, Next, Open, Bar, Close, Control}
 use Rattle.records.specs.declared.Decoded.{Decoded}
 use Rattle.records.specs.declared.Decoded.TheVariants.{Good}
-use Rattle.records.specs.Bytes.{Edition}
+use Rattle.records.specs.Bytes.{bytes_of}
 use Rattle.laws.proofs.Booleans.{and_left, and_right, clash}
 use Rattle.grammar.specs.declared.Counts.{Counts}
 use Rattle.grammar.specs.declared.Verdict.TheVariants.{Accepted, Refused}
 use Rattle.grammar.specs.Grammar.{checked}
-use Rattle.grammar.specs.Lists.{good_records, area_one, areas_in, corners_in}
+use Rattle.grammar.specs.Lists.{good_records, areas_in, corners_in}
 use Rattle.grammar.proofs.Laws.{sound, refused_not}
-use Rattle.read.specs.Words.{words_of_kind, words_of_area, words_of_x, words_of_y, words_of, joined, plan_words, file_from}
-use Rattle.read.specs.Reading.{decoded_from, decoded_by, records_by, verdict_by, holds, all_good, Filed}
+use Rattle.read.specs.Words.{words_of_kind, words_of_area, words_of_x, words_of_y, words_of, joined, plan_words}
+use Rattle.read.specs.Reading.{decoded_from, decoded_in, records_in, verdict_of, holds, all_good, Filed}
 
-pub length_from : (e : Edition) (b : List ℕ) (i n : ℕ) → length (decoded_from e b i n) ≡ n
+pub length_from : (b : List ℕ) (i n : ℕ) → length (decoded_from b i n) ≡ n
 unfolding decoded_from
-length_from e b i zero = refl
-length_from e b i (suc n) = ap suc (length_from e b (i + 1) n)
+length_from b i zero = refl
+length_from b i (suc n) = ap suc (length_from b (i + 1) n)
 
 pub length_good : (ds : List Decoded) → ds ≡ map Good (good_records ds) → length ds ≡ length (good_records ds)
 length_good ds e = ap length e ∙ length-map (good_records ds) Good
@@ -38,34 +38,34 @@ good_map (r ∷ rs) = good_map rs
 pub all_good_law : (ds : List Decoded) → ds ≡ map Good (good_records ds) → all_good ds ≡ true
 all_good_law ds e = ap all_good e ∙ good_map (good_records ds)
 
-pub filed_checked : (e : Edition) (b : List ℕ) (k : Counts) → verdict_by e b ≡ Accepted k → checked (decoded_by e b) ≡ Accepted k
-unfolding verdict_by
-filed_checked e b k = go (eqb (length b % 16) 0) (leb (length b / 16) 4096)
+pub filed_checked : (b : List ℕ) (k : Counts) → verdict_of b ≡ Accepted k → checked (decoded_in b) ≡ Accepted k
+unfolding verdict_of
+filed_checked b k = go (eqb (length b % 16) 0) (leb (length b / 16) 4096)
   where
-    go : (a d : Bool) → cond a (cond d (checked (decoded_by e b)) (Refused Length 0)) (Refused Length 0) ≡ Accepted k → checked (decoded_by e b) ≡ Accepted k
-    go false d h = refused_not Length 0 k h
-    go true false h = refused_not Length 0 k h
-    go true true h = h
+    go : (a d : Bool) → cond a (cond d (checked (decoded_in b)) (Refused Length 0)) (Refused Length 0) ≡ Accepted k → checked (decoded_in b) ≡ Accepted k
+    go false d e = refused_not Length 0 k e
+    go true false e = refused_not Length 0 k e
+    go true true e = e
 
-pub filed : (e : Edition) (b : List ℕ) (k : Counts) → verdict_by e b ≡ Accepted k → Filed e b k
-unfolding verdict_by
-filed e b k = go (eqb (length b % 16) 0) (leb (length b / 16) 4096) refl refl
+pub filed : (b : List ℕ) (k : Counts) → verdict_of b ≡ Accepted k → Filed b k
+unfolding verdict_of
+filed b k = go (eqb (length b % 16) 0) (leb (length b / 16) 4096) refl refl
   where
     go : (a d : Bool)
         → eqb (length b % 16) 0 ≡ a
         → leb (length b / 16) 4096 ≡ d
-        → cond a (cond d (checked (decoded_by e b)) (Refused Length 0)) (Refused Length 0) ≡ Accepted k
-        → Filed e b k
-    go false d p q h = refused_not Length 0 k h
-    go true false p q h = refused_not Length 0 k h
-    go true true p q h =
-        let s = sound (decoded_by e b) k h in
-        let n : k.records ≡ length b / 16 = s.records ∙ length_from e b 0 (length b / 16) in
+        → cond a (cond d (checked (decoded_in b)) (Refused Length 0)) (Refused Length 0) ≡ Accepted k
+        → Filed b k
+    go false d p q e = refused_not Length 0 k e
+    go true false p q e = refused_not Length 0 k e
+    go true true p q e =
+        let s = sound (decoded_in b) k e in
+        let n : k.records ≡ length b / 16 = s.records ∙ length_from b 0 (length b / 16) in
         record {
           whole = omega (arith, eqb-true (length b % 16) 0 p);
           parts = n;
-          good = all_good_law (decoded_by e b) s.good;
-          records = s.records ∙ length_good (decoded_by e b) s.good;
+          good = all_good_law (decoded_in b) s.good;
+          records = s.records ∙ length_good (decoded_in b) s.good;
           areas = s.areas;
           corners = s.corners;
           below = omega (arith, leb-true (length b / 16) 4096 q);
@@ -74,8 +74,8 @@ filed e b k = go (eqb (length b % 16) 0) (leb (length b / 16) 4096) refl refl
         }
 
 -- a whole file's records are those from record 0
-pub good_from : (e : Edition) (b : List ℕ) (k : Counts) → Filed e b k → all_good (decoded_from e b 0 k.records) ≡ true
-good_from e b k f = ap (λ (n : ℕ). all_good (decoded_from e b 0 n)) f.parts ∙ f.good
+pub good_from : (b : List ℕ) (k : Counts) → Filed b k → all_good (decoded_from b 0 k.records) ≡ true
+good_from b k f = ap (λ (n : ℕ). all_good (decoded_from b 0 n)) f.parts ∙ f.good
 
 -- ---- how many words
 pub kinds_length : (rs : List Record) → length (joined words_of_kind rs) ≡ length rs
@@ -116,10 +116,10 @@ ys_length (Bar ∷ rs) = omega (arith, ys_length rs)
 ys_length (Close ∷ rs) = omega (arith, ys_length rs)
 ys_length (Control x y ∷ rs) = omega (arith, ys_length rs)
 
-pub file_length : (e : Edition) (a : ℕ) (rs : List Record) → length (file_from e a rs) ≡ length rs * 16
-unfolding file_from
-file_length e a [] = refl
-file_length e a (r ∷ rs) = omega (arith, file_length e (a + area_one r) rs)
+pub file_length : (rs : List Record) → length (joined bytes_of rs) ≡ length rs * 16
+unfolding joined
+file_length [] = refl
+file_length (r ∷ rs) = omega (arith, file_length rs)
 
 spread_0 : (rs : List Record) → joined (words_of 0) rs ≡ joined words_of_kind rs
 unfolding words_of
@@ -137,39 +137,37 @@ spread_3 : (rs : List Record) → joined (words_of 3) rs ≡ joined words_of_y r
 unfolding words_of
 spread_3 rs = refl
 
-module _ (e : Edition) (b : List ℕ) (k : Counts) (c : Filed e b k) where
-  same_part : records_by e b ≡ good_records (decoded_from e b 0 k.records)
-  same_part = ap (λ (n : ℕ). good_records (decoded_from e b 0 n)) (sym c.parts)
+module _ (b : List ℕ) (k : Counts) (c : Filed b k) where
+  same_part : records_in b ≡ good_records (decoded_from b 0 k.records)
+  same_part = ap (λ (n : ℕ). good_records (decoded_from b 0 n)) (sym c.parts)
 
-  pub room_0 : (m : ℕ) → k.records + 3 ≤ m → 3 + length (joined (words_of 0) (good_records (decoded_from e b 0 k.records))) ≤ m
-  room_0 m h = rw (← same_part, spread_0 (records_by e b), kinds_length (records_by e b)) (omega (arith, c.records))
+  pub room_0 : (m : ℕ) → k.records + 3 ≤ m → 3 + length (joined (words_of 0) (good_records (decoded_from b 0 k.records))) ≤ m
+  room_0 m h = rw (← same_part, spread_0 (records_in b), kinds_length (records_in b)) (omega (arith, c.records))
 
-  pub room_1 : (m : ℕ) → k.areas * 8 ≤ m → 0 + length (joined (words_of 1) (good_records (decoded_from e b 0 k.records))) ≤ m
-  room_1 m h = rw (← same_part, spread_1 (records_by e b), areas_length (records_by e b)) (omega (arith, c.areas))
+  pub room_1 : (m : ℕ) → k.areas * 8 ≤ m → 0 + length (joined (words_of 1) (good_records (decoded_from b 0 k.records))) ≤ m
+  room_1 m h = rw (← same_part, spread_1 (records_in b), areas_length (records_in b)) (omega (arith, c.areas))
 
-  pub room_2 : (m : ℕ) → k.corners ≤ m → 0 + length (joined (words_of 2) (good_records (decoded_from e b 0 k.records))) ≤ m
-  room_2 m h = rw (← same_part, spread_2 (records_by e b), xs_length (records_by e b)) (omega (arith, c.corners))
+  pub room_2 : (m : ℕ) → k.corners ≤ m → 0 + length (joined (words_of 2) (good_records (decoded_from b 0 k.records))) ≤ m
+  room_2 m h = rw (← same_part, spread_2 (records_in b), xs_length (records_in b)) (omega (arith, c.corners))
 
-  pub room_3 : (m : ℕ) → k.corners ≤ m → 0 + length (joined (words_of 3) (good_records (decoded_from e b 0 k.records))) ≤ m
-  room_3 m h = rw (← same_part, spread_3 (records_by e b), ys_length (records_by e b)) (omega (arith, c.corners))
+  pub room_3 : (m : ℕ) → k.corners ≤ m → 0 + length (joined (words_of 3) (good_records (decoded_from b 0 k.records))) ≤ m
+  room_3 m h = rw (← same_part, spread_3 (records_in b), ys_length (records_in b)) (omega (arith, c.corners))
 
   pub left_0 : (t t₁ t₂ : List ℕ)
       → t₁ ≡ set (set (set t 0 k.records) 1 k.areas) 2 k.corners
-      → t₂ ≡ sets t₁ 3 (joined (words_of 0) (good_records (decoded_from e b 0 k.records)))
-      → t₂ ≡ sets t 0 (plan_words (records_by e b))
-  left_0 t t₁ t₂ p q = q ∙ rw (p, ← same_part, spread_0 (records_by e b), c.records, c.areas, c.corners)
+      → t₂ ≡ sets t₁ 3 (joined (words_of 0) (good_records (decoded_from b 0 k.records)))
+      → t₂ ≡ sets t 0 (plan_words (records_in b))
+  left_0 t t₁ t₂ p q = q ∙ rw (p, ← same_part, spread_0 (records_in b), c.records, c.areas, c.corners)
 
-  pub left_1 : (t t₁ : List ℕ) → t₁ ≡ sets t 0 (joined (words_of 1) (good_records (decoded_from e b 0 k.records)))
-      → t₁ ≡ sets t 0 (joined words_of_area (records_by e b))
-  left_1 t t₁ q = q ∙ rw (← same_part, spread_1 (records_by e b))
+  pub left_1 : (t t₁ : List ℕ) → t₁ ≡ sets t 0 (joined (words_of 1) (good_records (decoded_from b 0 k.records)))
+      → t₁ ≡ sets t 0 (joined words_of_area (records_in b))
+  left_1 t t₁ q = q ∙ rw (← same_part, spread_1 (records_in b))
 
-  pub left_2 : (t t₁ : List ℕ) → t₁ ≡ sets t 0 (joined (words_of 2) (good_records (decoded_from e b 0 k.records)))
-      → t₁ ≡ sets t 0 (joined words_of_x (records_by e b))
-  left_2 t t₁ q = q ∙ rw (← same_part, spread_2 (records_by e b))
+  pub left_2 : (t t₁ : List ℕ) → t₁ ≡ sets t 0 (joined (words_of 2) (good_records (decoded_from b 0 k.records))) → t₁ ≡ sets t 0 (joined words_of_x (records_in b))
+  left_2 t t₁ q = q ∙ rw (← same_part, spread_2 (records_in b))
 
-  pub left_3 : (t t₁ : List ℕ) → t₁ ≡ sets t 0 (joined (words_of 3) (good_records (decoded_from e b 0 k.records)))
-      → t₁ ≡ sets t 0 (joined words_of_y (records_by e b))
-  left_3 t t₁ q = q ∙ rw (← same_part, spread_3 (records_by e b))
+  pub left_3 : (t t₁ : List ℕ) → t₁ ≡ sets t 0 (joined (words_of 3) (good_records (decoded_from b 0 k.records))) → t₁ ≡ sets t 0 (joined words_of_y (records_in b))
+  left_3 t t₁ q = q ∙ rw (← same_part, spread_3 (records_in b))
 
 -- ---- the room test
 pub record Holds (p a d : ℕ) (k : Counts) : Type 0 where

@@ -6,8 +6,8 @@ use Rattle.records.specs.declared.Record.TheVariants.{Area, First, Next, Open, B
 use Rattle.records.specs.declared.Decoded.{Decoded}
 use Rattle.records.specs.declared.Decoded.TheVariants.{Good, Bad}
 use Rattle.records.specs.Record.{kind_of, in_range}
-use Rattle.records.specs.Bytes.{bytes_of, Edition, new_edition}
-use Rattle.grammar.specs.Lists.{area_one, areas_in, corners_in}
+use Rattle.records.specs.Bytes.{bytes_of}
+use Rattle.grammar.specs.Lists.{areas_in, corners_in}
 
 -- the plan has the kind of each record
 abbrev pub words_of_kind : Record → List ℕ
@@ -67,14 +67,9 @@ x_words rs = joined words_of_x rs
 abbrev pub y_words : List Record → List ℕ
 y_words rs = joined words_of_y rs
 
--- the bytes of all records, one after another, with so many areas before them
-unfoldable pub file_from : Edition → ℕ → List Record → List ℕ
-file_from e a [] = []
-file_from e a (r ∷ rs) = bytes_of (e.number a) r ++ file_from e (a + area_one r) rs
-
 -- the file
 abbrev pub file_of : List Record → List ℕ
-file_of rs = file_from new_edition 0 rs
+file_of rs = joined bytes_of rs
 
 abbrev pub on_good : (Record → List ℕ) → Decoded → List ℕ
 on_good f (Good r) = f r

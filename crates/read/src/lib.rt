@@ -5,9 +5,9 @@ ghost use Rattle.grammar.specs.declared.Verdict.TheVariants.{Accepted};
 ghost use Rattle.grammar.specs.code.Machine.{scan_n, start_n};
 ghost use Rattle.grammar.specs.Lists.{good_records};
 ghost use Rattle.records.specs.Record.{kind_of, is_good};
-ghost use Rattle.records.specs.Bytes.{raw_at, decoded_raw, new_edition};
+ghost use Rattle.records.specs.Bytes.{raw_at, decoded_raw};
 ghost use Rattle.read.specs.Words.{words_of_kind, words_of_area, words_of_x, words_of_y, words_of, joined, plan_words, area_words, x_words, y_words, on_good};
-ghost use Rattle.read.specs.Reading.{decoded_at, decoded_from, all_good, records_lent, verdict_of, holds, if_room, read_lent, left_by, Filed};
+ghost use Rattle.read.specs.Reading.{decoded_from, all_good, records_lent, verdict_of, holds, if_room, read_lent, left_by, Filed};
 
 use grammar::{Counts, Scan, Verdict};
 use records::{AREA_WORDS, Decoded, Fields, RECORD_BYTES, Record};
@@ -32,20 +32,19 @@ const TO_XS: u32 = 2;
 const TO_YS: u32 = 3;
 
 // ---- the file
-// Record i, where an area has this number.
-fn read_record(records: &[u8], i: usize, number: usize) -> Decoded
+fn read_record(records: &[u8], i: usize) -> Decoded
     requires { i * 16 + 16 ≤ length records.now }
-    ensures answer { result ≡ decoded_raw 7 number (raw_at records.now i) }
+    ensures answer { result ≡ decoded_raw (raw_at records.now i) }
 {
     let r = records::read_raw(records, i);
-    records::decoded_raw(records::MOST_KIND, number, r)
+    records::decoded_raw(r)
 }
 
 // Record i of a file that was accepted: nothing is tried again.
 fn read_accepted(records: &[u8], i: usize) -> Decoded
     requires i_in_bounds { i * 16 + 16 ≤ length records.now }
-    requires i_value { is_good (decoded_at new_edition records.now i) ≡ true }
-    ensures answer { result ≡ decoded_at new_edition records.now i }
+    requires i_value { is_good (decoded_raw (raw_at records.now i)) ≡ true }
+    ensures answer { result ≡ decoded_raw (raw_at records.now i) }
 {
     let r = records::read_raw(records, i);
     let t = records::named_of(r);
@@ -54,13 +53,12 @@ fn read_accepted(records: &[u8], i: usize) -> Decoded
 
 fn scan_records(records: &[u8], n: usize) -> Scan
     requires { n * 16 ≤ length records.now }
-    ensures answer { result ≡ scan_n start_n 0 (decoded_from new_edition records.now 0 n) }
+    ensures answer { result ≡ scan_n start_n 0 (decoded_from records.now 0 n) }
 {
     let mut s = grammar::start();
     let mut i = 0;
     while i < n {
-        let a = grammar::areas_met(s);
-        let d = read_record(records, i, a);
+        let d = read_record(records, i);
         s = grammar::advance(s, d, i);
         if grammar::is_stopped(s) {
             return s;
@@ -222,19 +220,15 @@ fn fill(
     ys: &mut [u32],
 )
     requires n_in_bounds { n * 16 ≤ length records.now }
-    requires n_value { all_good (decoded_from new_edition records.now 0 n) ≡ true }
-    requires n_in_bounds_2 { 3 + length (joined (words_of 0) (good_records (decoded_from new_edition records.now 0 n))) ≤ length plan.old }
-    requires n_in_bounds_3 { 0 + length (joined (words_of 1) (good_records (decoded_from new_edition records.now 0 n))) ≤ length areas.old }
-    requires n_in_bounds_4 { 0 + length (joined (words_of 2) (good_records (decoded_from new_edition records.now 0 n))) ≤ length xs.old }
-    requires n_in_bounds_5 { 0 + length (joined (words_of 3) (good_records (decoded_from new_edition records.now 0 n))) ≤ length ys.old }
-    ensures plan { plan.new ≡
-        sets plan.old 3 (joined (words_of 0) (good_records (decoded_from new_edition records.now 0 n))) }
-    ensures areas { areas.new ≡
-        sets areas.old 0 (joined (words_of 1) (good_records (decoded_from new_edition records.now 0 n))) }
-    ensures xs { xs.new ≡
-        sets xs.old 0 (joined (words_of 2) (good_records (decoded_from new_edition records.now 0 n))) }
-    ensures ys { ys.new ≡
-        sets ys.old 0 (joined (words_of 3) (good_records (decoded_from new_edition records.now 0 n))) }
+    requires n_value { all_good (decoded_from records.now 0 n) ≡ true }
+    requires n_in_bounds_2 { 3 + length (joined (words_of 0) (good_records (decoded_from records.now 0 n))) ≤ length plan.old }
+    requires n_in_bounds_3 { 0 + length (joined (words_of 1) (good_records (decoded_from records.now 0 n))) ≤ length areas.old }
+    requires n_in_bounds_4 { 0 + length (joined (words_of 2) (good_records (decoded_from records.now 0 n))) ≤ length xs.old }
+    requires n_in_bounds_5 { 0 + length (joined (words_of 3) (good_records (decoded_from records.now 0 n))) ≤ length ys.old }
+    ensures plan { plan.new ≡ sets plan.old 3 (joined (words_of 0) (good_records (decoded_from records.now 0 n))) }
+    ensures areas { areas.new ≡ sets areas.old 0 (joined (words_of 1) (good_records (decoded_from records.now 0 n))) }
+    ensures xs { xs.new ≡ sets xs.old 0 (joined (words_of 2) (good_records (decoded_from records.now 0 n))) }
+    ensures ys { ys.new ≡ sets ys.old 0 (joined (words_of 3) (good_records (decoded_from records.now 0 n))) }
 {
     let mut kind = PLAN_COUNTS;
     let mut area = 0;
@@ -279,7 +273,7 @@ fn fill_all(
     ys: &mut [u32],
     k: Counts,
 )
-    requires filed { Filed new_edition records.now k }
+    requires filed { Filed records.now k }
     requires records_in_bounds { (k.records + 3 ≤ length plan.old) × (k.areas * 8 ≤ length areas.old)
         × (k.corners ≤ length xs.old) × (k.corners ≤ length ys.old) }
     ensures plan { plan.new ≡ sets plan.old 0 (plan_words (records_lent records)) }
@@ -300,7 +294,7 @@ fn fill_if_room(
     ys: &mut [u32],
     k: Counts,
 ) -> Verdict
-    requires filed { Filed new_edition records.now k }
+    requires filed { Filed records.now k }
     requires xs_len { length xs.old ≡ length ys.old }
     ensures answer { result ≡ if_room (Accepted k) (length plan.old) (length areas.old) (length xs.old) }
     ensures plan { plan.new ≡ left_by result plan.old (plan_words (records_lent records)) }

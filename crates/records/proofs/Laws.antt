@@ -6,7 +6,7 @@ use mathlib.Core.List.{List, [], ◌∷◌}
 use native.Mathlib.Omega.{arith}
 use lib.Seq.{sets}
 use lib.Dec.{eqb, leb}
-use borrow.Author.Tests.{le-leb, eq-eqb, leb-true, eqb-true}
+use borrow.Author.Tests.{leb-true, eqb-true}
 use Rattle.laws.proofs.Booleans.{clash, and_left, and_right}
 use Rattle.records.specs.declared.Raw.{Raw}
 use Rattle.records.specs.declared.Fields.{Fields}
@@ -15,9 +15,8 @@ use Rattle.refusals.specs.declared.Refusal.TheVariants.{Kind, Field}
 use Rattle.records.specs.declared.Record.{Record}
 use Rattle.records.specs.declared.Record.TheVariants.{Area, First, Next, Open, Bar, Close, Control}
 use Rattle.records.specs.declared.Decoded.TheVariants.{Good, Bad}
-use Rattle.records.specs.Record.{all_zero, paint_range, clip_range, area_range, corner_range, in_range, ranged, corner_of, delimiter_of, kind_of}
-use Rattle.records.specs.Bytes.{put_raw, raw_bytes, number2, number4, unnamed_zero, fields_of, named, numbered, decoded_raw}
-use Rattle.records.specs.Bytes.{raw_area, raw_corner, raw_delimiter, raw_of}
+use Rattle.records.specs.Record.{all_zero, paint_range, clip_range, area_range, corner_range, in_range, ranged, corner_of, delimiter_of}
+use Rattle.records.specs.Bytes.{put_raw, raw_bytes, number4, unnamed_zero, fields_of, named, decoded_raw, raw_area, raw_corner, raw_delimiter, raw_of}
 
 abbrev Zeros : ℕ → List ℕ → Type 0
 Zeros b [] = b ≡ 0
@@ -96,9 +95,9 @@ pub corner_y_law : (x y : ℕ) → corner_range x y ≡ true → y ≤ 65536
 corner_y_law x y h = leb-true _ _ (and_right (leb x 65536) (leb y 65536) h)
 
 -- ---- a record in range, written as bytes, is read back
-again_area : (number : ℕ) (f : Fields) → AreaFacts f → fields_of (raw_area number f) ≡ f
+again_area : (f : Fields) → AreaFacts f → fields_of (raw_area f) ≡ f
 unfolding fields_of
-again_area number f a = λ d. record { role = r d; rule = u d; alpha = p d; red = e d; green = g d; blue = b d; material = m d }
+again_area f a = λ d. record { role = r d; rule = u d; alpha = p d; red = e d; green = g d; blue = b d; material = m d }
   where
     r : f.role % 256 ≡ f.role
     r = omega arith
@@ -124,40 +123,21 @@ again_area number f a = λ d. record { role = r d; rule = u d; alpha = p d; red 
 four : (x : ℕ) → x ≤ 65536 → number4 (x % 256) (x / 256 % 256) (x / 65536 % 256) (x / 16777216 % 256) ≡ x
 four x h = omega arith
 
-two : (n : ℕ) → n < 65536 → number2 (n % 256) (n / 256 % 256) ≡ n
-two n h = omega arith
-
--- a record of a kind that there is, with a number that two bytes hold
-pub raw_again : (most number : ℕ) (t : Record)
-    → number < 65536
-    → leb (kind_of t) most ≡ true
-    → in_range t ≡ true
-    → decoded_raw most number (raw_of number t) ≡ Good t
-unfolding decoded_raw unnamed_zero numbered named corner_of delimiter_of
-raw_again most number (Area f) n m h = rw (m, two number n, eq-eqb number number refl, again_area number f (area_facts f h), h)
-raw_again most number (First x y) n m h = rw (m, four x (corner_x_law x y h), four y (corner_y_law x y h), h)
-raw_again most number (Next x y) n m h = rw (m, four x (corner_x_law x y h), four y (corner_y_law x y h), h)
-raw_again most number Open n m h = rw m
-raw_again most number Bar n m h = rw m
-raw_again most number Close n m h = rw m
-raw_again most number (Control x y) n m h = rw (m, four x (corner_x_law x y h), four y (corner_y_law x y h), h)
-
--- each record has one of the seven kinds
-pub kind_known : (t : Record) → leb (kind_of t) 7 ≡ true
-kind_known (Area f) = refl
-kind_known (First x y) = refl
-kind_known (Next x y) = refl
-kind_known Open = refl
-kind_known Bar = refl
-kind_known Close = refl
-kind_known (Control x y) = refl
+pub raw_again : (t : Record) → in_range t ≡ true → decoded_raw (raw_of t) ≡ Good t
+unfolding decoded_raw unnamed_zero named corner_of delimiter_of
+raw_again (Area f) h = rw (again_area f (area_facts f h), h)
+raw_again (First x y) h = rw (four x (corner_x_law x y h), four y (corner_y_law x y h), h)
+raw_again (Next x y) h = rw (four x (corner_x_law x y h), four y (corner_y_law x y h), h)
+raw_again Open h = refl
+raw_again Bar h = refl
+raw_again Close h = refl
+raw_again (Control x y) h = rw (four x (corner_x_law x y h), four y (corner_y_law x y h), h)
 
 -- ---- what was read can be written back
-pub record Told (most number : ℕ) (r : Raw) (t : Record) : Type 0 where
+pub record Told (r : Raw) (t : Record) : Type 0 where
   pub low : leb 1 r.b0 ≡ true
-  pub high : leb r.b0 most ≡ true
+  pub high : leb r.b0 7 ≡ true
   pub zero : unnamed_zero r ≡ true
-  pub wanted : numbered number r ≡ true
   pub is : named r ≡ t
   pub range : in_range t ≡ true
 
@@ -175,24 +155,20 @@ ranged_told r t = go (in_range r) refl
     go true p e = (good_is r t e, rw (good_is r t e) at p)
     go false p e = good_bad Field t e
 
-pub told : (most number : ℕ) (r : Raw) (t : Record) → decoded_raw most number r ≡ Good t → Told most number r t
+pub told : (r : Raw) (t : Record) → decoded_raw r ≡ Good t → Told r t
 unfolding decoded_raw
-told most number r t = go (leb 1 r.b0) (leb r.b0 most) (unnamed_zero r) (numbered number r) refl refl refl refl
+told r t = go (leb 1 r.b0) (leb r.b0 7) (unnamed_zero r) refl refl refl
   where
-    go : (a b d n : Bool)
+    go : (a b d : Bool)
         → leb 1 r.b0 ≡ a
-        → leb r.b0 most ≡ b
+        → leb r.b0 7 ≡ b
         → unnamed_zero r ≡ d
-        → numbered number r ≡ n
-        → cond a (cond b (cond d (cond n (ranged (named r)) (Bad Field)) (Bad Field)) (Bad Kind)) (Bad Kind) ≡ Good t
-        → Told most number r t
-    go false b d n p q u v e = good_bad Kind t e
-    go true false d n p q u v e = good_bad Kind t e
-    go true true false n p q u v e = good_bad Field t e
-    go true true true false p q u v e = good_bad Field t e
-    go true true true true p q u v e =
-        let s = ranged_told (named r) t e in
-        record { low = p; high = q; zero = u; wanted = v; is = s.0; range = s.1 }
+        → cond a (cond b (cond d (ranged (named r)) (Bad Field)) (Bad Kind)) (Bad Kind) ≡ Good t
+        → Told r t
+    go false b d p q u e = good_bad Kind t e
+    go true false d p q u e = good_bad Kind t e
+    go true true false p q u e = good_bad Field t e
+    go true true true p q u e = let s = ranged_told (named r) t e in record { low = p; high = q; zero = u; is = s.0; range = s.1 }
 
 abbrev raw : ℕ → ℕ → ℕ → ℕ → ℕ → ℕ → ℕ → ℕ → ℕ → ℕ → ℕ → ℕ → ℕ → ℕ → ℕ → ℕ → Raw
 raw a0 a1 a2 a3 a4 a5 a6 a7 a8 a9 a10 a11 a12 a13 a14 a15 =
@@ -229,14 +205,14 @@ pub record Small (r : Raw) : Type 0 where
   pub s10 : r.b10 < 256
   pub s11 : r.b11 < 256
 
-module _ (number a1 a2 a3 a4 a5 a6 a7 a8 a9 a10 a11 a12 a13 a14 a15 : ℕ) where
+module _ (a1 a2 a3 a4 a5 a6 a7 a8 a9 a10 a11 a12 a13 a14 a15 : ℕ) where
   abbrev here : ℕ → Raw
   here k = raw k a1 a2 a3 a4 a5 a6 a7 a8 a9 a10 a11 a12 a13 a14 a15
 
-  back_area : Small (here 1) → unnamed_zero (here 1) ≡ true → numbered number (here 1) ≡ true → raw_of number (named (here 1)) ≡ here 1
-  unfolding unnamed_zero numbered named fields_of
-  back_area s h m =
-      let z = zeros a7 (a12 ∷ a13 ∷ a14 ∷ a15 ∷ []) h in
+  back_area : Small (here 1) → unnamed_zero (here 1) ≡ true → raw_of (named (here 1)) ≡ here 1
+  unfolding unnamed_zero named fields_of
+  back_area s h =
+      let z = zeros a7 (a10 ∷ a11 ∷ a12 ∷ a13 ∷ a14 ∷ a15 ∷ []) h in
       λ d. record {
         b0 = 1;
         b1 = e1 d;
@@ -248,12 +224,12 @@ module _ (number a1 a2 a3 a4 a5 a6 a7 a8 a9 a10 a11 a12 a13 a14 a15 : ℕ) where
         b7 = sym z.0 d;
         b8 = e8 d;
         b9 = e9 d;
-        b10 = e10 (eqb-true (number2 a10 a11) number m) d;
-        b11 = e11 (eqb-true (number2 a10 a11) number m) d;
-        b12 = sym z.1.0 d;
-        b13 = sym z.1.1.0 d;
-        b14 = sym z.1.1.1.0 d;
-        b15 = sym z.1.1.1.1 d;
+        b10 = sym z.1.0 d;
+        b11 = sym z.1.1.0 d;
+        b12 = sym z.1.1.1.0 d;
+        b13 = sym z.1.1.1.1.0 d;
+        b14 = sym z.1.1.1.1.1.0 d;
+        b15 = sym z.1.1.1.1.1.1 d;
       }
     where
       e1 : a1 % 256 ≡ a1
@@ -279,12 +255,6 @@ module _ (number a1 a2 a3 a4 a5 a6 a7 a8 a9 a10 a11 a12 a13 a14 a15 : ℕ) where
 
       e9 : (a8 + 256 * a9) / 256 % 256 ≡ a9
       e9 = omega arith
-
-      e10 : number2 a10 a11 ≡ number → number % 256 ≡ a10
-      e10 h = omega arith
-
-      e11 : number2 a10 a11 ≡ number → number / 256 % 256 ≡ a11
-      e11 h = omega arith
 
   back_corner : (k : ℕ)
       → Small (here k)
@@ -342,30 +312,24 @@ module _ (number a1 a2 a3 a4 a5 a6 a7 a8 a9 a10 a11 a12 a13 a14 a15 : ℕ) where
         b15 = sym z.1.1.1.1.1.1.1.1.1.1.1.1.1.1 d;
       }
 
-  back : (k : ℕ)
-      → leb 1 k ≡ true
-      → leb k 7 ≡ true
-      → Small (here k)
-      → unnamed_zero (here k) ≡ true
-      → numbered number (here k) ≡ true
-      → raw_of number (named (here k)) ≡ here k
-  unfolding unnamed_zero numbered named corner_of delimiter_of
+  back : (k : ℕ) → leb 1 k ≡ true → leb k 7 ≡ true → Small (here k) → unnamed_zero (here k) ≡ true → raw_of (named (here k)) ≡ here k
+  unfolding unnamed_zero named corner_of delimiter_of
   back =
-      kinds (λ k. Small (here k) → unnamed_zero (here k) ≡ true → numbered number (here k) ≡ true → raw_of number (named (here k)) ≡ here k)
+      kinds (λ k. Small (here k) → unnamed_zero (here k) ≡ true → raw_of (named (here k)) ≡ here k)
       back_area
-      (λ s h m. back_corner 2 s h)
-      (λ s h m. back_corner 3 s h)
-      (λ s h m. back_delimiter 4 h)
-      (λ s h m. back_delimiter 5 h)
-      (λ s h m. back_delimiter 6 h)
-      (λ s h m. back_corner 7 s h)
+      (back_corner 2)
+      (back_corner 3)
+      (λ s. back_delimiter 4)
+      (λ s. back_delimiter 5)
+      (λ s. back_delimiter 6)
+      (back_corner 7)
 
-pub raw_back : (most number : ℕ) (r : Raw) (t : Record) → most ≤ 7 → Small r → decoded_raw most number r ≡ Good t → raw_of number t ≡ r
-raw_back most number r t l s e =
-    let q = told most number r t e in
-    ap (raw_of number) (sym q.is)
-    ∙ back number r.b1 r.b2 r.b3 r.b4 r.b5 r.b6 r.b7 r.b8 r.b9 r.b10 r.b11 r.b12 r.b13 r.b14 r.b15
-    r.b0 q.low (le-leb r.b0 7 (omega (arith, leb-true r.b0 most q.high))) s q.zero q.wanted
+pub raw_back : (r : Raw) (t : Record) → Small r → decoded_raw r ≡ Good t → raw_of t ≡ r
+raw_back r t s e =
+    let q = told r t e in
+    ap raw_of (sym q.is)
+    ∙ back r.b1 r.b2 r.b3 r.b4 r.b5 r.b6 r.b7 r.b8 r.b9 r.b10 r.b11 r.b12 r.b13 r.b14 r.b15
+    r.b0 q.low q.high s q.zero
 
 -- ---- sixteen stores are one write
 pub put_is : (t : List ℕ) (at : ℕ) (r : Raw) → put_raw t at r ≡ sets t at (raw_bytes r)

@@ -1,5 +1,5 @@
--- Document 01, "Drawing", and document 02, Items 2 and 6: a record as sixteen bytes.
-use Rattle.std.specs.Prelude.{ℕ, ◌+◌, ◌*◌, ◌/◌, ◌%◌, Bool, true, cond, List, [], ◌∷◌, get_or, set, eqb, leb}
+-- Document 01, "Drawing", and document 02, Item 2: a record as sixteen bytes.
+use Rattle.std.specs.Prelude.{ℕ, ◌+◌, ◌*◌, ◌/◌, ◌%◌, Bool, cond, List, [], ◌∷◌, get_or, set, eqb, leb}
 use Rattle.records.specs.declared.Raw.{Raw}
 use Rattle.records.specs.declared.Fields.{Fields}
 use Rattle.refusals.specs.declared.Refusal.TheVariants.{Kind, Field}
@@ -52,7 +52,7 @@ number4 a b d e = a + 256 * b + 65536 * d + 16777216 * e
 
 -- ---- "Unnamed bytes are zero."
 abbrev pub area_unnamed : Raw → Bool
-area_unnamed r = all_zero r.b7 (r.b12 ∷ r.b13 ∷ r.b14 ∷ r.b15 ∷ [])
+area_unnamed r = all_zero r.b7 (r.b10 ∷ r.b11 ∷ r.b12 ∷ r.b13 ∷ r.b14 ∷ r.b15 ∷ [])
 
 abbrev pub corner_unnamed : Raw → Bool
 corner_unnamed r = all_zero r.b1 (r.b2 ∷ r.b3 ∷ r.b12 ∷ r.b13 ∷ r.b14 ∷ r.b15 ∷ [])
@@ -74,33 +74,13 @@ named r =
     (cond (is_corner r.b0) (corner_of r.b0 (number4 r.b4 r.b5 r.b6 r.b7) (number4 r.b8 r.b9 r.b10 r.b11))
     (delimiter_of r.b0))
 
--- of an area's number, document 02: "Bytes 10 and 11 of an area record now hold it."
-abbrev pub area_number : Raw → ℕ
-area_number r = number2 r.b10 r.b11
+-- a record; or 2, "unknown kind"; or 3, "field out of range or unnamed byte not zero"
+unfoldable pub decoded_raw : Raw → Decoded
+decoded_raw r = cond (leb 1 r.b0) (cond (leb r.b0 7) (cond (unnamed_zero r) (ranged (named r)) (Bad Field)) (Bad Kind)) (Bad Kind)
 
--- an area has the number that is wanted
-unfoldable pub numbered : ℕ → Raw → Bool
-numbered number r = cond (eqb r.b0 1) (eqb (area_number r) number) true
-
--- a record, where `most` is the highest kind and `number` the number that an area has here; or 2, "unknown kind"; or 3, "field out of range or
--- unnamed byte not zero", and document 02: "A number other than the area's place in the order is 3."
-unfoldable pub decoded_raw : (most number : ℕ) → Raw → Decoded
-decoded_raw most number r =
-    cond (leb 1 r.b0)
-    (cond (leb r.b0 most) (cond (unnamed_zero r) (cond (numbered number r) (ranged (named r)) (Bad Field)) (Bad Field)) (Bad Kind)) (Bad Kind)
-
--- an edition of the record: its highest kind, and the number of an area that has so many areas before it
-pub record Edition : Type 0 where
-  pub most : ℕ
-  pub number : ℕ → ℕ
-
--- document 02, Items 2 and 6: the kinds are 1 to 7, and an area's number is its place in the order
-abbrev pub new_edition : Edition
-new_edition = record { most = 7; number = λ a. a }
-
--- ---- the bytes of a record, for writing out; of an area's number, document 02: "Writing a drawing out fills it in."
-abbrev pub raw_area : ℕ → Fields → Raw
-raw_area number f =
+-- ---- the bytes of a record, for writing out
+abbrev pub raw_area : Fields → Raw
+raw_area f =
     record {
       b0 = 1;
       b1 = f.role % 256;
@@ -112,8 +92,8 @@ raw_area number f =
       b7 = 0;
       b8 = f.material % 256;
       b9 = f.material / 256 % 256;
-      b10 = number % 256;
-      b11 = number / 256 % 256;
+      b10 = 0;
+      b11 = 0;
       b12 = 0;
       b13 = 0;
       b14 = 0;
@@ -145,14 +125,14 @@ abbrev pub raw_delimiter : ℕ → Raw
 raw_delimiter k =
     record { b0 = k; b1 = 0; b2 = 0; b3 = 0; b4 = 0; b5 = 0; b6 = 0; b7 = 0; b8 = 0; b9 = 0; b10 = 0; b11 = 0; b12 = 0; b13 = 0; b14 = 0; b15 = 0 }
 
-abbrev pub raw_of : ℕ → Record → Raw
-raw_of number (Area f) = raw_area number f
-raw_of number (First x y) = raw_corner 2 x y
-raw_of number (Next x y) = raw_corner 3 x y
-raw_of number Open = raw_delimiter 4
-raw_of number Bar = raw_delimiter 5
-raw_of number Close = raw_delimiter 6
-raw_of number (Control x y) = raw_corner 7 x y
+abbrev pub raw_of : Record → Raw
+raw_of (Area f) = raw_area f
+raw_of (First x y) = raw_corner 2 x y
+raw_of (Next x y) = raw_corner 3 x y
+raw_of Open = raw_delimiter 4
+raw_of Bar = raw_delimiter 5
+raw_of Close = raw_delimiter 6
+raw_of (Control x y) = raw_corner 7 x y
 
-abbrev pub bytes_of : ℕ → Record → List ℕ
-bytes_of number r = raw_bytes (raw_of number r)
+abbrev pub bytes_of : Record → List ℕ
+bytes_of r = raw_bytes (raw_of r)

@@ -2,7 +2,7 @@
 ghost use Rattle.std.specs.Prelude.{◌≡◌, ◌+◌, ◌*◌, ◌≤◌, ◌<◌, length};
 ghost use Rattle.records.specs.Record.{paint_range, clip_range, area_range, corner_range, in_range, ranged, is_corner, corner_of, delimiter_of};
 ghost use Rattle.records.specs.Bytes.{raw_at, put_raw, number2, number4, area_unnamed, corner_unnamed, delimiter_unnamed, unnamed_zero, fields_of, named};
-ghost use Rattle.records.specs.Bytes.{numbered, decoded_raw, raw_area, raw_corner, raw_delimiter, raw_of};
+ghost use Rattle.records.specs.Bytes.{decoded_raw, raw_area, raw_corner, raw_delimiter, raw_of};
 
 use refusals::Refusal;
 
@@ -43,9 +43,6 @@ const BYTE_BAR: u8 = KIND_BAR as u8;
 const BYTE_CLOSE: u8 = KIND_CLOSE as u8;
 
 const BYTE_CONTROL: u8 = KIND_CONTROL as u8;
-
-// The highest kind.
-pub const MOST_KIND: u8 = BYTE_CONTROL;
 
 // The roles, the fill rules, the largest alpha and channel, and the range of a material.
 pub const PAINT: u32 = 0;
@@ -301,7 +298,9 @@ pub fn delimiter_of(k: u32) -> Record
 fn area_unnamed(r: Raw) -> bool
     ensures answer { result ≡ area_unnamed r }
 {
-    (r.b7 == 0) & ((r.b12 == 0) & ((r.b13 == 0) & ((r.b14 == 0) & (r.b15 == 0))))
+    (r.b7 == 0)
+        & ((r.b10 == 0)
+            & ((r.b11 == 0) & ((r.b12 == 0) & ((r.b13 == 0) & ((r.b14 == 0) & (r.b15 == 0))))))
 }
 
 fn corner_unnamed(r: Raw) -> bool
@@ -378,31 +377,16 @@ pub fn named_of(r: Raw) -> Record
     delimiter_of(k)
 }
 
-// An area has the number that is wanted.
-fn is_numbered(number: usize, r: Raw) -> bool
-    ensures answer { result ≡ numbered number r }
-{
-    if r.b0 == BYTE_AREA {
-        let n = two_bytes(r.b10, r.b11);
-        return laws::wide(n) == number;
-    }
-    true
-}
-
-// What sixteen bytes say, where `most` is the highest kind and `number` the number that an area has here.
-pub fn decoded_raw(most: u8, number: usize, r: Raw) -> Decoded
-    ensures answer { result ≡ decoded_raw most number r }
+// What sixteen bytes say.
+pub fn decoded_raw(r: Raw) -> Decoded
+    ensures answer { result ≡ decoded_raw r }
 {
     if BYTE_AREA <= r.b0 {
-        if r.b0 <= most {
+        if r.b0 <= BYTE_CONTROL {
             let z = unnamed_zero(r);
             if z {
-                let m = is_numbered(number, r);
-                if m {
-                    let t = named_of(r);
-                    return ranged_of(t);
-                }
-                return Decoded::Bad(Refusal::Field);
+                let t = named_of(r);
+                return ranged_of(t);
             }
             return Decoded::Bad(Refusal::Field);
         }
@@ -412,8 +396,8 @@ pub fn decoded_raw(most: u8, number: usize, r: Raw) -> Decoded
 }
 
 // ---- to bytes
-fn raw_area(number: usize, f: Fields) -> Raw
-    ensures answer { result ≡ raw_area number f }
+fn raw_area(f: Fields) -> Raw
+    ensures answer { result ≡ raw_area f }
 {
     Raw {
         b0: BYTE_AREA,
@@ -426,8 +410,8 @@ fn raw_area(number: usize, f: Fields) -> Raw
         b7: 0,
         b8: (f.material % 256) as u8,
         b9: (f.material / 256 % 256) as u8,
-        b10: (number % 256) as u8,
-        b11: (number / 256 % 256) as u8,
+        b10: 0,
+        b11: 0,
         b12: 0,
         b13: 0,
         b14: 0,
@@ -481,12 +465,12 @@ fn raw_delimiter(k: u8) -> Raw
     }
 }
 
-// The bytes of a record; `number` is an area's.
-pub fn raw_of(number: usize, r: Record) -> Raw
-    ensures answer { result ≡ raw_of number r }
+// The bytes of a record.
+pub fn raw_of(r: Record) -> Raw
+    ensures answer { result ≡ raw_of r }
 {
     match r {
-        Record::Area(f) => raw_area(number, f),
+        Record::Area(f) => raw_area(f),
         Record::First(x, y) => raw_corner(BYTE_FIRST, x, y),
         Record::Next(x, y) => raw_corner(BYTE_NEXT, x, y),
         Record::Open => raw_delimiter(BYTE_OPEN),

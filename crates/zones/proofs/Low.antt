@@ -8,12 +8,11 @@ use lib.ListN.{length}
 use lib.Dec.{eqb, leb}
 use borrow.Author.Tests.{leb-true}
 use Rattle.refusals.specs.declared.Refusal.TheVariants.{Length, Argument, Room}
-use Rattle.records.specs.Bytes.{Edition, new_edition}
 use Rattle.grammar.specs.declared.Verdict.{Verdict}
 use Rattle.grammar.specs.declared.Verdict.TheVariants.{Accepted, Refused}
 use Rattle.grammar.specs.Grammar.{checked, Verdict·place}
 use Rattle.grammar.proofs.Laws.{place_below}
-use Rattle.read.specs.Reading.{decoded_by, verdict_by, verdict_of, holds, if_room, read_answer}
+use Rattle.read.specs.Reading.{decoded_in, verdict_of, holds, if_room, read_answer}
 use Rattle.read.proofs.Files.{filed, length_from}
 use Rattle.drawing.specs.declared.Written.TheVariants.{Bytes, Not}
 use Rattle.drawing.specs.Tables.{Tables, drawing_verdict, written_of, write_answer}
@@ -41,21 +40,21 @@ use Rattle.grow.specs.Grow.{
 use Rattle.grow.specs.declared.Answer.TheVariants as growth
 use Rattle.answers.specs.Answers.{read_low, write_low, grow_splits}
 
-verdict_place : (e : Edition) (b : List ℕ) → Verdict·place (verdict_by e b) ≤ 4096
-unfolding verdict_by
-verdict_place e b = go (eqb (length b % 16) 0) (leb (length b / 16) 4096) refl
+verdict_place : (b : List ℕ) → Verdict·place (verdict_of b) ≤ 4096
+unfolding verdict_of
+verdict_place b = go (eqb (length b % 16) 0) (leb (length b / 16) 4096) refl
   where
-    go : (a d : Bool) → leb (length b / 16) 4096 ≡ d → Verdict·place (cond a (cond d (checked (decoded_by e b)) (Refused Length 0)) (Refused Length 0)) ≤ 4096
-    go false d h = omega arith
-    go true false h = omega arith
-    go true true h = omega (arith, place_below (decoded_by e b), length_from e b 0 (length b / 16), leb-true (length b / 16) 4096 h)
+    go : (a d : Bool) → leb (length b / 16) 4096 ≡ d → Verdict·place (cond a (cond d (checked (decoded_in b)) (Refused Length 0)) (Refused Length 0)) ≤ 4096
+    go false d e = omega arith
+    go true false e = omega arith
+    go true true e = omega (arith, place_below (decoded_in b), length_from b 0 (length b / 16), leb-true (length b / 16) 4096 e)
 
-verdict_low : (e : Edition) (b : List ℕ) → read_low (verdict_by e b) ≤ 4096
-verdict_low e b = go (verdict_by e b) refl
+verdict_low : (b : List ℕ) → read_low (verdict_of b) ≤ 4096
+verdict_low b = go (verdict_of b) refl
   where
-    go : (v : Verdict) → verdict_by e b ≡ v → read_low v ≤ 4096
-    go (Accepted k) h = (filed e b k h).below
-    go (Refused r p) h = rw h at (verdict_place e b)
+    go : (v : Verdict) → verdict_of b ≡ v → read_low v ≤ 4096
+    go (Accepted k) e = (filed b k e).below
+    go (Refused r p) e = rw e at (verdict_place b)
 
 room_low : (v : Verdict) (p a c : ℕ) → read_low v ≤ 4096 → read_low (if_room v p a c) ≤ 4096
 room_low (Accepted k) p a c h = go (holds p a c k)
@@ -70,7 +69,7 @@ unfolding read_answer
 read_low_law b p a x y = go (eqb (length x) (length y))
   where
     go : (t : Bool) → read_low (cond t (if_room (verdict_of b) (length p) (length a) (length x)) (Refused Argument 0)) ≤ 4096
-    go true = room_low (verdict_of b) (length p) (length a) (length x) (verdict_low new_edition b)
+    go true = room_low (verdict_of b) (length p) (length a) (length x) (verdict_low b)
     go false = omega arith
 
 pub write_low_law : (t : Tables) (out : List ℕ) → write_low (write_answer t out) ≤ 65536

@@ -3,7 +3,6 @@
 use crate::args::{Args, Flag};
 use crate::fault::Fault;
 use crate::output;
-use crate::record;
 use crate::source::Source;
 use crate::text::grouped;
 use crate::words::{self, Ranges};
@@ -28,12 +27,11 @@ pub fn records(args: &Args) -> Result<(), Fault> {
     output::bytes(args, &given(args)?.records)
 }
 
-/// The words of the drawing. They do not say the numbers of areas: unchecked, these may be any.
 pub fn words(args: &Args) -> Result<(), Fault> {
     let source = given(args)?;
     let whole = source.records.len() == source.rows().as_flattened().len();
     let said = match whole {
-        true => words::text(&record::numbered(source.rows())),
+        true => words::text(source.rows()),
         false => Err(source.rows().len()),
     };
     let text = said.map_err(|record| {

@@ -2,7 +2,7 @@
 
 use zones::{Refusal, Refused, Role, MOST_RECORDS, RECORD_BYTES};
 
-use crate::record::{self, Bytes, Corner, Delimiter, Record, NUMBER};
+use crate::record::{Corner, Delimiter, Record};
 use crate::source::Source;
 use crate::text::{count, grouped};
 use crate::words;
@@ -64,19 +64,11 @@ fn bytes_said(source: &Source, record: usize) -> Option<String> {
     let from = RECORD_BYTES * record;
     let to = from + RECORD_BYTES - 1;
     let said = match Record::of(bytes) {
-        Some(record) => words::said(&record) + &number_said(bytes),
+        Some(record) => words::said(&record),
         None => bytes.map(|byte| format!("{byte:02x}")).join(" "),
     };
     let name = &source.name;
     Some(format!("{name}: bytes {from} to {to} are: {said}"))
-}
-
-/// The number that an area has in its bytes, which words do not say.
-fn number_said(bytes: &Bytes) -> String {
-    match record::number(bytes) {
-        Some(number) => format!(", number {number}"),
-        None => String::new(),
-    }
 }
 
 /// What else helps to mend the drawing.
@@ -86,7 +78,6 @@ fn note(source: &Source, refusal: Refusal, place: usize) -> Option<String> {
     let mut before = rows[..place.min(rows.len())].iter().map(Record::of);
     match (refusal, record) {
         (Refusal::Kind, _) if place == 0 => taken_as_records(source),
-        (Refusal::Field, _) => misnumbered(source, place),
         (Refusal::Short, _) => {
             let mut first = before.enumerate().filter(|(_, record)| {
                 matches!(record, Some(Record::Corner { kind, .. }) if *kind == Corner::First)
@@ -107,30 +98,6 @@ fn note(source: &Source, refusal: Refusal, place: usize) -> Option<String> {
         }
         _ => None,
     }
-}
-
-/// Of an area with another number than its place in the order: both numbers. Of a file from before there were numbers: how to fill
-/// them in.
-fn misnumbered(source: &Source, place: usize) -> Option<String> {
-    let name = &source.name;
-    let rows = source.rows();
-    let has = record::number(&rows[place])?;
-    let wanted = record::number(&record::numbered(rows)[place])?;
-    if has == wanted {
-        return None;
-    }
-    let low = RECORD_BYTES * place + NUMBER;
-    let high = low + 1;
-    let mut lines = vec![format!(
-        "{name}: bytes {low} and {high}: the area's number is {has} and must be {wanted}, the number of areas before it"
-    )];
-    let mut numbers = rows.iter().filter_map(record::number);
-    if numbers.all(|number| number == 0) {
-        lines.push(format!(
-            "{name}: all its areas have the number 0, as before version 0.7; to number them: zones words --unchecked, then zones records"
-        ));
-    }
-    Some(lines.join("\n"))
 }
 
 /// A note at a record.

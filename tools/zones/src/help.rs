@@ -34,10 +34,10 @@ Exit status: 0 done, 1 refused, 2 wrong usage or a file that cannot be used.
 
 pub const CHECK: &str = "\
 Reads a drawing, opens a tree over it and grows it. Prints what the drawing has,
-its materials with the numbers of their areas (colour and alpha are those of the
-front one), the cells and entries of the tree, and the memory of tables that are
-just long enough. Or says why the drawing is refused: the number of the refusal,
-the record, and of a drawing in words the line and column.
+its materials (colour and alpha are those of the front area), the cells and
+entries of the tree, and the memory of tables that are just long enough. Or says
+why the drawing is refused: the number of the refusal, the record, and of a
+drawing in words the line and column.
 
   FILE            a file of records or a drawing in words; - is standard input
   --threshold N   split the leaves with more lines than this (default 2)
@@ -113,8 +113,7 @@ message names the line and column of the words.
   zones records samples/pit.txt -o pit.zones
 
 A drawing in words has a line for each area, contour and delimiter; # begins a
-comment. Areas stand front first, and the contours of an area behind it. Words
-do not say the numbers of areas: these are filled in from the order, from 0 on.
+comment. Areas stand front first, and the contours of an area behind it.
 
   paint RULE ALPHA RED GREEN BLUE MATERIAL   RULE is non-zero or even-odd
   clip RULE
@@ -135,14 +134,7 @@ made into records and back have lost theirs.
                   - is standard input
   -o OUT          the file to write (default standard output); also --output OUT
   --unchecked     say the records though the library refuses the drawing, as far
-                  as words can, whatever the numbers of areas are: words do not
-                  say them
+                  as words can
 
   zones words samples/pit.zones -o pit.txt
-
-A file from before version 0.7 has 0 for the number of every area, and is refused
-if it has two areas. Two commands number such a file:
-
-  zones words old.zones --unchecked -o old.txt
-  zones records old.txt -o new.zones
 ";

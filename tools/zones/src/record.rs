@@ -1,13 +1,8 @@
-//! The records of a drawing: their sixteen bytes (docs/DRAWING.md) and what they say.
+//! One record of a drawing: its sixteen bytes (docs/DRAWING.md) and what they say.
 
 use zones::{Area, FillRule, Role, RECORD_BYTES};
 
 pub type Bytes = [u8; RECORD_BYTES];
-
-const AREA: u8 = 1;
-
-/// Where an area's number stands, two bytes.
-pub const NUMBER: usize = 10;
 
 #[derive(Clone, Copy, PartialEq, Eq, Debug)]
 pub enum Corner {
@@ -35,7 +30,6 @@ impl Delimiter {
     }
 }
 
-/// A record but for an area's number, which follows from the order of the records.
 #[derive(Clone, Copy, PartialEq, Eq, Debug)]
 pub enum Record {
     Area(Area),
@@ -54,14 +48,13 @@ impl Record {
         })
     }
 
-    /// The bytes, with an area's number 0: `numbered` fills it in.
     pub fn bytes(&self) -> Bytes {
         let mut bytes = [0; RECORD_BYTES];
         match *self {
             Record::Area(area) => {
                 let role = u8::from(area.role == Role::Clip);
                 let rule = u8::from(area.fill == FillRule::EvenOdd);
-                bytes[..4].copy_from_slice(&[AREA, role, rule, area.alpha]);
+                bytes[..4].copy_from_slice(&[1, role, rule, area.alpha]);
                 bytes[4..7].copy_from_slice(&area.colour);
                 bytes[8..10].copy_from_slice(&area.material.to_le_bytes());
             }
@@ -75,42 +68,20 @@ impl Record {
         bytes
     }
 
-    /// What bytes say, whatever an area's number is, if words can say it: no byte that has no name is other than zero, and a clip
-    /// area is a fill rule alone.
+    /// What bytes say, if words can say it: no byte that has no name is other than zero, and a clip area is a fill rule alone.
     pub fn of(bytes: &Bytes) -> Option<Record> {
-        let mut bytes = *bytes;
-        if bytes[0] == AREA {
-            bytes[NUMBER..NUMBER + 2].fill(0);
-        }
         let record = match bytes[0] {
-            AREA => area(&bytes)?,
-            2 => corner(Corner::First, &bytes),
-            3 => corner(Corner::Next, &bytes),
-            7 => corner(Corner::Control, &bytes),
+            1 => area(bytes)?,
+            2 => corner(Corner::First, bytes),
+            3 => corner(Corner::Next, bytes),
+            7 => corner(Corner::Control, bytes),
             kind => {
                 let mut all = Delimiter::ALL.into_iter();
                 Record::Delimiter(all.find(|delimiter| *delimiter as u8 == kind)?)
             }
         };
-        Some(record).filter(|record| record.bytes() == bytes)
+        Some(record).filter(|record| record.bytes() == *bytes)
     }
-}
-
-/// The number that the record of an area holds.
-pub fn number(bytes: &Bytes) -> Option<u16> {
-    let number = u16::from_le_bytes([bytes[NUMBER], bytes[NUMBER + 1]]);
-    (bytes[0] == AREA).then_some(number)
-}
-
-/// Records with the number of each area filled in: how many areas stand before it.
-pub fn numbered(records: &[Bytes]) -> Vec<Bytes> {
-    let mut records = records.to_vec();
-    let areas = records.iter_mut().filter(|bytes| bytes[0] == AREA);
-    for (number, area) in areas.enumerate() {
-        // More areas than two bytes can number are refused anyway.
-        area[NUMBER..NUMBER + 2].copy_from_slice(&(number as u16).to_le_bytes());
-    }
-    records
 }
 
 fn area(bytes: &Bytes) -> Option<Record> {

@@ -7,7 +7,7 @@ use std::fmt;
 
 use zones::MOST_COORDINATE;
 
-use crate::record::{self, Bytes};
+use crate::record::Bytes;
 pub use said::{said, text};
 
 /// A place in a text: its line and its character in the line, from 1 on.
@@ -69,8 +69,8 @@ pub struct Words {
     pub places: Vec<Place>,
 }
 
-/// The records of a text, the numbers of its areas filled in, and their places. Only the form of the words and the ranges of the
-/// numbers are looked at: the records may be a drawing that is refused.
+/// The records of a text and their places. Only the form of the words and the ranges of the numbers are looked at: the records may
+/// be a drawing that is refused.
 pub fn parse(text: &str, ranges: Ranges) -> Result<Words, Mistake> {
     let text = text.strip_prefix('\u{FEFF}').unwrap_or(text);
     let mut words = Words {
@@ -85,7 +85,6 @@ pub fn parse(text: &str, ranges: Ranges) -> Result<Words, Mistake> {
         }
         end = number + 1;
     }
-    words.records = record::numbered(&words.records);
     words.places.push(Place {
         line: end,
         column: 1,

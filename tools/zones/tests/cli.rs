@@ -332,7 +332,7 @@ fn refusals_of_records() {
     refused(
         &field,
         &[
-            "refused 3 at record 1: a field is out of range, an area's number is not its place, or an unnamed byte is not zero",
+            "refused 3 at record 1: a field is out of range, or an unnamed byte is not zero",
             "bytes 16 to 31 are: 05 00 00 00 00 00 00 00 00 00 00 00 00 00 00 ab",
         ],
     );
@@ -346,7 +346,7 @@ fn refusals_of_records() {
         &sample("refused.zones"),
         &[
             "refused 5 at record 7: a contour of under 3 corners",
-            "bytes 112 to 127 are: paint non-zero 255 0 0 0 3, number 2",
+            "bytes 112 to 127 are: paint non-zero 255 0 0 0 3",
             "the contour begins here: record 5",
         ],
     );
@@ -368,103 +368,6 @@ fn refusals_of_records() {
     );
 }
 
-/// The records of areas.
-fn areas_of(records: &mut [u8]) -> impl Iterator<Item = &mut [u8]> {
-    let records = records.chunks_mut(16);
-    records.filter(|bytes| bytes[0] == 1)
-}
-
-/// Words make areas with their numbers: how many areas stand before each.
-#[test]
-fn numbers_of_areas() {
-    for (name, count) in [("pit", 10), ("berms", 12), ("full", 24), ("mine", 63)] {
-        let mut records = done(&["records", &format!("samples/{name}.txt")]);
-        let areas = areas_of(&mut records);
-        let numbers: Vec<u16> = areas
-            .map(|bytes| u16::from_le_bytes([bytes[10], bytes[11]]))
-            .collect();
-        assert_eq!(numbers, (0..count).collect::<Vec<u16>>(), "{name}");
-    }
-    // More areas than two bytes can number: no panic.
-    let many = fed(
-        &["records", "-", "--unchecked"],
-        "clip non-zero\n".repeat(65_538).as_bytes(),
-    );
-    assert_eq!((many.status, many.out.len()), (DONE, 16 * 65_538));
-    assert_eq!(
-        many.out[16 * 65_537..][..12],
-        [1, 1, 0, 0, 0, 0, 0, 0, 0, 0, 1, 0]
-    );
-}
-
-/// An area whose number is not its place in the order: the number that it has and the one that it must have.
-#[test]
-fn numbers_of_areas_that_are_wrong() {
-    let field = zones::Refusal::Field.text();
-    let refused = |bytes: &[u8], said: &[String]| {
-        let lines: Vec<String> = said
-            .iter()
-            .map(|line| format!("standard input: {line}\n"))
-            .collect();
-        for command in [&["check", "-"][..], &["records", "-"], &["words", "-"]] {
-            ends(&fed(command, bytes), REFUSED, &lines.concat());
-        }
-    };
-    // Area 0 of the pit is the clip of record 1, area 2 the north face of record 19.
-    let mut high = sample("pit.zones");
-    high[16 + 11] = 3;
-    refused(
-        &high,
-        &[
-            format!("refused 3 at record 1: {field}"),
-            "bytes 16 to 31 are: clip non-zero, number 768".to_string(),
-            "bytes 26 and 27: the area's number is 768 and must be 0, the number of areas before it".to_string(),
-        ],
-    );
-    let mut before = sample("pit.zones");
-    before[16 * 19 + 10] = 1;
-    refused(
-        &before,
-        &[
-            format!("refused 3 at record 19: {field}"),
-            "bytes 304 to 319 are: paint non-zero 230 196 120 70 11, number 1".to_string(),
-            "bytes 314 and 315: the area's number is 1 and must be 2, the number of areas before it".to_string(),
-        ],
-    );
-    // Another byte of an area whose number is right.
-    let mut unnamed = sample("pit.zones");
-    unnamed[16 * 19 + 12] = 1;
-    refused(
-        &unnamed,
-        &[
-            format!("refused 3 at record 19: {field}"),
-            "bytes 304 to 319 are: 01 00 00 e6 c4 78 46 00 0b 00 02 00 01 00 00 00".to_string(),
-        ],
-    );
-}
-
-/// A file from before areas had numbers: what it lacks is said, as docs/SAMPLES.md has it, and the way that is named gives the numbers.
-#[test]
-fn files_from_before_there_were_numbers() {
-    let page = fs::read_to_string(top().join("docs/SAMPLES.md")).expect("the page");
-    for name in ["pit", "berms", "full", "mine"] {
-        let new = sample(&format!("{name}.zones"));
-        let mut old = new.clone();
-        areas_of(&mut old).for_each(|bytes| bytes[10..12].fill(0));
-        let ran = fed(&["check", "-"], &old);
-        let said = ran.said.replace("standard input:", "old.zones:");
-        assert_eq!((ran.status, said.lines().count()), (REFUSED, 4), "{said}");
-        assert_eq!(
-            page.contains(&format!("$ zones check old.zones\n{said}$ ")),
-            name == "pit"
-        );
-        let words = fed(&["words", "-", "--unchecked"], &old).out;
-        assert!(fed(&["records", "-"], &words).out == new, "{name}");
-    }
-    // One area alone has the number 0.
-    assert_eq!(fed(&["check", "-"], &sample("quarter.zones")).status, DONE);
-}
-
 #[test]
 fn unchecked() {
     let words = "paint even-odd 0 0 0 0 0\ncontour 70000,4294967295\n)\ncontour control 1,2 3,4\n";
@@ -477,14 +380,6 @@ fn unchecked() {
         REFUSED,
         "standard input:1:9: a number from 0 to 4,294,967,295 is expected, not 4294967296\n",
     );
-    // Any numbers of areas: words do not say them.
-    let mut any = sample("pit.zones");
-    for (bytes, number) in areas_of(&mut any).zip(1_u16..) {
-        bytes[10..12].copy_from_slice(&(777 * number).to_le_bytes());
-    }
-    let said = done(&["words", "samples/pit.zones"]);
-    assert_eq!(fed(&["words", "-", "--unchecked"], &any).out, said);
-    assert_eq!(fed(&["records", "-", "--unchecked"], &any).out, any);
     // A corner without a first one, an unknown kind, a clip area with a colour, half a record.
     let mut corner = [0; 16];
     corner[0] = 3;
@@ -787,8 +682,8 @@ fn help() {
     assert!(whole.contains("Exit status: 0 done; 1 refused"));
     assert!(whole.lines().all(|line| line.len() <= 80));
     assert_eq!(done(&["help"]), whole.as_bytes());
-    assert_eq!(done(&["--version"]), b"zones 0.7.0\n");
-    assert_eq!(done(&["-V"]), b"zones 0.7.0\n");
+    assert_eq!(done(&["--version"]), b"zones 0.6.0\n");
+    assert_eq!(done(&["-V"]), b"zones 0.6.0\n");
 }
 
 #[test]

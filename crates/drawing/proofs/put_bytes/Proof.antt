@@ -34,7 +34,7 @@ returns c =
     (rw after-d.d.given.1, search bytes_table)
 
 returns-2 : tie.Need-returns-2
-returns-2 c = (none_at _ _ (ap (on_good (bytes_of _)) c.enum_told.given.1), none_table _ _ _ (ap (on_good (bytes_of _)) c.enum_told.given.1))
+returns-2 c = (none_at _ _ (ap (on_good bytes_of) c.enum_told.given.1), none_table _ _ _ (ap (on_good bytes_of) c.enum_told.given.1))
 
 pub put-bytes-spec : {M : Type 1} → statement M
 put-bytes-spec =

@@ -31,17 +31,7 @@ loop-less : tie.Need-loop-smaller invariant-loop decreases-loop
 loop-less c = search rules
 
 loop-again : tie.Need-loop-preserved invariant-loop decreases-loop
-loop-again c =
-    let after-put-bytes = c.before.before.before in
-    let after-row-accepted = after-put-bytes.before.before in
-    let at-loop-test = after-row-accepted.before in
-    let at-loop = at-loop-test.before in (
-      search rules,
-      search past_area,
-      search past_corner,
-      copy_turn _ _ _ _ _ _ _ _ _ _ _ _ at-loop-test.loop-test.true after-row-accepted.row-accepted.ensures
-          after-put-bytes.put-bytes.ensures.0 after-put-bytes.put-bytes.ensures.1 c.past.ensures at-loop.loop.invariant.3,
-    )
+loop-again c = (search rules, search past_area, search past_corner, search copy_turn)
 
 same_length : tie.Need-same-length invariant-loop decreases-loop
 same_length c = search rules

@@ -144,8 +144,3 @@ scan_n c i (d ∷ ds) = scan_n (advance_n c d i) (i + 1) ds
 abbrev pub is_stopped : Scan → Bool
 is_stopped (At s) = false
 is_stopped (Stopped r p) = true
-
--- the areas that a scan has met
-abbrev pub areas_n : Scan → ℕ
-areas_n (At s) = s.areas
-areas_n (Stopped r p) = 0

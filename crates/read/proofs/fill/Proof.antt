@@ -1,7 +1,6 @@
 -- `read::fill` meets its contract: in each table, what is left to write gives what the whole gives.
 use borrow.Author.Rules.{rules}
 use Prim.Native.Nat.{◌≤◌, ◌-◌}
-use Rattle.records.specs.Bytes.{new_edition}
 use Rattle.read.specs.Words.{words_of}
 use Rattle.read.proofs.Loops.{Filling, fill_good, fill_begin, fill_room, fill_turn, fill_done}
 use Rattle.read.proofs.fill.Statement.{statement}
@@ -10,10 +9,10 @@ use Rattle.read.proofs.fill.Tie as tie
 abbrev invariant-loop : tie.invariant-loop
 invariant-loop records n plan₀ areas₀ xs₀ ys₀ kind₀ area₀ x₀ y₀ i₀ plan areas xs ys kind area x y i =
     (i ≤ n)
-    × Filling (words_of 0) new_edition records n plan₀ 3 plan i kind
-    × Filling (words_of 1) new_edition records n areas₀ 0 areas i area
-    × Filling (words_of 2) new_edition records n xs₀ 0 xs i x
-    × Filling (words_of 3) new_edition records n ys₀ 0 ys i y
+    × Filling (words_of 0) records n plan₀ 3 plan i kind
+    × Filling (words_of 1) records n areas₀ 0 areas i area
+    × Filling (words_of 2) records n xs₀ 0 xs i x
+    × Filling (words_of 3) records n ys₀ 0 ys i y
 
 abbrev decreases-loop : tie.decreases-loop
 decreases-loop records n plan₀ areas₀ xs₀ ys₀ kind₀ area₀ x₀ y₀ i₀ plan areas xs ys kind area x y i = n - i
@@ -52,13 +51,13 @@ loop-again c =
     let at-loop-test = after-read-accepted.before in
     let at-loop = at-loop-test.before in (
       search rules,
-      fill_turn _ _ _ _ _ _ _ _ _ _ _ _ at-loop-test.loop-test.true after-read-accepted.read-accepted.ensures
+      fill_turn _ _ _ _ _ _ _ _ _ _ _ at-loop-test.loop-test.true after-read-accepted.read-accepted.ensures
           after-put-decoded.put-decoded.ensures.0 after-put-decoded.put-decoded.ensures.1 at-loop.loop.invariant.1,
-      fill_turn _ _ _ _ _ _ _ _ _ _ _ _ at-loop-test.loop-test.true after-read-accepted.read-accepted.ensures
+      fill_turn _ _ _ _ _ _ _ _ _ _ _ at-loop-test.loop-test.true after-read-accepted.read-accepted.ensures
           after-put-decoded2.put-decoded2.ensures.0 after-put-decoded2.put-decoded2.ensures.1 at-loop.loop.invariant.2,
-      fill_turn _ _ _ _ _ _ _ _ _ _ _ _ at-loop-test.loop-test.true after-read-accepted.read-accepted.ensures
+      fill_turn _ _ _ _ _ _ _ _ _ _ _ at-loop-test.loop-test.true after-read-accepted.read-accepted.ensures
           after-put-decoded3.put-decoded3.ensures.0 after-put-decoded3.put-decoded3.ensures.1 at-loop.loop.invariant.3,
-      fill_turn _ _ _ _ _ _ _ _ _ _ _ _ at-loop-test.loop-test.true after-read-accepted.read-accepted.ensures
+      fill_turn _ _ _ _ _ _ _ _ _ _ _ at-loop-test.loop-test.true after-read-accepted.read-accepted.ensures
           after-put-decoded4.put-decoded4.ensures.0 after-put-decoded4.put-decoded4.ensures.1 at-loop.loop.invariant.4,
     )
 

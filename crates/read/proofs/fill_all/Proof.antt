@@ -15,10 +15,10 @@ fill-requires c κs =
     let p = at_entry_lem.requires in (
       omega (arith, p.0.whole),
       (
-        good_from _ _ _ p.0,
+        good_from _ _ p.0,
         (
-          room_0 _ _ _ p.0 _ (rw after-put-header.put-header.ensures (simp length-set p.1.0)),
-          (room_1 _ _ _ p.0 _ p.1.1, (room_2 _ _ _ p.0 _ p.1.2, room_3 _ _ _ p.0 _ p.1.3)),
+          room_0 _ _ p.0 _ (rw after-put-header.put-header.ensures (simp length-set p.1.0)),
+          (room_1 _ _ p.0 _ p.1.1, (room_2 _ _ p.0 _ p.1.2, room_3 _ _ p.0 _ p.1.3)),
         ),
       ),
     )
@@ -42,8 +42,8 @@ returns c =
     let at_entry_lem = after-put-header.before.before.before.before.before.before.before in
     let f = at_entry_lem.requires.0 in
     let e = after-fill.fill.ensures in (
-      left_0 _ _ _ f at_entry_lem.args.plan.now _ _ after-put-header.put-header.ensures e.0,
-      (left_1 _ _ _ f _ _ e.1.0, (left_2 _ _ _ f _ _ e.1.1.0, left_3 _ _ _ f _ _ e.1.1.1)),
+      left_0 _ _ f at_entry_lem.args.plan.now _ _ after-put-header.put-header.ensures e.0,
+      (left_1 _ _ f _ _ e.1.0, (left_2 _ _ f _ _ e.1.1.0, left_3 _ _ f _ _ e.1.1.1)),
     )
 
 pub fill-all-spec : {M : Type 1} → statement M

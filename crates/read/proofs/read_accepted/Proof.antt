@@ -16,7 +16,7 @@ returns : tie.Need-returns
 returns c =
     let after-read-raw = c.before in
     let at_entry_lem = after-read-raw.before.before in
-    ap Good (c.named-of.ensures ∙ ap named after-read-raw.read-raw.ensures) ∙ sym (named_good _ _ _ at_entry_lem.requires.1)
+    ap Good (c.named-of.ensures ∙ ap named after-read-raw.read-raw.ensures) ∙ sym (named_good _ at_entry_lem.requires.1)
 
 pub read-accepted-spec : {M : Type 1} → statement M
 read-accepted-spec = tie.close (tie.spec read-raw-requires named-of-requires returns)

@@ -11,7 +11,7 @@ fill-if-room-requires : tie.Need-fill-if-room-requires
 fill-if-room-requires c κs =
     let after-v = c.before.before.before.before.before in
     let at_entry_lem = after-v.before.before.before.before.before.before.before in
-    (filed _ _ _ (sym at_entry_lem.requires.0 ∙ after-v.v.given.1), at_entry_lem.requires.1)
+    (filed _ _ (sym at_entry_lem.requires.0 ∙ after-v.v.given.1), at_entry_lem.requires.1)
 
 enum-known-v-2 : tie.Need-enum-known-v-2
 enum-known-v-2 c = search rules

@@ -1,13 +1,15 @@
 -- `read::scan_records` meets its contract: what is left to scan gives what the whole gives.
 use borrow.Author.Rules.{rules}
+use mathlib.Core.Path.{◌≡◌}
 use Prim.Native.Nat.{◌≤◌, ◌-◌}
-use Rattle.records.specs.Bytes.{new_edition}
-use Rattle.read.proofs.Loops.{Scanning, scan_begin, scan_turn, scan_stops, scan_done}
+use Rattle.grammar.specs.code.Machine.{scan_n, start_n}
+use Rattle.read.specs.Reading.{decoded_from}
+use Rattle.read.proofs.Loops.{scan_begin, scan_turn, scan_stops, scan_done}
 use Rattle.read.proofs.scan_records.Statement.{statement}
 use Rattle.read.proofs.scan_records.Tie as tie
 
 abbrev invariant-loop : tie.invariant-loop
-invariant-loop records n s₀ i₀ s i = (i ≤ n) × Scanning new_edition records n s i
+invariant-loop records n s₀ i₀ s i = (i ≤ n) × (scan_n s i (decoded_from records i (n - i)) ≡ scan_n start_n 0 (decoded_from records 0 n))
 
 abbrev decreases-loop : tie.decreases-loop
 decreases-loop records n s₀ i₀ s i = n - i
@@ -17,9 +19,6 @@ start-requires c κs = search rules
 
 loop-holds : tie.Need-loop-init invariant-loop decreases-loop
 loop-holds c = (search rules, search scan_begin)
-
-areas-met-requires : tie.Need-areas-met-requires invariant-loop decreases-loop
-areas-met-requires c κs = search rules
 
 read-record-requires : tie.Need-read-record-requires invariant-loop decreases-loop
 read-record-requires c κs = search rules
@@ -53,7 +52,6 @@ scan-records-spec =
     decreases-loop
     start-requires
     loop-holds
-    areas-met-requires
     read-record-requires
     advance-requires
     is-stopped-requires

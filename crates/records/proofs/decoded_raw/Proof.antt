@@ -9,9 +9,6 @@ use Rattle.records.proofs.decoded_raw.Tie as tie
 unnamed-zero-requires : tie.Need-unnamed-zero-requires
 unnamed-zero-requires c κs = search rules
 
-is-numbered-requires : tie.Need-is-numbered-requires
-is-numbered-requires c κs = search rules
-
 named-of-requires : tie.Need-named-of-requires
 named-of-requires c κs = search rules
 
@@ -22,9 +19,7 @@ returns : tie.Need-returns
 unfolding decoded_raw
 returns c =
     let after-named-of = c.before in
-    let at-if4 = after-named-of.before in
-    let after-is-numbered = at-if4.before in
-    let at-if3 = after-is-numbered.before in
+    let at-if3 = after-named-of.before in
     let after-unnamed-zero = at-if3.before in
     let at-if2 = after-unnamed-zero.before in
     let at-if1 = at-if2.before.before in
@@ -32,48 +27,30 @@ returns c =
       le-leb _ _ at-if1.if1.true,
       le-leb _ _ at-if2.if2.true,
       sym after-unnamed-zero.unnamed-zero.ensures ∙ at-if3.if3.true,
-      sym after-is-numbered.is-numbered.ensures ∙ at-if4.if4.true,
       c.ranged-of.ensures,
       after-named-of.named-of.ensures,
     )
 
 returns-2 : tie.Need-returns-2
 unfolding decoded_raw
-returns-2 c =
-    let after-is-numbered = c.before in
-    let at-if3 = after-is-numbered.before in
-    let after-unnamed-zero = at-if3.before in
-    let at-if2 = after-unnamed-zero.before in
-    let at-if1 = at-if2.before.before in
-    rw (
-      le-leb _ _ at-if1.if1.true,
-      le-leb _ _ at-if2.if2.true,
-      sym after-unnamed-zero.unnamed-zero.ensures ∙ at-if3.if3.true,
-      sym after-is-numbered.is-numbered.ensures ∙ c.if4.false,
-    )
+returns-2 c = search (tests, sym c.before.unnamed-zero.ensures ∙ c.if3.false)
 
 returns-3 : tie.Need-returns-3
 unfolding decoded_raw
-returns-3 c = search (tests, sym c.before.unnamed-zero.ensures ∙ c.if3.false)
+returns-3 c = search tests
 
 returns-4 : tie.Need-returns-4
 unfolding decoded_raw
 returns-4 c = search tests
-
-returns-5 : tie.Need-returns-5
-unfolding decoded_raw
-returns-5 c = search tests
 
 pub decoded-raw-spec : {M : Type 1} → statement M
 decoded-raw-spec =
     tie.close
     (tie.spec
     unnamed-zero-requires
-    is-numbered-requires
     named-of-requires
     ranged-of-requires
     returns
     returns-2
     returns-3
-    returns-4
-    returns-5)
+    returns-4)

@@ -2,18 +2,15 @@
 
 use zones::{Area, FillRule, Role};
 
-use crate::record::{self, Bytes, Corner, Record};
+use crate::record::{Bytes, Corner, Record};
 
-/// The words of records; of the first record that words cannot say, its number. Words do not say the number of an area, so it must be
-/// its place in the order.
+/// The words of records; of the first record that words cannot say, its number.
 pub fn text(records: &[Bytes]) -> Result<String, usize> {
-    let numbered = record::numbered(records);
     let mut text = String::new();
     // Whether the line so far is a contour, which the next corner goes on.
     let mut contour = false;
     for (number, bytes) in records.iter().enumerate() {
-        let record = Record::of(bytes).filter(|_| *bytes == numbered[number]);
-        let record = record.ok_or(number)?;
+        let record = Record::of(bytes).ok_or(number)?;
         let begins = match record {
             Record::Corner { kind, .. } => {
                 if kind == Corner::Next && !contour {
