@@ -2,6 +2,9 @@
 //
 // Each answer is one number: the number of the refusal times 2^32, and its place. Where nothing is refused the high half is 0 and the low
 // half is the result.
+
+#![tactic(auto)]
+
 ghost use Rattle.std.specs.Prelude.{◌≡◌, ◌≤◌, length};
 ghost use Rattle.refusals.specs.Refusals.{number_of};
 ghost use Rattle.answers.specs.Answers.{packed, read_number, write_number, read_low, write_low, open_number, split_number, grow_splits, grow_number};

@@ -1,5 +1,8 @@
 // The lent table of cells, eight words each: reading and writing a cell, the check of a cell and of the numbers in use, the quarters of a cell,
 // and the path down to the leaf that holds a position.
+
+#![tactic(auto)]
+
 ghost use Rattle.std.specs.Prelude.{◌≡◌, true, ◌+◌, ◌*◌, ◌≤◌, ◌<◌, length};
 ghost use Rattle.cells.specs.Cells.{square_of, child};
 ghost use Rattle.celltable.specs.Table.{cell_at, put_cell_at, put_child_at};
@@ -56,7 +59,7 @@ pub const ENTRY_WORDS: usize = 4;
 
 // The words of a cell. `child` is the first of its four children, or 0 for a leaf; `lines` is how many lines and curves its stream has; `parent` is 0
 // for cell 0.
-#[derive(Drop)]
+#[derive(Clone, Copy)]
 pub struct CellWords {
     pub x: u32,
     pub y: u32,
@@ -69,7 +72,7 @@ pub struct CellWords {
 }
 
 // Where one half of a side begins, and whether it is the high one (1) or the low one (0).
-#[derive(Drop)]
+#[derive(Clone, Copy)]
 pub struct Half {
     pub at: u32,
     pub bit: u32,
@@ -77,7 +80,7 @@ pub struct Half {
 
 // Where a path down stands: the number of the next cell and of the cell that it came from (0 for cell 0), the square that it has to be, and the steps so
 // far.
-#[derive(Drop)]
+#[derive(Clone, Copy)]
 pub struct Cursor {
     pub cell: u32,
     pub parent: u32,
@@ -88,7 +91,7 @@ pub struct Cursor {
 }
 
 // The leaf that a path down found: its number, its square, its depth, its stream, and how many lines it says that it has.
-#[derive(Drop)]
+#[derive(Clone, Copy)]
 pub struct Leaf {
     pub cell: u32,
     pub x: u32,
@@ -101,7 +104,7 @@ pub struct Leaf {
 }
 
 // One step down: the next cursor, the leaf, or a cell that does not pass.
-#[derive(Drop)]
+#[derive(Clone, Copy)]
 pub enum Down {
     Deeper(Cursor),
     AtLeaf(Leaf),
@@ -109,7 +112,7 @@ pub enum Down {
 }
 
 // The end of a path down. `Broken` is document 01's 12.
-#[derive(Drop)]
+#[derive(Clone, Copy)]
 pub enum Found {
     At(Leaf),
     Broken,

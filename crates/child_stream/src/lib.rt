@@ -1,4 +1,7 @@
 // The stream of a child, made from its parent's stream in the same table: counted, and then written to the free end.
+
+#![tactic(auto)]
+
 ghost use Rattle.std.specs.Prelude.{◌≡◌, ◌+◌, ◌*◌, ◌≤◌, ◌<◌, length, nat_abs};
 ghost use Rattle.geometry.specs.code.Reach.{SquareIn};
 ghost use Rattle.cells.specs.Cells.{square_of};
@@ -19,7 +22,7 @@ use stream::Bounds;
 // ---- the start numbers of the areas
 // How many, and the numbers, with zeros behind them: the `starts` of document 01's "child tallies (entries, lines, starts)". They are proved to be those
 // of the child's stream (`count_child`: `startsIn`), which is written from its parent's stream and not from them. 16 bits hold each.
-#[derive(Drop)]
+#[derive(Clone, Copy)]
 pub struct Starts {
     pub count: usize,
     pub at: [i16; records::MOST_AREAS],
@@ -55,7 +58,7 @@ fn ended(mut at: [i16; records::MOST_AREAS], count: usize) -> Starts
 
 // ---- the child's stream
 // `weight`: that of its entries, 1 for each, 65,536 more for a line, 4,294,967,296 more for an area. `starts`: the start numbers of its areas.
-#[derive(Drop)]
+#[derive(Clone, Copy)]
 pub struct Count {
     pub weight: u64,
     pub starts: Starts,

@@ -1,4 +1,7 @@
 // Straight lines and quadratic Bézier curves: where they count, taken from the lower end, and which curves a drawing may have.
+
+#![tactic(auto)]
+
 pub mod curve;
 pub mod line;
 

@@ -1,4 +1,7 @@
 // A drawing in its tables: the check of lent tables, and writing them out as a file of records.
+
+#![tactic(auto)]
+
 ghost use Rattle.std.specs.Prelude.{◌≡◌, true, ◌+◌, ◌*◌, ◌≤◌, ◌<◌, length};
 ghost use Rattle.std.proofs.lemmas.List.Edits.{sets};
 ghost use Rattle.grammar.specs.declared.Verdict.TheVariants.{Accepted};
@@ -18,13 +21,13 @@ use records::{AREA_WORDS, Decoded, Fields, KIND_AREA, RECORD_BYTES, Record};
 use refusals::Refusal;
 
 // The areas and the corners before a record.
-#[derive(Drop)]
+#[derive(Clone, Copy)]
 pub struct Cursor {
     pub area: usize,
     pub corner: usize,
 }
 
-#[derive(Drop)]
+#[derive(Clone, Copy)]
 pub enum Written {
     Bytes(usize),
     Not(Refusal),

@@ -1,4 +1,7 @@
 // A stream in tables, read at a position in one pass.
+
+#![tactic(auto)]
+
 ghost use Rattle.std.specs.Prelude.{◌≡◌, true, cond, ◌+◌, ◌*◌, ◌-◌, ◌≤◌, ◌<◌, length, pos, ◌+ℤ◌, nat_abs};
 ghost use Rattle.std.specs.Int.{w32};
 ghost use Rattle.std.proofs.Common.{to_z};
@@ -113,7 +116,7 @@ fn segment_adds(xs: &[u32], ys: &[u32], corners: usize, w: Words, x: u32, y: u32
 }
 
 // The winding of an area, and the entry behind its lines, curves and shortcuts.
-#[derive(Drop)]
+#[derive(Clone, Copy)]
 pub struct Winding {
     pub sum: i64,
     pub next: usize,
@@ -154,7 +157,7 @@ fn winding_from(
 
 // ---- one entry, and a stream
 // The machine, and the entry from which it goes on.
-#[derive(Drop)]
+#[derive(Clone, Copy)]
 pub struct Reading {
     pub machine: Machine,
     pub next: usize,

@@ -1,4 +1,7 @@
 // Finding the leaf that holds a position.
+
+#![tactic(auto)]
+
 ghost use Rattle.std.specs.Prelude.{◌≡◌, ◌≤◌, length, get_or};
 ghost use Rattle.stream.specs.Grammar.{env, bounds};
 ghost use Rattle.stream.specs.code.Checks.{checked};
@@ -11,7 +14,7 @@ use refusals::Refusal;
 use stream::Checked;
 
 // A leaf as it is reported: its number, low corner, side, depth, how many entries and lines it has, and whether it has no line, curve or shortcut.
-#[derive(Drop)]
+#[derive(Clone, Copy)]
 pub struct FoundLeaf {
     pub cell: u32,
     pub x: u32,
@@ -25,14 +28,14 @@ pub struct FoundLeaf {
 
 // A leaf that was found and whose stream has passed: the leaf, how many lines and curves its stream holds, and whether it holds no line, curve or
 // shortcut; or 12.
-#[derive(Drop)]
+#[derive(Clone, Copy)]
 pub enum LeafRead {
     At(Leaf, u32, bool),
     Broken,
 }
 
 // The leaf, or why the call was refused.
-#[derive(Drop)]
+#[derive(Clone, Copy)]
 pub enum Answer {
     Found(FoundLeaf),
     Not(Refusal),

@@ -1,4 +1,7 @@
 // The four children of a cell: their streams counted, child after child, before any is written, then written child by child, and their cells.
+
+#![tactic(auto)]
+
 ghost use Rattle.std.specs.Prelude.{◌≡◌, true, [], ◌∷◌, ◌+◌, ◌*◌, ◌≤◌, ◌<◌, length};
 ghost use Rattle.stream.specs.Table.{words_from, written};
 ghost use Rattle.stream.specs.Grammar.{env, Passed};
@@ -16,7 +19,7 @@ use stream::Bounds;
 // What a child's stream has; document 01 asks for an "array of four child tallies (entries, lines, starts) passed and returned by value". `entries`
 // decides 11 and where the child's stream begins, `lines` is the child's line count. `starts` are those of that stream too (`EachPass`); no call reads
 // them today.
-#[derive(Drop)]
+#[derive(Clone, Copy)]
 pub struct Tally {
     pub entries: usize,
     pub lines: usize,

@@ -9,7 +9,7 @@ use crate::edge;
 use crate::edge::Edge;
 
 // The square of a cell: its low corner and its side.
-#[derive(Drop)]
+#[derive(Clone, Copy)]
 pub struct Square {
     pub x: u32,
     pub y: u32,
@@ -17,7 +17,7 @@ pub struct Square {
 }
 
 // The class of a segment in a square. A shortcut has the rows from its first number to the one before its second.
-#[derive(Drop)]
+#[derive(Clone, Copy)]
 pub enum Class {
     Dropped,
     Start,

@@ -6,7 +6,7 @@ ghost use Rattle.geometry.specs.code.Reach.{EdgeIn};
 ghost use Rattle.geometry.specs.Edges.{bent_counts, counts, sign, first_row, end_row};
 
 // An edge drawn from (x0, y0) to (x1, y1): a curve with the control corner (cx, cy) where it is bent, else straight, and cx and cy are 0.
-#[derive(Drop)]
+#[derive(Clone, Copy)]
 pub struct Edge {
     pub x0: u32,
     pub y0: u32,
@@ -18,7 +18,7 @@ pub struct Edge {
 }
 
 // The rows of an edge: the first, and the one past the last. None where they are equal.
-#[derive(Drop)]
+#[derive(Clone, Copy)]
 pub struct Rows {
     pub first: u32,
     pub end: u32,

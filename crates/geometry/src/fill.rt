@@ -3,7 +3,7 @@ ghost use Rattle.std.specs.Prelude.{◌≡◌};
 ghost use Rattle.geometry.specs.FillRules.{passes};
 
 // The fill rules 0 and 1 of the document.
-#[derive(Drop)]
+#[derive(Clone, Copy)]
 pub enum FillRule {
     NonZero,
     EvenOdd,

@@ -1,4 +1,7 @@
 // The order of records: a fold of a small state over them. It knows neither bytes nor tables.
+
+#![tactic(auto)]
+
 ghost use Rattle.std.specs.Prelude.{◌≡◌, true, not, ◌&&◌, ◌+◌, ◌<◌};
 ghost use Rattle.curves.specs.Curves.{curve_fits};
 ghost use Rattle.groups.specs.code.Stack.{room_n};
@@ -15,7 +18,7 @@ const LEAST_CORNERS: u32 = 3;
 // Where a reader stands. `stack`: the open groups (crate `groups`). `held`: an area or a corner stands straight before; `bends`: a control corner
 // does. `run`: the corners of the contour in progress but for control corners, 3 for more than 3. In a contour, (x0, y0) is its last corner that is
 // no control corner, and where `bends`, (x1, y1) is the control corner.
-#[derive(Drop)]
+#[derive(Clone, Copy)]
 pub struct State {
     pub stack: u32,
     pub held: bool,
@@ -29,26 +32,26 @@ pub struct State {
     pub y1: u32,
 }
 
-#[derive(Drop)]
+#[derive(Clone, Copy)]
 pub enum Step {
     On(State),
     Off(Refusal),
 }
 
-#[derive(Drop)]
+#[derive(Clone, Copy)]
 pub enum Scan {
     At(State),
     Stopped(Refusal, usize),
 }
 
-#[derive(Drop)]
+#[derive(Clone, Copy)]
 pub struct Counts {
     pub records: usize,
     pub areas: usize,
     pub corners: usize,
 }
 
-#[derive(Drop)]
+#[derive(Clone, Copy)]
 pub enum Verdict {
     Accepted(Counts),
     Refused(Refusal, usize),

@@ -1,5 +1,8 @@
 // The open groups of a drawing or a stream as one number: 1 where none is open, and a digit in base 4 more for each, the innermost last.
 // 0 and 1 are the left and the right side of a group opened on a paint side, 2 and 3 those of one opened on a clip side.
+
+#![tactic(auto)]
+
 ghost use Rattle.std.specs.Prelude.{◌≡◌, true, ◌<◌};
 ghost use Rattle.groups.specs.code.Stack.{paint_n, left_n, right_n, room_n, open_n, bar_n, close_n};
 

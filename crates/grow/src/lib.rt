@@ -1,4 +1,7 @@
 // Growing a tree in lent tables: one ascending sweep over the cells.
+
+#![tactic(auto)]
+
 ghost use Rattle.std.specs.Prelude.{◌≡◌, true, cond, ◌+◌, ◌*◌, ◌≤◌, ◌<◌, eqb, length};
 ghost use Rattle.refusals.specs.Refusals.{number_of};
 ghost use Rattle.celltable.specs.Table.{cell_at};
@@ -14,7 +17,7 @@ use celltable::CellWords;
 use refusals::Refusal;
 
 // Growing's answer: done or full with the splits made, or why it was refused.
-#[derive(Drop)]
+#[derive(Clone, Copy)]
 pub enum Answer {
     Done(u32),
     Full(u32),
@@ -22,7 +25,7 @@ pub enum Answer {
 }
 
 // What growing meets at a cell: a number that does not pass, a cell to pass over, or a leaf to split.
-#[derive(Drop)]
+#[derive(Clone, Copy)]
 pub enum Tried {
     Bad,
     Past,
@@ -30,7 +33,7 @@ pub enum Tried {
 }
 
 // Where the sweep stands: the next cell, the cells and the entries in use, and the splits so far.
-#[derive(Drop)]
+#[derive(Clone, Copy)]
 pub struct Sweep {
     pub cell: u32,
     pub used: u32,
@@ -39,7 +42,7 @@ pub struct Sweep {
 }
 
 // One turn of the sweep: where it stands after it, or why it ends.
-#[derive(Drop)]
+#[derive(Clone, Copy)]
 pub enum Turn {
     Further(Sweep),
     NoRoom,

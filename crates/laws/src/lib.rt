@@ -1,4 +1,7 @@
 // The laws that every crate cites, and the one signed operation that all of them build on.
+
+#![tactic(auto)]
+
 ghost use Rattle.std.specs.Prelude.{◌≡◌, pos, ◌-ℤ◌};
 
 // a - b, of two unsigned numbers.

@@ -1,4 +1,7 @@
 // The leaf lister: reads a drawing on standard input, grows with threshold 0 and depth limit 4, and prints each leaf in key order.
+
+#![tactic(auto)]
+
 ghost use Rattle.std.specs.Prelude.{◌≡◌, ◌*◌, ◌≤◌, length};
 ghost use Rattle.tables.specs.Tables.{tree_lent};
 ghost use Rattle.lister.specs.Printed.{lines_of, outcome_of, outcome_grown, rows_grown, outcome, rows_after};
@@ -57,7 +60,7 @@ fn print_lines(rows: &[u32], n: usize)
 }
 
 // What is printed of a drawing: so many lines, with `full` after them or without, or a refusal.
-#[derive(Drop)]
+#[derive(Clone, Copy)]
 pub enum Outcome {
     Done(usize),
     Full(usize),

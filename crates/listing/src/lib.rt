@@ -1,5 +1,8 @@
 // The leaves of a tree of a depth of at most 4 in key order, as lines in a table of five words a line: 256 lines at most. A leaf that is deeper, of a
 // side below 4,096, has no line. The leaf lister grows to depth limit 4 and has no such leaf; after growing deeper the list is not all leaves.
+
+#![tactic(auto)]
+
 ghost use Rattle.std.specs.Prelude.{◌≡◌, [], ◌+◌, ◌*◌, ◌≤◌, ◌<◌, length};
 ghost use Rattle.tables.specs.Tables.{tree_lent};
 ghost use Rattle.listing.specs.Listed.{every_other, corner_x, corner_y, if_low, of_answer, corner_at, with_corner, listed};
@@ -28,7 +31,7 @@ const LINE_WORDS: usize = 5;
 pub const LIST_WORDS: usize = CORNERS as usize * LINE_WORDS;
 
 // A line: a leaf that is listed.
-#[derive(Drop)]
+#[derive(Clone, Copy)]
 pub struct Line {
     pub cell: u32,
     pub key: u32,
@@ -37,7 +40,7 @@ pub struct Line {
     pub lines: u32,
 }
 
-#[derive(Drop)]
+#[derive(Clone, Copy)]
 pub enum Corner {
     Low(Line),
     Other,

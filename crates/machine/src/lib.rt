@@ -1,4 +1,7 @@
 // The flat clipping machine of document 000, as registers that are moved by one entry at a time.
+
+#![tactic(auto)]
+
 ghost use Rattle.std.specs.Prelude.{◌≡◌, true, ◌+◌, ◌<◌, pred};
 ghost use Rattle.pruning.specs.Sides.{paint, clip};
 ghost use Rattle.pruning.specs.Registers.{on_item, on_push, on_activate, on_pop};
@@ -17,7 +20,7 @@ pub const SA: u32 = 2;
 pub const STOPPED: u32 = 3;
 
 // The state, the depth, the stopping depth, and the shown set.
-#[derive(Drop)]
+#[derive(Clone, Copy)]
 pub struct Machine {
     pub state: u32,
     pub depth: u32,

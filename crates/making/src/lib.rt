@@ -1,4 +1,7 @@
 // A stream made from another in a cell, one entry at a time, counted: what is left of its lines, curves and shortcuts, and the pruner.
+
+#![tactic(auto)]
+
 ghost use Rattle.std.specs.Prelude.{◌≡◌, true, ◌+◌, ◌*◌, ◌^◌, ◌≤◌, ◌<◌, length, nat_abs};
 ghost use Rattle.std.specs.Int.{w32};
 ghost use Rattle.std.proofs.Common.{to_z};
@@ -20,7 +23,7 @@ use pruner::Pruner;
 use stream::Words;
 
 // ---- what is left of a line, a curve or a shortcut in a square
-#[derive(Drop)]
+#[derive(Clone, Copy)]
 pub struct Left {
     pub sign: i64,
     pub class: Class,
@@ -73,7 +76,7 @@ pub fn left_of(xs: &[u32], ys: &[u32], corners: usize, s: Square, w: Words) -> L
 // ---- the area that waits
 // Whether an area waits for its lines, curves and shortcuts, its number, its start number, and its weight: 4,294,967,297 for the area, 65,537 for
 // each line and curve, 1 for each shortcut.
-#[derive(Drop)]
+#[derive(Clone, Copy)]
 pub struct Waiting {
     pub waits: bool,
     pub number: u32,
@@ -247,7 +250,7 @@ pub fn pruner_after(areas: &[u32], p: Pruner, a: Waiting, kind: u32) -> Pruner
 
 // ---- both
 // Where a making stands.
-#[derive(Drop)]
+#[derive(Clone, Copy)]
 pub struct Maker {
     pub pruner: Pruner,
     pub waiting: Waiting,

@@ -1,4 +1,7 @@
 // Opening a tree over a lent drawing.
+
+#![tactic(auto)]
+
 ghost use Rattle.std.specs.Prelude.{◌≡◌, ◌/◌, ◌%◌, ◌≤◌, length};
 ghost use Rattle.grammar.specs.declared.Verdict.TheVariants.{Accepted};
 ghost use Rattle.drawing.specs.Tables.{tables, drawing_verdict};
@@ -17,7 +20,7 @@ use refusals::Refusal;
 use stream::Bounds;
 
 // An opening's answer: the entries of cell 0's stream, or why it was refused.
-#[derive(Drop)]
+#[derive(Clone, Copy)]
 pub enum Answer {
     Opened(u32),
     Not(Refusal),
@@ -25,7 +28,7 @@ pub enum Answer {
 
 // What an opening is to do, before anything is written: its answer and, where that is Opened, the counts of the drawing and the lines and curves of cell
 // 0's stream.
-#[derive(Drop)]
+#[derive(Clone, Copy)]
 pub struct Judged {
     pub answer: Answer,
     pub counts: Counts,

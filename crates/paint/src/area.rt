@@ -18,7 +18,7 @@ const BLUE: usize = 5;
 const MATERIAL: usize = 6;
 
 // The paint of an area. The material of no area is 0.
-#[derive(Drop)]
+#[derive(Clone, Copy)]
 pub struct Paint {
     pub alpha: u32,
     pub red: u32,

@@ -15,7 +15,7 @@ const HALF: u32 = 127;
 pub const WHITE: u32 = 255;
 
 // What is left of 255 behind some areas, and the sums of their weights times their channels.
-#[derive(Drop)]
+#[derive(Clone, Copy)]
 pub struct Mix {
     pub left: u32,
     pub red: u32,
@@ -24,7 +24,7 @@ pub struct Mix {
 }
 
 // The three unrounded channel sums.
-#[derive(Drop)]
+#[derive(Clone, Copy)]
 pub struct Channels {
     pub red: u32,
     pub green: u32,
@@ -32,7 +32,7 @@ pub struct Channels {
 }
 
 // A colour: each channel 0 to 255.
-#[derive(Drop)]
+#[derive(Clone, Copy)]
 pub struct Colour {
     pub red: u32,
     pub green: u32,

@@ -19,7 +19,7 @@ const HALF: u32 = 2040;
 const ROW_OFFSETS: [u32; 16] = [3, 8, 13, 2, 7, 12, 1, 6, 11, 0, 5, 10, 15, 4, 9, 14];
 
 // The position of a sample.
-#[derive(Drop)]
+#[derive(Clone, Copy)]
 pub struct Sample {
     pub x: u32,
     pub y: u32,

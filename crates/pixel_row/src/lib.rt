@@ -1,4 +1,7 @@
 // Rows of pixels.
+
+#![tactic(auto)]
+
 ghost use Rattle.std.specs.Prelude.{◌≡◌, ◌+◌, ◌*◌, ◌/◌, ◌≤◌, length};
 ghost use Rattle.paint.specs.Colours.{ColourIn};
 ghost use Rattle.tables.specs.Tables.{tree, tree_lent};
@@ -25,14 +28,14 @@ const PIXEL_END: u32 = pixel::PIXEL_SIDE - 1;
 const CHANNELS: usize = 3;
 
 // The row is filled, or why the call was refused and where.
-#[derive(Drop)]
+#[derive(Clone, Copy)]
 pub enum RowAnswer {
     Done,
     Not(Refusal, usize),
 }
 
 // A pixel, with what was read at its last sample; or 12.
-#[derive(Drop)]
+#[derive(Clone, Copy)]
 pub enum Pixel {
     Known(Colour, Shown),
     Broken,

@@ -1,4 +1,7 @@
 // The calls that answer from a tree at one position.
+
+#![tactic(auto)]
+
 ghost use Rattle.std.specs.Prelude.{◌≡◌, true, ◌≤◌, ◌<◌, length, get_or};
 ghost use Rattle.paint.specs.Areas.{Painted};
 ghost use Rattle.stream.specs.Table.{words_from};
@@ -15,7 +18,7 @@ use refusals::Refusal;
 
 // What shows at a position: the set of areas, the material of the front one, and the colour. And how far that reaches: whether the leaf's stream holds no
 // line, curve or shortcut, and the leaf's low corner and its side.
-#[derive(Drop)]
+#[derive(Clone, Copy)]
 pub struct Spot {
     pub set: u64,
     pub material: u32,
@@ -29,14 +32,14 @@ pub struct Spot {
 }
 
 // What shows, or why the call was refused.
-#[derive(Drop)]
+#[derive(Clone, Copy)]
 pub enum Answer {
     At(Spot),
     Not(Refusal),
 }
 
 // A leaf, whether it is uniform, and the set that shows at all its positions where it is, else 0; or 12.
-#[derive(Drop)]
+#[derive(Clone, Copy)]
 pub enum Shown {
     In(Leaf, bool, u64),
     Broken,

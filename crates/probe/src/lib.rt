@@ -1,6 +1,9 @@
 // Calls for the tests only, exported for C: the check of a lent stream, its reading at a position, the making of a child's stream, and the tallies of
 // the children after each pass, so that the tests can run them before a call for makers reaches them. No maker builds them in. Any tables and numbers
 // may be handed in; a slice passes as a pointer and then its length.
+
+#![tactic(auto)]
+
 ghost use Rattle.std.specs.Prelude.{◌≡◌, true, cond, ◌≤◌, ◌<◌, length};
 ghost use Rattle.stream.specs.Grammar.{env, bounds, check_stream, Passed};
 ghost use Rattle.probe.specs.Answers.{read_answer, square, leaf_on, square_fits, child_elements, child_room, answer_by, table_by, child_fits};

@@ -27,7 +27,7 @@ set_beyond : (l : List Frame) (f : Frame) (d i : ℕ) → d ≤ i → frames_of 
 set_beyond l f zero i h = refl
 set_beyond l f (suc d) i h = ap₂ (λ a b. frame_of a ∷ b) (get_or-set_other l i d f no_frame (λ e. omega arith)) (set_beyond l f d i (omega arith))
 
-set_top : (l : List Frame) (f : Frame) (d : ℕ) → d < length l → frames_of (set l d f) (d + 1) ≡ frame_of f ∷ frames_of l d
+pub set_top : (l : List Frame) (f : Frame) (d : ℕ) → d < length l → frames_of (set l d f) (d + 1) ≡ frame_of f ∷ frames_of l d
 set_top l f d h = rw (add-one d) (ap₂ (λ a b. frame_of a ∷ b) (get_or-set_same l d f no_frame h) (set_beyond l f d d (omega arith)))
 
 -- the array has eight elements: so the caller's record of it says, of the elements taken apart

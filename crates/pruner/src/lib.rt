@@ -1,5 +1,8 @@
 // The one-pass pruner by numbers: what is written, and where the open groups and the side being read begin in it, all as weights. What an entry weighs
 // is up to the caller; a delimiter and the bare "passes" weigh 1. With 1 for each entry a weight is a number of entries.
+
+#![tactic(auto)]
+
 ghost use Rattle.std.specs.Prelude.{◌≡◌, [], ◌∷◌, ◌+◌, ◌^◌, ◌≤◌, ◌<◌, get_or};
 ghost use Rattle.pruning.specs.Sides.{item, push, activate, pop};
 ghost use Rattle.pruning.specs.code.Pruner.{going};
@@ -32,7 +35,7 @@ pub const PASSES: u32 = 1;
 pub const NEITHER: u32 = 2;
 
 // An open group. `mode`: LEFT, RIGHT, THROUGH or DEAD. `start`: the weight of what was written at its `(`. `outer`: where the side around it begins.
-#[derive(Drop)]
+#[derive(Clone, Copy)]
 pub struct Frame {
     pub mode: u32,
     pub start: u64,
@@ -41,7 +44,7 @@ pub struct Frame {
 
 // `weight`: that of what is written. `base`: the weight of what stands before the side. `skip`: 0, or 1 more than the groups opened since the side is
 // skipped. `depth`: how many frames are in use.
-#[derive(Drop)]
+#[derive(Clone, Copy)]
 pub struct Pruner {
     pub weight: u64,
     pub base: u64,

@@ -31,13 +31,13 @@ module _ (I : Items) where
 
   pub sub_trans : {xs ys zs : List (Entry Item)} → Sub I xs ys → Sub I ys zs → Sub I xs zs
   sub_trans h nothing = h
-  sub_trans h (drops k) = drops (sub_trans h k)
-  sub_trans (drops h) (keeps k) = drops (sub_trans h k)
-  sub_trans (keeps h) (keeps k) = keeps (sub_trans h k)
-  sub_trans (bares e h) (keeps k) = bares e (sub_trans h k)
-  sub_trans (drops h) (bares e k) = drops (sub_trans h k)
-  sub_trans (keeps h) (bares e k) = bares e (sub_trans h k)
-  sub_trans (bares d h) (bares e k) = bares e (sub_trans h k)
+  sub_trans {xs = xs} h (drops k) = drops (sub_trans {xs = xs} h k)
+  sub_trans {xs = xs} (drops h) (keeps k) = drops (sub_trans {xs = xs} h k)
+  sub_trans (keeps {xs = xs} h) (keeps k) = keeps (sub_trans {xs = xs} h k)
+  sub_trans (bares {xs = xs} e h) (keeps k) = bares e (sub_trans {xs = xs} h k)
+  sub_trans {xs = xs} (drops h) (bares e k) = drops (sub_trans {xs = xs} h k)
+  sub_trans (keeps {xs = xs} h) (bares e k) = bares e (sub_trans {xs = xs} h k)
+  sub_trans (bares {xs = xs} d h) (bares e k) = bares e (sub_trans {xs = xs} h k)
 
   sub_append : {xs ys us vs : List (Entry Item)} → Sub I xs ys → Sub I us vs → Sub I (xs ++ us) (ys ++ vs)
   sub_append nothing k = k

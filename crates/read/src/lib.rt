@@ -1,4 +1,7 @@
 // Reading a file of records into the four tables of a drawing.
+
+#![tactic(auto)]
+
 ghost use Rattle.std.specs.Prelude.{◌≡◌, true, ◌+◌, ◌*◌, ◌≤◌, length, set};
 ghost use Rattle.std.proofs.lemmas.List.Edits.{sets};
 ghost use Rattle.grammar.specs.declared.Verdict.TheVariants.{Accepted};

@@ -1,4 +1,7 @@
 // One record: its sixteen bytes, and what they say.
+
+#![tactic(auto)]
+
 ghost use Rattle.std.specs.Prelude.{◌≡◌, ◌+◌, ◌*◌, ◌≤◌, ◌<◌, length};
 ghost use Rattle.records.specs.Record.{paint_range, clip_range, area_range, corner_range, in_range, ranged, is_corner, corner_of, delimiter_of};
 ghost use Rattle.records.specs.Bytes.{raw_at, put_raw, number2, number4, area_unnamed, corner_unnamed, delimiter_unnamed, unnamed_zero, fields_of, named};
@@ -82,7 +85,7 @@ pub const MATERIAL: usize = 6;
 pub const UNNAMED: usize = 7;
 
 // The fields of an area.
-#[derive(Drop)]
+#[derive(Clone, Copy)]
 pub struct Fields {
     pub role: u32,
     pub rule: u32,
@@ -93,7 +96,7 @@ pub struct Fields {
     pub material: u32,
 }
 
-#[derive(Drop)]
+#[derive(Clone, Copy)]
 pub enum Record {
     Area(Fields),
     First(u32, u32),
@@ -105,13 +108,13 @@ pub enum Record {
 }
 
 // A record, or why there is none: Kind or Field.
-#[derive(Drop)]
+#[derive(Clone, Copy)]
 pub enum Decoded {
     Good(Record),
     Bad(Refusal),
 }
 
-#[derive(Drop)]
+#[derive(Clone, Copy)]
 pub struct Raw {
     pub b0: u8,
     pub b1: u8,

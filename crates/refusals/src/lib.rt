@@ -1,9 +1,12 @@
 // The refusals of document 01, and document 02's.
+
+#![tactic(auto)]
+
 ghost use Rattle.std.specs.Prelude.{◌≡◌};
 ghost use Rattle.refusals.specs.Refusals.{number_of};
 
 // Why a call was refused. Each answer that holds one has a place beside it, or place 0.
-#[derive(Drop)]
+#[derive(Clone, Copy)]
 pub enum Refusal {
     Length,
     Kind,

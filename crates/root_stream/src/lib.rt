@@ -1,4 +1,7 @@
 // The stream of cell 0, made from the drawing in lent tables: counted, and then written.
+
+#![tactic(auto)]
+
 ghost use Rattle.std.specs.Prelude.{◌≡◌, ◌+◌, ◌*◌, ◌≤◌, ◌<◌, length};
 ghost use Rattle.cells.specs.Cells.{square_of, root};
 ghost use Rattle.cells.specs.code.Making.{element_size};
@@ -14,7 +17,7 @@ use making::Maker;
 use stream::{Bounds, Words};
 
 // The areas and the corners before a record, and the first corner of the contour in progress.
-#[derive(Drop)]
+#[derive(Clone, Copy)]
 pub struct Source {
     pub area: u32,
     pub corner: u32,

@@ -1,4 +1,7 @@
 // Splitting a cell of a tree in lent tables: all checks in their order, read-only (`judge`), and then what is written (`make_split`).
+
+#![tactic(auto)]
+
 ghost use Rattle.std.specs.Prelude.{◌≡◌, true, ◌+◌, ◌*◌, ◌≤◌, ◌<◌, length, get_or, set};
 ghost use Rattle.stream.specs.Table.{words_from, written};
 ghost use Rattle.stream.specs.Grammar.{env, Passed};
@@ -21,14 +24,14 @@ use refusals::Refusal;
 use stream::Bounds;
 
 // A split's answer: the number of the first child, or why it was refused.
-#[derive(Drop)]
+#[derive(Clone, Copy)]
 pub enum Answer {
     Split(u32),
     Not(Refusal),
 }
 
 // What a split would be: its answer and, where it is to be made, the tallies of the four children.
-#[derive(Drop)]
+#[derive(Clone, Copy)]
 pub struct Judged {
     pub answer: Answer,
     pub children: [Tally; 4],

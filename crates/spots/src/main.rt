@@ -1,4 +1,7 @@
 // Document 01's starred spots, and others beside them: run, and written out.
+
+#![tactic(auto)]
+
 ghost use Rattle.std.specs.Prelude.{◌≡◌, false, ◌<◌};
 ghost use Rattle.curves.specs.code.Reach.{PositionIn, EndsIn};
 ghost use Rattle.geometry.specs.code.Reach.{SquareIn};

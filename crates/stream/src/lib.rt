@@ -1,4 +1,7 @@
 // Streams of entries, four words each, in a lent table.
+
+#![tactic(auto)]
+
 ghost use Rattle.std.specs.Prelude.{◌≡◌, true, false, cond, ◌+◌, ◌*◌, ◌-◌, ◌≤◌, ◌<◌, length};
 ghost use Rattle.stream.specs.Table.{words_at, words_from, put_at};
 ghost use Rattle.stream.specs.Grammar.{env, corner_met, line_range, curve_range, shortcut_range, record_fits, role_fits, used_range, Ready, accepts};
@@ -49,7 +52,7 @@ const MOST_AREAS: u32 = records::MOST_AREAS as u32;
 const OFF: u32 = 0;
 
 // The four words of an entry.
-#[derive(Drop)]
+#[derive(Clone, Copy)]
 pub struct Words {
     pub kind: u32,
     pub p: u32,
@@ -58,7 +61,7 @@ pub struct Words {
 }
 
 // What a stream is read against, beside the drawing's tables: the areas and the corners in use, and the cell's low row and its side.
-#[derive(Drop)]
+#[derive(Clone, Copy)]
 pub struct Bounds {
     pub areas: usize,
     pub corners: usize,
@@ -68,7 +71,7 @@ pub struct Bounds {
 
 // Where a reader of a stream stands. `stack`: the open groups (crate `groups`), or 0 where an entry was out of range or did not fit. `held`: an
 // area, a line, a curve or a shortcut stands straight before. `areas`, `segments`: how many areas, and how many lines, curves and shortcuts, so far.
-#[derive(Drop)]
+#[derive(Clone, Copy)]
 pub struct Scan {
     pub stack: u32,
     pub held: bool,
@@ -228,7 +231,7 @@ fn shortcut_range(low: u32, side: u32, w: Words) -> bool
 }
 
 // Whether the numbers of a line, a curve or a shortcut are in range; and 1 for a line or a curve, 0 for a shortcut.
-#[derive(Drop)]
+#[derive(Clone, Copy)]
 pub struct Fit {
     pub fits: bool,
     pub line: usize,
@@ -354,7 +357,7 @@ fn step(areas: &[u32], used: usize, s: Scan, w: Words) -> Scan
 
 // ---- lines, curves and shortcuts in a row
 // Whether they are in range and at most 2,048; how many there are with those before; how many of them are lines or curves; and the entry behind them.
-#[derive(Drop)]
+#[derive(Clone, Copy)]
 pub struct Run {
     pub fits: bool,
     pub segments: usize,
@@ -432,7 +435,7 @@ fn after_run(s: Scan, r: Run) -> Scan
 
 // ---- a stream
 // Where a reader stands, how many lines and curves it has passed, and the entry from which it goes on.
-#[derive(Drop)]
+#[derive(Clone, Copy)]
 pub struct Scanned {
     pub scan: Scan,
     pub lines: usize,
@@ -440,7 +443,7 @@ pub struct Scanned {
 }
 
 // What the check of a stream says: whether it passes; and where it does, how many lines and curves, and how many lines, curves and shortcuts, it holds.
-#[derive(Drop)]
+#[derive(Clone, Copy)]
 pub struct Checked {
     pub fits: bool,
     pub lines: u32,

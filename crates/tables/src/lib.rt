@@ -1,4 +1,7 @@
 // The seven tables of a drawing and of its tree: the numbers in use, and what a table holds.
+
+#![tactic(auto)]
+
 ghost use Rattle.std.specs.Prelude.{◌≡◌, ◌≤◌, length, get_or, set};
 ghost use Rattle.stream.specs.Grammar.{bounds};
 ghost use Rattle.celltable.specs.Ranges.{cells_held, entries_held};

@@ -1,5 +1,8 @@
 // Writes what a making makes, one entry at a time, to a table that is lent from its first free entry on. An entry that goes again is written only where
 // another will stand in the end: nothing is written from the limit on, which is the length of what is made.
+
+#![tactic(auto)]
+
 ghost use Rattle.std.specs.Prelude.{◌≡◌, ◌+◌, ◌*◌, ◌^◌, ◌≤◌, ◌<◌, length, nat_abs};
 ghost use Rattle.std.specs.Int.{w32};
 ghost use Rattle.std.proofs.Common.{of_z};

@@ -1,4 +1,7 @@
 // Zone logs over a run of positions.
+
+#![tactic(auto)]
+
 ghost use Rattle.std.specs.Prelude.{◌≡◌, true, cond, ◌<◌, length, set};
 ghost use Rattle.std.proofs.lemmas.List.Edits.{sets};
 ghost use Rattle.tables.specs.Tables.{tree, tree_lent};
@@ -14,21 +17,21 @@ use refusals::Refusal;
 const WORD_END: usize = 4294967296;
 
 // How many indices a log has, or why the call was refused and where.
-#[derive(Drop)]
+#[derive(Clone, Copy)]
 pub enum LogAnswer {
     Indices(usize),
     Not(Refusal, usize),
 }
 
 // How many indices are in a log so far, and whether a word holds each of them.
-#[derive(Drop)]
+#[derive(Clone, Copy)]
 pub struct Tally {
     pub count: usize,
     pub fits: bool,
 }
 
 // How many indices a log has and whether a word holds each of them, or 12.
-#[derive(Drop)]
+#[derive(Clone, Copy)]
 pub enum Count {
     Known(usize, bool),
     Broken,

@@ -6,6 +6,9 @@
 // How to read a contract: `answer` says what is returned, and each further clause, named after a table, what that table holds afterwards.
 // `now head.entry` is what the table `head` holds when the call begins, `now head.exit` when it returns; `treeLent plan ... entries` is all
 // seven tables when the call begins, `drawingLent plan areas xs ys` the drawing's four. A table with no clause is lent by `&`: read only.
+
+#![tactic(auto)]
+
 pub mod readings;
 
 ghost use Rattle.std.specs.Prelude.{◌≡◌, length};

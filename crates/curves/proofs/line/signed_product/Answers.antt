@@ -1,0 +1,46 @@
+-- `curves::line::signed_product` meets its contract. Each value is carried as a difference of two naturals, which fits.
+use mathlib.Core.Path.{◌≡◌, sym, ap₂, ◌∙◌}
+use Prim.Native.Nat.{◌+◌, ◌*◌}
+use lib.IntN.{sub_ℕ, ◌+ℤ◌, ◌*ℤ◌}
+use mir.Syntax.{w64}
+use mir.Val.{to_z, of_z}
+use Rattle.laws.proofs.Differences.{add_sub}
+use Rattle.laws.proofs.Signed.{read_back, reads, fits_as}
+use Rattle.curves.proofs.Products.{left, right, plus, minus, left_is, right_is, product_is, left_fits, right_fits, product_fits}
+use Rattle.curves.proofs.line.signed_product.Goals.{After-difference-2, After-difference-4}
+use Rattle.curves.proofs.line.signed_product.Goals as goal
+
+first : (c : After-difference-2)
+    → let s = c.args in
+    to_z w64 (of_z w64 c.difference.result) *ℤ to_z w64 (of_z w64 c.difference-2.result) ≡ left s.a s.b s.d s.x
+first c = ap₂ ◌*ℤ◌ (read_back _ c.difference.type_inv ∙ c.difference.ensures.answer)
+    (read_back _ c.difference-2.type_inv ∙ c.difference-2.ensures.answer)
+    ∙ (let s = c.args in left_is s.a s.b s.d s.x)
+
+pub overflow_mul-result : goal.overflow_mul-result
+overflow_mul-result c = fits_as (first c) (left_fits c.requires.ends_in c.requires.position_in)
+
+second : (c : After-difference-4)
+    → let s = c.args in
+    to_z w64 (of_z w64 c.difference-3.result) *ℤ to_z w64 (of_z w64 c.difference-4.result) ≡ right s.a s.b s.c s.y
+second c = ap₂ ◌*ℤ◌ (read_back _ c.difference-3.type_inv ∙ c.difference-3.ensures.answer)
+    (read_back _ c.difference-4.type_inv ∙ c.difference-4.ensures.answer)
+    ∙ (let s = c.args in right_is s.a s.b s.c s.y)
+
+pub overflow_mul-result-2 : goal.overflow_mul-result-2
+overflow_mul-result-2 c = fits_as (second c) (right_fits c.requires.ends_in c.requires.position_in)
+
+-- the whole product, as the machine adds it
+whole : (c : After-difference-4) → let s = c.args in
+    to_z w64 (of_z w64 (to_z w64 (of_z w64 c.difference.result) *ℤ to_z w64 (of_z w64 c.difference-2.result)))
+    +ℤ to_z w64 (of_z w64 (to_z w64 (of_z w64 c.difference-3.result) *ℤ to_z w64 (of_z w64 c.difference-4.result)))
+    ≡ sub_ℕ (plus s.a s.b s.c s.d s.x s.y) (minus s.a s.b s.c s.d s.x s.y)
+whole c = let s = c.args in
+    ap₂ ◌+ℤ◌ (reads (first c.before.before) (left_fits c.requires.ends_in c.requires.position_in)) (reads (second c) (right_fits c.requires.ends_in c.requires.position_in))
+    ∙ add_sub (s.a * s.d + s.x * s.b) (s.a * s.b + s.x * s.d) (s.y * s.c + s.b * s.a) (s.y * s.a + s.b * s.c)
+
+pub overflow_add-result : goal.overflow_add-result
+overflow_add-result c = fits_as (whole c) (product_fits c.requires.ends_in c.requires.position_in)
+
+pub returns : goal.returns
+returns c = let s = c.args in record { answer = reads (whole c) (product_fits c.requires.ends_in c.requires.position_in) ∙ sym (product_is s.a s.b s.c s.d s.x s.y) }
