@@ -104,12 +104,12 @@ module _ (xs ys : List ℕ) (x y : ℕ) where
           rw (p, q, lt-ltb (i + 1) end (omega arith), add-one i)
 
   -- no edge is left
-  pub sum_done : (first i end k bits : ℕ) {whole : ℤ}
+  pub sum_done : (first i end k : ℕ) (sum : ℤ) {whole : ℤ}
       → end ≤ i
-      → Running k bits (sum_of xs ys (straight_lines first i (end - i)) x y) whole
-      → to_z w64 bits ≡ whole
+      → Running k sum (sum_of xs ys (straight_lines first i (end - i)) x y) whole
+      → sum ≡ whole
   unfolding sum_of
-  sum_done first i end k bits h s = let e : end - i ≡ 0 = omega arith in running_end (rw e at s)
+  sum_done first i end k sum h s = let e : end - i ≡ 0 = omega arith in running_end (rw e at s)
 
 -- ---- contours that follow one another: contour k ends before e
 
@@ -139,12 +139,12 @@ module _ (ends : List ℕ) (first n k e : ℕ) (h : k < length ends) (is : e ≡
       let rest = contours_to e (drop (k + 1) ends) in
       rw (drop_step, lines_with (e - first) rest) (sum_append xs ys x y (straight_lines first first (e - first)) (lines_of rest))
 
-pub area_done : (xs ys : List ℕ) (x y : ℕ) (ends : List ℕ) (first k n bits : ℕ) {whole : ℤ}
+pub area_done : (xs ys : List ℕ) (x y : ℕ) (ends : List ℕ) (first k n : ℕ) (sum : ℤ) {whole : ℤ}
     → length ends ≤ k
-    → Running n bits (winding xs ys (contours_to first (drop k ends)) x y) whole
-    → to_z w64 bits ≡ whole
+    → Running n sum (winding xs ys (contours_to first (drop k ends)) x y) whole
+    → sum ≡ whole
 unfolding sum_of
-area_done xs ys x y ends first k n bits h s = let e : drop k ends ≡ [] = drop_of_length-le ends h in running_end (rw e at s)
+area_done xs ys x y ends first k n sum h s = let e : drop k ends ≡ [] = drop_of_length-le ends h in running_end (rw e at s)
 
 pub contour_abs : (xs ys : List ℕ) (first end x y : ℕ) → nat_abs (sum_of xs ys (straight_lines first first (end - first)) x y) ≤ end - first
 contour_abs xs ys first end x y = omega (arith, sum_abs xs ys (straight_lines first first (end - first)) x y, length_straight_lines first first (end - first))

@@ -30,41 +30,41 @@ sub_fits a b p q = record { sfits = mag_sub a b (2 ^ 63) p q }
 
 -- ---- a sum that a loop carries in 64 bits: it is at most k either way, and with what is left to add it makes the whole
 
-pub record Running (k bits : ℕ) (rest whole : ℤ) : Type 0 where
-  pub small : nat_abs (to_z w64 bits) ≤ k
-  pub total : to_z w64 bits +ℤ rest ≡ whole
+pub record Running (k : ℕ) (sum rest whole : ℤ) : Type 0 where
+  pub small : nat_abs sum ≤ k
+  pub total : sum +ℤ rest ≡ whole
 
-pub running_start : (k : ℕ) (whole : ℤ) → Running k 0 whole whole
+pub running_start : (k : ℕ) (whole : ℤ) → Running k (pos 0) whole whole
 running_start k whole = record { small = omega arith; total = +ℤ_idl whole }
 
 -- the next number, v, at most m either way, is what a call gave, r
-module _ {k bits : ℕ} {left whole : ℤ} (s : Running k bits left whole) (v r rest : ℤ) (k' m : ℕ) (step : left ≡ v +ℤ rest) (e : r ≡ v)
+module _ {k : ℕ} {sum left whole : ℤ} (s : Running k sum left whole) (v r rest : ℤ) (k' m : ℕ) (step : left ≡ v +ℤ rest) (e : r ≡ v)
     (h : nat_abs v ≤ m) (fit : k + m ≤ k') (lim : k' < 2 ^ 63) where
-  added : to_z w64 bits +ℤ to_z w64 (of_z w64 r) ≡ to_z w64 bits +ℤ v
-  added = ap (λ z. to_z w64 bits +ℤ z) (ap (λ z. to_z w64 (of_z w64 z)) e ∙ read_back v (mag_abs v (omega arith)))
+  added : sum +ℤ to_z w64 (of_z w64 r) ≡ sum +ℤ v
+  added = ap (λ z. sum +ℤ z) (ap (λ z. to_z w64 (of_z w64 z)) e ∙ read_back v (mag_abs v (omega arith)))
 
-  bound : nat_abs (to_z w64 bits +ℤ v) ≤ k'
-  bound = omega (arith, abs_add (to_z w64 bits) v, s.small)
+  bound : nat_abs (sum +ℤ v) ≤ k'
+  bound = omega (arith, abs_add sum v, s.small)
 
-  pub running_fits : SFits w64 (to_z w64 bits +ℤ to_z w64 (of_z w64 r))
-  running_fits = fits_as added (record { sfits = mag_abs (to_z w64 bits +ℤ v) (omega (arith, bound)) })
+  pub running_fits : SFits w64 (sum +ℤ to_z w64 (of_z w64 r))
+  running_fits = fits_as added (record { sfits = mag_abs (sum +ℤ v) (omega (arith, bound)) })
 
-  pub running_more : Running k' (of_z w64 (to_z w64 bits +ℤ to_z w64 (of_z w64 r))) rest whole
+  pub running_more : Running k' (to_z w64 (of_z w64 (sum +ℤ to_z w64 (of_z w64 r)))) rest whole
   running_more =
-      let back : to_z w64 (of_z w64 (to_z w64 bits +ℤ to_z w64 (of_z w64 r))) ≡ to_z w64 bits +ℤ v =
-      reads added (record { sfits = mag_abs (to_z w64 bits +ℤ v) (omega (arith, bound)) }) in
+      let back : to_z w64 (of_z w64 (sum +ℤ to_z w64 (of_z w64 r))) ≡ sum +ℤ v =
+      reads added (record { sfits = mag_abs (sum +ℤ v) (omega (arith, bound)) }) in
       record {
         small = rw back bound;
-        total = rw back (+ℤ_assoc (to_z w64 bits) v rest ∙ (ap (λ z. to_z w64 bits +ℤ z) (sym step) ∙ s.total));
+        total = rw back (+ℤ_assoc sum v rest ∙ (ap (λ z. sum +ℤ z) (sym step) ∙ s.total));
       }
 
-pub running_end : {k bits : ℕ} {whole : ℤ} → Running k bits (pos 0) whole → to_z w64 bits ≡ whole
-running_end {k} {bits} s = sym (+ℤ_idr (to_z w64 bits)) ∙ s.total
+pub running_end : {k : ℕ} {sum whole : ℤ} → Running k sum (pos 0) whole → sum ≡ whole
+running_end {k} {sum} s = sym (+ℤ_idr sum) ∙ s.total
 
 -- a sum that begins with a small number
-pub running_from : (k : ℕ) (z rest : ℤ) → nat_abs z ≤ k → k < 2 ^ 63 → Running k (of_z w64 z) rest (to_z w64 (of_z w64 z) +ℤ rest)
+pub running_from : (k : ℕ) (z rest : ℤ) → nat_abs z ≤ k → k < 2 ^ 63 → Running k (to_z w64 (of_z w64 z)) rest (to_z w64 (of_z w64 z) +ℤ rest)
 running_from k z rest h l = let b = read_back z (mag_abs z (omega arith)) in record { small = rw b h; total = refl }
 
 -- nothing is left to add
-pub running_done : {k bits : ℕ} {rest whole : ℤ} → rest ≡ pos 0 → Running k bits rest whole → to_z w64 bits ≡ whole
-running_done {k} {bits} {rest} {whole} e s = running_end (subst (λ r. Running k bits r whole) e s)
+pub running_done : {k : ℕ} {sum rest whole : ℤ} → rest ≡ pos 0 → Running k sum rest whole → sum ≡ whole
+running_done {k} {sum} {rest} {whole} e s = running_end (subst (λ r. Running k sum r whole) e s)

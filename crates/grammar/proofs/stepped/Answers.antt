@@ -9,7 +9,7 @@ returns-then-e c =
     record {
       answer = rw (
         sym c.breaks-b.ensures.answer ∙ c.if-b.false,
-        sym c.fits-f.ensures ∙ c.if-f.true,
+        sym c.fits-f.ensures.answer ∙ c.if-f.true,
         sym c.ends_short-e.ensures.answer ∙ c.if-e.true,
       );
     }
@@ -22,7 +22,7 @@ returns-then-l c =
     record {
       answer = rw (
         sym c.breaks-b.ensures.answer ∙ c.if-b.false,
-        sym c.fits-f.ensures ∙ c.if-f.true,
+        sym c.fits-f.ensures.answer ∙ c.if-f.true,
         sym c.ends_short-e.ensures.answer ∙ c.if-e.false,
         sym c.in_limit-l.ensures.answer ∙ c.if-l.true,
         c.after-t.ensures.answer,
@@ -34,11 +34,11 @@ returns-then-f c =
     record {
       answer = rw (
         sym c.breaks-b.ensures.answer ∙ c.if-b.false,
-        sym c.fits-f.ensures ∙ c.if-f.true,
+        sym c.fits-f.ensures.answer ∙ c.if-f.true,
         sym c.ends_short-e.ensures.answer ∙ c.if-e.false,
         sym c.in_limit-l.ensures.answer ∙ c.if-l.false,
       );
     }
 
 pub returns : goal.returns
-returns c = record { answer = rw (sym c.breaks-b.ensures.answer ∙ c.if-b.false, sym c.fits-f.ensures ∙ c.if-f.false) }
+returns c = record { answer = rw (sym c.breaks-b.ensures.answer ∙ c.if-b.false, sym c.fits-f.ensures.answer ∙ c.if-f.false) }

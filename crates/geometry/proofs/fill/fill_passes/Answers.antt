@@ -13,7 +13,7 @@ back c = to_z-of_z w64 c.args.winding c.ranges.winding
 
 -- src/lib.rt:15:26
 pub nonzero_rem-result : goal.nonzero_rem-result
-nonzero_rem-result c = (omega arith, record { sfits = rw (back c.before.before) (half_fits c.args.winding c.ranges.winding.sfits) })
+nonzero_rem-result c = (omega arith, record { sfits = rw (back c.before) (half_fits c.args.winding c.ranges.winding.sfits) })
 
 -- src/lib.rt:10:1
 pub returns-in-NonZero : goal.returns-in-NonZero
@@ -21,4 +21,4 @@ returns-in-NonZero c = let w = c.args.winding in record { answer = rw c.in-NonZe
 
 -- src/lib.rt:10:1
 pub returns-in-EvenOdd : goal.returns-in-EvenOdd
-returns-in-EvenOdd c = record { answer = rw (back c.before.before, c.in-EvenOdd.is) (rem_test c.args.winding) }
+returns-in-EvenOdd c = record { answer = rw (back c.before, c.in-EvenOdd.is) (rem_test c.args.winding) }

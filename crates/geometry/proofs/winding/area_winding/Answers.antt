@@ -10,7 +10,7 @@ use Rattle.geometry.proofs.winding.area_winding.Goals.{After-wide-end}
 use Rattle.geometry.proofs.winding.area_winding.Goals as goal
 
 -- contour k begins no later than it ends, within the tables
-next_in : (c : After-wide-end invariant-loop decreases-loop)
+next_in : (c : After-wide-end)
     → let a = c.args in
     let l = c.loop-k in
     (l.first ≤ c.wide-end.result)
@@ -28,7 +28,7 @@ pub overflow_add-sum : goal.overflow_add-sum
 overflow_add-sum c =
     let a = c.args in
     let e = c.wide-end.result in
-    let n = next_in c in
+    let n = follow_step _ c.loop-k.first _ c.loop-k.k _ (omega arith) c.wide-end.ensures.answer c.loop-k.invariant.1 in
     running_fits c.loop-k.invariant.2 (sum_of a.xs.now a.ys.now (straight_lines c.loop-k.first c.loop-k.first (e - c.loop-k.first)) a.x a.y) _ _ e
     (e - c.loop-k.first)
     (area_step a.ends.now c.loop-k.first (length a.xs.now) c.loop-k.k e (omega arith) c.wide-end.ensures.answer a.xs.now
@@ -39,7 +39,7 @@ pub loop-k-preserved : goal.loop-k-preserved
 loop-k-preserved c =
     let a = c.args in
     let e = c.wide-end.result in
-    let n = next_in c in (
+    let n = follow_step _ c.loop-k.first _ c.loop-k.k _ (omega arith) c.wide-end.ensures.answer c.loop-k.invariant.1 in (
       omega arith,
       n.2,
       running_more c.loop-k.invariant.2 (sum_of a.xs.now a.ys.now (straight_lines c.loop-k.first c.loop-k.first (e - c.loop-k.first)) a.x a.y) _ _ e
