@@ -2,4 +2,3 @@
 // over them are in the crates above.
 
 #![tactic(auto)]
-

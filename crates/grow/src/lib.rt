@@ -6,7 +6,7 @@ ghost use Rattle.std.specs.Prelude.{◌≡◌, true, cond, ◌+◌, ◌*◌, ◌
 ghost use Rattle.refusals.specs.Refusals.{number_of};
 ghost use Rattle.celltable.specs.Table.{cell_at};
 ghost use Rattle.celltable.specs.Ranges.{side_range, square_range};
-ghost use Rattle.tables.specs.Tables.{tree, tree_lent, cells_used, entries_used, counts_in};
+ghost use Rattle.tables.specs.Tables.{tree, tree_lent_mut, cells_used, entries_used, counts_in};
 ghost use Rattle.split_laws.specs.After.{split_tree};
 ghost use Rattle.grow.specs.declared.Tried.TheVariants.{Wanted};
 ghost use Rattle.grow.specs.declared.Turn.TheVariants.{NoRoom, Stopped};
@@ -157,10 +157,10 @@ fn split_wanted(
 ) -> Turn
     requires cell_bound { (s.cell ≤ 4096) × (s.used ≤ 4096) × (s.splits ≤ 4096) }
     requires in_bounds { 2 ≤ length head.old }
-    ensures answer { result ≡ turn_by Wanted (tree_lent plan areas xs ys head cells entries) s }
-    ensures head { head.new ≡ (split_tree (tree_lent plan areas xs ys head cells entries) s.cell).head }
-    ensures cells { cells.new ≡ (split_tree (tree_lent plan areas xs ys head cells entries) s.cell).cells }
-    ensures entries { entries.new ≡ (split_tree (tree_lent plan areas xs ys head cells entries) s.cell).entries }
+    ensures answer { result ≡ turn_by Wanted (tree_lent_mut plan areas xs ys head cells entries) s }
+    ensures head { head.new ≡ (split_tree (tree_lent_mut plan areas xs ys head cells entries) s.cell).head }
+    ensures cells { cells.new ≡ (split_tree (tree_lent_mut plan areas xs ys head cells entries) s.cell).cells }
+    ensures entries { entries.new ≡ (split_tree (tree_lent_mut plan areas xs ys head cells entries) s.cell).entries }
 {
     let a = split::split(plan, areas, xs, ys, head, cells, entries, s.cell);
     match a {
@@ -190,14 +190,14 @@ fn take_turn(
     requires entries_value { counts_in (tree plan.now areas.now xs.now ys.now head.old cells.old entries.old) ≡ true }
     requires used_value { (s.used ≡ cells_used head.old) × (s.free ≡ entries_used head.old) }
     requires cell_lt_used { (s.cell < s.used) × (s.splits ≤ s.cell) }
-    ensures answer { result ≡ turn_by (tried (tree_lent plan areas xs ys head cells entries) threshold limit s.cell)
-        (tree_lent plan areas xs ys head cells entries) s }
-    ensures head { head.new ≡ (tree_by (tried (tree_lent plan areas xs ys head cells entries) threshold limit s.cell)
-        (tree_lent plan areas xs ys head cells entries) s.cell).head }
-    ensures cells { cells.new ≡ (tree_by (tried (tree_lent plan areas xs ys head cells entries) threshold limit s.cell)
-        (tree_lent plan areas xs ys head cells entries) s.cell).cells }
-    ensures entries { entries.new ≡ (tree_by (tried (tree_lent plan areas xs ys head cells entries) threshold limit s.cell)
-        (tree_lent plan areas xs ys head cells entries) s.cell).entries }
+    ensures answer { result ≡ turn_by (tried (tree_lent_mut plan areas xs ys head cells entries) threshold limit s.cell)
+        (tree_lent_mut plan areas xs ys head cells entries) s }
+    ensures head { head.new ≡ (tree_by (tried (tree_lent_mut plan areas xs ys head cells entries) threshold limit s.cell)
+        (tree_lent_mut plan areas xs ys head cells entries) s.cell).head }
+    ensures cells { cells.new ≡ (tree_by (tried (tree_lent_mut plan areas xs ys head cells entries) threshold limit s.cell)
+        (tree_lent_mut plan areas xs ys head cells entries) s.cell).cells }
+    ensures entries { entries.new ≡ (tree_by (tried (tree_lent_mut plan areas xs ys head cells entries) threshold limit s.cell)
+        (tree_lent_mut plan areas xs ys head cells entries) s.cell).entries }
 {
     let t = try_cell(cells, s, threshold, limit);
     match t {
@@ -228,10 +228,10 @@ fn sweep_up(
     limit: u32,
 ) -> Answer
     requires { counts_in (tree plan.now areas.now xs.now ys.now head.old cells.old entries.old) ≡ true }
-    ensures answer { result ≡ answer_of (grown threshold limit (tree_lent plan areas xs ys head cells entries)) }
-    ensures head { head.new ≡ (grown threshold limit (tree_lent plan areas xs ys head cells entries)).after.head }
-    ensures cells { cells.new ≡ (grown threshold limit (tree_lent plan areas xs ys head cells entries)).after.cells }
-    ensures entries { entries.new ≡ (grown threshold limit (tree_lent plan areas xs ys head cells entries)).after.entries }
+    ensures answer { result ≡ answer_of (grown threshold limit (tree_lent_mut plan areas xs ys head cells entries)) }
+    ensures head { head.new ≡ (grown threshold limit (tree_lent_mut plan areas xs ys head cells entries)).after.head }
+    ensures cells { cells.new ≡ (grown threshold limit (tree_lent_mut plan areas xs ys head cells entries)).after.cells }
+    ensures entries { entries.new ≡ (grown threshold limit (tree_lent_mut plan areas xs ys head cells entries)).after.entries }
 {
     let used = head[celltable::CELLS];
     let free = head[celltable::ENTRIES];
@@ -274,10 +274,10 @@ pub fn grow(
     threshold: u32,
     limit: u32,
 ) -> Answer
-    ensures answer { result ≡ grow_answer (tree_lent plan areas xs ys head cells entries) threshold limit }
-    ensures head { head.new ≡ (grow_tree (tree_lent plan areas xs ys head cells entries) threshold limit).head }
-    ensures cells { cells.new ≡ (grow_tree (tree_lent plan areas xs ys head cells entries) threshold limit).cells }
-    ensures entries { entries.new ≡ (grow_tree (tree_lent plan areas xs ys head cells entries) threshold limit).entries }
+    ensures answer { result ≡ grow_answer (tree_lent_mut plan areas xs ys head cells entries) threshold limit }
+    ensures head { head.new ≡ (grow_tree (tree_lent_mut plan areas xs ys head cells entries) threshold limit).head }
+    ensures cells { cells.new ≡ (grow_tree (tree_lent_mut plan areas xs ys head cells entries) threshold limit).cells }
+    ensures entries { entries.new ≡ (grow_tree (tree_lent_mut plan areas xs ys head cells entries) threshold limit).entries }
 {
     if xs.len() == ys.len() {
         if limit <= celltable::DEEPEST {

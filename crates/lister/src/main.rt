@@ -3,7 +3,7 @@
 #![tactic(auto)]
 
 ghost use Rattle.std.specs.Prelude.{◌≡◌, ◌*◌, ◌≤◌, length};
-ghost use Rattle.tables.specs.Tables.{tree_lent};
+ghost use Rattle.tables.specs.Tables.{tree_lent_mut};
 ghost use Rattle.lister.specs.Printed.{lines_of, outcome_of, outcome_grown, rows_grown, outcome, rows_after};
 
 use grammar::Verdict;
@@ -91,8 +91,8 @@ fn list_grown(
     rows: &mut [u32],
 ) -> Outcome
     requires { 1280 ≤ length rows.old }
-    ensures answer { result ≡ outcome_grown (tree_lent plan areas xs ys head cells entries) }
-    ensures rows { rows.new ≡ rows_grown (tree_lent plan areas xs ys head cells entries) rows.old }
+    ensures answer { result ≡ outcome_grown (tree_lent_mut plan areas xs ys head cells entries) }
+    ensures rows { rows.new ≡ rows_grown (tree_lent_mut plan areas xs ys head cells entries) rows.old }
     ensures range { lines_of result ≤ 256 }
 {
     let a = grow::grow(
@@ -122,8 +122,8 @@ fn list_drawing(
     rows: &mut [u32],
 ) -> Outcome
     requires { 1280 ≤ length rows.old }
-    ensures answer { result ≡ outcome (tree_lent plan areas xs ys head cells entries) }
-    ensures rows { rows.new ≡ rows_after (tree_lent plan areas xs ys head cells entries) rows.old }
+    ensures answer { result ≡ outcome (tree_lent_mut plan areas xs ys head cells entries) }
+    ensures rows { rows.new ≡ rows_after (tree_lent_mut plan areas xs ys head cells entries) rows.old }
     ensures range { lines_of result ≤ 256 }
 {
     let a = open::open(plan, areas, xs, ys, head, cells, entries);

@@ -9,7 +9,7 @@ ghost use Rattle.stream.specs.Entry.{lines_in};
 ghost use Rattle.stream.specs.Grammar.{bounds};
 ghost use Rattle.celltable.specs.Table.{put_cell_at};
 ghost use Rattle.root_stream.specs.Opened.{words_opened};
-ghost use Rattle.tables.specs.Tables.{tree, tree_lent};
+ghost use Rattle.tables.specs.Tables.{tree, tree_lent, tree_lent_mut};
 ghost use Rattle.open.specs.declared.Answer.TheVariants.{Opened, Not};
 ghost use Rattle.open.specs.Open.{root_words, room_for, room_answer, open_answer, head_opened, cells_opened, entries_opened};
 ghost use Rattle.open.specs.code.Judged.{Told};
@@ -177,9 +177,9 @@ fn put_opened(
     requires entries_value { open_answer (tree plan.now areas.now xs.now ys.now head.old cells.old entries.old) ≡ Opened n }
     requires ys_value { drawing_verdict (tables plan.now areas.now xs.now ys.now) ≡ Accepted k }
     requires lines_value { lines ≡ lines_in (words_opened (tables plan.now areas.now xs.now ys.now)) }
-    ensures head { head.new ≡ head_opened (tree_lent plan areas xs ys head cells entries) (Opened n) }
-    ensures cells { cells.new ≡ cells_opened (tree_lent plan areas xs ys head cells entries) (Opened n) }
-    ensures entries { entries.new ≡ entries_opened (tree_lent plan areas xs ys head cells entries) (Opened n) }
+    ensures head { head.new ≡ head_opened (tree_lent_mut plan areas xs ys head cells entries) (Opened n) }
+    ensures cells { cells.new ≡ cells_opened (tree_lent_mut plan areas xs ys head cells entries) (Opened n) }
+    ensures entries { entries.new ≡ entries_opened (tree_lent_mut plan areas xs ys head cells entries) (Opened n) }
 {
     let b = root_bounds(k);
     root_stream::write_open(entries, n as usize, plan, areas, xs, ys, k.records, b);
@@ -198,10 +198,10 @@ pub fn open(
     cells: &mut [u32],
     entries: &mut [u32],
 ) -> Answer
-    ensures answer { result ≡ open_answer (tree_lent plan areas xs ys head cells entries) }
-    ensures head { head.new ≡ head_opened (tree_lent plan areas xs ys head cells entries) result }
-    ensures cells { cells.new ≡ cells_opened (tree_lent plan areas xs ys head cells entries) result }
-    ensures entries { entries.new ≡ entries_opened (tree_lent plan areas xs ys head cells entries) result }
+    ensures answer { result ≡ open_answer (tree_lent_mut plan areas xs ys head cells entries) }
+    ensures head { head.new ≡ head_opened (tree_lent_mut plan areas xs ys head cells entries) result }
+    ensures cells { cells.new ≡ cells_opened (tree_lent_mut plan areas xs ys head cells entries) result }
+    ensures entries { entries.new ≡ entries_opened (tree_lent_mut plan areas xs ys head cells entries) result }
 {
     let j = judge(plan, areas, xs, ys, head, cells, entries);
     let a = j.answer;

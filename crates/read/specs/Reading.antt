@@ -2,7 +2,7 @@
 use Rattle.std.specs.Prelude.{ℕ, zero, suc, ◌+◌, ◌*◌, ◌-◌, ◌/◌, ◌%◌, ◌≤◌, ◌≡◌, Bool, true, false, cond, ◌&&◌, List, [], ◌∷◌, length, eqb, leb}
 use Rattle.std.proofs.lemmas.List.Edits.{sets}
 use denote.Triple.Both.{Both}
-use Rattle.std.specs.Borrow.{Bor}
+use Rattle.std.specs.Borrow.{Bor, MutBor}
 use Rattle.refusals.specs.declared.Refusal.TheVariants.{Length, Argument, Room}
 use Rattle.records.specs.declared.Record.{Record}
 use Rattle.records.specs.declared.Decoded.{Decoded}
@@ -48,7 +48,7 @@ read_answer b plan areas xs ys = cond (eqb (length xs) (length ys)) (if_room (ve
 abbrev pub records_lent : Both (Bor (List ℕ)) (Bor (List ℕ)) → List Record
 records_lent b = records_in b.entry.now
 
-abbrev pub read_lent : (records plan areas xs ys : Both (Bor (List ℕ)) (Bor (List ℕ))) → Verdict
+abbrev pub read_lent : (records : Both (Bor (List ℕ)) (Bor (List ℕ))) (plan areas xs ys : Both (MutBor (List ℕ)) (MutBor (List ℕ))) → Verdict
 read_lent b p a x y = read_answer b.entry.now p.entry.now a.entry.now x.entry.now y.entry.now
 
 -- a table after the call: the words in use from its beginning; "An accepted call leaves the rest of a longer output untouched."

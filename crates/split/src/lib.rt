@@ -11,7 +11,7 @@ ghost use Rattle.ranges.specs.Held.{lent};
 ghost use Rattle.four_children.specs.Children.{streams_to};
 ghost use Rattle.four_children.specs.code.Numbers.{no_tally, worked_to, cells_by, FewEach};
 ghost use Rattle.refusals.specs.declared.Refusal.{Refusal};
-ghost use Rattle.tables.specs.Tables.{tree, tree_lent};
+ghost use Rattle.tables.specs.Tables.{tree, tree_lent, tree_lent_mut};
 ghost use Rattle.split.specs.declared.Answer.TheVariants.{Split, Not};
 ghost use Rattle.split.specs.Split.{words, drawing, stream, made_by, room_answer, leaf_answer, cell_answer};
 ghost use Rattle.split.specs.Split.{split_answer, head_after, cells_after, entries_after};
@@ -292,9 +292,9 @@ fn make_split(
     requires ts_value { ts ≡ worked_to (drawing (tree plan.now areas.now xs.now ys.now head.old cells.old entries.old) i)
         (cell_of (words (tree plan.now areas.now xs.now ys.now head.old cells.old entries.old) i))
         (stream (tree plan.now areas.now xs.now ys.now head.old cells.old entries.old) i) 4 }
-    ensures head { head.new ≡ head_after (tree_lent plan areas xs ys head cells entries) i (Split 0) }
-    ensures cells { cells.new ≡ cells_after (tree_lent plan areas xs ys head cells entries) i (Split 0) }
-    ensures entries { entries.new ≡ entries_after (tree_lent plan areas xs ys head cells entries) i (Split 0) }
+    ensures head { head.new ≡ head_after (tree_lent_mut plan areas xs ys head cells entries) i (Split 0) }
+    ensures cells { cells.new ≡ cells_after (tree_lent_mut plan areas xs ys head cells entries) i (Split 0) }
+    ensures entries { entries.new ≡ entries_after (tree_lent_mut plan areas xs ys head cells entries) i (Split 0) }
 {
     let used = head[celltable::CELLS];
     let free = head[celltable::ENTRIES];
@@ -315,10 +315,10 @@ pub fn split(
     entries: &mut [u32],
     i: u32,
 ) -> Answer
-    ensures answer { result ≡ split_answer (tree_lent plan areas xs ys head cells entries) i }
-    ensures head { head.new ≡ head_after (tree_lent plan areas xs ys head cells entries) i result }
-    ensures cells { cells.new ≡ cells_after (tree_lent plan areas xs ys head cells entries) i result }
-    ensures entries { entries.new ≡ entries_after (tree_lent plan areas xs ys head cells entries) i result }
+    ensures answer { result ≡ split_answer (tree_lent_mut plan areas xs ys head cells entries) i }
+    ensures head { head.new ≡ head_after (tree_lent_mut plan areas xs ys head cells entries) i result }
+    ensures cells { cells.new ≡ cells_after (tree_lent_mut plan areas xs ys head cells entries) i result }
+    ensures entries { entries.new ≡ entries_after (tree_lent_mut plan areas xs ys head cells entries) i result }
 {
     let j = judge(plan, areas, xs, ys, head, cells, entries, i);
     let a = j.answer;

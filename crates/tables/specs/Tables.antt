@@ -1,7 +1,7 @@
 -- The tables of a drawing and of its tree, together; 12 over the numbers in use, which every call on a tree meets, and over a leaf.
 use Rattle.std.specs.Prelude.{Bool, false, cond, ◌&&◌, List, ℕ, eqb, leb, length, get_or}
 use denote.Triple.Both.{Both}
-use Rattle.std.specs.Borrow.{Bor}
+use Rattle.std.specs.Borrow.{Bor, MutBor}
 use Rattle.stream.specs.declared.Bounds.{Bounds}
 use Rattle.stream.specs.Entry.{lines_in}
 use Rattle.stream.specs.Table.{words_from}
@@ -26,6 +26,13 @@ tree p a x y h c e = record { plan = p; areas = a; xs = x; ys = y; head = h; cel
 -- at the call's entry and at its exit, and this takes what each holds at entry
 abbrev pub tree_lent : (plan areas xs ys head cells entries : Both (Bor (List ℕ)) (Bor (List ℕ))) → Tree
 tree_lent p a x y h c e =
+    tree p.entry.now a.entry.now x.entry.now y.entry.now h.entry.now c.entry.now e.entry.now
+
+-- the same, where the last three are lent to be written
+abbrev pub tree_lent_mut : (plan areas xs ys : Both (Bor (List ℕ)) (Bor (List ℕ)))
+    → (head cells entries : Both (MutBor (List ℕ)) (MutBor (List ℕ)))
+    → Tree
+tree_lent_mut p a x y h c e =
     tree p.entry.now a.entry.now x.entry.now y.entry.now h.entry.now c.entry.now e.entry.now
 
 -- "cells in use": a head too short for its two words has none

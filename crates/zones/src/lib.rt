@@ -15,7 +15,7 @@ ghost use Rattle.std.specs.Prelude.{◌≡◌, length};
 ghost use Rattle.read.specs.Words.{plan_words, area_words, x_words, y_words};
 ghost use Rattle.read.specs.Reading.{records_lent, read_lent, left_by};
 ghost use Rattle.drawing.specs.Tables.{drawing_lent, write_answer, out_written};
-ghost use Rattle.tables.specs.Tables.{tree_lent};
+ghost use Rattle.tables.specs.Tables.{tree_lent, tree_lent_mut};
 ghost use Rattle.split.specs.Split.{split_answer, split_tables};
 ghost use Rattle.open.specs.Open.{open_answer, open_tree};
 ghost use Rattle.find_leaf.specs.Leaf.{find_answer};
@@ -71,10 +71,10 @@ pub extern "C" fn zones_open(
     cells: &mut [u32],
     entries: &mut [u32],
 ) -> u64
-    ensures answer { result ≡ open_number (open_answer (tree_lent plan areas xs ys head cells entries)) }
-    ensures head { head.new ≡ (open_tree (tree_lent plan areas xs ys head cells entries)).head }
-    ensures cells { cells.new ≡ (open_tree (tree_lent plan areas xs ys head cells entries)).cells }
-    ensures entries { entries.new ≡ (open_tree (tree_lent plan areas xs ys head cells entries)).entries }
+    ensures answer { result ≡ open_number (open_answer (tree_lent_mut plan areas xs ys head cells entries)) }
+    ensures head { head.new ≡ (open_tree (tree_lent_mut plan areas xs ys head cells entries)).head }
+    ensures cells { cells.new ≡ (open_tree (tree_lent_mut plan areas xs ys head cells entries)).cells }
+    ensures entries { entries.new ≡ (open_tree (tree_lent_mut plan areas xs ys head cells entries)).entries }
 {
     let a = open::open(plan, areas, xs, ys, head, cells, entries);
     answers::pack_open(a)
@@ -93,10 +93,10 @@ pub extern "C" fn zones_split(
     entries: &mut [u32],
     cell: u32,
 ) -> u64
-    ensures answer { result ≡ split_number (split_answer (tree_lent plan areas xs ys head cells entries) cell) }
-    ensures head { head.new ≡ (split_tables (tree_lent plan areas xs ys head cells entries) cell).head }
-    ensures cells { cells.new ≡ (split_tables (tree_lent plan areas xs ys head cells entries) cell).cells }
-    ensures entries { entries.new ≡ (split_tables (tree_lent plan areas xs ys head cells entries) cell).entries }
+    ensures answer { result ≡ split_number (split_answer (tree_lent_mut plan areas xs ys head cells entries) cell) }
+    ensures head { head.new ≡ (split_tables (tree_lent_mut plan areas xs ys head cells entries) cell).head }
+    ensures cells { cells.new ≡ (split_tables (tree_lent_mut plan areas xs ys head cells entries) cell).cells }
+    ensures entries { entries.new ≡ (split_tables (tree_lent_mut plan areas xs ys head cells entries) cell).entries }
 {
     let a = split::split(plan, areas, xs, ys, head, cells, entries, cell);
     answers::pack_split(a)
@@ -117,10 +117,10 @@ pub extern "C" fn zones_grow(
     threshold: u32,
     limit: u32,
 ) -> u64
-    ensures answer { result ≡ grow_number (grow_answer (tree_lent plan areas xs ys head cells entries) threshold limit) }
-    ensures head { head.new ≡ (grow_tree (tree_lent plan areas xs ys head cells entries) threshold limit).head }
-    ensures cells { cells.new ≡ (grow_tree (tree_lent plan areas xs ys head cells entries) threshold limit).cells }
-    ensures entries { entries.new ≡ (grow_tree (tree_lent plan areas xs ys head cells entries) threshold limit).entries }
+    ensures answer { result ≡ grow_number (grow_answer (tree_lent_mut plan areas xs ys head cells entries) threshold limit) }
+    ensures head { head.new ≡ (grow_tree (tree_lent_mut plan areas xs ys head cells entries) threshold limit).head }
+    ensures cells { cells.new ≡ (grow_tree (tree_lent_mut plan areas xs ys head cells entries) threshold limit).cells }
+    ensures entries { entries.new ≡ (grow_tree (tree_lent_mut plan areas xs ys head cells entries) threshold limit).entries }
 {
     let a = grow::grow(plan, areas, xs, ys, head, cells, entries, threshold, limit);
     answers::pack_grow(a)
