@@ -20,7 +20,7 @@ use Rattle.cells.specs.Cells.{Cell}
 use Rattle.cells.specs.Segments.{Segment, drawn, sign_of, class_in, kept_by, kept_in, start_by, start_in}
 use Rattle.cells.specs.Drawings.{Drawing}
 use Rattle.cells.specs.Streams.{Each, items, within, whole, source, made}
-use Rattle.cells.specs.code.Sizes.{Small, Signs_in}
+use Rattle.cells.specs.code.Sizes.{Small, SignsIn}
 use Rattle.cells.proofs.Each.{each_sub, each_mapped, on_any}
 use Rattle.cells.proofs.Streams.{made_normal}
 
@@ -34,17 +34,17 @@ sign_abs e = go (ltb e.y0 e.y1) (ltb e.y1 e.y0)
     go false false = omega arith
 
 module _ (xs ys : List ℕ) where
-  signs_lines : (ls : List Line) → Signs_in xs ys (map drawn ls)
+  signs_lines : (ls : List Line) → SignsIn xs ys (map drawn ls)
   signs_lines [] = tt
   signs_lines (l ∷ ls) = (sign_abs (edge_of xs ys l), signs_lines ls)
 
-  signs_by : (g : Segment) (gs : List Segment) (k : Class) → nat_abs (sign_of xs ys g) ≤ 1 → Signs_in xs ys gs → Signs_in xs ys (kept_by xs ys k g gs)
+  signs_by : (g : Segment) (gs : List Segment) (k : Class) → nat_abs (sign_of xs ys g) ≤ 1 → SignsIn xs ys gs → SignsIn xs ys (kept_by xs ys k g gs)
   signs_by g gs Dropped h s = s
   signs_by g gs Start h s = s
   signs_by g gs (Shortcut lo hi) h s = (h, s)
   signs_by g gs Kept h s = (h, s)
 
-  signs_kept : (c : Cell) (gs : List Segment) → Signs_in xs ys gs → Signs_in xs ys (kept_in xs ys c gs)
+  signs_kept : (c : Cell) (gs : List Segment) → SignsIn xs ys gs → SignsIn xs ys (kept_in xs ys c gs)
   signs_kept c [] s = tt
   signs_kept c (g ∷ gs) s = signs_by g (kept_in xs ys c gs) (class_in xs ys c g) s.0 (signs_kept c gs s.1)
 
@@ -57,7 +57,7 @@ module _ (xs ys : List ℕ) where
   start_by_law c z g gs Kept h f = omega (arith, f z)
 
   pub start_bound : (c : Cell) (z : ℤ) (gs : List Segment)
-      → Signs_in xs ys gs
+      → SignsIn xs ys gs
       → nat_abs (start_in xs ys c z gs) + length (kept_in xs ys c gs) ≤ nat_abs z + length gs
   start_bound c z [] s = omega arith
   start_bound c z (g ∷ gs) s = start_by_law c z g gs (class_in xs ys c g) s.0 (λ y. start_bound c y gs s.1)
@@ -77,7 +77,7 @@ made_small D m h c =
     small : (k : Kind) (n : ℕ) → Small D m k (within D c (whole D n))
     small k n =
         let ls : List Line = lines_of (get_or D.contours n []) in
-        let s : Signs_in D.xs D.ys (map drawn ls) = signs_lines D.xs D.ys ls in (
+        let s : SignsIn D.xs D.ys (map drawn ls) = signs_lines D.xs D.ys ls in (
           omega (arith, start_bound D.xs D.ys c (pos 0) (map drawn ls) s, length-map {B = Segment} ls drawn, h n),
           signs_kept D.xs D.ys c (map drawn ls) s,
         )

@@ -43,7 +43,7 @@ use Rattle.cells.specs.Elements.{
   add_to,
   on_elements,
   read_elements,
-  On_side,
+  OnSide,
   role_in,
   read_at,
   Fitted,
@@ -137,21 +137,21 @@ module _ (role : ℕ → Kind) where
   decode_segments (g ∷ gs) ws es e = rw (decode_segments gs ws es e)
 
   decode_item : (k : Kind) (a : Item) (ws : List Element) (es : List (Entry Item))
-      → On_side role k a
+      → OnSide role k a
       → decode role ws ≡ dec [] es
       → decode role (item_elements a ++ ws) ≡ dec [] (item k a ∷ es)
   decode_item paint always ws es h e = absurd h
   decode_item clip always ws es h e = rw e
   decode_item k (area n z gs) ws es h e = rw (decode_segments gs ws es e, h)
 
-  pub decode_elements : (es : List (Entry Item)) → Each (On_side role) es → decode role (elements_of es) ≡ dec [] es
+  pub decode_elements : (es : List (Entry Item)) → Each (OnSide role) es → decode role (elements_of es) ≡ dec [] es
   decode_elements [] h = refl
   decode_elements (item k a ∷ es) h = decode_item k a (elements_of es) es h.0 (decode_elements es h.1)
   decode_elements (push ∷ es) h = rw (decode_elements es h)
   decode_elements (activate ∷ es) h = rw (decode_elements es h)
   decode_elements (pop ∷ es) h = rw (decode_elements es h)
 
-  pub elements_back : (x : Side Item) → Each (On_side role) (flat paint x) → stream_of role (elements_of (flat paint x)) ≡ x
+  pub elements_back : (x : Side Item) → Each (OnSide role) (flat paint x) → stream_of role (elements_of (flat paint x)) ≡ x
   elements_back x h = ap (λ d. tree (entries_of d)) (decode_elements (flat paint x) h) ∙ tree_flat x
 
 -- ---- of a drawing
@@ -177,17 +177,17 @@ module _ (D : Drawing) where
       ∙ ap (λ f. set_of (map number_of (shown (passes_in D p) f x))) (fun_ext (opaque_same p)))
 
   -- the elements of a stream whose areas stand on sides of their roles
-  pub elements_read : (p : Position) (x : Side Item) → Each (On_side (role_in D)) (flat paint x) → read_at D p (elements_of (flat paint x)) ≡ set_of (shown_in D p x)
+  pub elements_read : (p : Position) (x : Side Item) → Each (OnSide (role_in D)) (flat paint x) → read_at D p (elements_of (flat paint x)) ≡ set_of (shown_in D p x)
   elements_read p x h = side_read p (elements_of (flat paint x)) x (ap entries_of (decode_elements (role_in D) (flat paint x) h))
 
-  pub made_on_side : Fitted D → (c : Cell) → Each (On_side (role_in D)) (flat paint (made D c (source D)))
+  pub made_on_side : Fitted D → (c : Cell) → Each (OnSide (role_in D)) (flat paint (made D c (source D)))
   made_on_side f c =
       rw (made_normal D c (source D))
-      (each_sub (items D) (On_side (role_in D)) tt (normal_sub (items D) paint (map_side (within D c) (source D)))
+      (each_sub (items D) (OnSide (role_in D)) tt (normal_sub (items D) paint (map_side (within D c) (source D)))
       (rw (map_map (whole D) (within D c) D.plan)
-      (each_mapped (λ k n. role_in D n ≡ k) (On_side (role_in D)) (λ n. within D c (whole D n)) (λ k n e. stands k n e) paint D.plan f)))
+      (each_mapped (λ k n. role_in D n ≡ k) (OnSide (role_in D)) (λ n. within D c (whole D n)) (λ k n e. stands k n e) paint D.plan f)))
     where
-      stands : (k : Kind) (n : ℕ) → role_in D n ≡ k → On_side (role_in D) k (within D c (whole D n))
+      stands : (k : Kind) (n : ℕ) → role_in D n ≡ k → OnSide (role_in D) k (within D c (whole D n))
       stands paint n e = e
       stands clip n e = e
 

@@ -57,10 +57,10 @@ module _ (role : ℕ → Kind) where
   stream_of ws = tree (entries_of (decode ws))
 
   -- an area stands on a side of its role; "passes" stands where a clip area may
-  abbrev pub On_side : Kind → Item → Type 0
-  On_side paint always = ⊥
-  On_side clip always = Unit {0}
-  On_side k (area n z gs) = role n ≡ k
+  abbrev pub OnSide : Kind → Item → Type 0
+  OnSide paint always = ⊥
+  OnSide clip always = Unit {0}
+  OnSide k (area n z gs) = role n ≡ k
 
 -- an area waits, with its sum so far, until its lines and shortcuts are read
 pub data Pending : Type 0 where

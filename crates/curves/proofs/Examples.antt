@@ -78,11 +78,11 @@ abbrev all_right : List Spot → Bool
 all_right [] = true
 all_right (s ∷ l) = right s && all_right l
 
-abbrev pub All_say : List Spot → Type 0
-All_say [] = Unit {0}
-All_say (s ∷ l) = Says s × All_say l
+abbrev pub AllSay : List Spot → Type 0
+AllSay [] = Unit {0}
+AllSay (s ∷ l) = Says s × AllSay l
 
-all_say : (l : List Spot) → T (all_right l) → All_say l
+all_say : (l : List Spot) → T (all_right l) → AllSay l
 all_say [] t = tt
 all_say (s ∷ l) t = (says s (&&_left (right s) (all_right l) t), all_say l (&&_right (right s) (all_right l) t))
 
@@ -90,5 +90,5 @@ checked : T (all_right table)
 unfolding product side curve_counts
 checked = tt
 
-pub spots : All_say table
+pub spots : AllSay table
 spots = all_say table checked

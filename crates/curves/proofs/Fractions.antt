@@ -107,8 +107,8 @@ near i j q N rows some = by (dec_lt q (i + j))
 
 -- ---- the side, by differences, and the fraction
 
-abbrev pub Under_side : (x0 g h i j x q : ℕ) → Type 0
-Under_side x0 g h i j x q =
+abbrev pub UnderSide : (x0 g h i j x q : ℕ) → Type 0
+UnderSide x0 g h i j x q =
     Side (x0 * (i + j) + q * (g + h)) (x * (i + j)) (x0 * i + q * g) (x * i) ((x0 + g) * j + q * h) (x * j + i * h) (i * h) (g * j)
 
 spread_weights : (p g h n k : ℕ) → weighed p (p + g) (p + g + h) n k ≡ p * square n k + g * (2 * (k * n) + n * n) + h * (n * n)
@@ -143,7 +143,7 @@ module _ (x0 y0 g h i j x q : ℕ) (some_row : 0 < i + j) where
   beyond : (n k d f : ℕ) → 0 < n + k → 0 < f
       → x0 * square n k + g * (2 * (k * n) + n * n) + h * (n * n) + 0 ≡ x * square n k + f
       → risen i j n k + d ≡ q * square n k
-      → Under_side x0 g h i j x q
+      → UnderSide x0 g h i j x q
   beyond n k d f wide some e r =
       sound (x0 * (i + j) + q * (g + h)) (x * (i + j)) (x0 * i + q * g) (x * i) ((x0 + g) * j + q * h) (x * j + i * h) (i * h) (g * j) whole n k wide
       (f * i + d * g) (f * j + d * h) (some_sum f d g h i j some some_row) (no_short _ _ i (first n k d f 0 wide e r))
@@ -153,20 +153,20 @@ module _ (x0 y0 g h i j x q : ℕ) (some_row : 0 < i + j) where
   short : (n k d r p : ℕ) → 0 < n + k → d * (g + h) ≤ r * (n + k) → 6 * ((i * h + g * j) * r) + 5 * (r * r) < n + k
       → x0 * square n k + g * (2 * (k * n) + n * n) + h * (n * n) + p ≡ x * square n k + 0
       → risen i j n k + d ≡ q * square n k
-      → Under_side x0 g h i j x q
+      → UnderSide x0 g h i j x q
       → ⊥
   short n k d r p wide close big e rise =
       never (x0 * (i + j) + q * (g + h)) (x * (i + j)) (x0 * i + q * g) (x * i) ((x0 + g) * j + q * h) (x * j + i * h) (i * h) (g * j) whole n k wide d g h r
       (p * i) (p * j) close big (no_reach _ _ i d g (first n k d 0 p wide e rise)) (no_reach _ _ j d h (second n k d 0 p wide e rise))
 
-  pub under_sound : Reaches → Under_side x0 g h i j x q
+  pub under_sound : Reaches → UnderSide x0 g h i j x q
   under_sound u =
       let n = u.n in
       let k = u.k in
       beyond n k (q * square n k - risen i j n k) (weighed x0 (x0 + g) (x0 + g + h) n k - x * square n k) u.some (omega (arith, u.right))
       (omega (arith, u.right, spread_weights x0 g h n k)) (omega (arith, u.low, spread_weights y0 i j n k))
 
-  pub under_complete : q ≤ i + j → Under_side x0 g h i j x q → Reaches
+  pub under_complete : q ≤ i + j → UnderSide x0 g h i j x q → Reaches
   under_complete rows s = go (4 * ((i + j) * (g + h))) refl
     where
       -- N is chosen so that a fraction of it is close enough

@@ -46,7 +46,7 @@ use Rattle.demand.specs.History.{Node, cell_in, after_splits, Leaf, LeafAt}
 use Rattle.demand.specs.NoTree.{paint_of}
 use Rattle.demand.specs.Stands.{drawing_of, words_of_cell}
 use Rattle.demand.specs.Calls.{finds, reads, splitting, growing, finding, reading, rowing, logging, refusal, given, after_split, grown_cells}
-use Rattle.demand.specs.Demand.{Split_right, Grow_right, report_shown, found_given, FindRight, spot_there, position_given, SaysShown, ReadRight}
+use Rattle.demand.specs.Demand.{SplitRight, GrowRight, report_shown, found_given, FindRight, spot_there, position_given, SaysShown, ReadRight}
 use Rattle.demand.specs.Shown.{fill_shown, row_shown, log_shown, log_answer_shown}
 use Rattle.demand.proofs.History.{splits_longer}
 use Rattle.demand.proofs.Sound.{Sound}
@@ -58,7 +58,7 @@ use Rattle.demand.proofs.Readings.{shown_alike, position_inside, position_outsid
 -- ---- a split
 pub record SplitDone (t : Tree) (H : List Node) (i : ℕ) (a : Splitting.Answer) : Type 0 where
   pub sound : Sound (split_tree t i) (after_split H i a)
-  pub right : Split_right H i a
+  pub right : SplitRight H i a
   pub unmet : refusal (splitting a) ≡ 12 → ⊥
 
 broken_number : (r : Refusal) → (r ≡ Refusals.Broken → ⊥) → number_of r ≡ 12 → ⊥
@@ -86,7 +86,7 @@ split_done t H i s = split_by t H i s refl (split_outcome t H i s)
 -- ---- growing
 pub record GrowDone (D : Drawing) (n l : ℕ) (H K : List Node) (u : Tree) (a : Growing.Answer) : Type 0 where
   pub sound : Sound u K
-  pub right : Grow_right D n l H K u a
+  pub right : GrowRight D n l H K u a
   pub unmet : refusal (growing a) ≡ 12 → ⊥
 
 grown_by : (D : Drawing) (n l : ℕ) (few : l ≤ 16) (H : List Node) (u : Tree) (is : List ℕ) (e : Ending)

@@ -16,7 +16,7 @@ use Rattle.demand.specs.History.{Node, begun}
 use Rattle.demand.specs.Stands.{drawing_of}
 use Rattle.demand.specs.Calls.{opens, splits, grows, finds, reads, rows, logs, opening, rowing, logging, gives}
 use Rattle.demand.specs.Lists.{Listed, own, other, Allowed, tables_after, nodes_after}
-use Rattle.demand.specs.Demand.{Right_listed, Unmet, Throughout, Demand3}
+use Rattle.demand.specs.Demand.{RightListed, Unmet, Throughout, Demand3}
 use Rattle.demand.proofs.Sound.{Sound, sound_stands}
 use Rattle.demand.proofs.Opened.{open_sound}
 use Rattle.demand.proofs.Splits.{tables_split}
@@ -29,7 +29,7 @@ use Rattle.demand.proofs.Logs.{log_right, log_out}
 -- ---- one call on sound tables
 record Called (c : Listed) (t : Tree) (H : List Node) : Type 0 where
   sound : Sound (tables_after c t) (nodes_after c t H)
-  right : Right_listed (drawing_of t) c t H
+  right : RightListed (drawing_of t) c t H
   unmet : Unmet c t
   unchanged : drawing_tables (tables_after c t) ≡ drawing_tables t
 
@@ -75,7 +75,7 @@ module _ (D : Drawing) where
           before = sound_stands D t H s e;
           after = sound_stands D (tables_after c t) (nodes_after c t H) r.sound f;
           unchanged = r.unchanged;
-          right = subst (λ (E : Drawing). Right_listed E c t H) e r.right;
+          right = subst (λ (E : Drawing). RightListed E c t H) e r.right;
           unmet = r.unmet;
         },
         claimed cs (tables_after c t) (nodes_after c t H) r.sound f,

@@ -47,7 +47,7 @@ use Rattle.demand.specs.Stands.{drawing_of, words_of_cell}
 use Rattle.answers.specs.Readings.{spot_put}
 use Rattle.demand.specs.Calls.{opens, splits, reads, opening, answer_to, number_by, refusal, output_after, Given, given}
 use Rattle.demand.specs.Demand.{ReadRight}
-use Rattle.demand.specs.Lists.{Listed, own, other, Refused, All_allowed, tables_after_all, nodes_after_all}
+use Rattle.demand.specs.Lists.{Listed, own, other, Refused, AllAllowed, tables_after_all, nodes_after_all}
 use Rattle.demand.specs.Files.{read_tree, FileOpened, file_tree, drawing_of_file, Shows, position, call_of, GivesShown}
 use Rattle.demand.proofs.Lists.{list_goes_on, refused_same}
 use Rattle.demand.proofs.Files.{file_demand, from_file}
@@ -165,7 +165,7 @@ seven e = omega arith
 eleven : Refused opens headless
 eleven e = let z : ◌≡◌ {A = ℕ} 11 0 = sym (ap (λ (a : Opening.Answer). refusal (opening a)) no_room) ∙ e in omega arith
 
-allowed : All_allowed calls (file_tree file blank)
+allowed : AllAllowed calls (file_tree file blank)
 allowed = (λ e. clash e, ((seven, refused_same (splits 0) unequal refl seven), ((eleven, refused_same opens headless refl eleven), tt)))
 
 abbrev after : Tree

@@ -42,17 +42,17 @@ use Rattle.demand.specs.Files.{
   FileOpened,
   file_tree,
   drawing_of_file,
-  File_demand3,
+  FileDemand3,
   Shows,
   position,
   pixels,
   run,
   call_of,
-  In_leaf,
+  InLeaf,
   number_shown,
   output_shown,
   GivesShown,
-  From_file,
+  FromFile,
 }
 use Rattle.demand.proofs.Demand.{demand_over}
 use Rattle.demand.proofs.Lists.{list_goes_on}
@@ -68,7 +68,7 @@ file_held : (file : List ℕ) (t : Tree) → FileOpened file t → drawing_of (r
 file_held file t o =
     ap (λ (v : Verdict). drawing_in (drawing_tables (read_by v file t))) o.read ∙ file_drawing file t.plan t.areas t.xs t.ys o.counts o.read
 
-pub file_demand : File_demand3
+pub file_demand : FileDemand3
 file_demand file t o cs = demand_over (drawing_of_file file) (read_tree file t) o.entries (file_held file t o) o.opened cs
 
 -- ---- an accepted reading
@@ -113,7 +113,7 @@ module _ (D : Drawing) where
   -- what is given is what is shown
   shows_accepted : (H : List Node) (r : Shows) (t : Tree) (g : Given) (i : ℕ)
       → given (call_of r) t ≡ g
-      → In_leaf H r i
+      → InLeaf H r i
       → number_by g.answer ≡ number_shown D r
       → g.output ≡ output_shown D H i r
       → GivesShown D H r t
@@ -151,7 +151,7 @@ module _ (D : Drawing) where
   allowed (pixels row first out) t = λ e. clash e
   allowed (run px py out) t = λ e. clash e
 
-pub from_file : From_file
+pub from_file : FromFile
 from_file file t o cs a r h =
     let D = drawing_of_file file in
     let u = tables_after_all cs (file_tree file t) in

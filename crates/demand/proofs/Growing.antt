@@ -51,7 +51,7 @@ use Rattle.grow.specs.Grow.{
 use Rattle.demand.specs.History.{Node, cell_in, split_at, after_splits, Leaf}
 use Rattle.demand.specs.Stands.{drawing_of, words_of_cell}
 use Rattle.demand.specs.Demand as Demand
-use Rattle.demand.specs.Demand.{None_wanted, FullAt}
+use Rattle.demand.specs.Demand.{NoneWanted, FullAt}
 use Rattle.demand.proofs.History.{one_longer}
 use Rattle.demand.proofs.Sound.{Sound}
 use Rattle.demand.proofs.Passing.{cell_is, cell_passes}
@@ -153,7 +153,7 @@ module _ (D : Drawing) (n l : ℕ) (few : l ≤ 16) where
   -- ---- one round
   data Turns (t : Tree) (H : List Node) : Round → Type 0 where
     divides : (i : ℕ) → Sound (split_tree t i) (split_at H i) → Turns t H (splits i)
-    ends : None_wanted D n l H → Turns t H done
+    ends : NoneWanted D n l H → Turns t H done
     stops : FullAt D n l H t → Turns t H full
 
   deep : (H : List Node) (i : ℕ) → Wants H i → 0 < level (cell_in H i)
@@ -181,7 +181,7 @@ module _ (D : Drawing) (n l : ℕ) (few : l ≤ 16) where
 
   -- ---- again and again
   abbrev pub Ends : List Node → Tree → Ending → Type 0
-  Ends K u none_left = None_wanted D n l K
+  Ends K u none_left = NoneWanted D n l K
   Ends K u no_room = FullAt D n l K u
   Ends K u not_passed = ⊥
 

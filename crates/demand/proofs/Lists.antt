@@ -17,17 +17,17 @@ use Rattle.demand.specs.History.{Node}
 use Rattle.demand.specs.Stands.{Stands}
 use Rattle.demand.specs.code.Opened.{opened_by}
 use Rattle.demand.specs.Calls.{Call, opens, splits, grows, finds, reads, rows, logs, opening, splitting, refusal, is_growing, tree_after}
-use Rattle.demand.specs.Lists.{Listed, Refused, tables_after, nodes_after, All_allowed, tables_after_all, nodes_after_all}
+use Rattle.demand.specs.Lists.{Listed, Refused, tables_after, nodes_after, AllAllowed, tables_after_all, nodes_after_all}
 use Rattle.demand.specs.Demand.{Throughout}
 
 module _ (D : Drawing) where
   -- the claim about a list that goes on is the claim about its rest, at the tables and the history that its beginning leaves
-  pub list_goes_on : (cs ds : List Listed) (t : Tree) (H : List Node) → Throughout D (cs ++ ds) t H → All_allowed cs t
+  pub list_goes_on : (cs ds : List Listed) (t : Tree) (H : List Node) → Throughout D (cs ++ ds) t H → AllAllowed cs t
       → Throughout D ds (tables_after_all cs t) (nodes_after_all cs t H)
   list_goes_on [] ds t H s a = s
   list_goes_on (c ∷ cs) ds t H s a = list_goes_on cs ds (tables_after c t) (nodes_after c t H) (s a.0).1 a.1
 
-  pub stands_after : (cs : List Listed) (t : Tree) (H : List Node) → Throughout D cs t H → All_allowed cs t
+  pub stands_after : (cs : List Listed) (t : Tree) (H : List Node) → Throughout D cs t H → AllAllowed cs t
       → Stands D (tables_after_all cs t) (nodes_after_all cs t H)
   stands_after [] t H s a = s
   stands_after (c ∷ cs) t H s a = stands_after cs (tables_after c t) (nodes_after c t H) (s a.0).1 a.1

@@ -61,12 +61,12 @@ module _ (t : Tree) (H : List Node) (s : Sound t H) where
     colour_there = ap rounded sums_there
 
     -- the leaf of the history that holds the position, with no output
-    pub record Spot_lands : Type 0 where
+    pub record SpotLands : Type 0 where
       pub leaf : ℕ
       pub holds : LeafAt H (at x y) leaf
       pub answer : spot_in t x y ≡ Answers.At (spot_there (drawing_of t) H leaf (at x y))
 
-    pub spot_lands : Spot_lands
+    pub spot_lands : SpotLands
     spot_lands =
         let r = lands t H s x y g in
         let i = r.leaf in

@@ -34,9 +34,9 @@ use Rattle.demand.specs.Lists.{Listed, own, other, Allowed, tables_after, nodes_
 -- ---- the answers
 
 -- a split gives the first of the four new cells, "numbered onward from the cells in use"; it divides a leaf
-abbrev pub Split_right : List Node → ℕ → Splitting.Answer → Type 0
-Split_right H i (Splits.Split n) = (n ≡ length H) × Leaf H i
-Split_right H i (Splits.Not r) = Unit {0}
+abbrev pub SplitRight : List Node → ℕ → Splitting.Answer → Type 0
+SplitRight H i (Splits.Split n) = (n ≡ length H) × Leaf H i
+SplitRight H i (Splits.Not r) = Unit {0}
 
 -- growing, with threshold n and depth limit l: a "leaf with more lines than the threshold and a depth below the limit"
 pub record Wanted (D : Drawing) (n l : ℕ) (H : List Node) (i : ℕ) : Type 0 where
@@ -45,8 +45,8 @@ pub record Wanted (D : Drawing) (n l : ℕ) (H : List Node) (i : ℕ) : Type 0 w
   pub shallow : 16 - level (cell_in H i) < l
 
 -- "it says "done" when there is none"
-abbrev pub None_wanted : Drawing → (n l : ℕ) → List Node → Type 0
-None_wanted D n l H = (i : ℕ) → Wanted D n l H i → ⊥
+abbrev pub NoneWanted : Drawing → (n l : ℕ) → List Node → Type 0
+NoneWanted D n l H = (i : ℕ) → Wanted D n l H i → ⊥
 
 -- ""full" when that split would be refused with 11": of "the lowest numbered leaf"
 pub record FullAt (D : Drawing) (n l : ℕ) (H : List Node) (t : Tree) : Type 0 where
@@ -56,10 +56,10 @@ pub record FullAt (D : Drawing) (n l : ℕ) (H : List Node) (t : Tree) : Type 0 
   pub refused : split_answer t cell ≡ Splits.Not Refusals.Room
 
 -- "and gives the splits made", each of which makes four cells; K and t are the history and the tables after it
-abbrev pub Grow_right : Drawing → (n l : ℕ) → (H K : List Node) → Tree → Growing.Answer → Type 0
-Grow_right D n l H K t (Grows.Done k) = (length K ≡ length H + 4 * k) × None_wanted D n l K
-Grow_right D n l H K t (Grows.Full k) = (length K ≡ length H + 4 * k) × FullAt D n l K t
-Grow_right D n l H K t (Grows.Not r) = K ≡ H
+abbrev pub GrowRight : Drawing → (n l : ℕ) → (H K : List Node) → Tree → Growing.Answer → Type 0
+GrowRight D n l H K t (Grows.Done k) = (length K ≡ length H + 4 * k) × NoneWanted D n l K
+GrowRight D n l H K t (Grows.Full k) = (length K ≡ length H + 4 * k) × FullAt D n l K t
+GrowRight D n l H K t (Grows.Not r) = K ≡ H
 
 -- a leaf of the history: its number, its square, as many steps as its depth, and the entries and lines of the stream that is made from the drawing;
 -- document 02: "yes exactly when the leaf's stream holds no line, curve or shortcut"
@@ -112,17 +112,17 @@ pub record ReadRight (D : Drawing) (H : List Node) (x y : ℕ) (out : List ℕ) 
 -- what a call gives that is lent the tables of a tree with the history H, over the drawing D
 abbrev pub Right : Drawing → Call → Tree → List Node → Type 0
 Right D opens t H = Unit {0}
-Right D (splits i) t H = Split_right H i (split_answer t i)
-Right D (grows n l) t H = Grow_right D n l H (after_splits H (grown_cells t n l)) (grow_tree t n l) (grow_answer t n l)
+Right D (splits i) t H = SplitRight H i (split_answer t i)
+Right D (grows n l) t H = GrowRight D n l H (after_splits H (grown_cells t n l)) (grow_tree t n l) (grow_answer t n l)
 Right D (finds x y out) t H = FindRight D H x y out (given (finds x y out) t)
 Right D (reads x y out) t H = ReadRight D H x y out (given (reads x y out) t)
 Right D (rows row first out) t H = given (rows row first out) t ≡ row_given D row first out
 Right D (logs px py out) t H = given (logs px py out) t ≡ log_given D px py out
 
 -- of a call that is lent other tables, which is refused, nothing is asked
-abbrev pub Right_listed : Drawing → Listed → Tree → List Node → Type 0
-Right_listed D (own c) t H = Right D c t H
-Right_listed D (other u c) t H = Unit {0}
+abbrev pub RightListed : Drawing → Listed → Tree → List Node → Type 0
+RightListed D (own c) t H = Right D c t H
+RightListed D (other u c) t H = Unit {0}
 
 -- 12 meets no call that is lent the tree's tables
 abbrev pub Unmet : Listed → Tree → Type 0
@@ -135,7 +135,7 @@ pub record Claim (D : Drawing) (c : Listed) (t : Tree) (H : List Node) : Type 0 
   pub before : Stands D t H
   pub after : Stands D (tables_after c t) (nodes_after c t H)
   pub unchanged : drawing_tables (tables_after c t) ≡ drawing_tables t
-  pub right : Right_listed D c t H
+  pub right : RightListed D c t H
   pub unmet : Unmet c t
 
 -- each call that is lent the tree's tables finds them as the one before left them

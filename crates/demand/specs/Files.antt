@@ -18,7 +18,7 @@ use Rattle.demand.specs.History.{Node, begun, LeafAt}
 use Rattle.demand.specs.NoTree.{material_shown}
 use Rattle.demand.specs.Calls.{Call, reads, rows, logs, answer_to, number_by, refusal, output_after}
 use Rattle.demand.specs.Shown.{fill_shown, log_shown}
-use Rattle.demand.specs.Lists.{Listed, All_allowed, tables_after_all, nodes_after_all}
+use Rattle.demand.specs.Lists.{Listed, AllAllowed, tables_after_all, nodes_after_all}
 use Rattle.demand.specs.Demand.{spot_there, Throughout}
 
 -- ---- the file
@@ -47,8 +47,8 @@ abbrev pub drawing_of_file : List ℕ → Drawing
 drawing_of_file file = drawing_from (records_in file)
 
 -- ---- demand 3 over the drawing of the file
-abbrev pub File_demand3 : Type 0
-File_demand3 = (file : List ℕ) (t : Tree) → FileOpened file t → (cs : List Listed) → Throughout (drawing_of_file file) cs (file_tree file t) begun
+abbrev pub FileDemand3 : Type 0
+FileDemand3 = (file : List ℕ) (t : Tree) → FileOpened file t → (cs : List Listed) → Throughout (drawing_of_file file) cs (file_tree file t) begun
 
 -- ---- the answers
 -- a call that reads what shows: at a position, in a row of pixels, along a run
@@ -69,10 +69,10 @@ number_shown D (pixels row first out) = 0
 number_shown D (run px py out) = low_half (length (log_shown D px py))
 
 -- leaf i of the history holds the position; a row and a run are of no one leaf
-abbrev pub In_leaf : List Node → Shows → (i : ℕ) → Type 0
-In_leaf H (position x y out) i = LeafAt H (at x y) i
-In_leaf H (pixels row first out) i = Unit {0}
-In_leaf H (run px py out) i = Unit {0}
+abbrev pub InLeaf : List Node → Shows → (i : ℕ) → Type 0
+InLeaf H (position x y out) i = LeafAt H (at x y) i
+InLeaf H (pixels row first out) i = Unit {0}
+InLeaf H (run px py out) i = Unit {0}
 
 -- and the output afterwards: shown set, material and colour, and how far they reach; red, green, blue of each pixel; the indices
 abbrev pub output_shown : Drawing → List Node → (i : ℕ) → Shows → List ℕ
@@ -84,11 +84,11 @@ output_shown D H i (run px py out) = sets out 0 (log_shown D px py)
 pub record GivesShown (D : Drawing) (H : List Node) (r : Shows) (t : Tree) : Type 0 where
   pub number : number_by (answer_to (call_of r) t) ≡ number_shown D r
   pub leaf : ℕ
-  pub holds : In_leaf H r leaf
+  pub holds : InLeaf H r leaf
   pub output : output_after (call_of r) t ≡ output_shown D H leaf r
 
 -- after any list of calls that are allowed
-abbrev pub From_file : Type 0
-From_file = (file : List ℕ) (t : Tree) → FileOpened file t → (cs : List Listed) → All_allowed cs (file_tree file t) → (r : Shows)
+abbrev pub FromFile : Type 0
+FromFile = (file : List ℕ) (t : Tree) → FileOpened file t → (cs : List Listed) → AllAllowed cs (file_tree file t) → (r : Shows)
     → refusal (answer_to (call_of r) (tables_after_all cs (file_tree file t))) ≡ 0
     → GivesShown (drawing_of_file file) (nodes_after_all cs (file_tree file t) begun) r (tables_after_all cs (file_tree file t))

@@ -32,9 +32,9 @@ nodes_after (other u c) t H = H
 
 -- ---- the whole list
 -- all its calls are allowed
-abbrev pub All_allowed : List Listed → Tree → Type 0
-All_allowed [] t = Unit {0}
-All_allowed (c ∷ cs) t = Allowed c t × All_allowed cs (tables_after c t)
+abbrev pub AllAllowed : List Listed → Tree → Type 0
+AllAllowed [] t = Unit {0}
+AllAllowed (c ∷ cs) t = Allowed c t × AllAllowed cs (tables_after c t)
 
 -- the tree's tables after it
 abbrev pub tables_after_all : List Listed → Tree → Tree

@@ -18,7 +18,7 @@ use Rattle.pruning.specs.Registers.{Registers, on_item}
 use Rattle.pruning.proofs.Registers.{clip_shows}
 use Rattle.laws.proofs.Booleans.{clash}
 use Rattle.curves.specs.Curves.{curve_fits}
-use Rattle.geometry.specs.code.Reach.{EdgeIn, Line_below}
+use Rattle.geometry.specs.code.Reach.{EdgeIn, LineBelow}
 use Rattle.geometry.specs.Windings.{Line, line, curve, edge_of}
 use Rattle.cells.specs.Segments.{drawn, shortcut}
 use Rattle.cells.specs.Elements.{Element, segment}
@@ -107,7 +107,7 @@ module _ (xs ys : List ℕ) (used : ℕ) where
       let q = both (corner_met xs ys used a) (corner_met xs ys used (a + 1) && corner_met xs ys used (a + 2)) p.0 in
       (q.0, (both (corner_met xs ys used (a + 1)) (corner_met xs ys used (a + 2)) q.1).1, p.1)
 
-  pub line_used : (l : Line) → line_met xs ys used l ≡ true → Line_below used l
+  pub line_used : (l : Line) → line_met xs ys used l ≡ true → LineBelow used l
   line_used (line a b) h =
       let p = both (corner_met xs ys used a) (corner_met xs ys used b) h in
       ((met_in xs ys used a p.0).0, (met_in xs ys used b p.1).0)
@@ -125,7 +125,7 @@ module _ (xs ys : List ℕ) (used : ℕ) where
       let v = met_in xs ys used (a + 2) p.1 in
       record { ends = record { first_x = omega arith; first_y = omega arith; second_x = omega arith; second_y = omega arith }; fits = λ _. p.2 }
 
-below_more : (m n : ℕ) (l : Line) → Line_below m l → m ≤ n → Line_below n l
+below_more : (m n : ℕ) (l : Line) → LineBelow m l → m ≤ n → LineBelow n l
 below_more m n (line a b) h k = (omega arith, omega arith)
 below_more m n (curve a) h k = omega arith
 
@@ -134,7 +134,7 @@ module _ (xs ys : List ℕ) (used : ℕ) (w : Words) (h : segment_range xs ys us
   in_line : line_met xs ys used (line_of w) ≡ true
   in_line = rw l at h
 
-  pub line_below : (used ≤ length xs) × (used ≤ length ys) → Line_below (length xs) (line_of w) × Line_below (length ys) (line_of w)
+  pub line_below : (used ≤ length xs) × (used ≤ length ys) → LineBelow (length xs) (line_of w) × LineBelow (length ys) (line_of w)
   line_below k =
       let u = line_used xs ys used (line_of w) in_line in
       (below_more used (length xs) (line_of w) u k.0, below_more used (length ys) (line_of w) u k.1)

@@ -62,14 +62,14 @@ module _ (areas xs ys : List ℕ) (x y : ℕ) where
   after_area g n z = settle (role_at areas) (pass_at areas) (opaque_at areas) (adds_at xs ys (at x y)) (state g (waits n z))
 
   -- the set in the end, from elements; from an entry and the words behind it
-  abbrev From_elements : List Element → State → ℕ
-  From_elements rs st =
+  abbrev FromElements : List Element → State → ℕ
+  FromElements rs st =
       out_of
       (settle (role_at areas) (pass_at areas) (opaque_at areas) (adds_at xs ys (at x y))
       (on_elements (role_at areas) (pass_at areas) (opaque_at areas) (adds_at xs ys (at x y)) rs st))
 
-  abbrev From_element : Entry → List Words → State → ℕ
-  From_element e ws st = From_elements (element_for e (elements_in ws)) st
+  abbrev FromElement : Entry → List Words → State → ℕ
+  FromElement e ws st = FromElements (element_for e (elements_in ws)) st
 
   -- an area waits with its start number
   named_step : (w : Words) (ws : List Words) (g : Registers ℕ)
@@ -83,13 +83,13 @@ module _ (areas xs ys : List ℕ) (x y : ℕ) where
       → is_segment w.kind ≡ true
       → From (state g (waits n z)) (w ∷ ws) ≡ From (state g (waits n (z +ℤ segment_adds xs ys x y w))) ws
   unfolding elements_in
-  segment_step w ws g n z s = ap (λ rs. From_elements rs (state g (waits n z))) (element_segment w (elements_in ws) s)
+  segment_step w ws g n z s = ap (λ rs. FromElements rs (state g (waits n z))) (element_segment w (elements_in ws) s)
 
   -- before an entry that is neither, the area that waits has all its lines, curves and shortcuts
   settle_entry : (v : Env) (a b c d e f : Bool) (w : Words) (ws : List Words) (m : Registers ℕ) (n : ℕ) (z : ℤ)
       → in_range v (by_tests a b c d e f w) ≡ true
       → e ≡ false
-      → From_element (by_tests a b c d e f w) ws (state m (waits n z)) ≡ From_element (by_tests a b c d e f w) ws (state (after_area m n z) settled)
+      → FromElement (by_tests a b c d e f w) ws (state m (waits n z)) ≡ FromElement (by_tests a b c d e f w) ws (state (after_area m n z) settled)
   settle_entry v true b c d e f w ws m n z h k = refl
   settle_entry v false true c d e f w ws m n z h k = refl
   settle_entry v false false true d e f w ws m n z h k = refl
@@ -184,12 +184,12 @@ module _ (areas xs ys : List ℕ) (x y : ℕ) where
       → in_range v (by_tests a b c d e f w) ≡ true
       → d ≡ false
       → From (state (cond a (on_push m) (cond b (on_activate m) (cond c (on_pop m) (cond e m (on_item clip true true (λ s. s) m))))) settled) ws
-      ≡ From_element (by_tests a b c d e f w) ws (state m settled)
+      ≡ FromElement (by_tests a b c d e f w) ws (state m settled)
   moved_entry v true b c d e f w ws m h k = refl
   moved_entry v false true c d e f w ws m h k = refl
   moved_entry v false false true d e f w ws m h k = refl
   moved_entry v false false false true e f w ws m h k = clash (sym k)
-  moved_entry v false false false false true f w ws m h k = ap (λ rs. From_elements rs (state m settled)) (sym (entry_element w (elements_in ws)))
+  moved_entry v false false false false true f w ws m h k = ap (λ rs. FromElements rs (state m settled)) (sym (entry_element w (elements_in ws)))
   moved_entry v false false false false false true w ws m h k = refl
   moved_entry v false false false false false false w ws m h k = clash h
 

@@ -18,18 +18,18 @@ use Rattle.stream.proofs.Entries.{by_tests, decode_is}
 use Rattle.evaluate.specs.Reading.{element_for, elements_in, role_at, pass_at, opaque_at, set_at}
 
 -- no element is a line, a curve or a shortcut
-abbrev No_segment : List Element → Type 0
-No_segment [] = Unit {0}
-No_segment (opens ∷ es) = No_segment es
-No_segment (bar ∷ es) = No_segment es
-No_segment (closes ∷ es) = No_segment es
-No_segment (bare ∷ es) = No_segment es
-No_segment (named n z ∷ es) = No_segment es
-No_segment (segment g ∷ es) = ⊥
+abbrev NoSegment : List Element → Type 0
+NoSegment [] = Unit {0}
+NoSegment (opens ∷ es) = NoSegment es
+NoSegment (bar ∷ es) = NoSegment es
+NoSegment (closes ∷ es) = NoSegment es
+NoSegment (bare ∷ es) = NoSegment es
+NoSegment (named n z ∷ es) = NoSegment es
+NoSegment (segment g ∷ es) = ⊥
 
 -- then what a line or a shortcut adds is not asked for
 module _ (role : ℕ → Kind) (pass : ℕ → ℤ → Bool) (opaque : ℕ → Bool) (adds adds' : Segment → ℤ) where
-  same_on : (es : List Element) → No_segment es → (st : State) → on_elements role pass opaque adds es st ≡ on_elements role pass opaque adds' es st
+  same_on : (es : List Element) → NoSegment es → (st : State) → on_elements role pass opaque adds es st ≡ on_elements role pass opaque adds' es st
   same_on [] h st = refl
   same_on (opens ∷ es) h st = same_on es h (on_element role pass opaque adds opens st)
   same_on (bar ∷ es) h st = same_on es h (on_element role pass opaque adds bar st)
@@ -38,16 +38,16 @@ module _ (role : ℕ → Kind) (pass : ℕ → ℤ → Bool) (opaque : ℕ → B
   same_on (named n z ∷ es) h st = same_on es h (on_element role pass opaque adds (named n z) st)
   same_on (segment g ∷ es) h st = absurd h
 
-  same_read : (es : List Element) → No_segment es → read_elements role pass opaque adds es ≡ read_elements role pass opaque adds' es
+  same_read : (es : List Element) → NoSegment es → read_elements role pass opaque adds es ≡ read_elements role pass opaque adds' es
   same_read es h = ap (λ (st : State). out_of (settle role pass opaque adds st)) (same_on es h (state (reg P 0 0 0) settled))
 
 -- the elements of a uniform stream
-no_segment : (ws : List Words) → is_uniform ws ≡ true → No_segment (elements_in ws)
+no_segment : (ws : List Words) → is_uniform ws ≡ true → NoSegment (elements_in ws)
 unfolding elements_in
 no_segment [] h = tt
 no_segment (w ∷ ws) h = go (is_segment w.kind) refl (no_segment ws) h
   where
-    other : (o b c n p : Bool) (es : List Element) → No_segment es → No_segment (element_for (by_tests o b c n false p w) es)
+    other : (o b c n p : Bool) (es : List Element) → NoSegment es → NoSegment (element_for (by_tests o b c n false p w) es)
     other true b c n p es k = k
     other false true c n p es k = k
     other false false true n p es k = k
@@ -57,14 +57,14 @@ no_segment (w ∷ ws) h = go (is_segment w.kind) refl (no_segment ws) h
 
     go : (s : Bool)
         → is_segment w.kind ≡ s
-        → (is_uniform ws ≡ true → No_segment (elements_in ws))
+        → (is_uniform ws ≡ true → NoSegment (elements_in ws))
         → eqb (cond s (1 + segments_in ws) (segments_in ws)) 0 ≡ true
-        → No_segment (element_for (decode w) (elements_in ws))
+        → NoSegment (element_for (decode w) (elements_in ws))
     go true e ih q = absurd (omega (arith, eqb-true (1 + segments_in ws) 0 q))
     go false e ih q =
         let is = decode_is w
         ∙ ap (λ s. by_tests (eqb w.kind 1) (eqb w.kind 2) (eqb w.kind 3) (eqb w.kind 4) s (eqb w.kind 7) w) e in
-        subst (λ (x : Entry). No_segment (element_for x (elements_in ws))) (sym is)
+        subst (λ (x : Entry). NoSegment (element_for x (elements_in ws))) (sym is)
         (other (eqb w.kind 1) (eqb w.kind 2) (eqb w.kind 3) (eqb w.kind 4) (eqb w.kind 7) (elements_in ws) (ih q))
 
 pub set_uniform : (areas xs ys : List ℕ) (x y x' y' : ℕ) (ws : List Words)

@@ -28,21 +28,21 @@ words_of (named n z) = words 4 n (of_z w32 z) 0
 words_of (segment g) = segment_words g
 
 -- the signed numbers of elements are numbers of 32 bits
-abbrev pub Segment_fits : Segment → Type 0
-Segment_fits (drawn l) = Unit {0}
-Segment_fits (shortcut z lo hi) = SFits w32 z
+abbrev pub SegmentFits : Segment → Type 0
+SegmentFits (drawn l) = Unit {0}
+SegmentFits (shortcut z lo hi) = SFits w32 z
 
-abbrev pub Element_fits : Element → Type 0
-Element_fits opens = Unit {0}
-Element_fits bar = Unit {0}
-Element_fits closes = Unit {0}
-Element_fits bare = Unit {0}
-Element_fits (named n z) = SFits w32 z
-Element_fits (segment g) = Segment_fits g
+abbrev pub ElementFits : Element → Type 0
+ElementFits opens = Unit {0}
+ElementFits bar = Unit {0}
+ElementFits closes = Unit {0}
+ElementFits bare = Unit {0}
+ElementFits (named n z) = SFits w32 z
+ElementFits (segment g) = SegmentFits g
 
-abbrev pub Each_fits : List Element → Type 0
-Each_fits [] = Unit {0}
-Each_fits (w ∷ ws) = Element_fits w × Each_fits ws
+abbrev pub EachFits : List Element → Type 0
+EachFits [] = Unit {0}
+EachFits (w ∷ ws) = ElementFits w × EachFits ws
 
 -- a table of areas says of area n what the drawing says
 pub record Agrees (areas : List ℕ) (D : Drawing) (n : ℕ) : Type 0 where
@@ -51,11 +51,11 @@ pub record Agrees (areas : List ℕ) (D : Drawing) (n : ℕ) : Type 0 where
   pub opaque : opaque_at areas n ≡ is_opaque D n
 
 -- of each area that elements name
-abbrev pub Each_agrees : List ℕ → Drawing → List Element → Type 0
-Each_agrees areas D [] = Unit {0}
-Each_agrees areas D (opens ∷ ws) = Each_agrees areas D ws
-Each_agrees areas D (bar ∷ ws) = Each_agrees areas D ws
-Each_agrees areas D (closes ∷ ws) = Each_agrees areas D ws
-Each_agrees areas D (bare ∷ ws) = Each_agrees areas D ws
-Each_agrees areas D (named n z ∷ ws) = Agrees areas D n × Each_agrees areas D ws
-Each_agrees areas D (segment g ∷ ws) = Each_agrees areas D ws
+abbrev pub EachAgrees : List ℕ → Drawing → List Element → Type 0
+EachAgrees areas D [] = Unit {0}
+EachAgrees areas D (opens ∷ ws) = EachAgrees areas D ws
+EachAgrees areas D (bar ∷ ws) = EachAgrees areas D ws
+EachAgrees areas D (closes ∷ ws) = EachAgrees areas D ws
+EachAgrees areas D (bare ∷ ws) = EachAgrees areas D ws
+EachAgrees areas D (named n z ∷ ws) = Agrees areas D n × EachAgrees areas D ws
+EachAgrees areas D (segment g ∷ ws) = EachAgrees areas D ws

@@ -7,7 +7,7 @@ ghost use Rattle.std.specs.Int.{w32};
 ghost use Rattle.std.proofs.Common.{to_z};
 ghost use Rattle.curves.specs.Lines.{is_row};
 ghost use Rattle.curves.specs.code.Reach.{PositionIn};
-ghost use Rattle.geometry.specs.code.Reach.{EdgeIn, Line_below};
+ghost use Rattle.geometry.specs.code.Reach.{EdgeIn, LineBelow};
 ghost use Rattle.geometry.specs.Windings.{edge_of, adds};
 ghost use Rattle.paint.specs.Sets.{with_area};
 ghost use Rattle.pruning.specs.Registers.{on_item};
@@ -42,7 +42,7 @@ fn shortcut_adds(w: Words, y: u32) -> i64
 
 // The edge of the line or the curve that an entry names.
 pub fn edge_of(xs: &[u32], ys: &[u32], w: Words) -> Edge
-    requires { Line_below (length xs.now) (line_of w) × Line_below (length ys.now) (line_of w) }
+    requires { LineBelow (length xs.now) (line_of w) × LineBelow (length ys.now) (line_of w) }
     ensures answer { result ≡ edge_of xs.now ys.now (line_of w) }
 {
     if stream::is_curve(w.kind) {
@@ -53,7 +53,7 @@ pub fn edge_of(xs: &[u32], ys: &[u32], w: Words) -> Edge
 
 // What a line or a curve adds at (x, y).
 fn line_adds(xs: &[u32], ys: &[u32], w: Words, x: u32, y: u32) -> i64
-    requires line_below { Line_below (length xs.now) (line_of w) × Line_below (length ys.now) (line_of w) }
+    requires line_below { LineBelow (length xs.now) (line_of w) × LineBelow (length ys.now) (line_of w) }
     requires edge_in { EdgeIn (edge_of xs.now ys.now (line_of w)) }
     requires position_in { PositionIn x y }
     ensures answer { result ≡ adds (edge_of xs.now ys.now (line_of w)) x y }

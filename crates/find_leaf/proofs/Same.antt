@@ -23,8 +23,8 @@ use Rattle.find_leaf.specs.Leaf.{leaf_in}
 use Rattle.find_leaf.proofs.Landing.{leaf_landed, leaf_met}
 
 -- the position is in the square of the leaf
-abbrev pub Leaf_holds : Leaf → Position → Type 0
-Leaf_holds l p = Inside l.x l.y l.side (col p) (row p)
+abbrev pub LeafHolds : Leaf → Position → Type 0
+LeafHolds l p = Inside l.x l.y l.side (col p) (row p)
 
 -- a position of the quarter that is picked picks the same quarter
 pub quarter_same : (c : Cell) (p p' : Position) → Holds (child c (quarter_of c p)) p' → quarter_of c p' ≡ quarter_of c p
@@ -37,7 +37,7 @@ quarter_same (cell x y (suc k)) p p' h = go (leb (x + 2 ^ k) (col p)) (leb (y + 
     go false true i = rw (lt-leb (x + 2 ^ k) (col p') (omega (arith, i.east)), le-leb (y + 2 ^ k) (row p') (omega (arith, i.south)))
     go true true i = rw (le-leb (x + 2 ^ k) (col p') (omega (arith, i.west)), le-leb (y + 2 ^ k) (row p') (omega (arith, i.south)))
 
-module _ (t : List ℕ) (used entries : ℕ) (p p' : Position) (l : Leaf) (h : Leaf_holds l p') where
+module _ (t : List ℕ) (used entries : ℕ) (p p' : Position) (l : Leaf) (h : LeafHolds l p') where
   abbrev rest : Position → (n i steps : ℕ) → Cell → Quarter → Found
   rest r n i steps c q = down_from t used entries r n ((cell_at t i).child + place_of q) (steps + 1) (child c q)
 
@@ -55,7 +55,7 @@ module _ (t : List ℕ) (used entries : ℕ) (p p' : Position) (l : Leaf) (h : L
 
       landed : on_square w c ≡ true → leaf_of i steps w ≡ l → Holds c p'
       landed s r =
-          let g : Leaf_holds (leaf_of i steps w) p' = subst (λ (m : Leaf). Leaf_holds m p') (sym r) h in
+          let g : LeafHolds (leaf_of i steps w) p' = subst (λ (m : Leaf). LeafHolds m p') (sym r) h in
           let says = says_cell w c s in
           record {
             west = omega (arith, g.west, says.same_x);
@@ -100,14 +100,14 @@ module _ (t : List ℕ) (used entries : ℕ) (p p' : Position) (l : Leaf) (h : L
       go false b z next q = q
 
 pub descend_same : (t : List ℕ) (used entries x y x' y' : ℕ) (l : Leaf)
-    → Leaf_holds l (at x' y')
+    → LeafHolds l (at x' y')
     → descend_in t used entries x y ≡ At l
     → descend_in t used entries x' y' ≡ At l
 unfolding descend_in
 descend_same t used entries x y x' y' l h e = same_down t used entries (at x y) (at x' y') l h 17 0 0 root e
 
 -- so a run tries a leaf once
-pub leaf_same : (t : Tree) (x y x' y' : ℕ) (l : Leaf) → Leaf_holds l (at x' y') → leaf_in t x y ≡ At l → leaf_in t x' y' ≡ At l
+pub leaf_same : (t : Tree) (x y x' y' : ℕ) (l : Leaf) → LeafHolds l (at x' y') → leaf_in t x y ≡ At l → leaf_in t x' y' ≡ At l
 leaf_same t x y x' y' l h e =
     let m = leaf_landed t x y l e in
     sym (leaf_met t x' y' l m.counts (sym (descend_same t.cells (cells_used t.head) (entries_used t.head) x y x' y' l h m.way)) m.stream)

@@ -29,7 +29,7 @@ use Rattle.child_stream.specs.code.Starts.{starts_of}
 use Rattle.child_stream.proofs.Clear.{filled_at}
 use Rattle.child_stream.proofs.Few.{few_starts}
 use Rattle.four_children.specs.Children.{cell_of_child, elements_of_child, words_of_child}
-use Rattle.four_children.specs.Worked.{lines_among, item_lines, Started, areas_named, no_area, Tallied, stream_of_child, Each_pass}
+use Rattle.four_children.specs.Worked.{lines_among, item_lines, Started, areas_named, no_area, Tallied, stream_of_child, EachPass}
 use Rattle.four_children.specs.code.Numbers.{line_one, tally, worked_to}
 use Rattle.four_children.proofs.Worked.{worked_done, worked_rest}
 
@@ -115,7 +115,7 @@ module _ (D : Drawing) (c : Cell) (ws : List Words) (k : ℕ) where
   lines_written = words_lines (elements_of_child D c ws k) ∙ lines_is paint (stream_of_child D c ws k)
 
 -- ---- after each child's pass
-pub worked_right : Each_pass
+pub worked_right : EachPass
 unfolding elements_made
 worked_right t areas xs ys b first count c q p m =
     let D = lent areas xs ys b in

@@ -67,8 +67,8 @@ module _ (D : Drawing) (c : Cell) (ws : List Words) where
 
 -- document 02: "Show that after each child's pass its entries, lines and starts are already those that document 01 defines for it.": of every stream that
 -- passes 12, in every cell, after each pass
-abbrev pub Each_pass : Type 0
-Each_pass =
+abbrev pub EachPass : Type 0
+EachPass =
     (t areas xs ys : List ℕ) (b : Bounds) (first count : ℕ) (c : Cell) (q : ℕ)
     → Passed t first count (env areas xs ys b)
     → q ≤ 4

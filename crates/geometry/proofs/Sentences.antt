@@ -10,7 +10,7 @@ use Rattle.curves.specs.Curves.{CountsBy, curve_fits, curve_counts}
 use Rattle.curves.proofs.Sentences.{order_up, rise_of, sentence}
 use Rattle.curves.proofs.Boxes.{fits_says, fits_turn}
 use Rattle.geometry.specs.Edges.{counts}
-use Rattle.geometry.specs.code.Reach.{Curve_in}
+use Rattle.geometry.specs.code.Reach.{CurveIn}
 use Rattle.geometry.specs.declared.edge.Edge.{Edge}
 
 -- document 02: "Taken from its lower end"
@@ -26,7 +26,7 @@ from_lower x0 y0 x1 y1 x2 y2 x y f h =
     let u = order_up y0 y1 y2 k.upward h in
     sentence x0 y0 x1 y1 x2 y2 x y (rise_of y0 y1 y2 u.0 u.1) k.across
 
-module _ (e : Edge) (b : e.bent ≡ true) (k : Curve_in e) (x y : ℕ) where
+module _ (e : Edge) (b : e.bent ≡ true) (k : CurveIn e) (x y : ℕ) where
   bent_up : e.y0 ≤ e.y1 → counts e x y ≡ curve_counts e.x0 e.y0 e.cx e.cy e.x1 e.y1 x y
   unfolding counts
   bent_up h = rw (b, le-leb e.y0 e.y1 h)

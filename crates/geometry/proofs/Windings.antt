@@ -15,7 +15,7 @@ use borrow.Author.Tests.{lt-ltb, le-ltb}
 use Rattle.laws.proofs.Booleans.{&&_left, &&_right}
 use Rattle.laws.proofs.Differences.{abs_add}
 use Rattle.laws.proofs.Signed.{Running, running_end}
-use Rattle.geometry.specs.code.Reach.{Curve_in, EdgeIn, Line_below, CornersIn}
+use Rattle.geometry.specs.code.Reach.{CurveIn, EdgeIn, LineBelow, CornersIn}
 use Rattle.geometry.specs.Edges.{counts, sign}
 use Rattle.geometry.specs.Windings.{
   Line,
@@ -151,7 +151,7 @@ contour_abs xs ys first end x y = omega (arith, sum_abs xs ys (straight_lines fi
 
 -- ---- the edge of a line with corners in the tables is in range; of a curve, if it is one that a drawing may have
 
-pub edge_in : (xs ys : List ℕ) → CornersIn xs ys → (l : Line) → Line_below (length xs) l → Curve_in (edge_of xs ys l) → EdgeIn (edge_of xs ys l)
+pub edge_in : (xs ys : List ℕ) → CornersIn xs ys → (l : Line) → LineBelow (length xs) l → CurveIn (edge_of xs ys l) → EdgeIn (edge_of xs ys l)
 edge_in xs ys h (line p q) i f =
     record {
       ends = record { first_x = h.each_x p i.0; first_y = h.each_y p i.0; second_x = h.each_x q i.1; second_y = h.each_y q i.1 };

@@ -37,7 +37,7 @@ use Rattle.demand.proofs.Growing.{Ends, Grows, grown_sound}
 use Rattle.demand.proofs.Finding.{lands}
 use Rattle.lister.specs.declared.Outcome.TheVariants.{Not}
 use Rattle.lister.specs.Printed.{grows, grown_tree, outcome_of, lines_of, outcome_grown, rows_grown, outcome_opened, rows_opened, printed}
-use Rattle.lister.specs.Leaves.{EachLeaf, Prints_each_leaf}
+use Rattle.lister.specs.Leaves.{EachLeaf, PrintsEachLeaf}
 use Rattle.lister.proofs.Depths.{each_leaf}
 
 -- ---- in tables that are a history's, a leaf is found from its low corner
@@ -143,7 +143,7 @@ module _ (t : Tree) (n : ℕ) (e : open_answer t ≡ Opened n) where
       ap (λ (a : Opening.Answer). lines_in (rows_opened t a rows) 0 (lines_of (outcome_opened t a))) e
       ∙ (ap (lines_in (rows_grown (open_tree t) rows) 0) m ∙ written_read rows 0 (listed u) (omega (arith, few_lines u)))
 
-pub prints_each_leaf : Prints_each_leaf
+pub prints_each_leaf : PrintsEachLeaf
 prints_each_leaf t n e rows h =
     record {
       accepted = λ r q. not_refused (open_tree t) begun (opened t n e) r (sym (ap (outcome_opened t) e) ∙ q);

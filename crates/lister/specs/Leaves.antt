@@ -22,5 +22,5 @@ pub record Prints (t : Tree) (rows : List ℕ) : Type 0 where
 
 -- "The leaf lister reads a drawing on standard input, grows with threshold 0 and depth limit 4, and prints each leaf in key order: cell, key, side,
 -- entries, lines.": after an accepted opening, whatever the table of 256 lines or more held
-abbrev pub Prints_each_leaf : Type 0
-Prints_each_leaf = (t : Tree) (n : ℕ) → open_answer t ≡ Opened n → (rows : List ℕ) → 1280 ≤ length rows → Prints t rows
+abbrev pub PrintsEachLeaf : Type 0
+PrintsEachLeaf = (t : Tree) (n : ℕ) → open_answer t ≡ Opened n → (rows : List ℕ) → 1280 ≤ length rows → Prints t rows

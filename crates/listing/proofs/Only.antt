@@ -19,19 +19,19 @@ use Rattle.listing.proofs.Every.{found_cell}
 
 -- ---- a line that is listed is that of a corner
 module _ (t : Tree) (l : Line) where
-  abbrev Of_corner : Type 0
-  Of_corner = (k : ℕ) × (corner_at t k ≡ Low l)
+  abbrev OfCorner : Type 0
+  OfCorner = (k : ℕ) × (corner_at t k ≡ Low l)
 
-  no_lines : Among l [] → Of_corner
+  no_lines : Among l [] → OfCorner
   no_lines ([], after, e) = absurd (let z : ◌≡◌ {A = ℕ} 0 1 = cc in omega arith)
   no_lines (m ∷ before, after, e) = absurd (let z : ◌≡◌ {A = ℕ} 0 1 = cc in omega arith)
 
-  with_corner_law : (k : ℕ) (c : Corner) (ls : List Line) → corner_at t k ≡ c → (Among l ls → Of_corner) → Among l (with_corner c ls) → Of_corner
+  with_corner_law : (k : ℕ) (c : Corner) (ls : List Line) → corner_at t k ≡ c → (Among l ls → OfCorner) → Among l (with_corner c ls) → OfCorner
   with_corner_law k (Low m) ls p next ([], after, e) = (k, p ∙ ap Low cc)
   with_corner_law k (Low m) ls p next (b ∷ before, after, e) = next (before, after, cc)
   with_corner_law k Other ls p next a = next a
 
-  of_corner : (n k : ℕ) → Among l (lines_from t k n) → Of_corner
+  of_corner : (n k : ℕ) → Among l (lines_from t k n) → OfCorner
   unfolding lines_from
   of_corner zero k a = no_lines a
   of_corner (suc n) k a = with_corner_law k (corner_at t k) (lines_from t (k + 1) n) refl (of_corner n (k + 1)) a

@@ -53,9 +53,9 @@ elements_for nothing = 0
 elements_for (held n z gs) = suc (length gs)
 
 -- it is one of u areas, and its start number is small
-abbrev pub Waits_in : (u k : ℕ) → Waiting → Type 0
-Waits_in u k nothing = Unit {0}
-Waits_in u k (held n z gs) = (n < u) × (nat_abs z ≤ 2048 + k)
+abbrev pub WaitsIn : (u k : ℕ) → Waiting → Type 0
+WaitsIn u k nothing = Unit {0}
+WaitsIn u k (held n z gs) = (n < u) × (nat_abs z ≤ 2048 + k)
 
 -- after k entries
 pub record Follows (D : Drawing) (k : ℕ) (p : Pruner) (a : Declared.Waiting) (m : Making) : Type 0 where
@@ -63,7 +63,7 @@ pub record Follows (D : Drawing) (k : ℕ) (p : Pruner) (a : Declared.Waiting) (
   pub waits : a ≡ waiting_for (waiting_of m)
   pub fit : Fit (count (items D) Element entry_elements entry_some (state_of m))
   pub short : length (out_of (state_of m)) + elements_for (waiting_of m) ≤ k
-  pub named_in : Waits_in (length D.fields) k (waiting_of m)
+  pub named_in : WaitsIn (length D.fields) k (waiting_of m)
 
 -- classes that differ
 abbrev is_kept : Classes.Class → Type 0

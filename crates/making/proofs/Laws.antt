@@ -10,7 +10,7 @@ use mir.Syntax.{w32}
 use mir.Val.{to_z}
 use borrow.Author.Tests.{eqb-true}
 use Rattle.geometry.specs.Windings.{edge_of}
-use Rattle.geometry.specs.code.Reach.{Line_below}
+use Rattle.geometry.specs.code.Reach.{LineBelow}
 use Rattle.cells.specs.Segments.{Segment, drawn, shortcut, sign_of}
 use Rattle.cells.proofs.Bounds.{sign_abs}
 use Rattle.stream.specs.declared.Words.{Words}
@@ -62,17 +62,17 @@ after_segment p w s = ap (after p) (decode_segment w s) ∙ go (is_line w.kind) 
 -- ---- ranges
 
 -- each corner of its line is below n
-abbrev pub Segment_below : (n : ℕ) → Segment → Type 0
-Segment_below n (drawn l) = Line_below n l
-Segment_below n (shortcut z lo hi) = Unit {0}
+abbrev pub SegmentBelow : (n : ℕ) → Segment → Type 0
+SegmentBelow n (drawn l) = LineBelow n l
+SegmentBelow n (shortcut z lo hi) = Unit {0}
 
 module _ (xs ys : List ℕ) (corners : ℕ) (w : Words) where
-  pub range_below : segment_range xs ys corners w ≡ true → Segment_below corners (segment_of w)
+  pub range_below : segment_range xs ys corners w ≡ true → SegmentBelow corners (segment_of w)
   range_below = go (is_line w.kind)
     where
       go : (b : Bool)
           → cond b (line_met xs ys corners (line_of w)) (sign_range w.p) ≡ true
-          → Segment_below corners (cond b (drawn (line_of w)) (shortcut (to_z w32 w.p) w.q w.r))
+          → SegmentBelow corners (cond b (drawn (line_of w)) (shortcut (to_z w32 w.p) w.q w.r))
       go true h = line_used xs ys corners (line_of w) h
       go false h = tt
 

@@ -9,7 +9,7 @@ use lib.ListN.{length, take}
 use lib.Seq.{get_or-take}
 use Rattle.geometry.specs.FillRules as FillRules
 use Rattle.geometry.specs.Windings.{Line, edge_of}
-use Rattle.geometry.specs.code.Reach.{Line_below}
+use Rattle.geometry.specs.code.Reach.{LineBelow}
 use Rattle.records.specs.declared.Fields.{Fields}
 use Rattle.drawing.specs.Tables.{fields_at}
 use Rattle.cells.specs.Drawings.{fields_of, kind_of, rule_of}
@@ -38,7 +38,7 @@ module _ (areas xs ys : List ℕ) (b : Bounds) where
         opaque = ap (λ (f : Fields). eqb f.alpha 255) e;
       }
 
-  lent_edges : (l : Line) → Line_below b.corners l → edge_of (take b.corners xs) (take b.corners ys) l ≡ edge_of xs ys l
+  lent_edges : (l : Line) → LineBelow b.corners l → edge_of (take b.corners xs) (take b.corners ys) l ≡ edge_of xs ys l
   lent_edges =
       edges_agree b.corners (take b.corners xs) (take b.corners ys) xs ys (λ k. get_or-take b.corners xs k 0)
       (λ k. get_or-take b.corners ys k 0)

@@ -24,13 +24,13 @@ use Rattle.stream.specs.Grammar as Stream
 use Rattle.records.specs.Record.{is_good}
 use Rattle.stream.specs.Grammar.{Env, env, Place, at, area_met, after, course, is_whole, accepts}
 use Rattle.evaluate.specs.Reading.{element_for, elements_in, role_at, pass_at, opaque_at, set_at}
-use Rattle.evaluate.specs.Words.{Each_agrees}
+use Rattle.evaluate.specs.Words.{EachAgrees}
 use Rattle.evaluate.specs.code.Numbers.{segment_of}
 use Rattle.evaluate.proofs.Laws.{both, area_below, element_segment, in_segment}
 use Rattle.evaluate.proofs.Words.{agreed_read}
 use Rattle.ranges.specs.Held.{lent}
-use Rattle.ranges.proofs.Reading.{Same_on, read_same}
-use Rattle.making.proofs.Laws.{by_kind, Segment_below, range_below}
+use Rattle.ranges.proofs.Reading.{SameOn, read_same}
+use Rattle.making.proofs.Laws.{by_kind, SegmentBelow, range_below}
 use Rattle.making.proofs.Grammar.{one_passes, entries_flat}
 use Rattle.making.proofs.Standing.{Reads}
 use Rattle.making.proofs.Lent.{lent_reads}
@@ -39,11 +39,11 @@ module _ (v : Env) (D : Drawing) (R : Reads v D) (x y : ℕ) where
   -- the tables and the drawing agree on the areas, lines, curves and shortcuts of elements
   abbrev Same : List Element → Type 0
   Same ws =
-      Each_agrees v.areas D ws
-      × Same_on (role_at v.areas) (pass_at v.areas) (opaque_at v.areas) (adds_at v.xs v.ys (Cells.at x y))
+      EachAgrees v.areas D ws
+      × SameOn (role_at v.areas) (pass_at v.areas) (opaque_at v.areas) (adds_at v.xs v.ys (Cells.at x y))
       (adds_at D.xs D.ys (Cells.at x y)) ws
 
-  adds_same : (g : Segment) → Segment_below v.used.corners g → adds_at v.xs v.ys (Cells.at x y) g ≡ adds_at D.xs D.ys (Cells.at x y) g
+  adds_same : (g : Segment) → SegmentBelow v.used.corners g → adds_at v.xs v.ys (Cells.at x y) g ≡ adds_at D.xs D.ys (Cells.at x y) g
   adds_same (drawn l) h = ap (λ (e : Edge). cond (counts e x y) (sign e) (pos 0)) (sym (R.edges l h))
   adds_same (shortcut z lo hi) h = refl
 

@@ -9,7 +9,7 @@ use Rattle.laws.proofs.Booleans.{clash}
 use Rattle.geometry.specs.Edges.{sign}
 use Rattle.geometry.specs.Windings.{Line, edge_of}
 use Rattle.geometry.specs.Classes.{edge_class}
-use Rattle.geometry.specs.code.Reach.{Line_below}
+use Rattle.geometry.specs.code.Reach.{LineBelow}
 use Rattle.geometry.specs.declared.class.Square.{Square}
 use Rattle.geometry.specs.declared.edge.Edge.{Edge}
 use Rattle.groups.specs.Sides.{Frame, paint_left, paint_right, clip_left, clip_right, is_paint, on_left, on_right, opening, to_right, to_outer}
@@ -36,22 +36,22 @@ use Rattle.evaluate.specs.Words.{Agrees}
 use Rattle.ranges.proofs.Groups.{opens}
 use Rattle.evaluate.proofs.Laws.{element_segment}
 use Rattle.making.specs.declared.Waiting.{Waiting}
-use Rattle.making.proofs.Laws.{by_kind, Segment_below}
+use Rattle.making.proofs.Laws.{by_kind, SegmentBelow}
 use Rattle.making.proofs.Follows.{state_of, element_some, Follows}
 
 -- the tables say of their areas and corners what the drawing says
 pub record Reads (v : Env) (D : Drawing) : Type 0 where
   pub fields : length D.fields ≡ v.used.areas
   pub agrees : (n : ℕ) → n < length D.fields → Agrees v.areas D n
-  pub edges : (l : Line) → Line_below v.used.corners l → edge_of D.xs D.ys l ≡ edge_of v.xs v.ys l
+  pub edges : (l : Line) → LineBelow v.used.corners l → edge_of D.xs D.ys l ≡ edge_of v.xs v.ys l
 
 -- a line, a curve or a shortcut has the same sign and class by both
 module _ (v : Env) (D : Drawing) (R : Reads v D) where
-  pub sign_same : (g : Segment) → Segment_below v.used.corners g → sign_of D.xs D.ys g ≡ sign_of v.xs v.ys g
+  pub sign_same : (g : Segment) → SegmentBelow v.used.corners g → sign_of D.xs D.ys g ≡ sign_of v.xs v.ys g
   sign_same (drawn l) h = ap sign (R.edges l h)
   sign_same (shortcut z lo hi) h = refl
 
-  pub class_same : (s : Square) (g : Segment) → Segment_below v.used.corners g → class_on D.xs D.ys s g ≡ class_on v.xs v.ys s g
+  pub class_same : (s : Square) (g : Segment) → SegmentBelow v.used.corners g → class_on D.xs D.ys s g ≡ class_on v.xs v.ys s g
   class_same s (drawn l) h = ap (λ (e : Edge). edge_class e s) (R.edges l h)
   class_same s (shortcut z lo hi) h = refl
 

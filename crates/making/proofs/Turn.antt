@@ -42,13 +42,13 @@ use Rattle.ranges.proofs.Groups.{opens, opens_length}
 use Rattle.making.specs.declared.Waiting as Declared
 use Rattle.making.specs.code.Numbers.{left_sign, left_class, left_range, waiting, resting, with_left, waiting_n, settled_n, pruned_n, Room, Inside}
 use Rattle.cells.proofs.Making.{entry_some}
-use Rattle.making.proofs.Laws.{by_kind, after_segment, Segment_below, range_below, range_sign, left_small}
+use Rattle.making.proofs.Laws.{by_kind, after_segment, SegmentBelow, range_below, range_sign, left_small}
 use Rattle.making.proofs.Follows.{
   state_of,
   waiting_of,
   waiting_for,
   elements_for,
-  Waits_in,
+  WaitsIn,
   element_some,
   Follows,
   total_most,
@@ -151,7 +151,7 @@ module _ (v : Env) (D : Drawing) (c : Cell) (R : Reads v D) (k : ℕ) (p : Prune
   pub standing_inside : (ws : List Words) → k ≤ 4096 → v.used.areas * 8 ≤ length v.areas → Standing v D c k p a ws whole → Inside (length v.areas) a
   standing_inside ws l r s = go (waiting_of s.elements) s.follows.waits s.follows.named_in
     where
-      go : (w : Waiting) → a ≡ waiting_for w → Waits_in (length D.fields) k w → Inside (length v.areas) a
+      go : (w : Waiting) → a ≡ waiting_for w → WaitsIn (length D.fields) k w → Inside (length v.areas) a
       go nothing e h = rw e (record { small = omega arith; inside = λ t. clash t })
       go (held n z gs) e h = rw e (record { small = omega (arith, h.1); inside = λ t. omega (arith, h.0, R.fields) })
 
@@ -282,7 +282,7 @@ module _ (v : Env) (D : Drawing) (c : Cell) (R : Reads v D) (k : ℕ) (p : Prune
       on_segment e h =
           let g = segment_of w in
           let r = in_segment v w e h.range in
-          let b : Segment_below v.used.corners g = range_below v.xs v.ys v.used.corners w r in
+          let b : SegmentBelow v.used.corners g = range_below v.xs v.ys v.used.corners w r in
           let a₁ : a' ≡ with_left a (class_on v.xs v.ys (square_of c) g) (sign_of v.xs v.ys g) = rw e at ha in
           rw (element_segment w [] e, after_segment s.place w e)
           (segment_next g (range_sign v.xs v.ys v.used.corners w D.xs D.ys r) (rw e at hp)

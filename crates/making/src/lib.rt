@@ -8,7 +8,7 @@ ghost use Rattle.std.proofs.Common.{to_z};
 ghost use Rattle.geometry.specs.Edges.{sign};
 ghost use Rattle.geometry.specs.Windings.{edge_of};
 ghost use Rattle.geometry.specs.Classes.{edge_class, cut};
-ghost use Rattle.geometry.specs.code.Reach.{EdgeIn, Line_below, SquareIn};
+ghost use Rattle.geometry.specs.code.Reach.{EdgeIn, LineBelow, SquareIn};
 ghost use Rattle.stream.specs.Entry.{start_range, sign_range};
 ghost use Rattle.evaluate.specs.code.Numbers.{line_of};
 ghost use Rattle.pruning.specs.code.Counters.{length_of};
@@ -30,7 +30,7 @@ pub struct Left {
 }
 
 fn line_left(xs: &[u32], ys: &[u32], s: Square, w: Words) -> Left
-    requires line_below { Line_below (length xs.now) (line_of w) × Line_below (length ys.now) (line_of w) }
+    requires line_below { LineBelow (length xs.now) (line_of w) × LineBelow (length ys.now) (line_of w) }
     requires edge_in { EdgeIn (edge_of xs.now ys.now (line_of w)) }
     requires square_in { SquareIn s }
     ensures answer { (result.sign ≡ sign (edge_of xs.now ys.now (line_of w)))

@@ -11,13 +11,13 @@ use Rattle.paint.specs.Colours.{ColourIn}
 use Rattle.paint.specs.Pixels.{sample_x, sample_y}
 use Rattle.tables.specs.Tables.{Tree}
 use Rattle.position.specs.declared.Shown.{Shown}
-use Rattle.position.specs.code.Numbers.{shown_there, Last_in}
+use Rattle.position.specs.code.Numbers.{shown_there, LastIn}
 use Rattle.position.proofs.Known.{last_in}
 use Rattle.pixel_row.specs.declared.Pixel.{Pixel}
 use Rattle.pixel_row.specs.declared.Pixel.TheVariants.{Known, Broken}
 use Rattle.pixel_row.specs.declared.RowAnswer.TheVariants.{Done, Not}
 use Rattle.pixel_row.specs.Rows.{filled, put_pixel, pixel_known, pixel_in, fill_from}
-use Rattle.pixel_row.specs.code.Numbers.{pixel_told, Pixel_bytes}
+use Rattle.pixel_row.specs.code.Numbers.{pixel_told, PixelBytes}
 
 less_one : (e i : ℕ) → i < e → e - i ≡ suc (e - (i + 1))
 less_one e i h = omega arith
@@ -32,17 +32,17 @@ module _ (t : Tree) (row : ℕ) where
   pub record Told (pixel : ℕ) (c : Colour) (f : Shown) : Type 0 where
     pub is_known : pixel_known t row pixel ≡ true
     pub is_pixel : c ≡ pixel_in t row pixel
-    pub is_read : Last_in t f
+    pub is_read : LastIn t f
     pub bytes : ColourIn c
 
-  pub pixel_told_law : (pixel : ℕ) (r : Pixel) (c : Colour) (f : Shown) → r ≡ pixel_told t row pixel → Pixel_bytes r → r ≡ Known c f → Told pixel c f
+  pub pixel_told_law : (pixel : ℕ) (r : Pixel) (c : Colour) (f : Shown) → r ≡ pixel_told t row pixel → PixelBytes r → r ≡ Known c f → Told pixel c f
   pixel_told_law pixel r c f e b g = go (pixel_known t row pixel) refl (sym e ∙ g)
     where
       go : (k : Bool)
           → pixel_known t row pixel ≡ k
           → cond k (Known (pixel_in t row pixel) (shown_there t (sample_x pixel 15) (sample_y row 15))) Broken ≡ Known c f
           → Told pixel c f
-      go true h q = record { is_known = h; is_pixel = cc; is_read = last_in t (sample_x pixel 15) (sample_y row 15) f cc; bytes = subst Pixel_bytes g b }
+      go true h q = record { is_known = h; is_pixel = cc; is_read = last_in t (sample_x pixel 15) (sample_y row 15) f cc; bytes = subst PixelBytes g b }
       go false h q = absurd (let z : ◌≡◌ {A = ℕ} 0 1 = cc in omega arith)
 
   pub pixel_broken : (pixel : ℕ) (r : Pixel) → r ≡ pixel_told t row pixel → r ≡ Broken → pixel_known t row pixel ≡ false
@@ -74,11 +74,11 @@ module _ (t : Tree) (row : ℕ) where
     -- pixel i of the call is the next: what is left gives what the whole gives
     pub record Filling (out₀ : List ℕ) (n i : ℕ) (last : Shown) (out : List ℕ) : Type 0 where
       pub to : i ≤ n
-      pub read : Last_in t last
+      pub read : LastIn t last
       pub size : length out ≡ length out₀
       pub rest : fill_from t row first i (n - i) out ≡ fill_from t row first 0 n out₀
 
-    pub filling_begin : (out : List ℕ) (n : ℕ) (last : Shown) → Last_in t last → Filling out n 0 last out
+    pub filling_begin : (out : List ℕ) (n : ℕ) (last : Shown) → LastIn t last → Filling out n 0 last out
     filling_begin out n last h =
         let z : n - 0 ≡ n = omega arith in
         record { to = omega arith; read = h; size = refl; rest = ap (λ (k : ℕ). fill_from t row first 0 k out) z }

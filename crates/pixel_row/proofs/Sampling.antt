@@ -21,11 +21,11 @@ use Rattle.evaluate.specs.Reading.{set_at}
 use Rattle.tables.specs.Tables.{Tree}
 use Rattle.laws.proofs.Choices.{pick_true, pick_false}
 use Rattle.find_leaf.specs.Leaf.{leaf_stream}
-use Rattle.find_leaf.proofs.Same.{Leaf_holds}
+use Rattle.find_leaf.proofs.Same.{LeafHolds}
 use Rattle.position.specs.declared.Shown.{Shown}
 use Rattle.position.specs.declared.Shown.TheVariants.{In}
 use Rattle.position.specs.Spots.{known, sums_in}
-use Rattle.position.specs.code.Numbers.{in_square, shown_there, Last_in}
+use Rattle.position.specs.code.Numbers.{in_square, shown_there, LastIn}
 use Rattle.position.proofs.Known.{Known, known_set, shown_in_law, inside_holds, shown_again}
 use Rattle.pixel_row.specs.declared.Pixel.TheVariants as Pixels
 use Rattle.pixel_row.specs.Rows.{samples_known, pixel_known, pixel_in}
@@ -105,7 +105,7 @@ module _ (t : Tree) (row pixel : ℕ) where
   unfolding samples_known
   known_end e i h = let z : e - i ≡ 0 = omega arith in rw z
 
-  pub sampling_begin : (e : ℕ) (last : Shown) → Last_in t last → Sampling t row pixel e 0 last no_channels
+  pub sampling_begin : (e : ℕ) (last : Shown) → LastIn t last → Sampling t row pixel e 0 last no_channels
   sampling_begin e last h =
       let z : e - 0 ≡ e = omega arith in
       record {
@@ -171,7 +171,7 @@ module _ (t : Tree) (row pixel : ℕ) where
   module _ (l : Leaf) (u : Bool) (set : ℕ) (e : In l u set ≡ shown_there t (sample_x pixel 0) (sample_y row 0)) (q : u ≡ true)
       (h : holds_pixel l row pixel ≡ true) where
     -- the leaf holds each of its samples
-    sample_held : (k : ℕ) → k < 16 → Leaf_holds l (at (sample_x pixel k) (sample_y row k))
+    sample_held : (k : ℕ) → k < 16 → LeafHolds l (at (sample_x pixel k) (sample_y row k))
     sample_held k g =
         let first = in_square l (16 * pixel) (16 * row) in
         let last = in_square l (16 * pixel + 15) (16 * row + 15) in

@@ -5,9 +5,9 @@
 ghost use Rattle.std.specs.Prelude.{◌≡◌, ◌+◌, ◌*◌, ◌/◌, ◌≤◌, length};
 ghost use Rattle.paint.specs.Colours.{ColourIn};
 ghost use Rattle.tables.specs.Tables.{tree, tree_lent};
-ghost use Rattle.position.specs.code.Numbers.{Last_in};
+ghost use Rattle.position.specs.code.Numbers.{LastIn};
 ghost use Rattle.pixel_row.specs.Rows.{put_pixel, fill_from, row_span, row_filled};
-ghost use Rattle.pixel_row.specs.code.Numbers.{holds_pixel, Sampling, pixel_told, Pixel_bytes};
+ghost use Rattle.pixel_row.specs.code.Numbers.{holds_pixel, Sampling, pixel_told, PixelBytes};
 
 use celltable::Leaf;
 use paint::colour::{Channels, Colour};
@@ -71,7 +71,7 @@ fn pixel_from(
     requires sampling { Sampling (tree plan.now areas.now xs.now ys.now head.now cells.now entries.now) row column 16 1 first sums }
     requires row_bound { (row ≤ 4095) × (column ≤ 4095) }
     ensures answer { result ≡ pixel_told (tree_lent plan areas xs ys head cells entries) row column }
-    ensures range { Pixel_bytes result }
+    ensures range { PixelBytes result }
 {
     let mut last = first;
     let mut sum = sums;
@@ -111,10 +111,10 @@ fn pixel_at(
     row: u32,
     column: u32,
 ) -> Pixel
-    requires last_in { Last_in (tree plan.now areas.now xs.now ys.now head.now cells.now entries.now) before }
+    requires last_in { LastIn (tree plan.now areas.now xs.now ys.now head.now cells.now entries.now) before }
     requires row_bound { (row ≤ 4095) × (column ≤ 4095) }
     ensures answer { result ≡ pixel_told (tree_lent plan areas xs ys head cells entries) row column }
-    ensures range { Pixel_bytes result }
+    ensures range { PixelBytes result }
 {
     let p = pixel::sample_at(row, column, 0);
     let s = position::leaf_for(plan, areas, xs, ys, head, cells, entries, before, p.x, p.y);

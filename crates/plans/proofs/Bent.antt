@@ -39,13 +39,13 @@ May neither r = is_control r ≡ false
 May corner r = Unit {0}
 May control r = is_next r ≡ true
 
-abbrev pub May_end : Before → Type 0
-May_end neither = Unit {0}
-May_end corner = Unit {0}
-May_end control = ⊥
+abbrev pub MayEnd : Before → Type 0
+MayEnd neither = Unit {0}
+MayEnd corner = Unit {0}
+MayEnd control = ⊥
 
 abbrev pub Bent : Before → List Record → Type 0
-Bent b [] = May_end b
+Bent b [] = MayEnd b
 Bent b (r ∷ rs) = May b r × Bent (behind r) rs
 
 -- behind a control corner stands a next corner
@@ -96,7 +96,7 @@ remembered p Open = (refl, refl)
 remembered p Bar = (refl, refl)
 remembered p Close = (refl, refl)
 
-may_end : (b : Before) (p : Progress) → Remembers b p → p.bends ≡ false → May_end b
+may_end : (b : Before) (p : Progress) → Remembers b p → p.bends ≡ false → MayEnd b
 may_end neither p m e = tt
 may_end corner p m e = tt
 may_end control p m e = clash (sym e ∙ m)

@@ -10,7 +10,7 @@ use Rattle.laws.proofs.Booleans.{clash}
 use Rattle.curves.specs.Curves.{curve_fits}
 use Rattle.geometry.specs.Edges.{counts}
 use Rattle.geometry.specs.Windings.{Line, edge_of, lines_from, lines_of}
-use Rattle.geometry.specs.code.Reach.{Curve_in}
+use Rattle.geometry.specs.code.Reach.{CurveIn}
 use Rattle.geometry.proofs.Sentences.{BentBy, bent_sentence}
 use Rattle.records.specs.declared.Record.{Record}
 use Rattle.records.specs.declared.Record.TheVariants.{Area, First, Next, Control, Open, Bar, Close}
@@ -18,7 +18,7 @@ use Rattle.grammar.specs.declared.Counts.{Counts}
 use Rattle.grammar.specs.Grammar.{Progress, after}
 use Rattle.read.specs.Words.{joined, x_words, y_words}
 use Rattle.drawing.specs.code.Held.{Acceptable}
-use Rattle.ranges.specs.code.Valid.{Curves_in, lines}
+use Rattle.ranges.specs.code.Valid.{CurvesIn, lines}
 use Rattle.plans.specs.Plans.{pieces, contours_here, contours_from, drawing_from}
 use Rattle.plans.specs.code.Source.{edge_from}
 use Rattle.plans.proofs.Runs.{Runs, start, runs}
@@ -40,7 +40,7 @@ module _ (xs ys : List ℕ) where
 
   -- the line or curve from corner c, which the grammar remembers
   curve_here : (rs : List Record) (p : Progress) (c first : ℕ) → Runs p rs → From c (p.x0 ∷ x_words rs) (p.y0 ∷ y_words rs)
-      → Curve_in (edge_of xs ys (edge_from rs c first))
+      → CurveIn (edge_of xs ys (edge_from rs c first))
   unfolding joined
   curve_here [] p c first h f = λ e. clash e
   curve_here (Area g ∷ rs) p c first h f = λ e. clash e
@@ -67,7 +67,7 @@ module _ (xs ys : List ℕ) where
   curve_here (Bar ∷ rs) p c first h f = λ e. clash e
   curve_here (Close ∷ rs) p c first h f = λ e. clash e
 
-  rest_curves : (rs : List Record) (p : Progress) (c first : ℕ) → Runs p rs → From c (x_words rs) (y_words rs) → Curves_in xs ys (rest_lines rs c first)
+  rest_curves : (rs : List Record) (p : Progress) (c first : ℕ) → Runs p rs → From c (x_words rs) (y_words rs) → CurvesIn xs ys (rest_lines rs c first)
   unfolding joined
   rest_curves [] p c first h f = tt
   rest_curves (Area g ∷ rs) p c first h f = tt
@@ -81,19 +81,19 @@ module _ (xs ys : List ℕ) where
   rest_curves (Bar ∷ rs) p c first h f = tt
   rest_curves (Close ∷ rs) p c first h f = tt
 
-  curves_append : (x y : List Line) → Curves_in xs ys x → Curves_in xs ys y → Curves_in xs ys (x ++ y)
+  curves_append : (x y : List Line) → CurvesIn xs ys x → CurvesIn xs ys y → CurvesIn xs ys (x ++ y)
   curves_append [] y h g = g
   curves_append (l ∷ x) y h g = (h.0, curves_append x y h.1 g)
 
   here_curves : (rs : List Record) (p : Progress) (b : Before) (c : ℕ) → Runs p rs → Bent b rs → From c (x_words rs) (y_words rs)
-      → Curves_in xs ys (lines_of (contours_here c rs))
+      → CurvesIn xs ys (lines_of (contours_here c rs))
   unfolding joined
   here_curves [] p b c h q f = tt
   here_curves (Area g ∷ rs) p b c h q f = tt
   here_curves (First x y ∷ rs) p b c h q f =
       let n = later c x y (x_words rs) (y_words rs) f in
       curves_append (lines_from c c (pieces false rs)) (lines_of (contours_here (suc c) rs))
-      (subst (Curves_in xs ys) (edge_more rs c c q.1)
+      (subst (CurvesIn xs ys) (edge_more rs c c q.1)
       (curve_here rs (after p (First x y)) c c h.1 f, rest_curves rs (after p (First x y)) (suc c) c h.1 n))
       (here_curves rs (after p (First x y)) (behind (First x y)) (suc c) h.1 q.1 n)
   here_curves (Next x y ∷ rs) p b c h q f =
@@ -106,7 +106,7 @@ module _ (xs ys : List ℕ) where
 
   pub each_curves : (rs : List Record) (p : Progress) (b : Before) (c : ℕ) → Runs p rs → Bent b rs → From c (x_words rs) (y_words rs)
       → (n : ℕ)
-      → Curves_in xs ys (lines_of (get_or (contours_from c rs) n []))
+      → CurvesIn xs ys (lines_of (get_or (contours_from c rs) n []))
   unfolding joined
   each_curves [] p b c h q f zero = tt
   each_curves [] p b c h q f (suc n) = tt
@@ -123,20 +123,20 @@ module _ (xs ys : List ℕ) where
   each_curves (Close ∷ rs) p b c h q f n = each_curves rs (after p Close) (behind Close) c h.1 q.1 f n
 
   -- each of these lines that is a curve counts where document 02's sentence says
-  abbrev pub Each_by : List Line → Type 0
-  Each_by [] = Unit {0}
-  Each_by (l ∷ ls) =
+  abbrev pub EachBy : List Line → Type 0
+  EachBy [] = Unit {0}
+  EachBy (l ∷ ls) =
       ((edge_of xs ys l).bent ≡ true
       → (x y : ℕ)
       → (T (counts (edge_of xs ys l) x y) → BentBy (edge_of xs ys l) x y) × (BentBy (edge_of xs ys l) x y → T (counts (edge_of xs ys l) x y)))
-      × Each_by ls
+      × EachBy ls
 
-  each_by : (ls : List Line) → Curves_in xs ys ls → Each_by ls
+  each_by : (ls : List Line) → CurvesIn xs ys ls → EachBy ls
   each_by [] h = tt
   each_by (l ∷ ls) h = ((λ b x y. bent_sentence (edge_of xs ys l) b h.0 x y), each_by ls h.1)
 
 -- of an accepted drawing
-pub curves_by_sentence : (rs : List Record) (k : Counts) → Acceptable rs k → (n : ℕ) → Each_by (x_words rs) (y_words rs) (lines (drawing_from rs) n)
+pub curves_by_sentence : (rs : List Record) (k : Counts) → Acceptable rs k → (n : ℕ) → EachBy (x_words rs) (y_words rs) (lines (drawing_from rs) n)
 curves_by_sentence rs k a n =
     let h : Runs start rs = runs rs k a.fold in
     each_by (x_words rs) (y_words rs) (lines (drawing_from rs) n)

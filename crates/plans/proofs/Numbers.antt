@@ -17,7 +17,7 @@ use Rattle.read.specs.Words.{joined, x_words, y_words, all_range}
 use Rattle.pruning.specs.Sides.{Kind, paint, clip, Side, end, leaf, group, Entry, item, push, activate, pop, flat}
 use Rattle.cells.specs.Drawings.{no_fields, kind_of}
 use Rattle.cells.specs.Streams.{Each, On}
-use Rattle.ranges.specs.code.Valid.{Corners_below}
+use Rattle.ranges.specs.code.Valid.{CornersBelow}
 use Rattle.plans.specs.Plans.{fields_in, pieces, contours_here, contours_from, entries_from}
 
 -- ---- the areas' fields
@@ -168,16 +168,16 @@ span_few (Open ∷ rs) b = omega arith
 span_few (Bar ∷ rs) b = omega arith
 span_few (Close ∷ rs) b = omega arith
 
-below_from : (m first c : ℕ) (ps : List Piece) → first < m → c + span ps ≤ m → Corners_below m (lines_from first c ps)
+below_from : (m first c : ℕ) (ps : List Piece) → first < m → c + span ps ≤ m → CornersBelow m (lines_from first c ps)
 below_from m first c [] h g = ((omega arith, h), tt)
 below_from m first c (straight ∷ ps) h g = ((omega arith, omega (arith, span_some ps)), below_from m first (suc c) ps h (omega arith))
 below_from m first c (bent ∷ ps) h g = (omega (arith, span_some ps), below_from m first (suc (suc c)) ps h (omega arith))
 
-below_append : (m : ℕ) (x y : List Line) → Corners_below m x → Corners_below m y → Corners_below m (x ++ y)
+below_append : (m : ℕ) (x y : List Line) → CornersBelow m x → CornersBelow m y → CornersBelow m (x ++ y)
 below_append m [] y h g = g
 below_append m (l ∷ x) y h g = (h.0, below_append m x y h.1 g)
 
-below_here : (m : ℕ) (rs : List Record) (c : ℕ) → c + corners_in rs ≤ m → Corners_below m (lines_of (contours_here c rs))
+below_here : (m : ℕ) (rs : List Record) (c : ℕ) → c + corners_in rs ≤ m → CornersBelow m (lines_of (contours_here c rs))
 below_here m [] c h = tt
 below_here m (Area f ∷ rs) c h = tt
 below_here m (First x y ∷ rs) c h =
@@ -189,7 +189,7 @@ below_here m (Open ∷ rs) c h = tt
 below_here m (Bar ∷ rs) c h = tt
 below_here m (Close ∷ rs) c h = tt
 
-pub below_each : (m : ℕ) (rs : List Record) (c : ℕ) → c + corners_in rs ≤ m → (n : ℕ) → Corners_below m (lines_of (get_or (contours_from c rs) n []))
+pub below_each : (m : ℕ) (rs : List Record) (c : ℕ) → c + corners_in rs ≤ m → (n : ℕ) → CornersBelow m (lines_of (get_or (contours_from c rs) n []))
 below_each m [] c h zero = tt
 below_each m [] c h (suc n) = tt
 below_each m (Area f ∷ rs) c h zero = below_here m rs c (omega arith)

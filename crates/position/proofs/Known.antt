@@ -25,13 +25,13 @@ use Rattle.find_leaf.specs.Leaf.{position_range, leaf_stream, leaf_bounds, leaf_
 use Rattle.find_leaf.specs.code.Numbers.{read_by, leaf_read}
 use Rattle.tables.proofs.Counts.{counts_fit}
 use Rattle.find_leaf.proofs.Landing.{leaf_landed, leaf_passed}
-use Rattle.find_leaf.proofs.Same.{Leaf_holds, leaf_same}
+use Rattle.find_leaf.proofs.Same.{LeafHolds, leaf_same}
 use Rattle.position.specs.declared.Answer.TheVariants as Answers
 use Rattle.position.specs.declared.Shown.{Shown}
 use Rattle.position.specs.declared.Shown.TheVariants.{In}
 use Rattle.position.specs.declared.Shown.TheVariants as Seen
 use Rattle.position.specs.Spots.{is_found, spot_of, set_by, spot_by, set_meant, known, set_in, spot_in, position_answer}
-use Rattle.position.specs.code.Numbers.{between, in_square, shown_by, shown_there, Last_in, serves_n}
+use Rattle.position.specs.code.Numbers.{between, in_square, shown_by, shown_there, LastIn, serves_n}
 
 -- ---- the square of a leaf
 
@@ -43,10 +43,10 @@ is_in low side v h = go (leb low v) (ltb (v - low) side) refl refl h
     go true false p q t = clash t
     go false b p q t = clash t
 
-pub inside_holds : (l : Leaf) (x y : ℕ) → in_square l x y ≡ true → Leaf_holds l (at x y)
+pub inside_holds : (l : Leaf) (x y : ℕ) → in_square l x y ≡ true → LeafHolds l (at x y)
 inside_holds l x y h = go (between l.x l.side x) (between l.y l.side y) refl refl h
   where
-    go : (a b : Bool) → between l.x l.side x ≡ a → between l.y l.side y ≡ b → cond a b false ≡ true → Leaf_holds l (at x y)
+    go : (a b : Bool) → between l.x l.side x ≡ a → between l.y l.side y ≡ b → cond a b false ≡ true → LeafHolds l (at x y)
     go true true p q t =
         let m = is_in l.x l.side x p in
         let n = is_in l.y l.side y q in
@@ -144,7 +144,7 @@ module _ (t : Tree) where
             }
         go Broken k q = absurd (let z : ◌≡◌ {A = ℕ} 0 1 = cc in omega arith)
 
-    pub last_in : (r : Shown) → r ≡ shown_there t x y → Last_in t r
+    pub last_in : (r : Shown) → r ≡ shown_there t x y → LastIn t r
     last_in (In l u s) e = record { x = x; y = y; was = e }
     last_in Seen.Broken e = tt
 
@@ -172,7 +172,7 @@ module _ (t : Tree) where
       pub is_known : known t x y ≡ true
       pub is_set : s ≡ set_in t x y
       pub is_shown : r ≡ shown_there t x y
-      pub is_last : Last_in t r
+      pub is_last : LastIn t r
 
     pub known_set : (r : Shown) (l : Leaf) (u : Bool) (s₀ s : ℕ)
         → r ≡ shown_there t x y
@@ -222,7 +222,7 @@ module _ (t : Tree) where
   -- ---- how far it reaches
 
   -- a leaf that was read serves each position of its square: it is found there, and where it is uniform the same set is read
-  module _ (x y : ℕ) (l : Leaf) (u : Bool) (s : ℕ) (e : In l u s ≡ shown_there t x y) (x' y' : ℕ) (h : Leaf_holds l (at x' y')) where
+  module _ (x y : ℕ) (l : Leaf) (u : Bool) (s : ℕ) (e : In l u s ≡ shown_there t x y) (x' y' : ℕ) (h : LeafHolds l (at x' y')) where
     pub leaf_again : leaf_in t x' y' ≡ At l
     leaf_again = leaf_same t x y x' y' l h (shown_in_law x y l u s e).is_leaf_law
 
@@ -239,6 +239,6 @@ module _ (t : Tree) where
         ∙ (ap (In l (is_uniform (leaf_stream t l))) (same_set (is_uniform (leaf_stream t l)) refl) ∙ sym (leaf_shown x' y' l leaf_again)))
 
   -- as the code tests it
-  pub last_serves : (r : Shown) (x y : ℕ) → Last_in t r → serves_n r x y ≡ true → r ≡ shown_there t x y
+  pub last_serves : (r : Shown) (x y : ℕ) → LastIn t r → serves_n r x y ≡ true → r ≡ shown_there t x y
   last_serves (In l u s) x y k h = shown_again k.x k.y l u s k.was x y (inside_holds l x y h)
   last_serves Seen.Broken x y k h = clash h

@@ -100,10 +100,10 @@ module _ (areas : List ℕ) (used : ℕ) where
   abbrev pub Known : ℕ → Type 0
   Known n = is_good (area_row areas used n) ≡ true
 
-  abbrev pub All_known : ℕ → Type 0
-  All_known set = (n : ℕ) → has set n ≡ true → Known n
+  abbrev pub AllKnown : ℕ → Type 0
+  AllKnown set = (n : ℕ) → has set n ≡ true → Known n
 
-  known_with : (set n : ℕ) → All_known set → Known n → All_known (with_area set n)
+  known_with : (set n : ℕ) → AllKnown set → Known n → AllKnown (with_area set n)
   known_with set n h k m e = go (has set m) (eqb n m) refl refl (sym (has_with set n m) ∙ e)
     where
       go : (a b : Bool) → has set m ≡ a → eqb n m ≡ b → (a || b) ≡ true → Known m
@@ -112,7 +112,7 @@ module _ (areas : List ℕ) (used : ℕ) where
       go false false p q t = clash t
 
   -- a move of the machine shows what is shown, or with it the area that it is moved by
-  item_known : (k : Kind) (p q : Bool) (n : ℕ) (r : Registers ℕ) → All_known (out_of r) → Known n → All_known (out_of (on_item k p q (λ set. with_area set n) r))
+  item_known : (k : Kind) (p q : Bool) (n : ℕ) (r : Registers ℕ) → AllKnown (out_of r) → Known n → AllKnown (out_of (on_item k p q (λ set. with_area set n) r))
   item_known paint true true n (reg P d s o) h g = known_with o n h g
   item_known paint true false n (reg P d s o) h g = known_with o n h g
   item_known clip true q n (reg P d s o) h g = h
@@ -123,14 +123,14 @@ module _ (areas : List ℕ) (used : ℕ) where
   item_known k p q n (halted o) h g = h
 
   -- each area that elements name is in use and in range
-  abbrev pub Each_known : List Element → Type 0
-  Each_known [] = Unit {0}
-  Each_known (opens ∷ ws) = Each_known ws
-  Each_known (bar ∷ ws) = Each_known ws
-  Each_known (closes ∷ ws) = Each_known ws
-  Each_known (bare ∷ ws) = Each_known ws
-  Each_known (named n z ∷ ws) = Known n × Each_known ws
-  Each_known (segment g ∷ ws) = Each_known ws
+  abbrev pub EachKnown : List Element → Type 0
+  EachKnown [] = Unit {0}
+  EachKnown (opens ∷ ws) = EachKnown ws
+  EachKnown (bar ∷ ws) = EachKnown ws
+  EachKnown (closes ∷ ws) = EachKnown ws
+  EachKnown (bare ∷ ws) = EachKnown ws
+  EachKnown (named n z ∷ ws) = Known n × EachKnown ws
+  EachKnown (segment g ∷ ws) = EachKnown ws
 
   push_out : (r : Registers ℕ) → out_of (on_push r) ≡ out_of r
   push_out (reg c d s o) = refl
@@ -159,40 +159,40 @@ module _ (areas : List ℕ) (used : ℕ) where
   bare_out (halted o) = refl
 
   -- what is shown so far, and the area that waits
-  abbrev State_known : State → Type 0
-  State_known (state r settled) = All_known (out_of r)
-  State_known (state r (waits n z)) = All_known (out_of r) × Known n
+  abbrev StateKnown : State → Type 0
+  StateKnown (state r settled) = AllKnown (out_of r)
+  StateKnown (state r (waits n z)) = AllKnown (out_of r) × Known n
 
   module _ (role : ℕ → Kind) (pass : ℕ → ℤ → Bool) (opaque : ℕ → Bool) (adds : Segment → ℤ) where
-    settle_known : (st : State) → State_known st → All_known (out_of (settle role pass opaque adds st))
+    settle_known : (st : State) → StateKnown st → AllKnown (out_of (settle role pass opaque adds st))
     settle_known (state r settled) h = h
     settle_known (state r (waits n z)) h = item_known (role n) (pass n z) (opaque n) n r h.0 h.1
 
-    add_known : (g : Segment) (st : State) → State_known st → State_known (add_to role pass opaque adds g st)
+    add_known : (g : Segment) (st : State) → StateKnown st → StateKnown (add_to role pass opaque adds g st)
     add_known g (state r settled) h = h
     add_known g (state r (waits n z)) h = h
 
-    elements_known : (ws : List Element) (st : State) → Each_known ws → State_known st → State_known (on_elements role pass opaque adds ws st)
+    elements_known : (ws : List Element) (st : State) → EachKnown ws → StateKnown st → StateKnown (on_elements role pass opaque adds ws st)
     elements_known [] st e h = h
     elements_known (opens ∷ ws) st e h =
         elements_known ws (on_element role pass opaque adds opens st) e
-        (subst All_known (sym (push_out (settle role pass opaque adds st))) (settle_known st h))
+        (subst AllKnown (sym (push_out (settle role pass opaque adds st))) (settle_known st h))
     elements_known (bar ∷ ws) st e h =
         elements_known ws (on_element role pass opaque adds bar st) e
-        (subst All_known (sym (activate_out (settle role pass opaque adds st))) (settle_known st h))
+        (subst AllKnown (sym (activate_out (settle role pass opaque adds st))) (settle_known st h))
     elements_known (closes ∷ ws) st e h =
         elements_known ws (on_element role pass opaque adds closes st) e
-        (subst All_known (sym (pop_out (settle role pass opaque adds st))) (settle_known st h))
+        (subst AllKnown (sym (pop_out (settle role pass opaque adds st))) (settle_known st h))
     elements_known (bare ∷ ws) st e h =
         elements_known ws (on_element role pass opaque adds bare st) e
-        (subst All_known (sym (bare_out (settle role pass opaque adds st))) (settle_known st h))
+        (subst AllKnown (sym (bare_out (settle role pass opaque adds st))) (settle_known st h))
     elements_known (named n z ∷ ws) st e h = elements_known ws (on_element role pass opaque adds (named n z) st) e.1 (settle_known st h, e.0)
     elements_known (segment g ∷ ws) st e h = elements_known ws (on_element role pass opaque adds (segment g) st) e (add_known g st h)
 
-    none_known : All_known 0
+    none_known : AllKnown 0
     none_known n e = clash (sym (has_none n) ∙ e)
 
-    read_known : (ws : List Element) → Each_known ws → All_known (read_elements role pass opaque adds ws)
+    read_known : (ws : List Element) → EachKnown ws → AllKnown (read_elements role pass opaque adds ws)
     read_known ws e =
         settle_known (on_elements role pass opaque adds ws (state (reg P 0 0 0) settled))
         (elements_known ws (state (reg P 0 0 0) settled) e none_known)
@@ -200,8 +200,8 @@ module _ (areas : List ℕ) (used : ℕ) where
 -- ---- the elements of a stream that passes
 
 module _ (v : Env) where
-  one_known : (e : Entry) (ws : List Element) → in_range v e ≡ true → Each_known v.areas v.used.areas ws
-      → Each_known v.areas v.used.areas (element_for e ws)
+  one_known : (e : Entry) (ws : List Element) → in_range v e ≡ true → EachKnown v.areas v.used.areas ws
+      → EachKnown v.areas v.used.areas (element_for e ws)
   one_known Entry.opens ws h k = k
   one_known Entry.bar ws h k = k
   one_known Entry.closes ws h k = k
@@ -214,7 +214,7 @@ module _ (v : Env) where
 
   words_known : (t : List ℕ) (i n : ℕ)
       → ((k : ℕ) → k < n → in_range v (decode (words_at t (i + k))) ≡ true)
-      → Each_known v.areas v.used.areas (elements_in (words_from t i n))
+      → EachKnown v.areas v.used.areas (elements_in (words_from t i n))
   unfolding words_from elements_in
   words_known t i zero h = tt
   words_known t i (suc n) h =
@@ -236,7 +236,7 @@ set_painted t first count v x y p =
       bytes = λ n e. painted n (fields_in_law (fields_at v.areas n) (area_fields v.areas v.used.areas n (known n e)));
     }
   where
-    known : All_known v.areas v.used.areas (set_at v.areas v.xs v.ys x y (words_from t first count))
+    known : AllKnown v.areas v.used.areas (set_at v.areas v.xs v.ys x y (words_from t first count))
     known =
         read_known v.areas v.used.areas (role_at v.areas) (pass_at v.areas) (opaque_at v.areas)
         (adds_at v.xs v.ys (at x y)) (elements_in (words_from t first count))

@@ -8,7 +8,7 @@ use lib.ListN.{length}
 use borrow.Author.Tests.{eqb-true, lt-ltb}
 use Rattle.refusals.specs.declared.Refusal.TheVariants as Refusals
 use Rattle.cells.specs.Cells.{at}
-use Rattle.stream.specs.Entry.{Holds_segment, is_uniform}
+use Rattle.stream.specs.Entry.{HoldsSegment, is_uniform}
 use Rattle.stream.proofs.Uniform.{no_holds, holds_no}
 use Rattle.celltable.specs.declared.Leaf.{Leaf}
 use Rattle.celltable.specs.declared.Found.{Found}
@@ -17,7 +17,7 @@ use Rattle.evaluate.proofs.Uniform.{set_uniform}
 use Rattle.tables.specs.Tables.{Tree}
 use Rattle.find_leaf.specs.Leaf.{position_range, leaf_stream, leaf_in}
 use Rattle.find_leaf.proofs.Landing.{leaf_square}
-use Rattle.find_leaf.proofs.Same.{Leaf_holds, leaf_same}
+use Rattle.find_leaf.proofs.Same.{LeafHolds, leaf_same}
 use Rattle.position.specs.declared.Spot.{Spot}
 use Rattle.position.specs.declared.Answer.TheVariants as Answers
 use Rattle.position.specs.Spots.{spot_of, set_by, spot_by, set_in, position_answer, Reaches}
@@ -56,11 +56,11 @@ module _ (t : Tree) (x y : ℕ) where
 
   module _ (s : Spot) (h : position_answer t x y ≡ Answers.At s) where
     -- no comes with a line, a curve or a shortcut
-    pub no_reach : s.uniform ≡ false → Holds_segment (leaf_stream t (accepted s h).leaf)
+    pub no_reach : s.uniform ≡ false → HoldsSegment (leaf_stream t (accepted s h).leaf)
     no_reach u = no_holds (leaf_stream t (accepted s h).leaf) (sym (ap (λ (r : Spot). r.uniform) (accepted s h).spot) ∙ u)
 
     -- and it comes wherever there is one
-    pub reach_no : Holds_segment (leaf_stream t (accepted s h).leaf) → s.uniform ≡ false
+    pub reach_no : HoldsSegment (leaf_stream t (accepted s h).leaf) → s.uniform ≡ false
     reach_no k = ap (λ (r : Spot). r.uniform) (accepted s h).spot ∙ holds_no k
 
 -- document 02: "A yes means that each position of the leaf has this shown set, material and colour."
@@ -71,7 +71,7 @@ reaches t x y s h u x' y' i =
     let px = ap (λ (r : Spot). r.x) a.spot in
     let py = ap (λ (r : Spot). r.y) a.spot in
     let ps = ap (λ (r : Spot). r.side) a.spot in
-    let holds : Leaf_holds l (at x' y') = record {
+    let holds : LeafHolds l (at x' y') = record {
       west = omega (arith, i.west, px);
       east = omega (arith, i.east, px, ps);
       south = omega (arith, i.south, py);

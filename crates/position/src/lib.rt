@@ -9,7 +9,7 @@ ghost use Rattle.stream.specs.Grammar.{env, bounds, Passed};
 ghost use Rattle.evaluate.specs.Reading.{set_at};
 ghost use Rattle.tables.specs.Tables.{tree, tree_lent};
 ghost use Rattle.position.specs.Spots.{spot_of, spot_in, position_answer};
-ghost use Rattle.position.specs.code.Numbers.{between, in_square, serves_n, Last_in, shown_there};
+ghost use Rattle.position.specs.code.Numbers.{between, in_square, serves_n, LastIn, shown_there};
 
 use celltable::Leaf;
 use find_leaf::LeafRead;
@@ -163,7 +163,7 @@ pub fn leaf_for(
     x: u32,
     y: u32,
 ) -> Shown
-    requires last_in { Last_in (tree plan.now areas.now xs.now ys.now head.now cells.now entries.now) last }
+    requires last_in { LastIn (tree plan.now areas.now xs.now ys.now head.now cells.now entries.now) last }
     requires x_bound { (x < 65536) × (y < 65536) }
     ensures answer { result ≡ shown_there (tree_lent plan areas xs ys head cells entries) x y }
 {

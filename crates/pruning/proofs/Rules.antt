@@ -6,7 +6,7 @@ use Rattle.pruning.specs.Sides.{Kind, paint, clip, Side, end, leaf, group, appen
 use Rattle.pruning.specs.Items.{Items, passes}
 use Rattle.pruning.specs.Normal.{normal, put, group_of, one_leaf, status}
 use Rattle.pruning.specs.Rules.{Rule, rule_12_13, rule_14, rule_15, rule_16, rule_17, rule_18, Bares, becomes_bare}
-use Rattle.pruning.specs.Rules.{Anywhere, here, in_leaf, in_left_law, in_right_law, in_rest, Step, Bare_step, Top, top_14, below, Steps, done, more, more_bare}
+use Rattle.pruning.specs.Rules.{Anywhere, here, in_leaf, in_left_law, in_right_law, in_rest, Step, BareStep, Top, top_14, below, Steps, done, more, more_bare}
 use Rattle.pruning.proofs.Sides.{size_append}
 use Rattle.pruning.proofs.Normal.{normal_append, normal_one, normal_sealed, status_always, no_right}
 
@@ -40,7 +40,7 @@ module _ (I : Items) where
   anywhere_normal f (in_right_law h) = rw (anywhere_normal f h)
   anywhere_normal f (in_rest h) = rw (anywhere_normal f h)
 
-  pub bares_normal : {k : Kind} {s s' : Side Item} → Bare_step I k s s' → normal I k s ≡ normal I k s'
+  pub bares_normal : {k : Kind} {s s' : Side Item} → BareStep I k s s' → normal I k s ≡ normal I k s'
   bares_normal h = anywhere_normal (λ j t t' b. bare_normal b) h
 
   pub top_normal : {s s' : Side Item} → Top I s s' → normal I paint s ≡ normal I paint s'

@@ -12,7 +12,7 @@ use Rattle.pruning.specs.Rules.{
   in_left_law,
   in_right_law,
   in_rest,
-  Bare_step,
+  BareStep,
   Top,
   top_14,
   below,
@@ -34,14 +34,14 @@ module _ (I : Items) (bare? : (a : I.Item) → Dec (a ≡ I.bare)) where
 
   -- where no C1 can become bare, each is bare
   bared_leaf : (k : Kind) (c : Class) (a : Item) (t : Side Item) → Dec (a ≡ bare) → class k a ≡ c
-      → ((s' : Side Item) → Bare_step I k (leaf a t) s' → ⊥) → mark_by I k c a ≡ a
+      → ((s' : Side Item) → BareStep I k (leaf a t) s' → ⊥) → mark_by I k c a ≡ a
   bared_leaf k fails a t d e f = refl
   bared_leaf paint passes a t d e f = refl
   bared_leaf clip passes a t (yes p) e f = sym p
   bared_leaf clip passes a t (no n) e f = absurd (f (leaf bare t) (here (becomes_bare e n)))
   bared_leaf k other a t d e f = refl
 
-  bared_side : (k : Kind) (s : Side Item) → ((s' : Side Item) → Bare_step I k s s' → ⊥) → bare_side I k s ≡ s
+  bared_side : (k : Kind) (s : Side Item) → ((s' : Side Item) → BareStep I k s s' → ⊥) → bare_side I k s ≡ s
   bared_side k end f = refl
   bared_side k (leaf a t) f = rw (bared_leaf k (class k a) a t (bare? a) refl f, bared_side k t (λ t' h. f (leaf a t') (in_leaf h)))
   bared_side k (group l r t) f =

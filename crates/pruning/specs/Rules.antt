@@ -36,8 +36,8 @@ module _ (I : Items) where
   abbrev pub Step : Kind → Side Item → Side Item → Type 0
   Step = Anywhere Rule
 
-  abbrev pub Bare_step : Kind → Side Item → Side Item → Type 0
-  Bare_step = Anywhere Bares
+  abbrev pub BareStep : Kind → Side Item → Side Item → Type 0
+  BareStep = Anywhere Bares
 
   -- "The top level obeys rule 14 like a group's right side."
   pub data Top : Side Item → Side Item → Type 0 where
@@ -48,7 +48,7 @@ module _ (I : Items) where
   pub data Steps : Side Item → Side Item → Type 0 where
     done : {s : Side Item} → Steps s s
     more : {s t u : Side Item} → Top s t → Steps t u → Steps s u
-    more_bare : {s t u : Side Item} → Bare_step paint s t → Steps t u → Steps s u
+    more_bare : {s t u : Side Item} → BareStep paint s t → Steps t u → Steps s u
 
   -- no rule applies
   abbrev pub Irreducible : Side Item → Type 0
@@ -56,4 +56,4 @@ module _ (I : Items) where
 
   -- no C1 is left to be made bare
   abbrev pub Bared : Side Item → Type 0
-  Bared s = (s' : Side Item) → Bare_step paint s s' → ⊥
+  Bared s = (s' : Side Item) → BareStep paint s s' → ⊥

@@ -20,7 +20,7 @@ use Rattle.cells.specs.Drawings.{Drawing, fields_of}
 use Rattle.cells.specs.Streams.{source, made}
 use Rattle.cells.specs.Elements.{elements_of}
 use Rattle.evaluate.specs.Words.{words_of}
-use Rattle.ranges.specs.code.Valid.{Corners_below, Curves_in, lines, Valid}
+use Rattle.ranges.specs.code.Valid.{CornersBelow, CurvesIn, lines, Valid}
 use Rattle.ranges.specs.Held.{Held}
 use Rattle.ranges.proofs.Streams.{made_passes}
 
@@ -53,12 +53,12 @@ coordinates_in (suc (suc (suc (suc (suc zero))))) l = refl
 coordinates_in (suc (suc (suc (suc (suc (suc zero)))))) l = refl
 coordinates_in (suc (suc (suc (suc (suc (suc (suc n))))))) l = absurd (omega arith)
 
-corners_in_law : (n : ℕ) → Corners_below 7 (lines clipped n)
+corners_in_law : (n : ℕ) → CornersBelow 7 (lines clipped n)
 corners_in_law zero = ((omega arith, omega arith), ((omega arith, omega arith), ((omega arith, omega arith), tt)))
 corners_in_law (suc zero) = (omega arith, ((omega arith, omega arith), ((omega arith, omega arith), tt)))
 corners_in_law (suc (suc n)) = tt
 
-curves_in : (n : ℕ) → Curves_in clipped.xs clipped.ys (lines clipped n)
+curves_in : (n : ℕ) → CurvesIn clipped.xs clipped.ys (lines clipped n)
 unfolding curve_fits
 curves_in zero = (λ e. clash e, (λ e. clash e, (λ e. clash e, tt)))
 curves_in (suc zero) = (λ _. refl, (λ e. clash e, (λ e. clash e, tt)))

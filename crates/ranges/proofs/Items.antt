@@ -20,15 +20,15 @@ use Rattle.cells.specs.Segments.{Segment}
 use Rattle.cells.specs.Drawings.{Drawing, fields_of}
 use Rattle.cells.specs.Streams.{Item, always, area, Each, On, items, within, whole, source, made}
 use Rattle.cells.specs.code.Sizes.{Small}
-use Rattle.cells.specs.Elements.{On_side, role_in}
+use Rattle.cells.specs.Elements.{OnSide, role_in}
 use Rattle.cells.proofs.Each.{each_sub, each_mapped}
 use Rattle.cells.proofs.Streams.{made_normal}
 use Rattle.cells.proofs.Bounds.{made_small}
 use Rattle.cells.proofs.Elements.{made_on_side}
 use Rattle.ranges.specs.code.Valid.{Valid, lines}
 use Rattle.ranges.specs.Held.{Held}
-use Rattle.ranges.proofs.Segments.{Each_in, lines_kept}
-use Rattle.ranges.proofs.Passing.{is_paint_side, Area_passes, Item_passes}
+use Rattle.ranges.proofs.Segments.{EachIn, lines_kept}
+use Rattle.ranges.proofs.Passing.{is_paint_side, AreaPasses, ItemPasses}
 use Rattle.ranges.proofs.Numbers.{start_word, role_fits_law, each_passes}
 
 -- ---- of each entry of the stream, so of each item of the side
@@ -69,7 +69,7 @@ module _ (D : Drawing) (c : Cell) where
   -- its area is in use, and its lines, curves and shortcuts are in range
   abbrev pub Numbered : Kind → Item → Type 0
   Numbered k always = Unit {0}
-  Numbered k (area n z gs) = (n < length D.fields) × Each_in D.xs D.ys c gs
+  Numbered k (area n z gs) = (n < length D.fields) × EachIn D.xs D.ys c gs
 
   pub made_numbered : Valid D → Each Numbered (flat paint (made D c (source D)))
   made_numbered ok =
@@ -81,13 +81,13 @@ module _ (D : Drawing) (c : Cell) where
 
   -- its role is that of its side, and its start number is small
   abbrev pub Placed : Kind → Item → Type 0
-  Placed k i = On_side (role_in D) k i × Small D 2048 k i
+  Placed k i = OnSide (role_in D) k i × Small D 2048 k i
 
   pub made_placed : Valid D → On Placed paint (made D c (source D))
   made_placed ok =
       let s = made D c (source D) in
-      on_both (On_side (role_in D)) (Small D 2048) Placed (λ k i p q. (p, q)) paint s
-      (each_on (On_side (role_in D)) paint s (made_on_side D ok.roles c)) (each_on (Small D 2048) paint s (made_small D 2048 ok.few_each c))
+      on_both (OnSide (role_in D)) (Small D 2048) Placed (λ k i p q. (p, q)) paint s
+      (each_on (OnSide (role_in D)) paint s (made_on_side D ok.roles c)) (each_on (Small D 2048) paint s (made_small D 2048 ok.few_each c))
 
   -- the words of each pass, in tables that hold the drawing
   module _ (ok : Valid D) (areas xs ys : List ℕ) (b : Bounds) (H : Held areas xs ys b D) (same_low : b.low ≡ low c) (same_side : b.side ≡ side c) where
@@ -101,17 +101,17 @@ module _ (D : Drawing) (c : Cell) where
         → role_in D n ≡ k
         → nat_abs z + length gs ≤ 2048
         → n < length D.fields
-        → Each_in D.xs D.ys c gs
-        → Area_passes (env areas xs ys b) k n z gs
+        → EachIn D.xs D.ys c gs
+        → AreaPasses (env areas xs ys b) k n z gs
     area_in k n z gs e m l h = (ap is_good (row n l), role k n l e, start_word z (omega arith), each_passes D areas xs ys b H c same_low same_side ok gs h)
 
-    item_in : (k : Kind) (i : Item) → Placed k i → Numbered k i → Item_passes (env areas xs ys b) k i
+    item_in : (k : Kind) (i : Item) → Placed k i → Numbered k i → ItemPasses (env areas xs ys b) k i
     item_in paint always p q = p.0
     item_in clip always p q = tt
     item_in paint (area n z gs) p q = area_in paint n z gs p.0 p.1.0 q.0 q.1
     item_in clip (area n z gs) p q = area_in clip n z gs p.0 p.1.0 q.0 q.1
 
-    pub made_in : On (Item_passes (env areas xs ys b)) paint (made D c (source D))
+    pub made_in : On (ItemPasses (env areas xs ys b)) paint (made D c (source D))
     made_in =
         let s = made D c (source D) in
-        on_both Placed Numbered (Item_passes (env areas xs ys b)) item_in paint s (made_placed ok) (each_on Numbered paint s (made_numbered ok))
+        on_both Placed Numbered (ItemPasses (env areas xs ys b)) item_in paint s (made_placed ok) (each_on Numbered paint s (made_numbered ok))

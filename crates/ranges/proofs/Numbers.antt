@@ -14,7 +14,7 @@ use mir.Val.{of_z}
 use Rattle.laws.proofs.Booleans.{clash, and_both}
 use Rattle.curves.specs.Curves.{curve_fits}
 use Rattle.geometry.specs.Windings.{Line, line, curve, edge_of}
-use Rattle.geometry.specs.code.Reach.{Curve_in, Line_below}
+use Rattle.geometry.specs.code.Reach.{CurveIn, LineBelow}
 use Rattle.geometry.specs.declared.edge.Edge.{Edge}
 use Rattle.records.specs.declared.Fields.{Fields}
 use Rattle.records.specs.declared.Record.TheVariants.{Area}
@@ -28,8 +28,8 @@ use Rattle.cells.specs.Segments.{Segment, drawn, shortcut}
 use Rattle.cells.specs.Drawings.{Drawing, kind_of}
 use Rattle.ranges.specs.code.Valid.{Valid}
 use Rattle.ranges.specs.Held.{Held}
-use Rattle.ranges.proofs.Segments.{Segment_in, Each_in}
-use Rattle.ranges.proofs.Passing.{is_paint_side, Line_passes, Segment_passes, Each_passes}
+use Rattle.ranges.proofs.Segments.{SegmentIn, EachIn}
+use Rattle.ranges.proofs.Passing.{is_paint_side, LinePasses, SegmentPasses, EachPasses}
 
 -- "start −2,048 to 2,048"
 pub start_word : (z : ℤ) → nat_abs z ≤ 2048 → start_range (of_z w32 z) ≡ true
@@ -59,7 +59,7 @@ role_fits_law clip f h e = go (leb f.rule 1) (eqb f.role 0) (eqb f.role 1) (pain
 
 -- tables whose first n corners are the same
 pub edges_agree : (n : ℕ) (xs ys us vs : List ℕ) → ((k : ℕ) → k < n → get_or xs k 0 ≡ get_or us k 0) → ((k : ℕ) → k < n → get_or ys k 0 ≡ get_or vs k 0)
-    → (l : Line) → Line_below n l → edge_of xs ys l ≡ edge_of us vs l
+    → (l : Line) → LineBelow n l → edge_of xs ys l ≡ edge_of us vs l
 edges_agree n xs ys us vs x y (line i j) h = rw (x i h.0, x j h.1, y i h.0, y j h.1)
 edges_agree n xs ys us vs x y (curve i) h =
     let first : i < n = omega arith in
@@ -74,13 +74,13 @@ module _ (D : Drawing) (areas xs ys : List ℕ) (b : Bounds) (H : Held areas xs 
   pub same_y : (n : ℕ) → n < length D.xs → get_or ys n 0 ≡ get_or D.ys n 0
   same_y n l = sym (get_or-take b.corners ys n 0 (omega (arith, H.corners_used))) ∙ ap (λ t. get_or t n 0) H.ys_same
 
-  pub edge_same : (l : Line) → Line_below (length D.xs) l → edge_of xs ys l ≡ edge_of D.xs D.ys l
+  pub edge_same : (l : Line) → LineBelow (length D.xs) l → edge_of xs ys l ≡ edge_of D.xs D.ys l
   edge_same = edges_agree (length D.xs) xs ys D.xs D.ys same_x same_y
 
   corner_met_law : Valid D → (n : ℕ) → n < length D.xs → corner_met xs ys b.corners n ≡ true
   corner_met_law ok n l = rw (lt-ltb n b.corners (omega (arith, H.corners_used))) (ap₂ corner_range (same_x n l) (same_y n l) ∙ ok.coordinates n l)
 
-  line_met_law : Valid D → (l : Line) → Line_below (length D.xs) l → Curve_in (edge_of D.xs D.ys l) → Line_passes (env areas xs ys b) l
+  line_met_law : Valid D → (l : Line) → LineBelow (length D.xs) l → CurveIn (edge_of D.xs D.ys l) → LinePasses (env areas xs ys b) l
   line_met_law ok (line i j) h f =
       and_both (corner_met xs ys b.corners i) (corner_met xs ys b.corners j) (corner_met_law ok i h.0) (corner_met_law ok j h.1)
   line_met_law ok (curve i) h f =
@@ -96,10 +96,10 @@ module _ (D : Drawing) (areas xs ys : List ℕ) (b : Bounds) (H : Held areas xs 
     shortcut_in z lo hi s l m u =
         rw (sign_word z s, le-leb b.low lo (omega (arith, same_low)), lt-ltb lo hi m) (le-leb hi (b.low + b.side) (omega (arith, same_low, same_side)))
 
-    segment_in : Valid D → (g : Segment) → Segment_in D.xs D.ys c g → Segment_passes (env areas xs ys b) g
+    segment_in : Valid D → (g : Segment) → SegmentIn D.xs D.ys c g → SegmentPasses (env areas xs ys b) g
     segment_in ok (drawn l) h = line_met_law ok l h.0 h.1
     segment_in ok (shortcut z lo hi) h = shortcut_in z lo hi h.0 h.1 h.2 h.3
 
-    pub each_passes : Valid D → (gs : List Segment) → Each_in D.xs D.ys c gs → Each_passes (env areas xs ys b) gs
+    pub each_passes : Valid D → (gs : List Segment) → EachIn D.xs D.ys c gs → EachPasses (env areas xs ys b) gs
     each_passes ok [] h = tt
     each_passes ok (g ∷ gs) h = (segment_in ok g h.0, each_passes ok gs h.1)

@@ -32,26 +32,26 @@ is_paint_side paint = true
 is_paint_side clip = false
 
 module _ (v : Env) where
-  abbrev pub Line_passes : Line → Type 0
-  Line_passes l = line_met v.xs v.ys v.used.corners l ≡ true
+  abbrev pub LinePasses : Line → Type 0
+  LinePasses l = line_met v.xs v.ys v.used.corners l ≡ true
 
-  abbrev pub Segment_passes : Segment → Type 0
-  Segment_passes (drawn l) = Line_passes l
-  Segment_passes (shortcut z lo hi) = shortcut_range v.used.low v.used.side (of_z w32 z) lo hi ≡ true
+  abbrev pub SegmentPasses : Segment → Type 0
+  SegmentPasses (drawn l) = LinePasses l
+  SegmentPasses (shortcut z lo hi) = shortcut_range v.used.low v.used.side (of_z w32 z) lo hi ≡ true
 
-  abbrev pub Each_passes : List Segment → Type 0
-  Each_passes [] = Unit {0}
-  Each_passes (g ∷ gs) = Segment_passes g × Each_passes gs
+  abbrev pub EachPasses : List Segment → Type 0
+  EachPasses [] = Unit {0}
+  EachPasses (g ∷ gs) = SegmentPasses g × EachPasses gs
 
   -- the row of the area is good, its role fits the side, its start number and what follows it are in range
-  abbrev pub Area_passes : Kind → ℕ → ℤ → List Segment → Type 0
-  Area_passes k n z gs = (is_good (area_met v n) ≡ true) × (role_fits (area_met v n) (is_paint_side k) ≡ true) × (start_range (of_z w32 z) ≡ true) × Each_passes gs
+  abbrev pub AreaPasses : Kind → ℕ → ℤ → List Segment → Type 0
+  AreaPasses k n z gs = (is_good (area_met v n) ≡ true) × (role_fits (area_met v n) (is_paint_side k) ≡ true) × (start_range (of_z w32 z) ≡ true) × EachPasses gs
 
   -- "passes" stands on a clip side
-  abbrev pub Item_passes : Kind → Item → Type 0
-  Item_passes paint always = ⊥
-  Item_passes clip always = Unit {0}
-  Item_passes k (area n z gs) = Area_passes k n z gs
+  abbrev pub ItemPasses : Kind → Item → Type 0
+  ItemPasses paint always = ⊥
+  ItemPasses clip always = Unit {0}
+  ItemPasses k (area n z gs) = AreaPasses k n z gs
 
 -- ---- open groups
 
@@ -135,14 +135,14 @@ group_words k l r t =
 
 module _ (v : Env) where
   segment_passes : (g : List Frame) (a l : ℕ) (s : Segment) (ws : List Words)
-      → Segment_passes v s
+      → SegmentPasses v s
       → l < 2048
       → course v (at (place g true a l)) (segment_words s ∷ ws) ≡ course v (at (place g true a (l + 1))) ws
   segment_passes g a l (drawn (line i j)) ws h m = step v (place g true a l) (words 5 i j 0) ws h refl (lt-ltb l 2048 m)
   segment_passes g a l (drawn (curve i)) ws h m = step v (place g true a l) (words 8 i 0 0) ws h refl (lt-ltb l 2048 m)
   segment_passes g a l (shortcut z lo hi) ws h m = step v (place g true a l) (words 6 (of_z w32 z) lo hi) ws h refl (lt-ltb l 2048 m)
 
-  segments_pass : (g : List Frame) (a l : ℕ) (gs : List Segment) → Each_passes v gs → l + length gs ≤ 2048
+  segments_pass : (g : List Frame) (a l : ℕ) (gs : List Segment) → EachPasses v gs → l + length gs ≤ 2048
       → course v (at (place g true a l)) (map words_of (map segment gs)) ≡ at (place g true a (l + length gs))
   unfolding course
   segments_pass g a l [] h m = at_counts g true a a l (l + 0) refl (omega arith)
@@ -152,7 +152,7 @@ module _ (v : Env) where
 
   item_passes : (k : Kind) (i : Item) (g : List Frame) (h : Bool) (a l : ℕ)
       → is_paint g ≡ is_paint_side k
-      → Item_passes v k i
+      → ItemPasses v k i
       → a + one_area i ≤ 64
       → l + segments i ≤ 2048
       → course v (at (place g h a l)) (map words_of (item_elements i)) ≡ at (place g (held_by i) (a + one_area i) (l + segments i))
@@ -166,7 +166,7 @@ module _ (v : Env) where
       ∙ segments_pass g (a + 1) l gs p.3 n
 
   -- with so many groups open and so many areas and lines so far, and room for those of the side
-  pub side_passes : (k : Kind) (s : Side Item) (g : List Frame) (h : Bool) (a l : ℕ) → is_paint g ≡ is_paint_side k → On (Item_passes v) k s
+  pub side_passes : (k : Kind) (s : Side Item) (g : List Frame) (h : Bool) (a l : ℕ) → is_paint g ≡ is_paint_side k → On (ItemPasses v) k s
       → depth s + length g ≤ 8 → a + weigh one_area 0 s ≤ 64 → l + weigh segments 0 s ≤ 2048
       → course v (at (place g h a l)) (side_words k s) ≡ at (place g (held_after s h) (a + weigh one_area 0 s) (l + weigh segments 0 s))
   side_passes k end g h a l e o d m n = course_none v (at (place g h a l)) ∙ at_counts g h a (a + 0) l (l + 0) (omega arith) (omega arith)

@@ -10,7 +10,7 @@ use lib.IntN.{ℤ, pos, ◌+ℤ◌}
 use Rattle.geometry.specs.FillRules as FillRules
 use Rattle.geometry.specs.Edges.{counts, sign}
 use Rattle.geometry.specs.Windings.{Line, line, curve}
-use Rattle.geometry.specs.code.Reach.{Line_below}
+use Rattle.geometry.specs.code.Reach.{LineBelow}
 use Rattle.geometry.specs.declared.edge.Edge.{Edge}
 use Rattle.drawing.specs.Tables.{fields_at}
 use Rattle.paint.specs.Sets.{set_of}
@@ -46,7 +46,7 @@ use Rattle.evaluate.specs.Words.{words_of, Agrees}
 use Rattle.evaluate.proofs.Words.{cell_words_read}
 use Rattle.ranges.specs.code.Valid.{Valid}
 use Rattle.ranges.specs.Held.{fields_from, Held}
-use Rattle.ranges.proofs.Segments.{Each_in}
+use Rattle.ranges.proofs.Segments.{EachIn}
 use Rattle.ranges.proofs.Numbers.{edge_same}
 use Rattle.ranges.proofs.Items.{on_both, Numbered, made_numbered}
 
@@ -82,14 +82,14 @@ held_agrees D areas xs ys b H ok =
 
 -- elements are read by what their lines, curves and shortcuts add, and by nothing else of them
 module _ (role : ℕ → Kind) (pass : ℕ → ℤ → Bool) (opaque : ℕ → Bool) (f g : Segment → ℤ) where
-  abbrev pub Same_on : List Element → Type 0
-  Same_on [] = Unit {0}
-  Same_on (opens ∷ ws) = Same_on ws
-  Same_on (bar ∷ ws) = Same_on ws
-  Same_on (closes ∷ ws) = Same_on ws
-  Same_on (bare ∷ ws) = Same_on ws
-  Same_on (named n z ∷ ws) = Same_on ws
-  Same_on (segment s ∷ ws) = (f s ≡ g s) × Same_on ws
+  abbrev pub SameOn : List Element → Type 0
+  SameOn [] = Unit {0}
+  SameOn (opens ∷ ws) = SameOn ws
+  SameOn (bar ∷ ws) = SameOn ws
+  SameOn (closes ∷ ws) = SameOn ws
+  SameOn (bare ∷ ws) = SameOn ws
+  SameOn (named n z ∷ ws) = SameOn ws
+  SameOn (segment s ∷ ws) = (f s ≡ g s) × SameOn ws
 
   settle_same : (st : State) → settle role pass opaque f st ≡ settle role pass opaque g st
   settle_same (state r settled) = refl
@@ -99,8 +99,8 @@ module _ (role : ℕ → Kind) (pass : ℕ → ℤ → Bool) (opaque : ℕ → B
   add_same s e (state r settled) = refl
   add_same s e (state r (waits n z)) = ap (λ a. state r (waits n (z +ℤ a))) e
 
-  element_same : (w : Element) (ws : List Element) → Same_on (w ∷ ws) → (st : State)
-      → (on_element role pass opaque f w st ≡ on_element role pass opaque g w st) × Same_on ws
+  element_same : (w : Element) (ws : List Element) → SameOn (w ∷ ws) → (st : State)
+      → (on_element role pass opaque f w st ≡ on_element role pass opaque g w st) × SameOn ws
   element_same opens ws h st = (rw (settle_same st), h)
   element_same bar ws h st = (rw (settle_same st), h)
   element_same closes ws h st = (rw (settle_same st), h)
@@ -108,25 +108,25 @@ module _ (role : ℕ → Kind) (pass : ℕ → ℤ → Bool) (opaque : ℕ → B
   element_same (named n z) ws h st = (rw (settle_same st), h)
   element_same (segment s) ws h st = (add_same s h.0 st, h.1)
 
-  elements_same : (ws : List Element) → Same_on ws → (st : State) → on_elements role pass opaque f ws st ≡ on_elements role pass opaque g ws st
+  elements_same : (ws : List Element) → SameOn ws → (st : State) → on_elements role pass opaque f ws st ≡ on_elements role pass opaque g ws st
   elements_same [] h st = refl
   elements_same (w ∷ ws) h st =
       let q = element_same w ws h st in elements_same ws q.1 (on_element role pass opaque f w st) ∙ ap (on_elements role pass opaque g ws) q.0
 
-  pub read_same : (ws : List Element) → Same_on ws → read_elements role pass opaque f ws ≡ read_elements role pass opaque g ws
+  pub read_same : (ws : List Element) → SameOn ws → read_elements role pass opaque f ws ≡ read_elements role pass opaque g ws
   read_same ws h =
       let st = state (reg P 0 0 0) settled in
       ap (λ x. out_of (settle role pass opaque f x)) (elements_same ws h st) ∙ ap out_of (settle_same (on_elements role pass opaque g ws st))
 
 module _ (D : Drawing) (areas xs ys : List ℕ) (b : Bounds) (H : Held areas xs ys b D) (c : Cell) (x y : ℕ) where
   abbrev Same : List Element → Type 0
-  Same = Same_on (role_at areas) (pass_at areas) (opaque_at areas) (adds_at xs ys (at x y)) (adds_at D.xs D.ys (at x y))
+  Same = SameOn (role_at areas) (pass_at areas) (opaque_at areas) (adds_at xs ys (at x y)) (adds_at D.xs D.ys (at x y))
 
-  line_same : (l : Line) → Line_below (length D.xs) l → adds_at xs ys (at x y) (drawn l) ≡ adds_at D.xs D.ys (at x y) (drawn l)
+  line_same : (l : Line) → LineBelow (length D.xs) l → adds_at xs ys (at x y) (drawn l) ≡ adds_at D.xs D.ys (at x y) (drawn l)
   line_same l h = ap (λ (e : Edge). cond (counts e x y) (sign e) (pos 0)) (edge_same D areas xs ys b H l h)
 
   segments_same : (gs : List Segment) (ws : List Element)
-      → Each_in D.xs D.ys c gs
+      → EachIn D.xs D.ys c gs
       → Same (elements_in (map words_of ws))
       → Same (elements_in (map words_of (map segment gs ++ ws)))
   unfolding elements_in

@@ -13,13 +13,13 @@ use borrow.Author.Tests.{lt-ltb, le-ltb, leb-false}
 use Rattle.geometry.specs.Edges.{sign, counts, first_row, end_row}
 use Rattle.geometry.specs.Windings.{Line, edge_of}
 use Rattle.geometry.specs.Classes.{nowhere, everywhere, verdict, class_of, edge_class}
-use Rattle.geometry.specs.code.Reach.{Curve_in, Line_below}
+use Rattle.geometry.specs.code.Reach.{CurveIn, LineBelow}
 use Rattle.geometry.specs.declared.edge.Edge.{Edge}
 use Rattle.geometry.specs.declared.class.Class.{Class}
 use Rattle.geometry.specs.declared.class.Class.TheVariants.{Dropped, Start, Shortcut, Kept}
 use Rattle.cells.specs.Cells.{Cell, left, low, side}
 use Rattle.cells.specs.Segments.{Segment, drawn, shortcut, class_in, kept_by, kept_in}
-use Rattle.ranges.specs.code.Valid.{Corners_below, Curves_in}
+use Rattle.ranges.specs.code.Valid.{CornersBelow, CurvesIn}
 
 -- an edge that has rows is drawn upward or downward
 sign_one : (e : Edge) → first_row e < end_row e → nat_abs (sign e) ≡ 1
@@ -54,26 +54,26 @@ class_cases P f b d X Y S = verdict_cases P (nowhere f (max b Y) (min d (Y + S))
 
 module _ (xs ys : List ℕ) (c : Cell) where
   -- a line, curve or shortcut in range
-  abbrev pub Segment_in : Segment → Type 0
-  Segment_in (drawn l) = Line_below (length xs) l × Curve_in (edge_of xs ys l)
-  Segment_in (shortcut z lo hi) = (nat_abs z ≡ 1) × (low c ≤ lo) × (lo < hi) × (hi ≤ low c + side c)
+  abbrev pub SegmentIn : Segment → Type 0
+  SegmentIn (drawn l) = LineBelow (length xs) l × CurveIn (edge_of xs ys l)
+  SegmentIn (shortcut z lo hi) = (nat_abs z ≡ 1) × (low c ≤ lo) × (lo < hi) × (hi ≤ low c + side c)
 
-  abbrev pub Each_in : List Segment → Type 0
-  Each_in [] = Unit {0}
-  Each_in (g ∷ gs) = Segment_in g × Each_in gs
+  abbrev pub EachIn : List Segment → Type 0
+  EachIn [] = Unit {0}
+  EachIn (g ∷ gs) = SegmentIn g × EachIn gs
 
-  line_kept : (l : Line) (gs : List Segment) → Segment_in (drawn l) → Each_in gs → Each_in (kept_by xs ys (class_in xs ys c (drawn l)) (drawn l) gs)
+  line_kept : (l : Line) (gs : List Segment) → SegmentIn (drawn l) → EachIn gs → EachIn (kept_by xs ys (class_in xs ys c (drawn l)) (drawn l) gs)
   unfolding edge_class
   line_kept l gs h g =
       let e : Edge = edge_of xs ys l in
-      class_cases (λ k. Each_in (kept_by xs ys k (drawn l) gs)) (counts e) (first_row e) (end_row e) (left c) (low c) (side c) g g (h, g)
+      class_cases (λ k. EachIn (kept_by xs ys k (drawn l) gs)) (counts e) (first_row e) (end_row e) (left c) (low c) (side c) g g (h, g)
       (λ r. ((sign_one e (omega arith), omega arith, r, omega arith), g))
 
   -- of the lines of an area
-  pub lines_kept : (ls : List Line) → Corners_below (length xs) ls → Curves_in xs ys ls → Each_in (kept_in xs ys c (map drawn ls))
+  pub lines_kept : (ls : List Line) → CornersBelow (length xs) ls → CurvesIn xs ys ls → EachIn (kept_in xs ys c (map drawn ls))
   lines_kept [] h f = tt
   lines_kept (l ∷ ls) h f = line_kept l (kept_in xs ys c (map drawn ls)) (h.0, f.0) (lines_kept ls h.1 f.1)
 
-  pub lines_in_law : (ls : List Line) → Corners_below (length xs) ls → Curves_in xs ys ls → Each_in (map drawn ls)
+  pub lines_in_law : (ls : List Line) → CornersBelow (length xs) ls → CurvesIn xs ys ls → EachIn (map drawn ls)
   lines_in_law [] h f = tt
   lines_in_law (l ∷ ls) h f = ((h.0, f.0), lines_in_law ls h.1 f.1)

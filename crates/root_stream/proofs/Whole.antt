@@ -9,7 +9,7 @@ use lib.ListN.{length, length-map}
 use lib.IntN.{pos}
 use Rattle.geometry.specs.FillRules as FillRules
 use Rattle.geometry.specs.Windings.{Line, edge_of}
-use Rattle.geometry.specs.code.Reach.{Line_below}
+use Rattle.geometry.specs.code.Reach.{LineBelow}
 use Rattle.records.specs.declared.Fields.{Fields}
 use Rattle.records.specs.declared.Record.{Record}
 use Rattle.records.specs.declared.Record.TheVariants.{Area, First, Next, Control, Open, Bar, Close}
@@ -22,18 +22,18 @@ use Rattle.cells.specs.Cells.{Cell, root}
 use Rattle.cells.specs.Segments.{Segment, drawn}
 use Rattle.cells.specs.Drawings.{Drawing, fields_of, kind_of, rule_of}
 use Rattle.cells.specs.Streams.{Item, On, whole, source, made}
-use Rattle.cells.specs.Elements.{elements_of, role_in, On_side, stream_of}
+use Rattle.cells.specs.Elements.{elements_of, role_in, OnSide, stream_of}
 use Rattle.cells.proofs.Each.{each_mapped}
 use Rattle.cells.proofs.Elements as Elements
 use Rattle.stream.specs.declared.Bounds.{Bounds}
 use Rattle.records.specs.Record.{is_good}
 use Rattle.stream.specs.Grammar.{env, role_fits, is_whole, accepts}
-use Rattle.evaluate.specs.Words.{words_of, Each_fits, Agrees}
+use Rattle.evaluate.specs.Words.{words_of, EachFits, Agrees}
 use Rattle.evaluate.proofs.Words.{elements_back}
 use Rattle.ranges.specs.code.Valid.{Valid, lines, weigh}
 use Rattle.ranges.specs.Held.{Held}
 use Rattle.ranges.proofs.Segments.{lines_in_law}
-use Rattle.ranges.proofs.Passing.{is_paint_side, Item_passes, Area_passes, side_passes}
+use Rattle.ranges.proofs.Passing.{is_paint_side, ItemPasses, AreaPasses, side_passes}
 use Rattle.ranges.proofs.Numbers.{start_word, role_fits_law, edge_same, each_passes}
 use Rattle.ranges.proofs.Items.{on_both}
 use Rattle.ranges.proofs.Depth.{depth_map}
@@ -65,8 +65,8 @@ module _ (D : Drawing) (areas xs ys : List ℕ) (b : Bounds) (H : Held areas xs 
         opaque = ap (λ (f : Fields). eqb f.alpha 255) e;
       }
 
-  held_edges : (l : Line) → Line_below b.corners l → edge_of D.xs D.ys l ≡ edge_of xs ys l
-  held_edges l h = sym (edge_same D areas xs ys b H l (subst (λ (n : ℕ). Line_below n l) H.corners_used h))
+  held_edges : (l : Line) → LineBelow b.corners l → edge_of D.xs D.ys l ≡ edge_of xs ys l
+  held_edges l h = sym (edge_same D areas xs ys b H l (subst (λ (n : ℕ). LineBelow n l) H.corners_used h))
 
   -- tables that hold the drawing say of its areas and corners what it says
   pub held_reads : Reads (env areas xs ys b) D
@@ -79,7 +79,7 @@ module _ (D : Drawing) (areas xs ys : List ℕ) (b : Bounds) (H : Held areas xs 
     row : (n : ℕ) → n < length D.fields → area_row areas b.areas n ≡ Good (Area (fields_of D n))
     row n l = H.rows n (omega (arith, H.areas_used))
 
-    area_in : (k : Kind) (n : ℕ) → Placed k n → Area_passes (env areas xs ys b) k n (pos 0) (map drawn (lines D n))
+    area_in : (k : Kind) (n : ℕ) → Placed k n → AreaPasses (env areas xs ys b) k n (pos 0) (map drawn (lines D n))
     area_in k n p = (
       ap is_good (row n p.0),
       ap (λ r. role_fits r (is_paint_side k)) (row n p.0) ∙ role_fits_law k (fields_of D n) (ok.fields n p.0) p.1,
@@ -88,13 +88,13 @@ module _ (D : Drawing) (areas xs ys : List ℕ) (b : Bounds) (H : Held areas xs 
           (lines_in_law D.xs D.ys root (lines D n) (ok.corners n) (ok.curves n)),
     )
 
-    item_in : (k : Kind) (n : ℕ) → Placed k n → Item_passes (env areas xs ys b) k (whole D n)
+    item_in : (k : Kind) (n : ℕ) → Placed k n → ItemPasses (env areas xs ys b) k (whole D n)
     item_in paint n p = area_in paint n p
     item_in clip n p = area_in clip n p
 
-    source_in : On (Item_passes (env areas xs ys b)) paint (source D)
+    source_in : On (ItemPasses (env areas xs ys b)) paint (source D)
     source_in =
-        on_mapped Placed (Item_passes (env areas xs ys b)) (whole D) item_in paint D.plan
+        on_mapped Placed (ItemPasses (env areas xs ys b)) (whole D) item_in paint D.plan
         (on_both (λ k n. n < length D.fields) (λ k n. role_in D n ≡ k) Placed (λ k n l e. (l, e)) paint D.plan ok.numbers ok.roles)
 
     few_areas : weigh one_area 0 (source D) ≤ 64
@@ -119,7 +119,7 @@ module _ (D : Drawing) (areas xs ys : List ℕ) (b : Bounds) (H : Held areas xs 
 
 -- ---- what the words say
 
-source_fits : (a c f : ℕ) (rs : List Record) → Each_fits (source_from a c f rs)
+source_fits : (a c f : ℕ) (rs : List Record) → EachFits (source_from a c f rs)
 source_fits a c f [] = tt
 source_fits a c f (Area g ∷ rs) = (record { sfits = omega arith }, source_fits (suc a) c f rs)
 source_fits a c f (First x y ∷ rs) = (tt, source_fits a (suc c) c rs)
@@ -132,9 +132,9 @@ source_fits a c f (Close ∷ rs) = (tt, source_fits a c f rs)
 source_back : (D : Drawing) → Valid D → stream_of (role_in D) (elements_of (flat paint (source D))) ≡ source D
 source_back D ok =
     Elements.elements_back (role_in D) (source D)
-    (each_mapped (λ k n. role_in D n ≡ k) (On_side (role_in D)) (whole D) stands paint D.plan ok.roles)
+    (each_mapped (λ k n. role_in D n ≡ k) (OnSide (role_in D)) (whole D) stands paint D.plan ok.roles)
   where
-    stands : (k : Kind) (n : ℕ) → role_in D n ≡ k → On_side (role_in D) k (whole D n)
+    stands : (k : Kind) (n : ℕ) → role_in D n ≡ k → OnSide (role_in D) k (whole D n)
     stands paint n e = e
     stands clip n e = e
 

@@ -12,7 +12,7 @@ use Rattle.split.specs.declared.Answer.TheVariants.{Split}
 use Rattle.tables.specs.Tables.{Tree, entries_used}
 use Rattle.split.specs.Split.{words, drawing, stream, split_answer}
 use Rattle.split_laws.specs.After.{split_tree}
-use Rattle.split_laws.specs.Entries.{child_after, Not_used_again}
+use Rattle.split_laws.specs.Entries.{child_after, NotUsedAgain}
 use Rattle.split.proofs.Accepted.{split_able, able_entries}
 use Rattle.split_laws.proofs.Rows.{streams_up}
 use Rattle.split_laws.proofs.Trees.{tree_free, tree_cell, tree_child, tree_stream}
@@ -41,7 +41,7 @@ module _ (t : Tree) (i n : ℕ) (e : split_answer t i ≡ Split n) where
   up : (p q : ℕ) → p ≤ q → entries_to p ≤ entries_to q
   up = streams_up (drawing t i) (cell_of (words t i)) (stream t i)
 
-  pub not_used_again : Not_used_again t i
+  pub not_used_again : NotUsedAgain t i
   not_used_again =
       record {
         kept = tree_stream t i n e;

@@ -12,7 +12,7 @@ module _ (t : Tree) (i : ℕ) where
   child_after q = words (split_tree t i) (cells_used t.head + q)
 
   -- "Entries of split cells are not used again.": where cell i of the tables t is split,
-  pub record Not_used_again : Type 0 where
+  pub record NotUsedAgain : Type 0 where
     -- every entry that was in use keeps its words,
     pub kept : (first count : ℕ) → first + count ≤ entries_used t.head
         → words_from (split_tree t i).entries first count ≡ words_from t.entries first count

@@ -11,7 +11,7 @@ use Rattle.stream.specs.declared.Words.{Words}
 use Rattle.stream.specs.declared.Scan.{Scan}
 use Rattle.stream.specs.declared.Checked.{Checked}
 use Rattle.stream.specs.Entry.{Entry, opens, bar, closes, area, line, curve, shortcut, passes, bad, decode}
-use Rattle.stream.specs.Entry.{is_curve, is_line, is_segment, lines_in, segments_in, Holds_segment, here, behind, is_uniform}
+use Rattle.stream.specs.Entry.{is_curve, is_line, is_segment, lines_in, segments_in, HoldsSegment, here, behind, is_uniform}
 use Rattle.stream.specs.Table.{words_from}
 use Rattle.stream.specs.Grammar.{Env, Place, place, Course, at, off, in_range, fits, in_limit, after, next, course, begin, accepts, check_stream}
 use Rattle.stream.specs.code.Machine.{start_n, scan_n}
@@ -139,20 +139,20 @@ module _ (t : List ℕ) (first count used : ℕ) (v : Env) (r : Checked) (e : r 
 -- ---- uniform, both ways
 
 -- "no" comes with a line, a curve or a shortcut
-pub no_holds : (ws : List Words) → is_uniform ws ≡ false → Holds_segment ws
+pub no_holds : (ws : List Words) → is_uniform ws ≡ false → HoldsSegment ws
 no_holds [] h = clash (sym h)
 no_holds (w ∷ ws) h = go (is_segment w.kind) refl (no_holds ws) h
   where
     go : (b : Bool)
         → is_segment w.kind ≡ b
-        → (is_uniform ws ≡ false → Holds_segment ws)
+        → (is_uniform ws ≡ false → HoldsSegment ws)
         → eqb (cond b (1 + segments_in ws) (segments_in ws)) 0 ≡ false
-        → Holds_segment (w ∷ ws)
+        → HoldsSegment (w ∷ ws)
     go true e ih q = here w ws e
     go false e ih q = behind w ws (ih q)
 
 -- a line, a curve or a shortcut makes it "no"
-pub holds_no : {ws : List Words} → Holds_segment ws → is_uniform ws ≡ false
+pub holds_no : {ws : List Words} → HoldsSegment ws → is_uniform ws ≡ false
 holds_no (here w ws e) = rw e (ne_eqb (1 + segments_in ws) 0 (λ z. omega (arith, z)))
 holds_no (behind w ws h) = go (is_segment w.kind) (holds_no h)
   where

@@ -43,9 +43,9 @@ segments_in [] = 0
 segments_in (w ∷ ws) = cond (is_segment w.kind) (1 + segments_in ws) (segments_in ws)
 
 -- one of the entries is a line, a curve or a shortcut
-pub data Holds_segment : List Words → Type 0 where
-  here : (w : Words) (ws : List Words) → is_segment w.kind ≡ true → Holds_segment (w ∷ ws)
-  behind : (w : Words) (ws : List Words) → Holds_segment ws → Holds_segment (w ∷ ws)
+pub data HoldsSegment : List Words → Type 0 where
+  here : (w : Words) (ws : List Words) → is_segment w.kind ≡ true → HoldsSegment (w ∷ ws)
+  behind : (w : Words) (ws : List Words) → HoldsSegment ws → HoldsSegment (w ∷ ws)
 
 -- document 02: "yes exactly when the leaf's stream holds no line, curve or shortcut"; `Rattle.stream.proofs.Uniform` says both ways
 abbrev pub is_uniform : List Words → Bool

@@ -38,7 +38,7 @@ use Rattle.evaluate.specs.code.Numbers.{line_of, segment_of}
 use Rattle.evaluate.proofs.Laws.{element_segment, in_segment}
 use Rattle.making.specs.declared.Maker.{Maker}
 use Rattle.making.specs.code.Numbers.{left_sign, left_class, waiting_n, settled_n, pruned_n}
-use Rattle.making.proofs.Laws.{by_kind, Segment_below, range_below}
+use Rattle.making.proofs.Laws.{by_kind, SegmentBelow, range_below}
 use Rattle.making.proofs.Follows.{state_of, settle_counts, settle_fits, settle_short, kept_weight}
 use Rattle.making.proofs.Grammar.{Passes, one_passes}
 use Rattle.making.proofs.Standing.{Reads, sign_same, class_same, Standing}
@@ -155,7 +155,7 @@ module _ (v : Env) (D : Drawing) (c : Cell) (R : Reads v D) (k : ℕ) (mk : Make
     on_segment : is_segment w.kind ≡ true → Passes v s.standing.place (decode w) ws → Writes limit u (next (decode w))
     on_segment e h =
         let g = segment_of w in
-        let b : Segment_below v.used.corners g = range_below v.xs v.ys v.used.corners w (in_segment v w e h.range) in
+        let b : SegmentBelow v.used.corners g = range_below v.xs v.ys v.used.corners w (in_segment v w e h.range) in
         let x : f ≡ class_on v.xs v.ys (square_of c) g = rw e at hf in
         let y : z ≡ sign_of v.xs v.ys g = rw e at hz in
         let q : u ≡ segment_put limit t mk f z w = rw e at hu in

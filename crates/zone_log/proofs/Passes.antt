@@ -16,7 +16,7 @@ use Rattle.tables.specs.Tables.{Tree}
 use Rattle.laws.proofs.Choices.{pick_true, pick_false}
 use Rattle.position.specs.declared.Shown.{Shown}
 use Rattle.position.specs.Spots.{known}
-use Rattle.position.specs.code.Numbers.{Last_in}
+use Rattle.position.specs.code.Numbers.{LastIn}
 use Rattle.position.proofs.Known.{Known}
 use Rattle.zone_log.specs.declared.Tally.{Tally}
 use Rattle.zone_log.specs.declared.Count.TheVariants as Counts
@@ -108,7 +108,7 @@ module _ (t : Tree) (px py : List ℕ) where
     -- where a pass stands: what was read last, the material of the index before; what is counted and what is left make the whole,
     -- and so do what is written and what is left
     pub record Passing (i : ℕ) (last : Shown) (before : ℕ) (c : Tally) (out : List ℕ) : Type 0 where
-      pub prior_read : Last_in t last
+      pub prior_read : LastIn t last
       pub prior : (i ≡ 0 → ⊥) → before ≡ at (i - 1)
       pub few : c.count ≤ i
       pub knows : known_from t px py i (length px - i) ≡ known_from t px py 0 (length px)
@@ -117,7 +117,7 @@ module _ (t : Tree) (px py : List ℕ) where
       pub size : length out ≡ length out₀
       pub rest : cond written (sets out c.count (left i)) out ≡ after
 
-    pub passing_begin : (before : ℕ) (last : Shown) → Last_in t last → Passing 0 last before (tally 0 true) out₀
+    pub passing_begin : (before : ℕ) (last : Shown) → LastIn t last → Passing 0 last before (tally 0 true) out₀
     unfolding zone_log
     passing_begin before last h =
         let z = less_none (length px) in

@@ -5,7 +5,7 @@
 ghost use Rattle.std.specs.Prelude.{◌≡◌, true, cond, ◌<◌, length, set};
 ghost use Rattle.std.proofs.lemmas.List.Edits.{sets};
 ghost use Rattle.tables.specs.Tables.{tree, tree_lent};
-ghost use Rattle.position.specs.code.Numbers.{Last_in, shown_there};
+ghost use Rattle.position.specs.code.Numbers.{LastIn, shown_there};
 ghost use Rattle.zone_log.specs.Logs.{outside_from, zone_log, log_known, log_range, log_answer, out_after};
 ghost use Rattle.zone_log.specs.code.Numbers.{RunIn, Accepted, logged_n, tallied_n, count_in};
 
@@ -99,7 +99,7 @@ fn leaf_next(
     x: u32,
     y: u32,
 ) -> Shown
-    requires last_in { Last_in (tree plan.now areas.now xs.now ys.now head.now cells.now entries.now) last }
+    requires last_in { LastIn (tree plan.now areas.now xs.now ys.now head.now cells.now entries.now) last }
     requires x_bound { (x < 65536) × (y < 65536) }
     ensures answer { result ≡ shown_there (tree_lent plan areas xs ys head cells entries) x y }
 {

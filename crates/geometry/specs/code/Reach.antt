@@ -7,18 +7,18 @@ use Rattle.geometry.specs.declared.edge.Edge.{Edge}
 use Rattle.geometry.specs.declared.class.Square.{Square}
 
 -- a curve, if it is one, that a drawing may have
-abbrev pub Curve_in : Edge → Type 0
-Curve_in e = e.bent ≡ true → curve_fits e.x0 e.y0 e.cx e.cy e.x1 e.y1 ≡ true
+abbrev pub CurveIn : Edge → Type 0
+CurveIn e = e.bent ≡ true → curve_fits e.x0 e.y0 e.cx e.cy e.x1 e.y1 ≡ true
 
 -- an edge, by its two ends and its curve
 pub record EdgeIn (e : Edge) : Type 0 where
   pub ends : EndsIn e.x0 e.y0 e.x1 e.y1
-  pub fits : Curve_in e
+  pub fits : CurveIn e
 
 -- a line of which each corner is below n
-abbrev pub Line_below : (n : ℕ) → Line → Type 0
-Line_below n (line p q) = (p < n) × (q < n)
-Line_below n (curve p) = p + 2 < n
+abbrev pub LineBelow : (n : ℕ) → Line → Type 0
+LineBelow n (line p q) = (p < n) × (q < n)
+LineBelow n (curve p) = p + 2 < n
 
 -- a square with some position
 pub record SquareIn (s : Square) : Type 0 where

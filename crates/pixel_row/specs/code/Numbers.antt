@@ -7,7 +7,7 @@ use Rattle.paint.specs.Pixels.{sample_x, sample_y, samples, SamplesIn}
 use Rattle.tables.specs.Tables.{Tree}
 use Rattle.position.specs.declared.Shown.{Shown}
 use Rattle.position.specs.Spots.{sums_in}
-use Rattle.position.specs.code.Numbers.{in_square, shown_there, Last_in}
+use Rattle.position.specs.code.Numbers.{in_square, shown_there, LastIn}
 use Rattle.pixel_row.specs.declared.Pixel.{Pixel}
 use Rattle.pixel_row.specs.declared.Pixel.TheVariants.{Known, Broken}
 use Rattle.pixel_row.specs.Rows.{samples_known, pixel_known, pixel_in}
@@ -21,9 +21,9 @@ abbrev pub pixel_told : Tree → (row pixel : ℕ) → Pixel
 pixel_told t row pixel = cond (pixel_known t row pixel) (Known (pixel_in t row pixel) (shown_there t (sample_x pixel 15) (sample_y row 15))) Broken
 
 -- its channels are bytes
-abbrev pub Pixel_bytes : Pixel → Type 0
-Pixel_bytes (Known c f) = ColourIn c
-Pixel_bytes Broken = Unit {0}
+abbrev pub PixelBytes : Pixel → Type 0
+PixelBytes (Known c f) = ColourIn c
+PixelBytes Broken = Unit {0}
 
 abbrev pub no_channels : Channels
 no_channels = record { red = 0; green = 0; blue = 0 }
@@ -35,7 +35,7 @@ sampled t row pixel i n s = samples (sums_in t) row pixel i n s
 -- sample i of e is the next: what was read last, and the sum so far; what is left gives what the whole gives
 pub record Sampling (t : Tree) (row pixel e i : ℕ) (last : Shown) (sum : Channels) : Type 0 where
   pub to : i ≤ e
-  pub read : Last_in t last
+  pub read : LastIn t last
   pub prior : (i ≡ 0 → ⊥) → last ≡ shown_there t (sample_x pixel (i - 1)) (sample_y row (i - 1))
   pub small : SamplesIn i sum
   pub knows : samples_known t row pixel i (e - i) ≡ samples_known t row pixel 0 e

@@ -34,9 +34,9 @@ pub record WasShown (t : Tree) (s : Shown) : Type 0 where
   pub was : s ≡ shown_there t x y
 
 -- what a run keeps: what was read last, or nothing yet
-abbrev pub Last_in : Tree → Shown → Type 0
-Last_in t (In l u s) = WasShown t (In l u s)
-Last_in t Seen.Broken = Unit {0}
+abbrev pub LastIn : Tree → Shown → Type 0
+LastIn t (In l u s) = WasShown t (In l u s)
+LastIn t Seen.Broken = Unit {0}
 
 -- a leaf was read last, and (x, y) lies in its square
 abbrev pub serves_n : Shown → (x y : ℕ) → Bool

@@ -1,7 +1,7 @@
 -- What follows for an accepted drawing: used by proofs. Every number is in range, every role fits its side, and nothing is over its limit.
 use Rattle.std.specs.Prelude.{◌≡◌, true, List, [], ◌∷◌, ℕ, suc, ◌+◌, ◌*◌, ◌≤◌, ◌<◌, max, length, get_or}
 use Rattle.geometry.specs.Windings.{Line, edge_of, lines_of}
-use Rattle.geometry.specs.code.Reach.{Curve_in, Line_below}
+use Rattle.geometry.specs.code.Reach.{CurveIn, LineBelow}
 use Rattle.records.specs.Record.{area_range, corner_range}
 use Rattle.pruning.specs.Sides.{paint, Side, end, leaf, group}
 use Rattle.cells.specs.Drawings.{Drawing, fields_of}
@@ -26,14 +26,14 @@ elements always = 1
 elements (area n z gs) = suc (length gs)
 
 -- the corners of these lines are below n
-abbrev pub Corners_below : ℕ → List Line → Type 0
-Corners_below n [] = Unit {0}
-Corners_below n (l ∷ ls) = Line_below n l × Corners_below n ls
+abbrev pub CornersBelow : ℕ → List Line → Type 0
+CornersBelow n [] = Unit {0}
+CornersBelow n (l ∷ ls) = LineBelow n l × CornersBelow n ls
 
 -- a drawing may have those of these lines that are curves
-abbrev pub Curves_in : (xs ys : List ℕ) → List Line → Type 0
-Curves_in xs ys [] = Unit {0}
-Curves_in xs ys (l ∷ ls) = Curve_in (edge_of xs ys l) × Curves_in xs ys ls
+abbrev pub CurvesIn : (xs ys : List ℕ) → List Line → Type 0
+CurvesIn xs ys [] = Unit {0}
+CurvesIn xs ys (l ∷ ls) = CurveIn (edge_of xs ys l) × CurvesIn xs ys ls
 
 -- the lines of area n
 abbrev pub lines : Drawing → ℕ → List Line
@@ -47,9 +47,9 @@ pub record Valid (D : Drawing) : Type 0 where
   pub pairs : length D.xs ≡ length D.ys
   -- "each 0 to 65,536"
   pub coordinates : (n : ℕ) → n < length D.xs → corner_range (get_or D.xs n 0) (get_or D.ys n 0) ≡ true
-  pub corners : (n : ℕ) → Corners_below (length D.xs) (lines D n)
+  pub corners : (n : ℕ) → CornersBelow (length D.xs) (lines D n)
   -- document 02: "Its curve must rise or fall steadily in each axis"; document 02: "No axis spans over 4,096 units."
-  pub curves : (n : ℕ) → Curves_in D.xs D.ys (lines D n)
+  pub curves : (n : ℕ) → CurvesIn D.xs D.ys (lines D n)
   -- "Limits: 4,096 records, 64 areas, 2,048 corners, 8 open groups."
   pub few_records : weigh (λ n. suc (length (lines D n))) 1 D.plan ≤ 4096
   pub few_areas : weigh (λ n. 1) 0 D.plan ≤ 64
