@@ -1,6 +1,6 @@
 -- Laws of a table of four words an entry: reading it one entry at a time, what a write leaves as it was, and reading back what was written.
 use Prim.Native.Nat.{ℕ, zero, suc, ◌+◌, ◌*◌, ◌-◌, ◌≤◌, ◌<◌}
-use mathlib.Core.Path.{◌≡◌, refl, sym, ap, ◌∙◌}
+use mathlib.Core.Path.{◌≡◌, refl, sym, ap, subst, ◌∙◌}
 use mathlib.Core.List.{List, [], ◌∷◌, ◌++◌}
 use native.Mathlib.Omega.{arith}
 use native.Mathlib.Nat.{add-zero}
@@ -140,7 +140,8 @@ pub written_read : (t : List ℕ) (i : ℕ) (ws : List Words) → (i + length ws
 unfolding words_from
 written_read t i [] h = refl
 written_read t i (w ∷ ws) h =
-    rw (← written_cons t i w ws) (λ d. first d ∷ written_read (put_at t i w) (i + 1) ws room d)
+    subst (λ u. words_from u i (suc (length ws)) ≡ w ∷ ws) (written_cons t i w ws)
+    (λ d. first d ∷ written_read (put_at t i w) (i + 1) ws room d)
   where
     first : words_at (written (put_at t i w) (i + 1) ws) i ≡ w
     first = at_agree _ _ (i * 4 + 4) i (written_keeps (put_at t i w) (i * 4 + 4) (i + 1) ws (omega arith)) (omega arith) ∙ put_same t i w (omega arith)
