@@ -1,4 +1,3 @@
 // What an accepted drawing has, lent tables that hold it, and the check of streams made from it: definitions and theorems.
 
 #![tactic(auto)]
-
