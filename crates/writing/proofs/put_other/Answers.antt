@@ -1,0 +1,14 @@
+use mathlib.Core.Path.{◌∙◌}
+use Rattle.writing.proofs.Marks.{mark_is}
+use Rattle.pruner.specs.code.Numbers.{counted}
+use Rattle.making.specs.code.Numbers.{settled_n}
+use Rattle.writing.specs.code.Numbers.{settled_put}
+use Rattle.writing.proofs.put_other.Goals as goal
+
+pub returns : goal.returns
+returns c =
+    let a = c.args in record {
+      out = (rw c.put_settled.ensures.out at c.put_mark.ensures.out)
+          ∙ mark_is a.limit (settled_put a.limit a.areas.now a.out.now a.m) c.settled-q.result a.weight
+          a.kind (settled_n a.areas.now (counted a.m.pruner) a.m.waiting) c.settled-q.ensures.answer;
+    }
