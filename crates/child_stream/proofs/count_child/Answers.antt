@@ -1,5 +1,4 @@
 use mathlib.Core.Path.{refl, sym, ap, ap₂, subst, ◌∙◌}
-use mathlib.Core.Logic.{⊎_elim}
 use Prim.Native.Nat.{◌≤◌}
 use native.Mathlib.Omega.{arith}
 use lib.IntN.{ℤ, nat_abs}
@@ -13,6 +12,7 @@ use Rattle.making.proofs.Lent.{lent_reads}
 use Rattle.child_stream.proofs.Loop.{loop_left, sign_of, sign_read, loop_asks, end_inside, end_room, end_weight}
 use Rattle.child_stream.proofs.Noting.{counting_begin, looping, counting_turn, counting_end}
 use Rattle.child_stream.proofs.count_child.Goals as goal
+use Rattle.child_stream.proofs.count_child.Goals.{then-prunes, else-prunes}
 
 pub overflow_add-end : goal.overflow_add-end
 overflow_add-end c = search (rules, c.requires.passed.within)
@@ -50,7 +50,7 @@ pruner_after-q-requires c =
     let D = lent a.areas.now a.xs.now a.ys.now a.b in
     let m = maker c.loop-i.p c.loop-i.a in
     let held = looping v D (cell_in a.s) R a.entries.now a.first a.count c.requires.passed c.loop-i.i m c.loop-i.at c.loop-i.invariant in
-    let h = loop_asks v D (cell_in a.s) R a.entries.now a.first a.count c.requires.passed c.loop-i.i m held c.loop-i-test.true in record { inside = rw c.read_entry-w.ensures.answer (h.inside); room = rw c.read_entry-w.ensures.answer ((h.room)) }
+    let h = loop_asks v D (cell_in a.s) R a.entries.now a.first a.count c.requires.passed c.loop-i.i m held c.loop-i-test.true in record { inside = h.inside; room = rw c.read_entry-w.ensures.answer h.room }
 
 pub waiting_from-n-requires : goal.waiting_from-n-requires
 waiting_from-n-requires c =
@@ -71,11 +71,10 @@ left_of-l-requires c =
     let D = lent a.areas.now a.xs.now a.ys.now a.b in
     let m = maker c.loop-i.p c.loop-i.a in
     let held = looping v D (cell_in a.s) R a.entries.now a.first a.count c.requires.passed c.loop-i.i m c.loop-i.at c.loop-i.invariant in record {
-      corners_in_bounds = rw c.read_entry-w.ensures.answer ((c.requires.passed.ready.xs, c.requires.passed.ready.ys));
+      corners_in_bounds = (c.requires.passed.ready.xs, c.requires.passed.ready.ys);
       w_value = rw c.read_entry-w.ensures.answer (loop_left v D (cell_in a.s) R a.entries.now a.first a.count c.requires.passed c.loop-i.i m held
           c.loop-i-test.true);
-      square_in = (
-          c.requires.square_in);
+      square_in = c.requires.square_in;
     }
 
 pub with_left-n-requires : goal.with_left-n-requires
@@ -97,9 +96,6 @@ with_left-n-requires c =
       omega (arith, h.room.weight),
     )
 
-pub overflow_add-i : goal.overflow_add-i
-overflow_add-i c = record { fits = omega (arith, (add-end c).ranges, c.loop-i-test.true) }
-
 pub loop-i-preserved : goal.loop-i-preserved
 loop-i-preserved c =
     let a = c.args in
@@ -111,24 +107,26 @@ loop-i-preserved c =
     let wd = c.read_entry-w.result in
     let f = left_class a.xs.now a.ys.now a.s wd in
     let z = left_sign a.xs.now a.ys.now wd in
-    counting_turn v D (cell_in a.s) R a.entries.now a.first a.count c.requires.passed c.loop-i.i m c.loop-i.at
-    c.loop-i.invariant c.loop-i-test.true (maker c.if-prunes.p c.if-prunes.a) wd a.s f z c.read_entry-w.ensures.answer
-    c.read_entry-w.type_inv.1.1.1.1.0.1 c.requires.s_value refl refl
-    (⊎_elim (λ w. ap counted w.3 ∙ w.1.ensures)
-    (λ w.
-    ap counted w.4
-    ∙ stays_pruned a.areas.now (counted c.loop-i.p) c.loop-i.a wd.kind (sym w.0.left ∙ c.prunes.ensures.answer))
-    c.if-prunes.branch)
-    (⊎_elim (λ w. w.4 ∙ (w.2.ensures ∙ other_waits c.loop-i.a f z wd (sym w.0.taken ∙ c.prunes.ensures.answer)))
-    (λ w.
-    w.5
-    ∙ (w.3.ensures
-    ∙ (ap₂ (with_left c.loop-i.a) w.1.ensures.1
-    (sign_read v D (cell_in a.s) R a.entries.now a.first a.count c.requires.passed c.loop-i.i m held c.loop-i-test.true
-    wd c.read_entry-w.ensures.answer w.1.result.sign w.1.ensures.0)
-    ∙ segment_waits c.loop-i.a f z wd (sym w.0.left ∙ c.prunes.ensures.answer))))
-    c.if-prunes.branch)
-    _ c.note.ensures.at
+    elim c.if-prunes.branch [
+      | then-prunes w ↦ counting_turn v D (cell_in a.s) R a.entries.now a.first a.count c.requires.passed c.loop-i.i m c.loop-i.at
+          c.loop-i.invariant c.loop-i-test.true (maker c.if-prunes.p c.if-prunes.a) wd a.s f z c.read_entry-w.ensures.answer
+          c.read_entry-w.type_inv.1.1.1.1.0.1 c.requires.s_value refl refl
+          (ap counted w.p-is ∙ w.pruner_after-q.ensures.answer)
+          (w.a-is ∙ (w.waiting_from-n.ensures.answer ∙ other_waits c.loop-i.a f z wd (sym w.if-prunes.true ∙ c.prunes.ensures.answer)))
+          _ c.note.ensures.at
+      | else-prunes w ↦ counting_turn v D (cell_in a.s) R a.entries.now a.first a.count c.requires.passed c.loop-i.i m c.loop-i.at
+          c.loop-i.invariant c.loop-i-test.true (maker c.if-prunes.p c.if-prunes.a) wd a.s f z c.read_entry-w.ensures.answer
+          c.read_entry-w.type_inv.1.1.1.1.0.1 c.requires.s_value refl refl
+          (ap counted w.p-is
+          ∙ stays_pruned a.areas.now (counted c.loop-i.p) c.loop-i.a wd.kind (sym w.if-prunes.false ∙ c.prunes.ensures.answer))
+          (w.a-is
+          ∙ (w.with_left-n.ensures.answer
+          ∙ (ap₂ (with_left c.loop-i.a) w.left_of-l.ensures.answer.1
+          (sign_read v D (cell_in a.s) R a.entries.now a.first a.count c.requires.passed c.loop-i.i m held c.loop-i-test.true
+          wd c.read_entry-w.ensures.answer w.left_of-l.result.sign w.left_of-l.ensures.answer.0)
+          ∙ segment_waits c.loop-i.a f z wd (sym w.if-prunes.false ∙ c.prunes.ensures.answer))))
+          _ c.note.ensures.at
+    ]
 
 pub note-requires-2 : goal.note-requires-2
 note-requires-2 c =

@@ -4,18 +4,18 @@ use Rattle.child_stream.proofs.Clear.{clear_begin, clear_turn, clear_end}
 use Rattle.child_stream.proofs.ended.Goals as goal
 
 pub loop-i-init : goal.loop-i-init
-loop-i-init c = let a = c.args in clear_begin a.t1 c.well_formed.0.1.0.1 a.count
+loop-i-init c = let a = c.args in clear_begin a.at c.well_formed.0.1.0.1 a.count
 
 pub loop-i-preserved : goal.loop-i-preserved
 loop-i-preserved c =
     let a = c.args in
-    clear_turn a.t1 c.well_formed.0.1.0.1 a.count c.loop-i.i c.loop-i.at c.loop-i.invariant
+    clear_turn a.at c.well_formed.0.1.0.1 a.count c.loop-i.i c.loop-i.at c.loop-i.invariant
     c.loop-i-test.true
 
 pub returns : goal.returns
 returns c =
     let a = c.args in record {
       answer = ap (starts a.count)
-          (clear_end a.t1 c.well_formed.0.1.0.1 a.count c.loop-i.i c.loop-i.at c.loop-i.invariant
+          (clear_end a.at c.well_formed.0.1.0.1 a.count c.loop-i.i c.loop-i.at c.loop-i.invariant
           c.loop-i-test.false);
     }

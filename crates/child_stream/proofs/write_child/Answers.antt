@@ -1,5 +1,4 @@
 use mathlib.Core.Path.{refl, sym, ap, subst, ◌∙◌}
-use mathlib.Core.Logic.{⊎_elim}
 use Prim.Native.Nat.{◌≤◌}
 use native.Mathlib.Omega.{arith}
 use lib.ListN.{length}
@@ -16,6 +15,7 @@ use Rattle.child_stream.proofs.Loop.{loop_left, sign_of, sign_read, loop_asks, e
 use Rattle.child_stream.proofs.Fill.{fill_begin, looping, part_room, entry_is, fill_turn, fill_end}
 use Rattle.child_stream.proofs.Tail.{offset_fits, end_begins}
 use Rattle.child_stream.proofs.write_child.Goals as goal
+use Rattle.child_stream.proofs.write_child.Goals.{then-prunes, else-prunes}
 
 pub overflow_add-end : goal.overflow_add-end
 overflow_add-end c = search (rules, c.requires.passed.within)
@@ -61,11 +61,12 @@ write_other-q-requires c =
     let h = loop_asks v D (cell_in a.s) R a.entries.now a.first a.count c.requires.passed c.loop-i.i m held c.loop-i-test.true in
     let e = c.read_entry-w.ensures.answer
     ∙ entry_is v D (cell_in a.s) R a.entries.now a.first a.count a.free a.made c.requires.passed c.requires.count_bound c.requires.made_in_bounds
-    c.loop-i.i m c.loop-i.entries c.loop-i.invariant c.loop-i-test.true in let both = (
-      part_room v D (cell_in a.s) R a.entries.now a.first a.count a.free a.made c.requires.passed c.requires.count_bound c.requires.made_in_bounds
-          c.loop-i.i m c.loop-i.entries c.loop-i.invariant,
-      rw e (h.inside, h.room),
-    ) in record { limit_in_bounds = both.0; inside = both.1.0; room = both.1.1 }
+    c.loop-i.i m c.loop-i.entries c.loop-i.invariant c.loop-i-test.true in record {
+      limit_in_bounds = part_room v D (cell_in a.s) R a.entries.now a.first a.count a.free a.made c.requires.passed c.requires.count_bound c.requires.made_in_bounds
+          c.loop-i.i m c.loop-i.entries c.loop-i.invariant;
+      inside = h.inside;
+      room = rw e h.room;
+    }
 
 pub waiting_from-n-requires : goal.waiting_from-n-requires
 waiting_from-n-requires c =
@@ -94,11 +95,10 @@ left_of-l-requires c =
     let e = c.read_entry-w.ensures.answer
     ∙ entry_is v D (cell_in a.s) R a.entries.now a.first a.count a.free a.made c.requires.passed c.requires.count_bound c.requires.made_in_bounds
     c.loop-i.i m c.loop-i.entries c.loop-i.invariant c.loop-i-test.true in record {
-      corners_in_bounds = rw e ((c.requires.passed.ready.xs, c.requires.passed.ready.ys));
+      corners_in_bounds = (c.requires.passed.ready.xs, c.requires.passed.ready.ys);
       w_value = rw e (loop_left v D (cell_in a.s) R a.entries.now a.first a.count c.requires.passed c.loop-i.i m held
           c.loop-i-test.true);
-      square_in = (
-          c.requires.square_in);
+      square_in = c.requires.square_in;
     }
 
 pub offset_bounds-entries-base-else-prunes : goal.offset_bounds-entries-base-else-prunes
@@ -160,9 +160,6 @@ with_left-n-requires c =
       omega (arith, h.room.weight),
     )
 
-pub overflow_add-i : goal.overflow_add-i
-overflow_add-i c = record { fits = omega (arith, (add-end c).ranges, c.loop-i-test.true) }
-
 pub loop-i-preserved : goal.loop-i-preserved
 loop-i-preserved c =
     let m = maker c.loop-i.p c.loop-i.a in
@@ -179,30 +176,30 @@ loop-i-preserved c =
     let ok = c.read_entry-w.type_inv.1.1.1.1.0.1 in
     let f = left_class a.xs.now a.ys.now a.s wd in
     let z = left_sign a.xs.now a.ys.now wd in
-    ⊎_elim
-    (λ w.
-    let other = sym w.0.taken ∙ c.prunes.ensures.answer in
-    rw (w.6, w.7, w.8)
-    (fill_turn v D (cell_in a.s) R a.entries.now a.first a.count a.free a.made c.requires.passed c.requires.count_bound c.requires.made_in_bounds
-    c.loop-i.i m c.loop-i.entries c.loop-i.invariant c.loop-i-test.true
-    (maker w.2.result w.5.result) wd a.s f z _ e ok c.requires.s_value refl refl w.2.ensures.0
-    (w.5.ensures ∙ other_waits c.loop-i.a f z wd other) (w.2.ensures.1 ∙ other_put a.made a.areas.now _ m f z wd _ other)))
-    (λ w.
-    let l = w.1 in
-    let segment = sym w.0.left ∙ c.prunes.ensures.answer in
-    let back = sign_read v D (cell_in a.s) R a.entries.now a.first a.count c.requires.passed c.loop-i.i m held
-    c.loop-i-test.true wd e l.result.sign l.ensures.0
-    ∙ sym l.ensures.0 in
-    rw (w.8, w.9, w.10)
-    (fill_turn v D (cell_in a.s) R a.entries.now a.first a.count a.free a.made c.requires.passed c.requires.count_bound c.requires.made_in_bounds
-    c.loop-i.i m c.loop-i.entries c.loop-i.invariant c.loop-i-test.true
-    (maker c.loop-i.p w.7.result) wd a.s l.result.class l.result.sign _ e ok c.requires.s_value l.ensures.1 l.ensures.0
-    (stays_pruned a.areas.now (counted c.loop-i.p) c.loop-i.a wd.kind segment)
-    (w.7.ensures
-    ∙ (ap (with_left c.loop-i.a l.result.class) back
-    ∙ segment_waits c.loop-i.a l.result.class l.result.sign wd segment))
-    (w.3.ensures ∙ segment_put_law a.made a.areas.now _ m l.result.class l.result.sign wd _ segment)))
-    c.if-prunes.branch
+    elim c.if-prunes.branch [
+      | then-prunes w ↦
+          let other = sym w.if-prunes.true ∙ c.prunes.ensures.answer in
+          rw (w.entries-is, w.p-is, w.a-is)
+          (fill_turn v D (cell_in a.s) R a.entries.now a.first a.count a.free a.made c.requires.passed c.requires.count_bound c.requires.made_in_bounds
+          c.loop-i.i m c.loop-i.entries c.loop-i.invariant c.loop-i-test.true
+          (maker w.write_other-q.result w.waiting_from-n.result) wd a.s f z _ e ok c.requires.s_value refl refl w.write_other-q.ensures.answer
+          (w.waiting_from-n.ensures.answer ∙ other_waits c.loop-i.a f z wd other) (w.write_other-q.ensures.out ∙ other_put a.made a.areas.now _ m f z wd _ other))
+      | else-prunes w ↦
+          let l = w.left_of-l in
+          let segment = sym w.if-prunes.false ∙ c.prunes.ensures.answer in
+          let back = sign_read v D (cell_in a.s) R a.entries.now a.first a.count c.requires.passed c.loop-i.i m held
+          c.loop-i-test.true wd e l.result.sign l.ensures.answer.0
+          ∙ sym l.ensures.answer.0 in
+          rw (w.entries-is, w.p-is, w.a-is)
+          (fill_turn v D (cell_in a.s) R a.entries.now a.first a.count a.free a.made c.requires.passed c.requires.count_bound c.requires.made_in_bounds
+          c.loop-i.i m c.loop-i.entries c.loop-i.invariant c.loop-i-test.true
+          (maker c.loop-i.p w.with_left-n.result) wd a.s l.result.class l.result.sign _ e ok c.requires.s_value l.ensures.answer.1 l.ensures.answer.0
+          (stays_pruned a.areas.now (counted c.loop-i.p) c.loop-i.a wd.kind segment)
+          (w.with_left-n.ensures.answer
+          ∙ (ap (with_left c.loop-i.a l.result.class) back
+          ∙ segment_waits c.loop-i.a l.result.class l.result.sign wd segment))
+          (w.put_segment.ensures.out ∙ segment_put_law a.made a.areas.now _ m l.result.class l.result.sign wd _ segment))
+    ]
 
 pub offset_bounds-entries-base-2 : goal.offset_bounds-entries-base-2
 offset_bounds-entries-base-2 c =
