@@ -28,16 +28,15 @@ returns-then-uniform-inside c =
     let a = c.args in
     let T = tree a.plan.now a.areas.now a.xs.now a.ys.now a.head.now a.cells.now a.entries.now in
     let q = c.sample_at-p.result in
-    let v = c.s-1.given.0 in
     let x = sample_x a.column 0 in
     let y = sample_y a.row 0 in
     let r = shown_named T q.x q.y x y c.leaf_for-s.result c.sample_at-p.ensures.x c.sample_at-p.ensures.y c.leaf_for-s.ensures.answer in
-    let h = set_named T v.0 q.x q.y x y c.set_for-shown.result c.sample_at-p.ensures.x c.sample_at-p.ensures.y c.set_for-shown.ensures.answer in
-    let k = known_set T x y c.leaf_for-s.result v.0 v.1.0 v.1.1.0 c.set_for-shown.result r c.in-In.is h in
-    let u = and_left v.1.0 c.holds_pixel-inside.result c.if-uniform-inside.true in
-    let inside = and_right v.1.0 c.holds_pixel-inside.result c.if-uniform-inside.true in
-    let set = (shown_in_law T x y v.0 v.1.0 v.1.1.0 k.is_shown).is_read u in record {
-      answer = uniform_told T a.row a.column v.0 v.1.0 v.1.1.0 k.is_shown u (sym c.holds_pixel-inside.ensures.answer ∙ inside)
+    let h = set_named T c.in-In.l q.x q.y x y c.set_for-shown.result c.sample_at-p.ensures.x c.sample_at-p.ensures.y c.set_for-shown.ensures.answer in
+    let k = known_set T x y c.leaf_for-s.result c.in-In.l c.in-In.uniform c.in-In.set c.set_for-shown.result r c.in-In.is h in
+    let u = and_left c.in-In.uniform c.holds_pixel-inside.result c.if-uniform-inside.true in
+    let inside = and_right c.in-In.uniform c.holds_pixel-inside.result c.if-uniform-inside.true in
+    let set = (shown_in_law T x y c.in-In.l c.in-In.uniform c.in-In.set k.is_shown).is_read u in record {
+      answer = uniform_told T a.row a.column c.in-In.l c.in-In.uniform c.in-In.set k.is_shown u (sym c.holds_pixel-inside.ensures.answer ∙ inside)
           c.colour_of-c.result (c.colour_of-c.ensures.answer ∙ ap (colour_of (paint_at a.areas.now)) (h ∙ sym set));
       range = c.colour_of-c.ensures.range;
     }
@@ -50,12 +49,11 @@ pixel_from-requires c =
     let a = c.args in
     let T = tree a.plan.now a.areas.now a.xs.now a.ys.now a.head.now a.cells.now a.entries.now in
     let q = c.sample_at-p.result in
-    let v = c.s-1.given.0 in
     let x = sample_x a.column 0 in
     let y = sample_y a.row 0 in
     let r = shown_named T q.x q.y x y c.leaf_for-s.result c.sample_at-p.ensures.x c.sample_at-p.ensures.y c.leaf_for-s.ensures.answer in
-    let h = set_named T v.0 q.x q.y x y c.set_for-shown.result c.sample_at-p.ensures.x c.sample_at-p.ensures.y c.set_for-shown.ensures.answer in
-    let k = known_set T x y c.leaf_for-s.result v.0 v.1.0 v.1.1.0 c.set_for-shown.result r c.in-In.is h in record {
+    let h = set_named T c.in-In.l q.x q.y x y c.set_for-shown.result c.sample_at-p.ensures.x c.sample_at-p.ensures.y c.set_for-shown.ensures.answer in
+    let k = known_set T x y c.leaf_for-s.result c.in-In.l c.in-In.uniform c.in-In.set c.set_for-shown.result r c.in-In.is h in record {
       sampling = sampling_turn T a.row a.column 16 0 c.set_for-shown.result a.before _ no_channels c.channel_sums-sums.result
           c.channel_sums-sums.result (omega arith) (sampling_begin T a.row a.column 16 a.before c.requires.last_in) k c.channel_sums-sums.ensures.answer c.channel_sums-sums.ensures.range
           (plus_none c.channel_sums-sums.result);

@@ -9,7 +9,7 @@ pub loop-i-init : goal.loop-i-init
 loop-i-init c = c.requires.sampling
 
 pub sample_at-p-requires : goal.sample_at-p-requires
-sample_at-p-requires c = let k = c.loop-i-test.true in let both = omega (arith, c.requires.row_bound, k) in record { row_bound = both.0; pixel_bound = both.1.0; i_bound = both.1.1 }
+sample_at-p-requires c = let k = c.loop-i-test.true in record { row_bound = omega (arith, c.requires.row_bound); pixel_bound = omega (arith, c.requires.row_bound); i_bound = omega (arith, k) }
 
 pub leaf_for-s-requires : goal.leaf_for-s-requires
 leaf_for-s-requires c = record { last_in = c.loop-i.invariant.read; x_bound = (c.sample_at-p.ensures.x_range, c.sample_at-p.ensures.y_range) }
