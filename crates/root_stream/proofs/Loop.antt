@@ -1,5 +1,5 @@
 -- The loop over the records of a drawing.
-use mathlib.Core.Path.{◌≡◌, ap, subst, ◌∙◌}
+use mathlib.Core.Path.{◌≡◌, ap, ap₂, subst, ◌∙◌}
 use mathlib.Core.Bool.{true}
 use mathlib.Core.List.{List, [], ◌∷◌}
 use Prim.Native.Nat.{ℕ, ◌+◌, ◌^◌, ◌≤◌, ◌<◌}
@@ -45,6 +45,10 @@ pub record Looping (v : Env) (D : Drawing) (plan : List ℕ) (records : ℕ) (al
 -- no area or corner is over its limit
 pub source_few : (plan : List ℕ) (records i : ℕ) (s : Source) (ws : List Words) → Ahead plan records i s ws → (s.area ≤ 64) × (s.corner ≤ 2048)
 source_few plan records i s ws a = (omega (arith, a.few_areas), omega (arith, a.few_corners))
+
+-- the entry of a record, from the kinds that were read
+pub read_entry : (s : Source) {w : Words} {kind behind k b : ℕ} → w ≡ entry_n s kind behind → kind ≡ k → behind ≡ b → w ≡ entry_n s k b
+read_entry s e x y = e ∙ ap₂ (entry_n s) x y
 
 module _ (v : Env) (D : Drawing) (plan : List ℕ) (records : ℕ) (all : List Words) (B : Base v D plan records all) where
   pub loop_begin : (s : Source) (m : Maker)

@@ -1,5 +1,4 @@
-use mathlib.Core.Path.{◌≡◌, sym, ap, ap₂, ◌∙◌}
-use mathlib.Core.Logic.{⊎_elim}
+use mathlib.Core.Path.{sym, ap, ap₂, ◌∙◌}
 use Prim.Native.Nat.{ℕ, ◌+◌}
 use native.Mathlib.Omega.{arith}
 use Rattle.pruning.specs.code.Weights.{total}
@@ -9,11 +8,11 @@ use Rattle.drawing.specs.Tables.{tables}
 use Rattle.stream.specs.Grammar.{env}
 use Rattle.making.specs.code.Numbers.{maker}
 use Rattle.making.proofs.Stays.{stays_pruned}
-use Rattle.root_stream.specs.code.Numbers.{kind_n, stride_n, entry_n, after_n}
+use Rattle.root_stream.specs.code.Numbers.{stride_n, after_n}
 use Rattle.root_stream.specs.Opened.{drawing_in}
 use Rattle.root_stream.proofs.Base.{words_in, base, base_made}
-use Rattle.root_stream.proofs.Loop.{root_in, source_few, loop_begin, loop_left, loop_sign, loop_asks, loop_turn, end_inside, end_room, end_weight}
-use Rattle.root_stream.proofs.count_open.Goals.{After-source_entry-w}
+use Rattle.root_stream.proofs.Loop.{root_in, read_entry, source_few, loop_begin, loop_left, loop_sign, loop_asks, loop_turn, end_inside, end_room, end_weight}
+use Rattle.root_stream.proofs.count_open.Goals.{then-prunes, else-prunes}
 use Rattle.root_stream.proofs.count_open.Goals as goal
 
 pub loop-i-init : goal.loop-i-init
@@ -51,14 +50,6 @@ source_entry-w-requires c =
     let t = tables a.plan.now a.areas.now a.xs.now a.ys.now in
     (source_few t.plan a.records c.loop-i.i c.loop-i.c c.loop-i.invariant.ws c.loop-i.invariant.ahead).1
 
--- the entry of record i
-entry : (c : After-source_entry-w) → let at-loop = c in
-    let a = at-loop.before.before.before.before.before.before.before.before.before.args in
-    c.source_entry-w.result
-    ≡ entry_n at-loop.loop.c (kind_n a.plan.now a.records at-loop.loop.i) (kind_n a.plan.now a.records (at-loop.loop.i + 1))
-entry c = c.source_entry-w.ensures.answer
-    ∙ ap₂ (entry_n c.loop-i.c) c.kind_at-kind.ensures.answer c.kind_at-behind.ensures.answer
-
 pub left_of-l-requires : goal.left_of-l-requires
 left_of-l-requires c =
     let a = c.args in
@@ -66,7 +57,7 @@ left_of-l-requires c =
     let v = env t.areas t.xs t.ys a.b in
     let B = base t a.records a.b c.requires in record {
       corners_in_bounds = (B.ready.xs, B.ready.ys);
-      w_value = rw (entry c)
+      w_value = rw (read_entry c.loop-i.c c.source_entry-w.ensures.answer c.kind_at-kind.ensures.answer c.kind_at-behind.ensures.answer)
           (loop_left v (drawing_in t) t.plan a.records (words_in t) B c.loop-i.i c.loop-i.c
           (maker c.loop-i.p c.loop-i.a) c.loop-i.invariant c.loop-i-test.true);
       square_in = rw c.root_square-s.ensures.answer root_in;
@@ -79,7 +70,7 @@ pruner_after-q-requires c =
     let v = env t.areas t.xs t.ys a.b in
     let B = base t a.records a.b c.requires in
     let h = loop_asks v (drawing_in t) t.plan a.records (words_in t) B c.loop-i.i c.loop-i.c
-    (maker c.loop-i.p c.loop-i.a) c.loop-i.invariant c.loop-i-test.true in record { inside = rw (entry c.before.before.before) (h.inside); room = rw (entry c.before.before.before) ((h.room)) }
+    (maker c.loop-i.p c.loop-i.a) c.loop-i.invariant c.loop-i-test.true in record { inside = h.inside; room = rw (read_entry c.loop-i.c c.source_entry-w.ensures.answer c.kind_at-kind.ensures.answer c.kind_at-behind.ensures.answer) h.room }
 
 pub waiting_after-t-requires : goal.waiting_after-t-requires
 waiting_after-t-requires c =
@@ -89,14 +80,13 @@ waiting_after-t-requires c =
     let B = base t a.records a.b c.requires in
     let h = loop_asks v (drawing_in t) t.plan a.records (words_in t) B c.loop-i.i c.loop-i.c
     (maker c.loop-i.p c.loop-i.a) c.loop-i.invariant c.loop-i-test.true in record {
-      start_bound = rw (c.left_of-l.ensures.answer.0, entry c.before.before.before) ((
+      start_bound = rw (c.left_of-l.ensures.answer.0, (read_entry c.loop-i.c c.source_entry-w.ensures.answer c.kind_at-kind.ensures.answer c.kind_at-behind.ensures.answer)) (
         h.inside.small,
         loop_sign v (drawing_in t) t.plan a.records (words_in t) B c.loop-i.i c.loop-i.c
             (maker c.loop-i.p c.loop-i.a) c.loop-i.invariant c.loop-i-test.true,
         omega (arith, h.room.weight),
-      ));
-      q_value = rw (c.left_of-l.ensures.answer.0, entry c.before.before.before) ((
-          h.start));
+      );
+      q_value = rw (read_entry c.loop-i.c c.source_entry-w.ensures.answer c.kind_at-kind.ensures.answer c.kind_at-behind.ensures.answer) h.start;
     }
 
 pub source_after-c-requires : goal.source_after-c-requires
@@ -122,14 +112,14 @@ loop-i-preserved c =
     (maker c.loop-i.p c.loop-i.a) c.loop-i.invariant c.loop-i-test.true
     (maker c.if-prunes.p c.waiting_after-t.result) c.source_entry-w.result
     c.root_square-s.result c.left_of-l.result.class c.left_of-l.result.sign
-    c.source_after-c.result _ (entry c.before.before.before.before.before.before) c.source_entry-w.type_inv.1.1.1.1.0.1
+    c.source_after-c.result _ (read_entry c.loop-i.c c.source_entry-w.ensures.answer c.kind_at-kind.ensures.answer c.kind_at-behind.ensures.answer) c.source_entry-w.type_inv.1.1.1.1.0.1
     c.root_square-s.ensures.answer c.left_of-l.ensures.answer.1 c.left_of-l.ensures.answer.0
-    (⊎_elim (λ w. ap counted w.2 ∙ w.1.ensures)
-    (λ w.
-    ap counted w.1
-    ∙ stays_pruned a.areas.now (counted c.loop-i.p) c.loop-i.a c.source_entry-w.result.kind
-    (sym w.0.left ∙ c.prunes.ensures.answer))
-    c.if-prunes.branch)
+    (elim c.if-prunes.branch [
+      | then-prunes w ↦ ap counted w.p-is ∙ w.pruner_after-q.ensures.answer
+      | else-prunes w ↦ ap counted w.p-is
+          ∙ stays_pruned a.areas.now (counted c.loop-i.p) c.loop-i.a c.source_entry-w.result.kind
+          (sym w.if-prunes.false ∙ c.prunes.ensures.answer)
+    ])
     c.waiting_after-t.ensures.answer (c.source_after-c.ensures.answer
     ∙ ap₂ (after_n c.loop-i.c) c.kind_at-kind.ensures.answer c.kind_at-behind.ensures.answer)
     (ap (λ (n : ℕ). c.loop-i.i + n) (c.stride-n.ensures.answer ∙ ap stride_n c.kind_at-behind.ensures.answer))

@@ -1,6 +1,4 @@
 use Rattle.laws.proofs.Tests.{tests}
-use Rattle.root_stream.proofs.edge_from.Reads as reads
-use Rattle.root_stream.proofs.edge_from.Lts as lts
 use Rattle.root_stream.proofs.edge_from.Goals as goal
 
 pub returns-then-behind-eq-KIND_NEXT : goal.returns-then-behind-eq-KIND_NEXT

@@ -1,6 +1,4 @@
 use Rattle.laws.proofs.Tests.{tests}
-use Rattle.root_stream.proofs.kind_at.Reads as reads
-use Rattle.root_stream.proofs.kind_at.Lts as lts
 use Rattle.root_stream.proofs.kind_at.Goals as goal
 
 pub returns-then-i-records : goal.returns-then-i-records

@@ -1,7 +1,4 @@
 use Rattle.laws.proofs.Tests.{tests}
-use Rattle.root_stream.proofs.source_after.Reads as reads
-use Rattle.root_stream.proofs.source_after.Lts as lts
-use Rattle.root_stream.proofs.stride.Reads as stride-reads
 use Rattle.root_stream.proofs.source_after.Goals as goal
 
 pub returns-then-kind-eq-KIND_AREA : goal.returns-then-kind-eq-KIND_AREA

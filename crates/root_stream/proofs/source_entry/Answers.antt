@@ -1,8 +1,4 @@
 use Rattle.laws.proofs.Tests.{tests}
-use Rattle.root_stream.proofs.source_entry.Reads as reads
-use Rattle.root_stream.proofs.source_entry.Lts as lts
-use Rattle.root_stream.proofs.delimiter.Reads as delimiter-reads
-use Rattle.root_stream.proofs.edge_from.Reads as edge-from-reads
 use Rattle.root_stream.proofs.source_entry.Goals as goal
 
 pub returns-then-kind-eq-KIND_AREA : goal.returns-then-kind-eq-KIND_AREA

@@ -1,7 +1,5 @@
 use native.Mathlib.Omega.{arith}
 use Rattle.laws.proofs.Tests.{tests}
-use Rattle.root_stream.proofs.stride.Reads as reads
-use Rattle.root_stream.proofs.stride.Lts as lts
 use Rattle.root_stream.proofs.stride.Goals as goal
 
 pub returns-then-behind-eq-KIND_CONTROL : goal.returns-then-behind-eq-KIND_CONTROL

@@ -1,5 +1,4 @@
-use mathlib.Core.Path.{◌≡◌, sym, ap, ap₂, ◌∙◌}
-use mathlib.Core.Logic.{⊎_elim}
+use mathlib.Core.Path.{sym, ap, ap₂, ◌∙◌}
 use Prim.Native.Nat.{ℕ, ◌+◌}
 use native.Mathlib.Omega.{arith}
 use lib.ListN.{length}
@@ -10,12 +9,12 @@ use Rattle.stream.specs.Grammar.{env}
 use Rattle.making.specs.code.Numbers.{maker}
 use Rattle.making.proofs.Stays.{stays_pruned}
 use Rattle.writing.proofs.Stays.{segment_put_law, other_put}
-use Rattle.root_stream.specs.code.Numbers.{kind_n, stride_n, entry_n, after_n}
+use Rattle.root_stream.specs.code.Numbers.{stride_n, after_n}
 use Rattle.root_stream.specs.Opened.{drawing_in}
 use Rattle.root_stream.proofs.Base.{words_in, base, base_made}
-use Rattle.root_stream.proofs.Loop.{root_in, source_few, loop_left, loop_sign, loop_asks, end_inside}
+use Rattle.root_stream.proofs.Loop.{root_in, read_entry, source_few, loop_left, loop_sign, loop_asks, end_inside}
 use Rattle.root_stream.proofs.Fill.{fill_begin, looping, room_now, fill_turn, fill_end, words_opened_law}
-use Rattle.root_stream.proofs.write_open.Goals.{After-source_entry-w}
+use Rattle.root_stream.proofs.write_open.Goals.{then-prunes, else-prunes}
 use Rattle.root_stream.proofs.write_open.Goals as goal
 
 pub loop-i-init : goal.loop-i-init
@@ -53,14 +52,6 @@ source_entry-w-requires c =
     let t = tables a.plan.now a.areas.now a.xs.now a.ys.now in
     (source_few t.plan a.records c.loop-i.i c.loop-i.c c.loop-i.invariant.ws c.loop-i.invariant.ahead).1
 
--- the entry of record i
-entry : (c : After-source_entry-w) → let at-loop = c in
-    let a = at-loop.before.before.before.before.before.before.before.before.before.before.args in
-    c.source_entry-w.result
-    ≡ entry_n at-loop.loop.c (kind_n a.plan.now a.records at-loop.loop.i) (kind_n a.plan.now a.records (at-loop.loop.i + 1))
-entry c = c.source_entry-w.ensures.answer
-    ∙ ap₂ (entry_n c.loop-i.c) c.kind_at-kind.ensures.answer c.kind_at-behind.ensures.answer
-
 pub left_of-l-requires : goal.left_of-l-requires
 left_of-l-requires c =
     let a = c.args in
@@ -68,7 +59,7 @@ left_of-l-requires c =
     let v = env t.areas t.xs t.ys a.b in
     let B = base t a.records a.b c.requires.opened in record {
       corners_in_bounds = (B.ready.xs, B.ready.ys);
-      w_value = rw (entry c)
+      w_value = rw (read_entry c.loop-i.c c.source_entry-w.ensures.answer c.kind_at-kind.ensures.answer c.kind_at-behind.ensures.answer)
           (loop_left v (drawing_in t) t.plan a.records (words_in t) B c.loop-i.i c.loop-i.c
           (maker c.loop-i.p c.loop-i.a)
           (looping v (drawing_in t) t.plan a.records (words_in t) B a.made a.entries.now c.requires.made_in_bounds
@@ -88,11 +79,12 @@ write_other-q-requires c =
     let h = loop_asks v (drawing_in t) t.plan a.records (words_in t) B c.loop-i.i c.loop-i.c m
     (looping v (drawing_in t) t.plan a.records (words_in t) B a.made a.entries.now c.requires.made_in_bounds c.loop-i.i
     c.loop-i.c m c.loop-i.entries c.loop-i.invariant)
-    c.loop-i-test.true in let both = (
-      room_now v (drawing_in t) t.plan a.records (words_in t) B a.made a.entries.now c.requires.made_in_bounds c.loop-i.i
-          c.loop-i.c m c.loop-i.entries c.loop-i.invariant,
-      rw (entry c.before.before.before.before) (h.inside, h.room),
-    ) in record { limit_in_bounds = both.0; inside = both.1.0; room = both.1.1 }
+    c.loop-i-test.true in record {
+      limit_in_bounds = room_now v (drawing_in t) t.plan a.records (words_in t) B a.made a.entries.now c.requires.made_in_bounds c.loop-i.i
+          c.loop-i.c m c.loop-i.entries c.loop-i.invariant;
+      inside = h.inside;
+      room = rw (read_entry c.loop-i.c c.source_entry-w.ensures.answer c.kind_at-kind.ensures.answer c.kind_at-behind.ensures.answer) h.room;
+    }
 
 pub put_segment-requires : goal.put_segment-requires
 put_segment-requires c =
@@ -103,7 +95,7 @@ put_segment-requires c =
     let B = base t a.records a.b c.requires.opened in record {
       limit_in_bounds = room_now v (drawing_in t) t.plan a.records (words_in t) B a.made a.entries.now c.requires.made_in_bounds c.loop-i.i
           c.loop-i.c m c.loop-i.entries c.loop-i.invariant;
-      sign_bound = rw (c.left_of-l.ensures.answer.0, entry c.before.before.before.before)
+      sign_bound = rw (c.left_of-l.ensures.answer.0, (read_entry c.loop-i.c c.source_entry-w.ensures.answer c.kind_at-kind.ensures.answer c.kind_at-behind.ensures.answer))
           (loop_sign v (drawing_in t) t.plan a.records (words_in t) B c.loop-i.i c.loop-i.c m
           (looping v (drawing_in t) t.plan a.records (words_in t) B a.made a.entries.now c.requires.made_in_bounds
           c.loop-i.i c.loop-i.c m c.loop-i.entries c.loop-i.invariant)
@@ -120,14 +112,13 @@ waiting_after-t-requires c =
     let held = looping v (drawing_in t) t.plan a.records (words_in t) B a.made a.entries.now c.requires.made_in_bounds
     c.loop-i.i c.loop-i.c m c.loop-i.entries c.loop-i.invariant in
     let h = loop_asks v (drawing_in t) t.plan a.records (words_in t) B c.loop-i.i c.loop-i.c m held c.loop-i-test.true in record {
-      start_bound = rw (c.left_of-l.ensures.answer.0, entry c.before.before.before) ((
+      start_bound = rw (c.left_of-l.ensures.answer.0, (read_entry c.loop-i.c c.source_entry-w.ensures.answer c.kind_at-kind.ensures.answer c.kind_at-behind.ensures.answer)) (
         h.inside.small,
         loop_sign v (drawing_in t) t.plan a.records (words_in t) B c.loop-i.i c.loop-i.c m held
             c.loop-i-test.true,
         omega (arith, h.room.weight),
-      ));
-      q_value = rw (c.left_of-l.ensures.answer.0, entry c.before.before.before) ((
-          h.start));
+      );
+      q_value = rw (read_entry c.loop-i.c c.source_entry-w.ensures.answer c.kind_at-kind.ensures.answer c.kind_at-behind.ensures.answer) h.start;
     }
 
 pub source_after-c-requires : goal.source_after-c-requires
@@ -150,40 +141,37 @@ loop-i-preserved c =
     let t = tables a.plan.now a.areas.now a.xs.now a.ys.now in
     let v = env t.areas t.xs t.ys a.b in
     let B = base t a.records a.b c.requires.opened in
-    ⊎_elim
-    (λ w.
-    rw (w.5, w.6)
-    (fill_turn v (drawing_in t) t.plan a.records (words_in t) B a.made a.entries.now c.requires.made_in_bounds c.loop-i.i
-    c.loop-i.c m c.loop-i.entries c.loop-i.invariant c.loop-i-test.true
-    (maker w.2.result c.waiting_after-t.result) c.source_entry-w.result
-    c.root_square-s.result c.left_of-l.result.class c.left_of-l.result.sign
-    c.source_after-c.result _ _ (entry c.before.before.before.before.before.before) c.source_entry-w.type_inv.1.1.1.1.0.1
-    c.root_square-s.ensures.answer c.left_of-l.ensures.answer.1 c.left_of-l.ensures.answer.0 w.2.ensures.0
-    c.waiting_after-t.ensures.answer
-    (w.2.ensures.1
-    ∙ other_put a.made a.areas.now _ m c.left_of-l.result.class c.left_of-l.result.sign
-    c.source_entry-w.result _ (sym w.0.taken ∙ c.prunes.ensures.answer))
-    (c.source_after-c.ensures.answer
-    ∙ ap₂ (after_n c.loop-i.c) c.kind_at-kind.ensures.answer c.kind_at-behind.ensures.answer)
-    (ap (λ (n : ℕ). c.loop-i.i + n) (c.stride-n.ensures.answer ∙ ap stride_n c.kind_at-behind.ensures.answer))))
-    (λ w.
-    rw (w.5, w.6)
-    (fill_turn v (drawing_in t) t.plan a.records (words_in t) B a.made a.entries.now c.requires.made_in_bounds c.loop-i.i
-    c.loop-i.c m c.loop-i.entries c.loop-i.invariant c.loop-i-test.true
-    (maker c.loop-i.p c.waiting_after-t.result) c.source_entry-w.result
-    c.root_square-s.result c.left_of-l.result.class c.left_of-l.result.sign
-    c.source_after-c.result _ _ (entry c.before.before.before.before.before.before) c.source_entry-w.type_inv.1.1.1.1.0.1
-    c.root_square-s.ensures.answer c.left_of-l.ensures.answer.1 c.left_of-l.ensures.answer.0
-    (stays_pruned a.areas.now (counted c.loop-i.p) c.loop-i.a c.source_entry-w.result.kind
-    (sym w.0.left ∙ c.prunes.ensures.answer))
-    c.waiting_after-t.ensures.answer
-    (w.2.ensures
-    ∙ segment_put_law a.made a.areas.now _ m c.left_of-l.result.class c.left_of-l.result.sign
-    c.source_entry-w.result _ (sym w.0.left ∙ c.prunes.ensures.answer))
-    (c.source_after-c.ensures.answer
-    ∙ ap₂ (after_n c.loop-i.c) c.kind_at-kind.ensures.answer c.kind_at-behind.ensures.answer)
-    (ap (λ (n : ℕ). c.loop-i.i + n) (c.stride-n.ensures.answer ∙ ap stride_n c.kind_at-behind.ensures.answer))))
-    c.if-prunes.branch
+    elim c.if-prunes.branch [
+      | then-prunes w ↦ rw (w.entries-is, w.p-is)
+          (fill_turn v (drawing_in t) t.plan a.records (words_in t) B a.made a.entries.now c.requires.made_in_bounds c.loop-i.i
+          c.loop-i.c m c.loop-i.entries c.loop-i.invariant c.loop-i-test.true
+          (maker w.write_other-q.result c.waiting_after-t.result) c.source_entry-w.result
+          c.root_square-s.result c.left_of-l.result.class c.left_of-l.result.sign
+          c.source_after-c.result _ _ (read_entry c.loop-i.c c.source_entry-w.ensures.answer c.kind_at-kind.ensures.answer c.kind_at-behind.ensures.answer) c.source_entry-w.type_inv.1.1.1.1.0.1
+          c.root_square-s.ensures.answer c.left_of-l.ensures.answer.1 c.left_of-l.ensures.answer.0 w.write_other-q.ensures.answer
+          c.waiting_after-t.ensures.answer
+          (w.write_other-q.ensures.out
+          ∙ other_put a.made a.areas.now _ m c.left_of-l.result.class c.left_of-l.result.sign
+          c.source_entry-w.result _ (sym w.if-prunes.true ∙ c.prunes.ensures.answer))
+          (c.source_after-c.ensures.answer
+          ∙ ap₂ (after_n c.loop-i.c) c.kind_at-kind.ensures.answer c.kind_at-behind.ensures.answer)
+          (ap (λ (n : ℕ). c.loop-i.i + n) (c.stride-n.ensures.answer ∙ ap stride_n c.kind_at-behind.ensures.answer)))
+      | else-prunes w ↦ rw (w.entries-is, w.p-is)
+          (fill_turn v (drawing_in t) t.plan a.records (words_in t) B a.made a.entries.now c.requires.made_in_bounds c.loop-i.i
+          c.loop-i.c m c.loop-i.entries c.loop-i.invariant c.loop-i-test.true
+          (maker c.loop-i.p c.waiting_after-t.result) c.source_entry-w.result
+          c.root_square-s.result c.left_of-l.result.class c.left_of-l.result.sign
+          c.source_after-c.result _ _ (read_entry c.loop-i.c c.source_entry-w.ensures.answer c.kind_at-kind.ensures.answer c.kind_at-behind.ensures.answer) c.source_entry-w.type_inv.1.1.1.1.0.1
+          c.root_square-s.ensures.answer c.left_of-l.ensures.answer.1 c.left_of-l.ensures.answer.0 (stays_pruned a.areas.now (counted c.loop-i.p) c.loop-i.a c.source_entry-w.result.kind
+          (sym w.if-prunes.false ∙ c.prunes.ensures.answer))
+          c.waiting_after-t.ensures.answer
+          (w.put_segment.ensures.out
+          ∙ segment_put_law a.made a.areas.now _ m c.left_of-l.result.class c.left_of-l.result.sign
+          c.source_entry-w.result _ (sym w.if-prunes.false ∙ c.prunes.ensures.answer))
+          (c.source_after-c.ensures.answer
+          ∙ ap₂ (after_n c.loop-i.c) c.kind_at-kind.ensures.answer c.kind_at-behind.ensures.answer)
+          (ap (λ (n : ℕ). c.loop-i.i + n) (c.stride-n.ensures.answer ∙ ap stride_n c.kind_at-behind.ensures.answer)))
+    ]
 
 pub put_settled-requires : goal.put_settled-requires
 put_settled-requires c =
