@@ -6,7 +6,7 @@ use Rattle.four_children.proofs.put_four.Goals as goal
 pub loop-n-init : goal.loop-n-init
 loop-n-init c =
     let a = c.args in
-    placed_begin (cell_of a.w) a.t6 a.cells.now a.i a.used a.free c.requires.few_each
+    placed_begin (cell_of a.w) a.ts a.cells.now a.i a.used a.free c.requires.few_each
 
 pub child_words-c-requires : goal.child_words-c-requires
 child_words-c-requires c =
@@ -37,7 +37,7 @@ overflow_add-at c =
 pub loop-n-preserved : goal.loop-n-preserved
 loop-n-preserved c =
     let a = c.args in
-    placed_turn (cell_of a.w) a.t6 a.cells.now a.i a.used a.free c.requires.few_each c.loop-n.n c.loop-n.at
+    placed_turn (cell_of a.w) a.ts a.cells.now a.i a.used a.free c.requires.few_each c.loop-n.n c.loop-n.at
     c.loop-n.cells c.loop-n.invariant (omega (arith, c.loop-n-test.true)) c.child_words-c.result _
     c.child_words-c.ensures.answer c.put_cell.ensures.cells
 
@@ -46,7 +46,5 @@ shape_of-cells c = c.loop-n.invariant.size
 
 pub returns : goal.returns
 returns c =
-    let a = c.args in record {
-      cells = placed_end (cell_of a.w) a.t6 a.cells.now a.i a.used a.free c.requires.few_each c.loop-n.n c.loop-n.at
-          c.loop-n.cells c.loop-n.invariant c.loop-n-test.false;
-    }
+    let a = c.args in record { cells = placed_end (cell_of a.w) a.ts a.cells.now a.i a.used a.free c.requires.few_each c.loop-n.n c.loop-n.at
+    c.loop-n.cells c.loop-n.invariant c.loop-n-test.false }

@@ -13,14 +13,12 @@ write_child-requires c =
     let a = c.args in
     let D = lent a.areas.now a.xs.now a.ys.now a.b in
     let ws = words_from a.entries.now a.first a.count in
-    let s = c.quarter_of-s.result in record { passed = c.pre.0; square_in = kid_square a.w c.pre.1.0 a.q s c.quarter_of-s.ensures.answer; s_value = kid_back a.w c.pre.1.0 a.q s c.quarter_of-s.ensures.answer; count_bound = c.pre.1.1.1.0; made_in_bounds = c.pre.1.1.1.1.0; made_value = c.pre.1.1.1.1.1 ∙ ap (λ (k : Cell). length (elements_made D k ws)) (sym (kid_in a.w c.pre.1.0 a.q s c.quarter_of-s.ensures.answer)) }
+    let s = c.quarter_of-s.result in record { passed = c.requires.passed; square_in = kid_square a.w c.requires.w_value a.q s c.quarter_of-s.ensures.answer; s_value = kid_back a.w c.requires.w_value a.q s c.quarter_of-s.ensures.answer; count_bound = c.requires.count_bound; made_in_bounds = c.requires.made_in_bounds; made_value = c.requires.made_value ∙ ap (λ (k : Cell). length (elements_made D k ws)) (sym (kid_in a.w c.requires.w_value a.q s c.quarter_of-s.ensures.answer)) }
 
 pub returns : goal.returns
 returns c =
     let a = c.args in
     let D = lent a.areas.now a.xs.now a.ys.now a.b in
     let ws = words_from a.entries.now a.first a.count in
-    let s = c.quarter_of-s.result in record {
-      entries = c.write_child.ensures.entries
-          ∙ ap (λ (k : Cell). written a.entries.now a.free (words_made D k ws)) (kid_in a.w c.pre.1.0 a.q s c.quarter_of-s.ensures.answer);
-    }
+    let s = c.quarter_of-s.result in record { entries = c.write_child.ensures.entries
+    ∙ ap (λ (k : Cell). written a.entries.now a.free (words_made D k ws)) (kid_in a.w c.requires.w_value a.q s c.quarter_of-s.ensures.answer) }

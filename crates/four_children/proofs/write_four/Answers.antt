@@ -18,24 +18,17 @@ write_child-requires c =
     let a = c.args in
     let v = env a.areas.now a.xs.now a.ys.now a.b in
     let D = lent a.areas.now a.xs.now a.ys.now a.b in
-    let ws = words_from a.entries.now a.first a.count in record {
-      passed = still_passed v D (cell_of a.w) a.entries.now a.first a.count a.free c.requires.passed c.requires.count_bound c.requires.count_in_bounds
-          c.loop-q.q c.loop-q.at c.loop-q.entries c.loop-q.invariant;
-      w_value = c.requires.w_value;
-      lt_side = c.requires.lt_side;
-      count_bound = still_behind v D (cell_of a.w) a.entries.now a.first a.count a.free c.requires.passed c.requires.count_bound
-          c.requires.count_in_bounds c.loop-q.q c.loop-q.at c.loop-q.entries c.loop-q.invariant;
-      made_in_bounds = rw (entries_at D (cell_of a.w) ws a.t10 c.loop-q.q
-          (omega (arith, c.loop-q-test.true)) c.requires.ts_value)
-          (child_room_law v D (cell_of a.w) a.entries.now a.first a.count a.free c.requires.passed c.requires.count_bound
-          c.requires.count_in_bounds c.loop-q.q c.loop-q.at c.loop-q.entries c.loop-q.invariant
-          (omega (arith, c.loop-q-test.true)));
-      made_value = made_is v D (cell_of a.w) a.entries.now a.first a.count a.free c.requires.passed c.requires.count_bound
-          c.requires.count_in_bounds c.loop-q.q c.loop-q.at c.loop-q.entries c.loop-q.invariant
-          (omega (arith, c.loop-q-test.true)) _
-          (entries_at D (cell_of a.w) ws a.t10 c.loop-q.q
-          (omega (arith, c.loop-q-test.true)) c.requires.ts_value);
-    }
+    let ws = words_from a.entries.now a.first a.count in record { passed = still_passed v D (cell_of a.w) a.entries.now a.first a.count a.free c.requires.passed c.requires.count_bound c.requires.count_in_bounds
+          c.loop-q.q c.loop-q.at c.loop-q.entries c.loop-q.invariant; w_value = c.requires.w_value; lt_side = c.requires.lt_side; count_bound = still_behind v D (cell_of a.w) a.entries.now a.first a.count a.free c.requires.passed c.requires.count_bound
+                c.requires.count_in_bounds c.loop-q.q c.loop-q.at c.loop-q.entries c.loop-q.invariant; made_in_bounds = rw (entries_at D (cell_of a.w) ws a.ts c.loop-q.q
+                  (omega (arith, c.loop-q-test.true)) c.requires.ts_value)
+                  (child_room_law v D (cell_of a.w) a.entries.now a.first a.count a.free c.requires.passed c.requires.count_bound
+                  c.requires.count_in_bounds c.loop-q.q c.loop-q.at c.loop-q.entries c.loop-q.invariant
+                  (omega (arith, c.loop-q-test.true))); made_value = made_is v D (cell_of a.w) a.entries.now a.first a.count a.free c.requires.passed c.requires.count_bound
+                  c.requires.count_in_bounds c.loop-q.q c.loop-q.at c.loop-q.entries c.loop-q.invariant
+                  (omega (arith, c.loop-q-test.true)) _
+                  (entries_at D (cell_of a.w) ws a.ts c.loop-q.q
+                  (omega (arith, c.loop-q-test.true)) c.requires.ts_value) }
 
 pub overflow_add-at : goal.overflow_add-at
 overflow_add-at c =
@@ -49,7 +42,7 @@ overflow_add-at c =
         child_room_law v D (cell_of a.w) a.entries.now a.first a.count a.free c.requires.passed c.requires.count_bound c.requires.count_in_bounds
             c.loop-q.q c.loop-q.at c.loop-q.entries c.loop-q.invariant
             (omega (arith, c.loop-q-test.true)),
-        entries_at D (cell_of a.w) ws a.t10 c.loop-q.q (omega (arith, c.loop-q-test.true)) c.requires.ts_value,
+        entries_at D (cell_of a.w) ws a.ts c.loop-q.q (omega (arith, c.loop-q-test.true)) c.requires.ts_value,
         c.loop-q.invariant.size,
         c.well_formed.0.1,
       );
@@ -61,7 +54,7 @@ loop-q-preserved c =
     let v = env a.areas.now a.xs.now a.ys.now a.b in
     let D = lent a.areas.now a.xs.now a.ys.now a.b in
     let ws = words_from a.entries.now a.first a.count in
-    rw (entries_at D (cell_of a.w) ws a.t10 c.loop-q.q (omega (arith, c.loop-q-test.true)) c.requires.ts_value)
+    rw (entries_at D (cell_of a.w) ws a.ts c.loop-q.q (omega (arith, c.loop-q-test.true)) c.requires.ts_value)
     (filled_turn v D (cell_of a.w) a.entries.now a.first a.count a.free c.requires.passed c.requires.count_bound c.requires.count_in_bounds
     c.loop-q.q c.loop-q.at c.loop-q.entries c.loop-q.invariant (omega (arith, c.loop-q-test.true)) _
     c.write_child.ensures.entries)
@@ -73,7 +66,5 @@ pub returns : goal.returns
 returns c =
     let a = c.args in
     let v = env a.areas.now a.xs.now a.ys.now a.b in
-    let D = lent a.areas.now a.xs.now a.ys.now a.b in record {
-      entries = filled_end v D (cell_of a.w) a.entries.now a.first a.count a.free c.requires.passed c.requires.count_bound c.requires.count_in_bounds
-          c.loop-q.q c.loop-q.at c.loop-q.entries c.loop-q.invariant c.loop-q-test.false;
-    }
+    let D = lent a.areas.now a.xs.now a.ys.now a.b in record { entries = filled_end v D (cell_of a.w) a.entries.now a.first a.count a.free c.requires.passed c.requires.count_bound c.requires.count_in_bounds
+    c.loop-q.q c.loop-q.at c.loop-q.entries c.loop-q.invariant c.loop-q-test.false }
