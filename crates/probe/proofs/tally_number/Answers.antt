@@ -1,0 +1,26 @@
+use mathlib.Core.Path.{ap, ◌∙◌}
+use mathlib.Core.List.{List}
+use lib.ListN.{get_or}
+use Rattle.laws.proofs.Signed.{read_back}
+use Rattle.stream.specs.Table.{words_from}
+use Rattle.celltable.specs.declared.CellWords.{CellWords}
+use Rattle.celltable.specs.Ranges.{cell_of}
+use Rattle.ranges.specs.Held.{lent}
+use Rattle.four_children.specs.declared.Tally.{Tally}
+use Rattle.four_children.specs.code.Numbers.{no_tally, worked_to}
+use Rattle.probe.specs.Answers.{square_fits, number_in}
+use Rattle.probe.proofs.tally_number.Goals as goal
+
+pub count_to-ts-requires : goal.count_to-ts-requires
+unfolding square_fits
+count_to-ts-requires c = record { passed = rw c.leaf_on-w.ensures.answer (c.requires.passed); w_value = c.requires.s_value; lt_side = c.requires.lt_side.0; n_bound = (c.requires.lt_side.1) }
+
+pub returns : goal.returns
+returns c =
+    let a = c.args in record {
+      answer = read_back _ c.number_in.ok
+          ∙ (c.number_in.ensures.answer
+          ∙ (ap (λ (ts : List Tally). number_in (get_or ts a.k no_tally) a.number) c.count_to-ts.ensures.answer
+          ∙ ap (λ (w : CellWords). number_in (get_or (worked_to (lent a.areas.now a.xs.now a.ys.now a.b) (cell_of w)
+          (words_from a.entries.now a.first a.count) a.q) a.k no_tally) a.number) c.leaf_on-w.ensures.answer));
+    }
