@@ -1,4 +1,3 @@
 // What a split leaves as it was, and what it makes: definitions and theorems.
 
 #![tactic(auto)]
-
