@@ -13,12 +13,14 @@ use Rattle.probe.proofs.tally_number.Goals as goal
 
 pub count_to-ts-requires : goal.count_to-ts-requires
 unfolding square_fits
-count_to-ts-requires c = record { passed = rw c.leaf_on-w.ensures.answer (c.requires.passed); w_value = c.requires.s_value; lt_side = c.requires.lt_side.0; n_bound = (c.requires.lt_side.1) }
+count_to-ts-requires c =
+    let e = c.leaf_on-w.ensures.answer in
+    record { passed = c.requires.passed; w_value = rw e c.requires.s_value; lt_side = rw e c.requires.lt_side.0; n_bound = c.requires.lt_side.1 }
 
 pub returns : goal.returns
 returns c =
     let a = c.args in record {
-      answer = read_back _ c.number_in.ok
+      answer = read_back _ c.number_in.type_inv
           ∙ (c.number_in.ensures.answer
           ∙ (ap (λ (ts : List Tally). number_in (get_or ts a.k no_tally) a.number) c.count_to-ts.ensures.answer
           ∙ ap (λ (w : CellWords). number_in (get_or (worked_to (lent a.areas.now a.xs.now a.ys.now a.b) (cell_of w)
