@@ -1,5 +1,5 @@
 -- Lines written to a table one after the other, the loop over the corners, and the lines read back.
-use mathlib.Core.Path.{◌≡◌, refl, sym, ap, ◌∙◌}
+use mathlib.Core.Path.{◌≡◌, refl, sym, ap, subst, ◌∙◌}
 use mathlib.Core.List.{List, [], ◌∷◌, ◌++◌}
 use Prim.Native.Nat.{ℕ, zero, suc, ◌+◌, ◌*◌, ◌-◌, ◌≤◌, ◌<◌}
 use native.Mathlib.Omega.{arith}
@@ -190,7 +190,8 @@ pub written_read : (t : List ℕ) (i : ℕ) (ls : List Line) → (i + length ls)
 unfolding lines_in
 written_read t i [] h = refl
 written_read t i (l ∷ ls) h =
-    rw (← written_cons t i l ls) (λ d. first d ∷ written_read (put_at t i l) (i + 1) ls room d)
+    subst (λ u. lines_in u i (suc (length ls)) ≡ l ∷ ls) (written_cons t i l ls)
+    (λ d. first d ∷ written_read (put_at t i l) (i + 1) ls room d)
   where
     first : line_at (written (put_at t i l) (i + 1) ls) i ≡ l
     first = at_agree _ _ (i * 5 + 5) i (written_keeps (put_at t i l) (i * 5 + 5) (i + 1) ls (omega arith)) (omega arith) ∙ put_same t i l (omega arith)
