@@ -24,7 +24,7 @@ abbrev pub leaf_cell : Leaf → Cell
 leaf_cell l = cell l.x l.y (16 - l.steps)
 
 pub record LeafFound (t : List ℕ) (used entries : ℕ) (p : Position) (l : Leaf) : Type 0 where
-  pub in_use_law : l.cell < used
+  pub in_use : l.cell < used
   pub words : l ≡ leaf_of l.cell l.steps (cell_at t l.cell)
   pub passes : cell_range t l.cell used entries ≡ true
   pub whole : (cell_at t l.cell).child ≡ 0
@@ -64,7 +64,7 @@ module _ (t : List ℕ) (used entries : ℕ) (p : Position) (l : Leaf) where
       → LeafFound t used entries p (leaf_of i steps (cell_at t i))
   landed i steps x y k d u h f s z =
       record {
-        in_use_law = u;
+        in_use = u;
         words = refl;
         passes = f;
         whole = z;

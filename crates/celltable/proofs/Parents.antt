@@ -89,7 +89,7 @@ root_passes t i used z e = rw (eq-eqb i 0 z, eq-eqb (cell_at t i).parent 0 e)
 -- ---- what it says that a parent passes
 
 pub record Hangs (t : List ℕ) (i used : ℕ) : Type 0 where
-  pub in_use_law : (cell_at t i).parent < used
+  pub in_use : (cell_at t i).parent < used
   pub held : held_by (cell_at t (cell_at t i).parent) (cell_at t i) i used ≡ true
   pub parted : (cell_at t (cell_at t i).parent).child ≡ 0 → ⊥
 
@@ -104,7 +104,7 @@ hangs t i used z h =
     let c : is_child p.child used i ≡ true = and_left (is_child p.child used i) (on_quarter p (cell_at t i) (i - p.child)) k in
     let some : 1 ≤ p.child = leb-true 1 p.child
     (and_left (leb 1 p.child) (ltb (p.child + 3) used && (leb p.child i && leb i (p.child + 3))) c) in
-    record { in_use_law = ltb-true (cell_at t i).parent used (cond_left below holds g); held = k; parted = λ o. omega (arith, some, o) }
+    record { in_use = ltb-true (cell_at t i).parent used (cond_left below holds g); held = k; parted = λ o. omega (arith, some, o) }
 
 pub root_parent : (t : List ℕ) (i used : ℕ) → i ≡ 0 → parent_range t i used ≡ true → (cell_at t i).parent ≡ 0
 unfolding parent_range
@@ -138,11 +138,11 @@ module _ (t t' : List ℕ) (i used used' n : ℕ) (e : cell_at t' i ≡ with_chi
   unfolding parent_range
   parent_hangs z k =
       let p : ℕ = (cell_at t i).parent in
-      let words : cell_at t' (cell_at t' i).parent ≡ cell_at t p = ap (cell_at t') parent_is ∙ same p k.in_use_law k.parted in
+      let words : cell_at t' (cell_at t' i).parent ≡ cell_at t p = ap (cell_at t') parent_is ∙ same p k.in_use k.parted in
       let held : held_by (cell_at t p) (with_child (cell_at t i) n) i used' ≡ true = held_more (cell_at t p) (cell_at t i) i used used' u k.held in
       let here : held_by (cell_at t' (cell_at t' i).parent) (cell_at t' i) i used' ≡ true =
       (λ d. held_by (words d) (e d) i used') ∙ held in
-      rw (ne_eqb i 0 z, lt-ltb (cell_at t' i).parent used' (omega (arith, parent_is, k.in_use_law))) here
+      rw (ne_eqb i 0 z, lt-ltb (cell_at t' i).parent used' (omega (arith, parent_is, k.in_use))) here
 
   pub parent_more : parent_range t i used ≡ true → parent_range t' i used' ≡ true
   parent_more h = go (eqb i 0) refl

@@ -95,7 +95,7 @@ walk_done t used entries px py n c whole h inv =
 
 -- ---- the cursor one level deeper: its cell is in use, its square lies in the grid, and its steps are one more
 record Follows (c c' : Cursor) (used : ℕ) : Type 0 where
-  in_use_law : c'.cell < used
+  in_use : c'.cell < used
   east : c.x + c.side ≤ 65536 → c'.x + c'.side ≤ 65536
   north : c.y + c.side ≤ 65536 → c'.y + c'.side ≤ 65536
   counted : c'.steps ≡ c.steps + 1
@@ -111,7 +111,7 @@ half_bit at half false = omega arith
 deeper_follows : (used first px py : ℕ) (c : Cursor) → first + 3 < used → Follows c (deeper_n c first px py) used
 deeper_follows used first px py c u =
     record {
-      in_use_law = omega (arith, half_bit c.x (c.side / 2) right, half_bit c.y (c.side / 2) upper);
+      in_use = omega (arith, half_bit c.x (c.side / 2) right, half_bit c.y (c.side / 2) upper);
       east = λ h. omega (arith, half_in c.x c.side right);
       north = λ h. omega (arith, half_in c.y c.side upper);
       counted = refl;
@@ -146,19 +146,19 @@ step_follows t used entries px py c c' r p q = go (stands_n c w) numbers (eqb w.
 
 -- what the loop keeps, with n cells to go
 pub record Going (c : Cursor) (used n : ℕ) : Type 0 where
-  pub in_use_law : c.cell < used
+  pub in_use : c.cell < used
   pub east : c.x + c.side ≤ 65536
   pub north : c.y + c.side ≤ 65536
   pub counted : c.steps + n ≡ 17
 
 pub going_start : (used : ℕ) → 1 ≤ used → Going start_n used 17
-going_start used h = record { in_use_law = h; east = omega arith; north = omega arith; counted = refl }
+going_start used h = record { in_use = h; east = omega arith; north = omega arith; counted = refl }
 
 pub going_in : (c : Cursor) (used n : ℕ) → 0 < n → Going c used n → CursorIn c used
-going_in c used n h g = record { in_use_law = g.in_use_law; east = g.east; north = g.north; steps_few = omega arith }
+going_in c used n h g = record { in_use = g.in_use; east = g.east; north = g.north; steps_few = omega arith }
 
 pub going_on : (t : List ℕ) (used entries px py n : ℕ) (c c' : Cursor) (r : Down) → 0 < n → r ≡ step_n t used entries c px py → r ≡ Deeper c'
     → Going c used n → Going c' used (n - 1)
 going_on t used entries px py n c c' r h p q g =
     let f : Follows c c' used = step_follows t used entries px py c c' r p q in
-    record { in_use_law = f.in_use_law; east = f.east g.east; north = f.north g.north; counted = omega (arith, f.counted, g.counted) }
+    record { in_use = f.in_use; east = f.east g.east; north = f.north g.north; counted = omega (arith, f.counted, g.counted) }

@@ -126,7 +126,7 @@ pub record Lands (D : Drawing) (H : List Node) (x y : ℕ) (a : Finding.Answer) 
 module _ (t : Tree) (H : List Node) (s : Sound t H) (x y : ℕ) where
   report_is : (i : ℕ) → Leaf H i → report_of t.entries (leaf_of i (16 - level (cell_in H i)) (words t i)) ≡ report_shown (drawing_of t) H i
   report_is i l =
-      let q = s.squares i l.in_use_law in
+      let q = s.squares i l.in_use in
       let ws = s.streams i l in
       let n : (words t i).count ≡ length (words_of_cell (drawing_of t) (cell_in H i)) =
       sym (words_length t.entries (words t i).first (words t i).count) ∙ ap length ws in

@@ -62,7 +62,7 @@ module _ (t : Tree) (H : List Node) (s : Sound t H) where
       go (yes z) next =
           record {
             leaf = i;
-            holds = record { leaf = record { in_use_law = h; undivided = z }; holds = subst (λ (x : Cell). Holds x p) (sym e) o };
+            holds = record { leaf = record { in_use = h; undivided = z }; holds = subst (λ (x : Cell). Holds x p) (sym e) o };
             deep = steps;
             found = down_leaf t.cells used free p n i steps c (cell_passes t H s i h) (on_cell i c h e) (s.firsts i h ∙ z);
             level_is = ap (λ (x : Cell). steps + level x) e;
@@ -71,7 +71,7 @@ module _ (t : Tree) (H : List Node) (s : Sound t H) where
           let d = s.grown.divided i h z in
           let wide : 0 < level c = subst (λ (x : Cell). 0 < level x) e d.wide in
           let less : suc (level (child c (quarter_of c p))) ≡ level c = level_child c (quarter_of c p) wide in
-          let r = next (first_in H i + place_of (quarter_of c p)) (omega (arith, d.in_use_law, few_places (quarter_of c p)))
+          let r = next (first_in H i + place_of (quarter_of c p)) (omega (arith, d.in_use, few_places (quarter_of c p)))
           (d.quarter (quarter_of c p) ∙ ap (λ (x : Cell). child x (quarter_of c p)) e) (omega (arith, less)) in
           record {
             leaf = r.leaf;

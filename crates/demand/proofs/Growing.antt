@@ -99,7 +99,7 @@ module _ (D : Drawing) (n l : ℕ) (few : l ≤ 16) where
     wants = wanted_by n l (words t i).side count
 
     lines_are : Leaf H i → count ≡ lines_in (words_of_cell D (cell_in H i))
-    lines_are o = s.line_counts_law i o ∙ ap lines_in (s.streams i o ∙ ap (λ (E : Drawing). words_of_cell E (cell_in H i)) same)
+    lines_are o = s.line_counts i o ∙ ap lines_in (s.streams i o ∙ ap (λ (E : Drawing). words_of_cell E (cell_in H i)) same)
 
     depth_is : depth_at (words t i).side ≡ 16 - level (cell_in H i)
     depth_is = ap (λ (k : ℕ). 16 - k) (ap level (cell_is t H s i h))
@@ -118,7 +118,7 @@ module _ (D : Drawing) (n l : ℕ) (few : l ≤ 16) where
 
     sees_cell : (b : Bool) → eqb (words t i).child 0 ≡ b → Sees H i (cond b (cond wants Wanted Past) Past)
     sees_cell true e =
-        let o : Leaf H i = record { in_use_law = h; undivided = sym (s.firsts i h) ∙ eqb-true (words t i).child 0 e } in
+        let o : Leaf H i = record { in_use = h; undivided = sym (s.firsts i h) ∙ eqb-true (words t i).child 0 e } in
         sees_leaf o wants refl
     sees_cell false e = past (λ w. eqb-false (words t i).child 0 e (s.firsts i h ∙ w.leaf.undivided))
 
@@ -170,14 +170,14 @@ module _ (D : Drawing) (n l : ℕ) (few : l ≤ 16) where
   round_at_law t H i w g e short = stops (record { cell = i; wanted = w; lowest = g; refused = e })
 
   round_by_law : (t : Tree) (H : List Node) → Sound t H → {r : Lowest} → Picks H 0 (length H) r → Turns t H (round_by t r)
-  round_by_law t H s (nothing g) = ends (λ i w. g i (omega arith) w.leaf.in_use_law w)
+  round_by_law t H s (nothing g) = ends (λ i w. g i (omega arith) w.leaf.in_use w)
   round_by_law t H s (one i w g) = round_at_law t H i w (λ j h v. g j (omega arith) h v) refl (leaf_roomed t H i s w.leaf (deep H i w))
 
   turns : (t : Tree) (H : List Node) → Sound t H → drawing_of t ≡ D → Turns t H (round n l t)
   unfolding round
   turns t H s q =
       subst (Turns t H) (sym (ap (λ (b : Bool). cond b (round_by t (lowest_from t n l 0 (cells_used t.head))) broken) s.counts))
-      (round_by_law t H s (picks t H s q 0 (cells_used t.head) (length H) (omega (arith, s.in_use_law)) (omega arith)))
+      (round_by_law t H s (picks t H s q 0 (cells_used t.head) (length H) (omega (arith, s.in_use)) (omega arith)))
 
   -- ---- again and again
   abbrev pub Ends : List Node → Tree → Ending → Type 0
@@ -199,7 +199,7 @@ module _ (D : Drawing) (n l : ℕ) (few : l ≤ 16) where
       → Grows H (go_on r t (growing k n l))
   go_on_law k t H s q m next (divides i o) =
       let r = next (split_tree t i) (split_at H i) o (drawing_split t i ∙ q)
-      (omega (arith, o.in_use_law, s.in_use_law, one_longer H i, used_most (split_tree t i) o.counts)) in
+      (omega (arith, o.in_use, s.in_use, one_longer H i, used_most (split_tree t i) o.counts)) in
       record { sound = r.sound; ending = r.ending }
   go_on_law k t H s q m next (ends g) = record { sound = s; ending = g }
   go_on_law k t H s q m next (stops g) = record { sound = s; ending = g }

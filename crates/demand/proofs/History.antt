@@ -31,12 +31,12 @@ use Rattle.demand.specs.History.{
 -- a cell that was split: it had more than one position, and its four cells are its quarters, numbered in a row
 pub record Divided (H : List Node) (i j : ℕ) : Type 0 where
   pub wide : 0 < level (cell_in H i)
-  pub in_use_law : j + 4 ≤ length H
+  pub in_use : j + 4 ≤ length H
   pub quarter : (q : Quarter) → cell_in H (j + place_of q) ≡ child (cell_in H i) q
 
 -- the parent of cell i is a split cell, and cell i is one of its four
 pub record Hangs (H : List Node) (i : ℕ) : Type 0 where
-  pub in_use_law : parent_in H i < length H
+  pub in_use : parent_in H i < length H
   pub parted : first_in H (parent_in H i) ≡ 0 → ⊥
   pub quarter : Quarter
   pub place : i ≡ first_in H (parent_in H i) + place_of quarter
@@ -52,7 +52,7 @@ pub record Grown (H : List Node) : Type 0 where
 
 -- it lies on that quarter of its parent's square
 pub hangs_child : (H : List Node) (i : ℕ) → Grown H → (k : Hangs H i) → cell_in H i ≡ child (cell_in H (parent_in H i)) k.quarter
-hangs_child H i g k = ap (cell_in H) k.place ∙ (g.divided (parent_in H i) k.in_use_law k.parted).quarter k.quarter
+hangs_child H i g k = ap (cell_in H) k.place ∙ (g.divided (parent_in H i) k.in_use k.parted).quarter k.quarter
 
 -- ---- one cell
 
@@ -75,8 +75,8 @@ begun_grown =
       hangs = λ i h z. absurd (z (omega arith));
       tiled =
           record {
-            some_leaf = λ p g. (0, record { leaf = record { in_use_law = omega arith; undivided = refl }; holds = root_holds p g });
-            one_leaf_law = λ p i j a b. omega (arith, a.leaf.in_use_law, b.leaf.in_use_law);
+            some_leaf = λ p g. (0, record { leaf = record { in_use = omega arith; undivided = refl }; holds = root_holds p g });
+            one_leaf = λ p i j a b. omega (arith, a.leaf.in_use, b.leaf.in_use);
           };
     }
 
@@ -226,7 +226,7 @@ module _ (H : List Node) (i : ℕ) (h : i < length H) where
     divided_here =
         record {
           wide = rw (cell_old i h) large;
-          in_use_law = omega (arith, split_length);
+          in_use = omega (arith, split_length);
           quarter = λ q. cell_new q ∙ ap (λ (x : Cell). child x q) (sym (cell_old i h));
         }
 
@@ -237,9 +237,9 @@ module _ (H : List Node) (i : ℕ) (h : i < length H) where
         subst (Divided K m) (sym f)
         (record {
           wide = rw (cell_old m l) d.wide;
-          in_use_law = omega (arith, d.in_use_law, split_length);
+          in_use = omega (arith, d.in_use, split_length);
           quarter = λ q.
-              cell_old (first_in H m + place_of q) (omega (arith, d.in_use_law, few_places q))
+              cell_old (first_in H m + place_of q) (omega (arith, d.in_use, few_places q))
               ∙ (d.quarter q ∙ ap (λ (x : Cell). child x q) (sym (cell_old m l)));
         })
     divided_by m (divides e) z = subst (λ (x : ℕ). Divided K x (first_in K x)) (sym e) (subst (Divided K i) (sym first_split) divided_here)
@@ -251,9 +251,9 @@ module _ (H : List Node) (i : ℕ) (h : i < length H) where
         let k = g.hangs m l z in
         let e = parent_old m l in
         let f : first_in K (parent_in K m) ≡ first_in H (parent_in H m) =
-        ap (first_in K) e ∙ first_other (parent_in H m) k.in_use_law (λ o. k.parted (ap (first_in H) o ∙ w)) in
+        ap (first_in K) e ∙ first_other (parent_in H m) k.in_use (λ o. k.parted (ap (first_in H) o ∙ w)) in
         record {
-          in_use_law = omega (arith, e, k.in_use_law, split_length);
+          in_use = omega (arith, e, k.in_use, split_length);
           parted = λ o. k.parted (sym f ∙ o);
           quarter = k.quarter;
           place = k.place ∙ ap (λ (x : ℕ). x + place_of k.quarter) (sym f);
@@ -266,7 +266,7 @@ module _ (H : List Node) (i : ℕ) (h : i < length H) where
         let p : parent_in K m ≡ i = ap (parent_in K) e ∙ parent_new q in
         let f : first_in K (parent_in K m) ≡ n = ap (first_in K) p ∙ first_split in
         record {
-          in_use_law = omega (arith, p, split_length);
+          in_use = omega (arith, p, split_length);
           parted = λ o. omega (arith, f, o, some_cells);
           quarter = q;
           place = e ∙ ap (λ (x : ℕ). x + place_of q) (sym f);
@@ -281,37 +281,37 @@ module _ (H : List Node) (i : ℕ) (h : i < length H) where
     found_by_law p m (kept l e) a =
         old e
         (record {
-          leaf = record { in_use_law = l; undivided = sym (first_other m l e) ∙ a.leaf.undivided };
+          leaf = record { in_use = l; undivided = sym (first_other m l e) ∙ a.leaf.undivided };
           holds = subst (λ (x : Cell). Holds x p) (cell_old m l) a.holds;
         })
     found_by_law p m (divides e) a = absurd (let f : n ≡ 0 = sym first_split ∙ (ap (first_in K) (sym e) ∙ a.leaf.undivided) in omega (arith, some_cells))
     found_by_law p m (new q e) a = quarter q e (subst (λ (x : Cell). Holds x p) (ap (cell_in K) e ∙ cell_new q) a.holds)
 
     found : (p : Position) (m : ℕ) → LeafAt K p m → Found p m
-    found p m a = found_by_law p m (comes m a.leaf.in_use_law) a
+    found p m a = found_by_law p m (comes m a.leaf.in_use) a
 
     -- the split cell held what its quarters hold
     above : (p : Position) (q : Quarter) → Holds (child c q) p → LeafAt H p i
-    above p q k = record { leaf = record { in_use_law = h; undivided = w }; holds = holds_up c q p k }
+    above p q k = record { leaf = record { in_use = h; undivided = w }; holds = holds_up c q p k }
 
     one_by : (p : Position) (m k : ℕ) → Found p m → Found p k → m ≡ k
-    one_by p m k (old e a) (old f b) = g.tiled.one_leaf_law p m k a b
-    one_by p m k (old e a) (quarter q f b) = absurd (e (g.tiled.one_leaf_law p m i a (above p q b)))
-    one_by p m k (quarter q e a) (old f b) = absurd (f (g.tiled.one_leaf_law p k i b (above p q a)))
+    one_by p m k (old e a) (old f b) = g.tiled.one_leaf p m k a b
+    one_by p m k (old e a) (quarter q f b) = absurd (e (g.tiled.one_leaf p m i a (above p q b)))
+    one_by p m k (quarter q e a) (old f b) = absurd (f (g.tiled.one_leaf p k i b (above p q a)))
     one_by p m k (quarter q e a) (quarter r f b) = e ∙ (ap (λ (x : Quarter). n + place_of x) (one_quarter c p q r large a b) ∙ sym f)
 
     leaf_kept : (p : Position) (m : ℕ) → (m ≡ i → ⊥) → LeafAt H p m → LeafAt K p m
     leaf_kept p m e a =
-        let l = a.leaf.in_use_law in
+        let l = a.leaf.in_use in
         record {
-          leaf = record { in_use_law = omega (arith, split_length); undivided = first_other m l e ∙ a.leaf.undivided };
+          leaf = record { in_use = omega (arith, split_length); undivided = first_other m l e ∙ a.leaf.undivided };
           holds = rw (cell_old m l) a.holds;
         }
 
     leaf_new : (p : Position) → Holds c p → LeafAt K p (n + place_of (quarter_of c p))
     leaf_new p k =
         let q = quarter_of c p in
-        record { leaf = record { in_use_law = omega (arith, split_length, few_places q); undivided = first_new q }; holds = rw (cell_new q) (child_holds c p k) }
+        record { leaf = record { in_use = omega (arith, split_length, few_places q); undivided = first_new q }; holds = rw (cell_new q) (child_holds c p k) }
 
     some_by : (p : Position) (m : ℕ) → LeafAt H p m → Dec (m ≡ i) → (k : ℕ) × LeafAt K p k
     some_by p m a (yes e) = (n + place_of (quarter_of c p), leaf_new p (subst (λ (x : ℕ). Holds (cell_in H x) p) e a.holds))
@@ -329,6 +329,6 @@ module _ (H : List Node) (i : ℕ) (h : i < length H) where
           tiled =
               record {
                 some_leaf = λ p o. let s = g.tiled.some_leaf p o in some_by p s.0 s.1 (ℕ_discrete s.0 i);
-                one_leaf_law = λ p m k a b. one_by p m k (found p m a) (found p k b);
+                one_leaf = λ p m k a b. one_by p m k (found p m a) (found p k b);
               };
         }

@@ -134,25 +134,25 @@ module _ (t : Tree) (n : ℕ) (a : Accepts t n) (long : 3 ≤ length t.plan) whe
 
   streams : (i : ℕ) → Leaf begun i → stream u i ≡ words_of_cell (drawing_of t) (cell_in begun i)
   streams zero l = root_stream ∙ stream_opened_law
-  streams (suc i) l = absurd (omega (arith, l.in_use_law))
+  streams (suc i) l = absurd (omega (arith, l.in_use))
 
-  line_counts_law : (i : ℕ) → Leaf begun i → (words u i).lines ≡ lines_in (stream u i)
-  line_counts_law zero l = ap (λ (w : CellWords). w.lines) root_cell ∙ sym (ap lines_in root_stream)
-  line_counts_law (suc i) l = absurd (omega (arith, l.in_use_law))
+  line_counts : (i : ℕ) → Leaf begun i → (words u i).lines ≡ lines_in (stream u i)
+  line_counts zero l = ap (λ (w : CellWords). w.lines) root_cell ∙ sym (ap lines_in root_stream)
+  line_counts (suc i) l = absurd (omega (arith, l.in_use))
 
   opened_sound : Sound u begun
   opened_sound =
       record {
         drawn = record { valid = opened_drawn.valid; held = opened_drawn.held; pair = opened_drawn.pair };
         counts = opened_counts;
-        in_use_law = used_one;
+        in_use = used_one;
         grown = begun_grown;
         squares = squares;
         firsts = firsts;
         parents = parents;
         entries = entries;
         streams = streams;
-        line_counts_law = line_counts_law;
+        line_counts = line_counts;
       }
 
 pub open_sound : (t : Tree) (n : ℕ) → open_answer t ≡ Opened n → Sound (open_tree t) begun

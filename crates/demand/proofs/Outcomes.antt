@@ -91,7 +91,7 @@ module _ (t : Tree) (H : List Node) (i : ℕ) (s : Sound t H) where
             record {
               pair = s.drawn.pair;
               counts = s.counts;
-              in_use_law = omega (arith, h, s.in_use_law);
+              in_use = omega (arith, h, s.in_use);
               cell = cell_passes t H s i h;
               leaf = s.firsts i h ∙ l.undivided;
               passes = leaf_passes_law t H s i l;
@@ -102,7 +102,7 @@ module _ (t : Tree) (H : List Node) (i : ℕ) (s : Sound t H) where
             → Roomed t H i (cond a (cond b (Split used) (Not Room)) (Not Room))
         roomed true true p q =
             let e : split_answer t i ≡ Split used = able_answer t i able ∙ (λ d. cond (p d) (cond (q d) (Split used) (Not Room)) (Not Room)) in
-            fits used s.in_use_law (split_sound t H i used s e l large)
+            fits used s.in_use (split_sound t H i used s e l large)
         roomed true false p q = short
         roomed false b p q = short
 
@@ -119,18 +119,18 @@ module _ (t : Tree) (H : List Node) (i : ℕ) (s : Sound t H) where
 
     celled_out : (b : Bool) → eqb (words t i).child 0 ≡ b → Outcome t H i (cond b leafed (Not AlreadySplit))
     celled_out true e =
-        let l : Leaf H i = record { in_use_law = h; undivided = sym (s.firsts i h) ∙ eqb-true (words t i).child 0 e } in
+        let l : Leaf H i = record { in_use = h; undivided = sym (s.firsts i h) ∙ eqb-true (words t i).child 0 e } in
         subst (Outcome t H i) (sym (leaf_sized l)) (sized_out l (eqb (words t i).side 1) refl)
     celled_out false e = refused AlreadySplit (other AlreadySplit (λ z. omega arith))
 
   pub leaf_roomed : Leaf H i → 0 < level (cell_in H i) → Roomed t H i (split_answer t i)
   leaf_roomed l k =
-      let f : (words t i).side ≡ 1 → ⊥ = λ e. wide_side (cell_in H i) k (sym (s.squares i l.in_use_law).same_side ∙ e) in
-      subst (Roomed t H i) (sym (able_answer t i (able l.in_use_law l f))) (room_out l.in_use_law l f)
+      let f : (words t i).side ≡ 1 → ⊥ = λ e. wide_side (cell_in H i) k (sym (s.squares i l.in_use).same_side ∙ e) in
+      subst (Roomed t H i) (sym (able_answer t i (able l.in_use l f))) (room_out l.in_use l f)
 
   numbered : (b : Bool) → ltb i used ≡ b → Outcome t H i (cond b (counts_split t i) (Not NoCell))
   numbered true e =
-      let h : i < length H = omega (arith, ltb-true i used e, s.in_use_law) in
+      let h : i < length H = omega (arith, ltb-true i used e, s.in_use) in
       subst (Outcome t H i) (sym (counted h)) (celled_out h (eqb (words t i).child 0) refl)
   numbered false e = refused NoCell (other NoCell (λ z. omega arith))
 

@@ -49,7 +49,7 @@ module _ (t : Tree) (H : List Node) (s : Sound t H) where
       go (no z) =
           let d = s.grown.divided i h z in
           or_right (eqb (words t i).child 0) (ltb ((words t i).child + 3) used)
-          (lt-ltb ((words t i).child + 3) used (omega (arith, d.in_use_law, s.firsts i h, s.in_use_law)))
+          (lt-ltb ((words t i).child + 3) used (omega (arith, d.in_use, s.firsts i h, s.in_use)))
 
   first_root : (i : ℕ) → i ≡ 0 → cell_in H i ≡ root
   first_root i e = ap (cell_in H) e ∙ s.grown.first
@@ -63,11 +63,11 @@ module _ (t : Tree) (H : List Node) (s : Sound t H) where
       go (no z) =
           let k = s.grown.hangs i h z in
           let p : ℕ = parent_in H i in
-          let d = s.grown.divided p k.in_use_law k.parted in
-          let c : (words t p).child ≡ first_in H p = s.firsts p k.in_use_law in
-          quarter_passes t.cells used i p (cell_in H p) k.quarter d.wide (s.squares p k.in_use_law)
-          (subst (SaysCell (words t i)) (hangs_child H i s.grown k) (s.squares i h)) (s.parents i h) (omega (arith, k.in_use_law, s.in_use_law))
-          (λ e. k.parted (sym c ∙ e)) (omega (arith, d.in_use_law, c, s.in_use_law)) (k.place ∙ ap (λ (n : ℕ). n + place_of k.quarter) (sym c))
+          let d = s.grown.divided p k.in_use k.parted in
+          let c : (words t p).child ≡ first_in H p = s.firsts p k.in_use in
+          quarter_passes t.cells used i p (cell_in H p) k.quarter d.wide (s.squares p k.in_use)
+          (subst (SaysCell (words t i)) (hangs_child H i s.grown k) (s.squares i h)) (s.parents i h) (omega (arith, k.in_use, s.in_use))
+          (λ e. k.parted (sym c ∙ e)) (omega (arith, d.in_use, c, s.in_use)) (k.place ∙ ap (λ (n : ℕ). n + place_of k.quarter) (sym c))
 
   pub cell_passes : (i : ℕ) → i < length H → cell_range t.cells i (cells_used t.head) (entries_used t.head) ≡ true
   cell_passes i h =
@@ -77,9 +77,9 @@ module _ (t : Tree) (H : List Node) (s : Sound t H) where
   pub leaf_passes_law : (i : ℕ) → Leaf H i
       → leaf_passes t.entries (words t i).first (words t i).count (words t i).lines (entries_used t.head) (against t i) ≡ true
   leaf_passes_law i l =
-      let q = s.squares i l.in_use_law in
+      let q = s.squares i l.in_use in
       leaf_both t.entries (words t i).first (words t i).count (words t i).lines free (against t i)
       (made_checks (drawing_of t) s.drawn.valid t.areas t.xs t.ys (bounds_of t.plan (words t i))
       (s.drawn.held (words t i).y (words t i).side) (cell_in H i) q.same_y q.same_side t.entries (words t i).first
-      (words t i).count free (s.streams i l) (s.entries i l.in_use_law) (free_within t s.counts) (free_most t s.counts))
-      (sym (s.line_counts_law i l))
+      (words t i).count free (s.streams i l) (s.entries i l.in_use) (free_within t s.counts) (free_most t s.counts))
+      (sym (s.line_counts i l))

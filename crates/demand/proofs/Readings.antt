@@ -71,7 +71,7 @@ module _ (t : Tree) (H : List Node) (s : Sound t H) where
         let r = lands t H s x y g in
         let i = r.leaf in
         let l = leaf_of i (16 - level (cell_in H i)) (words t i) in
-        let q = s.squares i r.holds.leaf.in_use_law in
+        let q = s.squares i r.holds.leaf.in_use in
         let ws = s.streams i r.holds.leaf in
         let same : spot_of t.areas l (is_uniform (leaf_stream t l)) (set_in t x y) ≡ spot_there (drawing_of t) H i (at x y) =
         λ d.

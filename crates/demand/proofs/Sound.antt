@@ -42,14 +42,14 @@ pub record Drawn (t : Tree) : Type 0 where
 pub record Sound (t : Tree) (H : List Node) : Type 0 where
   pub drawn : Drawn t
   pub counts : counts_in t ≡ true
-  pub in_use_law : cells_used t.head ≡ length H
+  pub in_use : cells_used t.head ≡ length H
   pub grown : Grown H
   pub squares : (i : ℕ) → i < length H → SaysCell (cell_at t.cells i) (cell_in H i)
   pub firsts : (i : ℕ) → i < length H → (cell_at t.cells i).child ≡ first_in H i
   pub parents : (i : ℕ) → i < length H → (cell_at t.cells i).parent ≡ parent_in H i
   pub entries : (i : ℕ) → i < length H → (cell_at t.cells i).first + (cell_at t.cells i).count ≤ entries_used t.head
   pub streams : (i : ℕ) → Leaf H i → stream t i ≡ words_of_cell (drawing_of t) (cell_in H i)
-  pub line_counts_law : (i : ℕ) → Leaf H i → (cell_at t.cells i).lines ≡ lines_in (stream t i)
+  pub line_counts : (i : ℕ) → Leaf H i → (cell_at t.cells i).lines ≡ lines_in (stream t i)
 
 -- ---- the words of a stream that is made from the drawing
 module _ (t : Tree) (d : Drawn t) (c : Cell) where
@@ -85,18 +85,18 @@ walk_up : (t : Tree) (H : List Node) → Sound t H → (k i : ℕ) → i < lengt
 walk_up t H s zero i h l = refl
 walk_up t H s (suc k) i h l =
     let a : Around H i 1 = (upward H s.grown).around i 1 h (omega arith) in
-    ap (up_at t k) (s.parents i h) ∙ walk_up t H s k (parent_in H i) a.in_use_law (omega (arith, a.level_is))
+    ap (up_at t k) (s.parents i h) ∙ walk_up t H s k (parent_in H i) a.in_use (omega (arith, a.level_is))
 
 -- over the drawing that the tables hold
 sound_stands_held : (t : Tree) (H : List Node) → Sound t H → Stands (drawing_of t) t H
 sound_stands_held t H s =
     record {
       drawing = refl;
-      in_use_law = s.in_use_law;
+      in_use = s.in_use;
       squares = λ i h. on_square_law (cell_at t.cells i) (cell_in H i) (s.squares i h);
       children = s.firsts;
       parents = s.parents;
-      line_counts_law = s.line_counts_law;
+      line_counts = s.line_counts;
       walk = λ i k h l. walk_up t H s k i h l;
       upward = upward H s.grown;
       tiled = s.grown.tiled;

@@ -65,7 +65,7 @@ module _ (t : Tree) (H : List Node) (i n : ℕ) (s : Sound t H) (e : split_answe
   m₀ = length H
 
   abbrev h : i < length H
-  h = l.in_use_law
+  h = l.in_use
 
   abbrev w : CellWords
   w = words t i
@@ -78,7 +78,7 @@ module _ (t : Tree) (H : List Node) (i n : ℕ) (s : Sound t H) (e : split_answe
 
   -- the cells in use are those of the history
   used_is : cells_used t.head ≡ length H
-  used_is = s.in_use_law
+  used_is = s.in_use
 
   -- ---- each new cell
   abbrev stream_first : ℕ → ℕ
@@ -170,7 +170,7 @@ module _ (t : Tree) (H : List Node) (i n : ℕ) (s : Sound t H) (e : split_answe
   streams_by m (kept g z) f =
       ap (λ (x : CellWords). words_from u.entries x.first x.count) (tree_keeps_cell t i n e m (omega (arith, used_is)) z)
       ∙ (tree_stream t i n e (words t m).first (words t m).count (s.entries m g)
-      ∙ (s.streams m (record { in_use_law = g; undivided = sym (first_other H i h m g z) ∙ f }) ∙ ap (words_of_cell (drawing_of t)) (sym (cell_old H i h m g))))
+      ∙ (s.streams m (record { in_use = g; undivided = sym (first_other H i h m g z) ∙ f }) ∙ ap (words_of_cell (drawing_of t)) (sym (cell_old H i h m g))))
   streams_by m (divides z) f = absurd (let o : length H ≡ 0 = sym (first_split H i h) ∙ (ap (first_in K) (sym z) ∙ f) in omega (arith, h))
   streams_by m (new q z) f =
       ap (stream u) z
@@ -184,7 +184,7 @@ module _ (t : Tree) (H : List Node) (i n : ℕ) (s : Sound t H) (e : split_answe
       let same : stream u m ≡ stream t m = ap (λ (x : CellWords). words_from u.entries x.first x.count) keep
       ∙ tree_stream t i n e (words t m).first (words t m).count (s.entries m g) in
       ap (λ (x : CellWords). x.lines) keep
-      ∙ (s.line_counts_law m (record { in_use_law = g; undivided = sym (first_other H i h m g z) ∙ f }) ∙ sym (ap lines_in same))
+      ∙ (s.line_counts m (record { in_use = g; undivided = sym (first_other H i h m g z) ∙ f }) ∙ sym (ap lines_in same))
   counts_by m (divides z) f = absurd (let o : length H ≡ 0 = sym (first_split H i h) ∙ (ap (first_in K) (sym z) ∙ f) in omega (arith, h))
   counts_by m (new q z) f =
       let read = ap (λ (x : CellWords). words_from u.entries x.first x.count) (new_words q) ∙ tree_child_stream t i n e (place_of q) (few_places q) in
@@ -196,12 +196,12 @@ module _ (t : Tree) (H : List Node) (i n : ℕ) (s : Sound t H) (e : split_answe
       record {
         drawn = drawn_split t i s.drawn;
         counts = tree_counts t i n e;
-        in_use_law = omega (arith, tree_used t i n e, used_is, split_length H i h);
+        in_use = omega (arith, tree_used t i n e, used_is, split_length H i h);
         grown = split_grown H i h s.grown l.undivided large;
         squares = λ m g. squares_by m (comes H i h m g);
         firsts = λ m g. firsts_by m (comes H i h m g);
         parents = λ m g. parents_by m (comes H i h m g);
         entries = λ m g. entries_by_law m (comes H i h m g);
-        line_counts_law = λ m g. counts_by m (comes H i h m g.in_use_law) g.undivided;
-        streams = λ m g. streams_by m (comes H i h m g.in_use_law) g.undivided ∙ ap (λ (D : Drawing). words_of_cell D (cell_in K m)) (sym (drawing_split t i));
+        line_counts = λ m g. counts_by m (comes H i h m g.in_use) g.undivided;
+        streams = λ m g. streams_by m (comes H i h m g.in_use) g.undivided ∙ ap (λ (D : Drawing). words_of_cell D (cell_in K m)) (sym (drawing_split t i));
       }

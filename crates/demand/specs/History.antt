@@ -45,7 +45,7 @@ after_splits H (i ∷ is) = after_splits (split_at H i) is
 
 -- "A leaf is a cell in use that no split of the list, growing's included, has divided."
 pub record Leaf (H : List Node) (i : ℕ) : Type 0 where
-  pub in_use_law : i < length H
+  pub in_use : i < length H
   pub undivided : first_in H i ≡ 0
 
 -- a leaf that holds a position
@@ -56,7 +56,7 @@ pub record LeafAt (H : List Node) (p : Position) (i : ℕ) : Type 0 where
 -- the leaves tile the grid: each position lies in one, and in one only
 pub record Tiled (H : List Node) : Type 0 where
   pub some_leaf : (p : Position) → OnGrid p → (i : ℕ) × LeafAt H p i
-  pub one_leaf_law : (p : Position) (i j : ℕ) → LeafAt H p i → LeafAt H p j → i ≡ j
+  pub one_leaf : (p : Position) (i j : ℕ) → LeafAt H p i → LeafAt H p j → i ≡ j
 
 -- ---- the way up
 
@@ -67,7 +67,7 @@ up_in H (suc k) i = up_in H k (parent_in H i)
 
 -- the cell that is reached so from cell i: it is in use, it is k levels above cell i, and its square is around that of cell i
 pub record Around (H : List Node) (i k : ℕ) : Type 0 where
-  pub in_use_law : up_in H k i < length H
+  pub in_use : up_in H k i < length H
   pub level_is : level (cell_in H (up_in H k i)) ≡ level (cell_in H i) + k
   pub holds : (p : Position) → Holds (cell_in H i) p → Holds (cell_in H (up_in H k i)) p
 

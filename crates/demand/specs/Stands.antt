@@ -51,12 +51,12 @@ pub record Stands (D : Drawing) (t : Tree) (H : List Node) : Type 0 where
   -- the tables hold the drawing
   pub drawing : drawing_of t ≡ D
   -- the cells in use, their squares and their children are the history's
-  pub in_use_law : cells_used t.head ≡ length H
+  pub in_use : cells_used t.head ≡ length H
   pub squares : (i : ℕ) → i < length H → on_square (cell_at t.cells i) (cell_in H i) ≡ true
   pub children : (i : ℕ) → i < length H → (cell_at t.cells i).child ≡ first_in H i
   -- document 02: "Each cell carries its parent's number (its own for cell 0) and its line count, curves included."
   pub parents : (i : ℕ) → i < length H → (cell_at t.cells i).parent ≡ parent_in H i
-  pub line_counts_law : (i : ℕ) → Leaf H i → (cell_at t.cells i).lines ≡ lines_in (Split.stream t i)
+  pub line_counts : (i : ℕ) → Leaf H i → (cell_at t.cells i).lines ≡ lines_in (Split.stream t i)
   -- from a cell of depth k the parent taken k times is cell 0, and each on the way is the square around
   pub walk : (i k : ℕ) → i < length H → k ≤ 16 - level (cell_in H i) → up_at t k i ≡ up_in H k i
   pub upward : Upward H

@@ -196,7 +196,7 @@ module _ (n l : ℕ) (t : Tree) where
 -- ---- full: the lowest wanted leaf, and 11
 pub record NoRoomAt (n l : ℕ) (t : Tree) : Type 0 where
   pub cell : ℕ
-  pub in_use_law : cell < cells_used t.head
+  pub in_use : cell < cells_used t.head
   pub wanted : tried t n l cell ≡ Wanted
   pub lowest : (j : ℕ) → j < cell → tried t n l j ≡ Past
   pub refused : split_answer t cell ≡ Not Room
@@ -271,7 +271,7 @@ module _ (n l : ℕ) (t : Tree) where
       let g = found_at (cells_used t.head) 0 i a in
       record {
         cell = i;
-        in_use_law = omega (arith, g.to);
+        in_use = omega (arith, g.to);
         wanted = g.wanted;
         lowest = λ j h. g.lower j (omega arith) h;
         refused = full_answer i (split_answer t i) e;

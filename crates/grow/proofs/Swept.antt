@@ -94,8 +94,8 @@ module _ (n l : ℕ) (t₀ t : Tree) (s : Sweep) (S : Sweeping n l t₀ t s) whe
 
   -- ---- a turn that goes on
   module _ (h : s.cell < s.used) where
-    in_use_law : i < cells_used t.head
-    in_use_law = omega (arith, S.used)
+    in_use : i < cells_used t.head
+    in_use = omega (arith, S.used)
 
     past_more : (u : Tree) → ((k : ℕ) → k < i → tried u n l k ≡ Past) → tried u n l i ≡ Past → (k : ℕ) → k < i + 1 → tried u n l k ≡ Past
     past_more u p e k g = go (ℕ_discrete k i)
@@ -123,7 +123,7 @@ module _ (n l : ℕ) (t₀ t : Tree) (s : Sweep) (S : Sweeping n l t₀ t s) whe
 
     module _ (e : tried t n l s.cell ≡ Wanted) where
       rounded : round n l t ≡ round_at i (split_answer t i)
-      rounded = round_wanted n l t i S.past S.counts in_use_law e
+      rounded = round_wanted n l t i S.past S.counts in_use e
 
       module _ (k : ℕ) (a : split_answer t s.cell ≡ split.Split k) where
         grown_split : grown n l t ≡ also_split i (grown n l (split_tree t i))
@@ -137,7 +137,7 @@ module _ (n l : ℕ) (t₀ t : Tree) (s : Sweep) (S : Sweeping n l t₀ t s) whe
               free = refl;
               low = omega arith;
               fewer = omega (arith, S.fewer);
-              past = past_more (split_tree t i) (λ j g. past_keeps n l t i k a j (omega (arith, in_use_law)) (λ q. omega arith) (S.past j g))
+              past = past_more (split_tree t i) (λ j g. past_keeps n l t i k a j (omega (arith, in_use)) (λ q. omega arith) (S.past j g))
                   (past_split n l t i k a);
               after = S.after ∙ ap (λ (g : Grown). g.after) grown_split;
               ending = S.ending ∙ ap (λ (g : Grown). g.ending) grown_split;
@@ -177,7 +177,7 @@ module _ (n l : ℕ) (t₀ t : Tree) (s : Sweep) (S : Sweeping n l t₀ t s) whe
     sweep_broken r e a k = by_round broken not_passed (refused_round r a e ∙ ap (λ (b : Bool). cond b full broken) k) refl
 
     sweep_bad : tried t n l s.cell ≡ Bad → (Not Broken ≡ answer_of (grown n l t₀)) × (t ≡ (grown n l t₀).after)
-    sweep_bad e = by_round broken not_passed (round_bad n l t i S.past S.counts (in_use_law h) e) refl
+    sweep_bad e = by_round broken not_passed (round_bad n l t i S.past S.counts (in_use h) e) refl
 
     -- ---- a turn, by what the code gives
     abbrev is_further : Turn → Bool

@@ -156,7 +156,7 @@ module _ (n l : ℕ) (few : l ≤ 16) (t : Tree) (i : ℕ) (pair : length t.xs �
           (record {
             pair = pair;
             counts = counts;
-            in_use_law = h;
+            in_use = h;
             cell = all.0;
             leaf = eqb-true (words t i).child 0 all.1;
             passes = q;

@@ -134,7 +134,7 @@ module _ (t : Tree) (n : ℕ) (e : open_answer t ≡ Opened n) where
       subst (λ (l : Line). Among l (listed u)) f.2 (each_leaf t n e (words u i).x (words u i).y f.0 f.1)
 
   lists : EachLeaf u (listed u)
-  lists = record { each = lists_each; only = only_leaves u; once = one_line u; in_order_law = in_key_order u }
+  lists = record { each = lists_each; only = only_leaves u; once = one_line u; in_order = in_key_order u }
 
   lines_are : (rows : List ℕ) → 1280 ≤ length rows → printed t rows ≡ listed u
   lines_are rows h =

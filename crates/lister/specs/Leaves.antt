@@ -14,7 +14,7 @@ pub record EachLeaf (u : Tree) (ls : List Line) : Type 0 where
   pub each : (i : ℕ) → IsLeaf u i → Among (leaf_line u i) ls
   pub only : (l : Line) → Among l ls → (i : ℕ) × IsLeaf u i × (l ≡ leaf_line u i)
   pub once : (before between after : List Line) (l m : Line) → ls ≡ before ++ l ∷ (between ++ m ∷ after) → l.cell ≡ m.cell → ⊥
-  pub in_order_law : keys_from 0 ls
+  pub in_order : keys_from 0 ls
 
 pub record Prints (t : Tree) (rows : List ℕ) : Type 0 where
   pub accepted : (r : Refusal) → outcome t ≡ Not r → ⊥

@@ -206,7 +206,7 @@ found_cell t x y f e = go (behind t x y f e)
         let m = as_found t x y f l b in
         subst (FoundCell t) b.reported
         (record {
-          leaf = record { in_use_law = m.in_use_law; undivided = m.whole };
+          leaf = record { in_use = m.in_use; undivided = m.whole };
           line = ap (λ (k : Leaf). line_of (report_of t.entries k)) m.words;
           side_is = sym m.side_is ∙ side_is_words t x y f l b;
         })

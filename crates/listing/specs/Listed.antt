@@ -65,7 +65,7 @@ Among l ls = (before : List Line) × (after : List Line) × (ls ≡ before ++ l 
 
 -- "A leaf is a cell in use that no split of the list, growing's included, has divided.": in the tables, a cell in use with no child
 pub record IsLeaf (t : Tree) (i : ℕ) : Type 0 where
-  pub in_use_law : i < cells_used t.head
+  pub in_use : i < cells_used t.head
   pub undivided : (words t i).child ≡ 0
 
 -- "cell, key, side, entries, lines" of cell i, by its words and its stream; "A cell's key is that of its low corner."

@@ -70,7 +70,7 @@ module _ (t : Tree) (i : ℕ) where
   able_answer s =
       chosen (eqb (length t.xs) (length t.ys)) (cond (ltb i used) (counts_split t i) (Not NoCell)) (Not Argument)
       (eq-eqb (length t.xs) (length t.ys) s.pair)
-      ∙ (chosen (ltb i used) (counts_split t i) (Not NoCell) (lt-ltb i used s.in_use_law)
+      ∙ (chosen (ltb i used) (counts_split t i) (Not NoCell) (lt-ltb i used s.in_use)
       ∙ (chosen (counts_in t) (cell_split t i) (Not Broken) s.counts
       ∙ (chosen (cell_range t.cells i used free) (cond (eqb (words t i).child 0) leafed (Not AlreadySplit)) (Not Broken) s.cell
       ∙ (chosen (eqb (words t i).child 0) leafed (Not AlreadySplit) (eq-eqb (words t i).child 0 s.leaf)
@@ -129,7 +129,7 @@ module _ (t : Tree) (i : ℕ) where
         record {
           pair = eqb-true (length t.xs) (length t.ys) e1.0;
           counts = e3.0;
-          in_use_law = ltb-true i used e2.0;
+          in_use = ltb-true i used e2.0;
           cell = e4.0;
           leaf = eqb-true (words t i).child 0 e5.0;
           passes = e6.0;

@@ -64,7 +64,7 @@ module _ (t : Tree) (i : ℕ) (A : Accepted t i) (ts : List Tally) (T : ts ≡ w
   made_least = (omega (arith, A.few_cells, eu), omega (arith, A.few_entries, ef))
 
   pub made_within : (i * 8 + 8 ≤ length t.cells) × (2 ≤ length t.head)
-  made_within = (omega (arith, A.cells, A.able.in_use_law), counts_long t A.able.counts)
+  made_within = (omega (arith, A.cells, A.able.in_use), counts_long t A.able.counts)
 
   -- ---- the tables afterwards
   pub made_head : (x : List ℕ) → x ≡ set (set t.head 0 (used + 4)) 1 (free + sum_of ts) → x ≡ head_after t i (Split 0)

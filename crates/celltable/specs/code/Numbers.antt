@@ -66,7 +66,7 @@ start_n = record { cell = 0; parent = 0; x = 0; y = 0; side = 65536; steps = 0 }
 
 -- what holds of the cursor on its way: the cell is in use, the square lies in the grid, and at most 16 steps were made
 pub record CursorIn (c : Cursor) (used : ℕ) : Type 0 where
-  pub in_use_law : c.cell < used
+  pub in_use : c.cell < used
   pub east : c.x + c.side ≤ 65536
   pub north : c.y + c.side ≤ 65536
   pub steps_few : c.steps ≤ 16

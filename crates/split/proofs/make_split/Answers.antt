@@ -20,7 +20,7 @@ bounds-head-1 c =
     (counts_fit T h).head_long
 
 pub read_cell-w-requires : goal.read_cell-w-requires
-read_cell-w-requires c = omega (arith, c.requires.accepted.cells, c.requires.accepted.able.in_use_law)
+read_cell-w-requires c = omega (arith, c.requires.accepted.cells, c.requires.accepted.able.in_use)
 
 pub bounds_in-b-requires : goal.bounds_in-b-requires
 bounds_in-b-requires c =

@@ -8,7 +8,7 @@ use Rattle.split.specs.Split.{words, against, made}
 pub record Splittable (t : Tree) (i : ℕ) : Type 0 where
   pub pair : length t.xs ≡ length t.ys
   pub counts : counts_in t ≡ true
-  pub in_use_law : i < cells_used t.head
+  pub in_use : i < cells_used t.head
   pub cell : cell_range t.cells i (cells_used t.head) (entries_used t.head) ≡ true
   pub leaf : (words t i).child ≡ 0
   pub passes : leaf_passes t.entries (words t i).first (words t i).count (words t i).lines (entries_used t.head) (against t i) ≡ true
