@@ -1,5 +1,5 @@
 -- Document 01, "Cells": the stream of a cell, and what is read from it.
-use Rattle.std.specs.Prelude.{◌≡◌, refl, Bool, true, cond, List, [], ◌∷◌, map, ℕ, ◌+◌, get_or, ℤ, pos, ◌+ℤ◌}
+use Rattle.std.specs.Prelude.{◌≡◌, refl, Bool, true, cond, List, [], ◌∷◌, map, ℕ, get_or, ℤ, pos, ◌+ℤ◌}
 use Rattle.geometry.specs.Windings.{lines_of}
 use Rattle.pruning.specs.Sides.{Kind, paint, clip, Side, end, leaf, group, Entry, item, push, activate, pop, flat, map_side}
 use Rattle.pruning.specs.Items.{Class, fails, passes, other, Items}

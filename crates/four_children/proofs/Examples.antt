@@ -11,7 +11,7 @@ use Rattle.geometry.specs.Edges.{counts, sign}
 use Rattle.geometry.specs.Classes.{edge_class, class_of, verdict, nowhere, everywhere, cut}
 use Rattle.records.specs.Record.{area_range}
 use Rattle.drawing.specs.Tables.{area_row}
-use Rattle.cells.specs.Cells.{Cell, cell}
+use Rattle.cells.specs.Cells.{cell}
 use Rattle.cells.specs.Drawings.{Drawing}
 use Rattle.stream.specs.declared.Bounds.{Bounds}
 use Rattle.stream.specs.declared.Words.{Words}

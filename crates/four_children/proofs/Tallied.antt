@@ -1,7 +1,7 @@
 -- The tally of a child in document 01's words, and those of the children after each pass.
 use mathlib.Core.Path.{◌≡◌, refl, ap, ◌∙◌}
 use mathlib.Core.List.{List, [], ◌∷◌, ◌++◌, map}
-use Prim.Native.Nat.{ℕ, zero, suc, ◌+◌, ◌≤◌, ◌<◌}
+use Prim.Native.Nat.{ℕ, zero, suc, ◌≤◌}
 use native.Mathlib.Omega.{arith}
 use lib.ListN.{length, get_or, length-map}
 use lib.IntN.{ℤ, pos}
@@ -14,11 +14,10 @@ use Rattle.cells.specs.Segments.{Segment, drawn, shortcut}
 use Rattle.cells.specs.Drawings.{Drawing}
 use Rattle.cells.specs.Streams.{Item, always, area}
 use Rattle.cells.specs.Elements.{Element, opens, bar, closes, bare, named, segment, item_elements, elements_of}
-use Rattle.stream.specs.declared.Bounds.{Bounds}
 use Rattle.stream.specs.declared.Words.{Words}
 use Rattle.stream.specs.Entry.{lines_in}
 use Rattle.stream.specs.Table.{words_from}
-use Rattle.stream.specs.Grammar.{env, Passed}
+use Rattle.stream.specs.Grammar.{env}
 use Rattle.evaluate.specs.Words.{words_of}
 use Rattle.ranges.specs.Held.{lent}
 use Rattle.ranges.specs.code.Valid.{weigh, elements}
@@ -30,7 +29,7 @@ use Rattle.child_stream.proofs.Clear.{filled_at}
 use Rattle.child_stream.proofs.Few.{few_starts}
 use Rattle.four_children.specs.Children.{cell_of_child, elements_of_child, words_of_child}
 use Rattle.four_children.specs.Worked.{lines_among, item_lines, Started, areas_named, no_area, Tallied, stream_of_child, EachPass}
-use Rattle.four_children.specs.code.Numbers.{line_one, tally, worked_to}
+use Rattle.four_children.specs.code.Numbers.{line_one, tally}
 use Rattle.four_children.proofs.Worked.{worked_done, worked_rest}
 
 segment_lines : (gs : List Segment) → total line_one (map segment gs) ≡ lines_among gs

@@ -9,8 +9,6 @@ use lib.Dec.{T, leb, ltb, leb→le}
 use lib.ListN.{length, get_or, drop, drop_of_length-le}
 use lib.Seq.{drop-cons}
 use lib.IntN.{ℤ, nat_abs, ◌+ℤ◌, +ℤ_idl, +ℤ_assoc}
-use mir.Syntax.{w64}
-use mir.Val.{to_z}
 use borrow.Author.Tests.{lt-ltb, le-ltb}
 use Rattle.laws.proofs.Booleans.{&&_left, &&_right}
 use Rattle.laws.proofs.Differences.{abs_add}

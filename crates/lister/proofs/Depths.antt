@@ -201,5 +201,5 @@ pub each_leaf : (t : Tree) (n : ℕ) → open_answer t ≡ Opened n → (x y : �
 each_leaf t n e x y f p =
     let u = grown_tree (open_tree t) in
     let c = found_cell u x y f p in
-    let s = shallow_grown (open_tree t) 0 (shallow_opened t n e) f.cell c.leaf.in_use_law in
+    let s = shallow_grown (open_tree t) 0 (shallow_opened t n e) f.cell c.leaf.in_use in
     every_leaf u x y f p (steps_few f.steps (rw c.side_is s))

@@ -49,10 +49,10 @@ module _ (t : Tree) (H : List Node) (s : Sound t H) (i : ℕ) (o : IsLeaf t i) w
   y = (words t i).y
 
   in_history : i < length H
-  in_history = omega (arith, o.in_use_law, s.in_use_law)
+  in_history = omega (arith, o.in_use, s.in_use)
 
   history_leaf : Leaf H i
-  history_leaf = record { in_use_law = in_history; undivided = sym (s.firsts i in_history) ∙ o.undivided }
+  history_leaf = record { in_use = in_history; undivided = sym (s.firsts i in_history) ∙ o.undivided }
 
   wide : 0 < side (cell_in H i)
   wide = some_side (cell_in H i)

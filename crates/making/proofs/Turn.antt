@@ -31,7 +31,7 @@ use Rattle.stream.specs.declared.Words.{Words}
 use Rattle.stream.specs.Entry as Entries
 use Rattle.stream.specs.Entry.{decode, is_segment, start_range}
 use Rattle.records.specs.Record.{is_good}
-use Rattle.stream.specs.Grammar.{Env, at, after, in_range, area_met}
+use Rattle.stream.specs.Grammar.{Env, after, in_range, area_met}
 use Rattle.pruner.specs.declared.Pruner.{Pruner}
 use Rattle.pruner.specs.code.Numbers.{counted, base_of, skip_in}
 use Rattle.pruner.proofs.Near.{counted_weight, counted_base, counted_skip, counted_depth}

@@ -32,7 +32,7 @@ use Rattle.making.proofs.Made.{level_from_law}
 use Rattle.making.proofs.Lent.{lent_reads}
 use Rattle.making.proofs.Shorter.{made_shorter}
 use Rattle.writing.proofs.Places.{place_is}
-use Rattle.probe.specs.Answers.{position_range, square, leaf_on, square_fits, child_elements}
+use Rattle.probe.specs.Answers.{position_range, square, square_fits, child_elements}
 
 pub position_in : (x y : ℕ) → position_range x y ≡ true → PositionIn x y
 position_in x y h =

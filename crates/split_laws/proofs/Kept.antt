@@ -70,9 +70,9 @@ module _ (t : Tree) (i n : ℕ) (e : split_answer t i ≡ Split n) where
   pub split_cell : cell_at (cells_after t i (Split n)) i ≡ with_child (words t i) (cells_used t.head)
   split_cell =
       put_child_same rows i used
-      (omega (arith, length_cells_to (drawing t i) (cell_of (words t i)) (stream t i) t.cells i used free 4, A.cells, A.able.in_use_law))
+      (omega (arith, length_cells_to (drawing t i) (cell_of (words t i)) (stream t i) t.cells i used free 4, A.cells, A.able.in_use))
       ∙ ap (λ (w : CellWords). with_child w used)
-      (cells_to_keeps (drawing t i) (cell_of (words t i)) (stream t i) t.cells i used free 4 i A.able.in_use_law)
+      (cells_to_keeps (drawing t i) (cell_of (words t i)) (stream t i) t.cells i used free 4 i A.able.in_use)
 
   -- child q
   pub split_child : (q : ℕ)
@@ -82,7 +82,7 @@ module _ (t : Tree) (i n : ℕ) (e : split_answer t i ≡ Split n) where
       (entries_used t.head + length (streams_to (drawing t i) (cell_of (words t i)) (stream t i) q))
       (entries_of_child (drawing t i) (cell_of (words t i)) (stream t i) q) (lines_of_child (drawing t i) (cell_of (words t i)) (stream t i) q) i
   split_child q h =
-      put_child_other rows i (used + q) used (λ d. omega (arith, A.able.in_use_law))
+      put_child_other rows i (used + q) used (λ d. omega (arith, A.able.in_use))
       ∙ cells_to_child (drawing t i) (cell_of (words t i)) (stream t i) t.cells i used free 4 q h A.cells
 
   -- ---- the streams

@@ -11,5 +11,7 @@ half_of-v-requires c = omega (arith, passes_north c.args.w c.requires.w_value)
 
 pub returns : goal.returns
 returns c =
-    record { answer = rw (c.half_of-v.ensures.answer, c.half_of-h.ensures.answer)
-    (quarter_is c.args.w c.args.q c.requires.w_value c.requires.lt_side) }
+    record {
+      answer = rw (c.half_of-v.ensures.answer, c.half_of-h.ensures.answer)
+          (quarter_is c.args.w c.args.q c.requires.w_value c.requires.lt_side);
+    }

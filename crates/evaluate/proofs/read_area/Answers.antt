@@ -22,13 +22,17 @@ pub winding_from-s-requires : goal.winding_from-s-requires
 winding_from-s-requires c =
     let a = c.args in
     let h = ranged_name a.entries.now a.i a.end (env a.areas.now a.xs.now a.ys.now a.b) a.w c.requires.ranged
-    c.requires.w_value.0 c.requires.w_value.1 in record { segments_in = ranged_segments a.entries.now a.i a.end (env a.areas.now a.xs.now a.ys.now a.b) c.requires.ranged; position_in = c.requires.position_in; start_bound = rw (
-          small_back c.start_of-z.result
-              (rw c.start_of-z.ensures.answer
-              (omega (arith, start_small a.w.q h.1 (omega (arith, c.well_formed.1.1.1.1.1.1.1.1.0))))),
-          c.start_of-z.ensures.answer,
-        )
-            (start_small a.w.q h.1 (omega (arith, c.well_formed.1.1.1.1.1.1.1.1.0))) }
+    c.requires.w_value.0 c.requires.w_value.1 in record {
+      segments_in = ranged_segments a.entries.now a.i a.end (env a.areas.now a.xs.now a.ys.now a.b) c.requires.ranged;
+      position_in = c.requires.position_in;
+      start_bound = rw (
+        small_back c.start_of-z.result
+            (rw c.start_of-z.ensures.answer
+            (omega (arith, start_small a.w.q h.1 (omega (arith, c.well_formed.1.1.1.1.1.1.1.1.0))))),
+        c.start_of-z.ensures.answer,
+      )
+          (start_small a.w.q h.1 (omega (arith, c.well_formed.1.1.1.1.1.1.1.1.0)));
+    }
 
 pub after_area-n-requires : goal.after_area-n-requires
 after_area-n-requires c =
@@ -45,17 +49,21 @@ returns-then-m-eq-P c =
     let z = small_back c.start_of-z.result
     (rw c.start_of-z.ensures.answer
     (omega (arith, start_small a.w.q h.1 (omega (arith, c.well_formed.1.1.1.1.1.1.1.1.0)))))
-    ∙ c.start_of-z.ensures.answer in record { onward = area_onward a.areas.now a.xs.now a.ys.now a.x a.y a.entries.now a.i a.end
-    (env a.areas.now a.xs.now a.ys.now a.b) c.requires.ranged a.m a.w c.requires.w_value.0
-    (record { machine = c.after_area-n.result; next = c.winding_from-s.result.next }) (to_z w64 (of_z w64 c.winding_from-s.result.sum)) c.requires.w_value.1
-    c.after_area-n.ensures.answer.0 c.after_area-n.ensures.answer.1
-    (read_back _ c.winding_from-s.type_inv.1.1.0.1
-    ∙ (c.winding_from-s.ensures.sum
-    ∙ ap (λ u. u +ℤ segments_sum a.xs.now a.ys.now a.x a.y (words_from a.entries.now (a.i + 1) (a.end - (a.i + 1))))
-    z))
-    c.winding_from-s.ensures.next }
+    ∙ c.start_of-z.ensures.answer in record {
+      onward = area_onward a.areas.now a.xs.now a.ys.now a.x a.y a.entries.now a.i a.end
+          (env a.areas.now a.xs.now a.ys.now a.b) c.requires.ranged a.m a.w c.requires.w_value.0
+          (record { machine = c.after_area-n.result; next = c.winding_from-s.result.next }) (to_z w64 (of_z w64 c.winding_from-s.result.sum)) c.requires.w_value.1
+          c.after_area-n.ensures.answer.0 c.after_area-n.ensures.answer.1
+          (read_back _ c.winding_from-s.type_inv.1.1.0.1
+          ∙ (c.winding_from-s.ensures.sum
+          ∙ ap (λ u. u +ℤ segments_sum a.xs.now a.ys.now a.x a.y (words_from a.entries.now (a.i + 1) (a.end - (a.i + 1))))
+          z))
+          c.winding_from-s.ensures.next;
+    }
 
 pub returns : goal.returns
 returns c =
-    let a = c.args in record { onward = idle_onward a.areas.now a.xs.now a.ys.now a.x a.y a.entries.now a.i a.end
-    (env a.areas.now a.xs.now a.ys.now a.b) c.requires.ranged a.m a.w c.requires.w_value.0 _ c.requires.w_value.1 c.if-m-eq-P.false refl refl }
+    let a = c.args in record {
+      onward = idle_onward a.areas.now a.xs.now a.ys.now a.x a.y a.entries.now a.i a.end
+          (env a.areas.now a.xs.now a.ys.now a.b) c.requires.ranged a.m a.w c.requires.w_value.0 _ c.requires.w_value.1 c.if-m-eq-P.false refl refl;
+    }

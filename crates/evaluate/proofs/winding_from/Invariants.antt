@@ -1,8 +1,6 @@
 use mathlib.Core.Path.{◌≡◌}
 use Prim.Native.Nat.{◌+◌, ◌-◌, ◌≤◌}
 use lib.IntN.{◌+ℤ◌}
-use mir.Syntax.{w64}
-use mir.Val.{to_z}
 use Rattle.laws.proofs.Signed.{Running}
 use Rattle.stream.specs.Table.{words_from}
 use Rattle.evaluate.specs.code.Numbers.{segments_sum}

@@ -46,5 +46,7 @@ shape_of-cells c = c.loop-n.invariant.size
 
 pub returns : goal.returns
 returns c =
-    let a = c.args in record { cells = placed_end (cell_of a.w) a.ts a.cells.now a.i a.used a.free c.requires.few_each c.loop-n.n c.loop-n.at
-    c.loop-n.cells c.loop-n.invariant c.loop-n-test.false }
+    let a = c.args in record {
+      cells = placed_end (cell_of a.w) a.ts a.cells.now a.i a.used a.free c.requires.few_each c.loop-n.n c.loop-n.at
+          c.loop-n.cells c.loop-n.invariant c.loop-n-test.false;
+    }

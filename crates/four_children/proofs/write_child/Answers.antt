@@ -20,5 +20,7 @@ returns c =
     let a = c.args in
     let D = lent a.areas.now a.xs.now a.ys.now a.b in
     let ws = words_from a.entries.now a.first a.count in
-    let s = c.quarter_of-s.result in record { entries = c.write_child.ensures.entries
-    ∙ ap (λ (k : Cell). written a.entries.now a.free (words_made D k ws)) (kid_in a.w c.requires.w_value a.q s c.quarter_of-s.ensures.answer) }
+    let s = c.quarter_of-s.result in record {
+      entries = c.write_child.ensures.entries
+          ∙ ap (λ (k : Cell). written a.entries.now a.free (words_made D k ws)) (kid_in a.w c.requires.w_value a.q s c.quarter_of-s.ensures.answer);
+    }

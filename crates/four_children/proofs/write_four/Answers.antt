@@ -18,17 +18,24 @@ write_child-requires c =
     let a = c.args in
     let v = env a.areas.now a.xs.now a.ys.now a.b in
     let D = lent a.areas.now a.xs.now a.ys.now a.b in
-    let ws = words_from a.entries.now a.first a.count in record { passed = still_passed v D (cell_of a.w) a.entries.now a.first a.count a.free c.requires.passed c.requires.count_bound c.requires.count_in_bounds
-          c.loop-q.q c.loop-q.at c.loop-q.entries c.loop-q.invariant; w_value = c.requires.w_value; lt_side = c.requires.lt_side; count_bound = still_behind v D (cell_of a.w) a.entries.now a.first a.count a.free c.requires.passed c.requires.count_bound
-                c.requires.count_in_bounds c.loop-q.q c.loop-q.at c.loop-q.entries c.loop-q.invariant; made_in_bounds = rw (entries_at D (cell_of a.w) ws a.ts c.loop-q.q
-                  (omega (arith, c.loop-q-test.true)) c.requires.ts_value)
-                  (child_room_law v D (cell_of a.w) a.entries.now a.first a.count a.free c.requires.passed c.requires.count_bound
-                  c.requires.count_in_bounds c.loop-q.q c.loop-q.at c.loop-q.entries c.loop-q.invariant
-                  (omega (arith, c.loop-q-test.true))); made_value = made_is v D (cell_of a.w) a.entries.now a.first a.count a.free c.requires.passed c.requires.count_bound
-                  c.requires.count_in_bounds c.loop-q.q c.loop-q.at c.loop-q.entries c.loop-q.invariant
-                  (omega (arith, c.loop-q-test.true)) _
-                  (entries_at D (cell_of a.w) ws a.ts c.loop-q.q
-                  (omega (arith, c.loop-q-test.true)) c.requires.ts_value) }
+    let ws = words_from a.entries.now a.first a.count in record {
+      passed = still_passed v D (cell_of a.w) a.entries.now a.first a.count a.free c.requires.passed c.requires.count_bound c.requires.count_in_bounds
+          c.loop-q.q c.loop-q.at c.loop-q.entries c.loop-q.invariant;
+      w_value = c.requires.w_value;
+      lt_side = c.requires.lt_side;
+      count_bound = still_behind v D (cell_of a.w) a.entries.now a.first a.count a.free c.requires.passed c.requires.count_bound
+          c.requires.count_in_bounds c.loop-q.q c.loop-q.at c.loop-q.entries c.loop-q.invariant;
+      made_in_bounds = rw (entries_at D (cell_of a.w) ws a.ts c.loop-q.q
+          (omega (arith, c.loop-q-test.true)) c.requires.ts_value)
+          (child_room_law v D (cell_of a.w) a.entries.now a.first a.count a.free c.requires.passed c.requires.count_bound
+          c.requires.count_in_bounds c.loop-q.q c.loop-q.at c.loop-q.entries c.loop-q.invariant
+          (omega (arith, c.loop-q-test.true)));
+      made_value = made_is v D (cell_of a.w) a.entries.now a.first a.count a.free c.requires.passed c.requires.count_bound
+          c.requires.count_in_bounds c.loop-q.q c.loop-q.at c.loop-q.entries c.loop-q.invariant
+          (omega (arith, c.loop-q-test.true)) _
+          (entries_at D (cell_of a.w) ws a.ts c.loop-q.q
+          (omega (arith, c.loop-q-test.true)) c.requires.ts_value);
+    }
 
 pub overflow_add-at : goal.overflow_add-at
 overflow_add-at c =
@@ -66,5 +73,7 @@ pub returns : goal.returns
 returns c =
     let a = c.args in
     let v = env a.areas.now a.xs.now a.ys.now a.b in
-    let D = lent a.areas.now a.xs.now a.ys.now a.b in record { entries = filled_end v D (cell_of a.w) a.entries.now a.first a.count a.free c.requires.passed c.requires.count_bound c.requires.count_in_bounds
-    c.loop-q.q c.loop-q.at c.loop-q.entries c.loop-q.invariant c.loop-q-test.false }
+    let D = lent a.areas.now a.xs.now a.ys.now a.b in record {
+      entries = filled_end v D (cell_of a.w) a.entries.now a.first a.count a.free c.requires.passed c.requires.count_bound c.requires.count_in_bounds
+          c.loop-q.q c.loop-q.at c.loop-q.entries c.loop-q.invariant c.loop-q-test.false;
+    }

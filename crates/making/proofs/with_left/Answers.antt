@@ -1,4 +1,3 @@
-use Rattle.making.proofs.with_left.Reads as reads
 use Rattle.laws.proofs.Signed.{reads, fits_as}
 use Rattle.evaluate.proofs.Laws.{sum_is, sum_fits}
 use Rattle.making.proofs.with_left.Goals as goal

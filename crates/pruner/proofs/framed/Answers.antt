@@ -1,4 +1,3 @@
-use borrow.Author.Rules.{rules}
 use Rattle.std.proofs.Common.{◌≡◌, length, arith}
 use Rattle.pruner.specs.code.Numbers.{counted}
 use Rattle.pruner.proofs.Laws.{set_top}

@@ -19,15 +19,24 @@ returns-then-larger-x c = let a = c.args in record { answer = right_of_box a.x0 
 
 pub returns-then-x-smaller : goal.returns-then-x-smaller
 returns-then-x-smaller c =
-    let a = c.args in record { answer = left_of_box a.x0 a.y0 a.x1 a.y1 a.x2 a.y2 (fits c.before.before.before.before.before.before) c.requires.y0_le_y2 a.x a.y (omega arith) (omega arith)
-    (omega arith) }
+    let a = c.args in record {
+      answer = left_of_box a.x0 a.y0 a.x1 a.y1 a.x2 a.y2 (fits c.before.before.before.before.before.before) c.requires.y0_le_y2 a.x a.y (omega arith) (omega arith)
+          (omega arith);
+    }
 
 pub curve_side-requires : goal.curve_side-requires
 curve_side-requires c =
-    let a = c.args in record { box_in = in_box a.x0 a.y0 a.x1 a.y1 a.x2 a.y2 (fits c.before.before.before.before.before.before) c.requires.y0_le_y2 a.x a.y (omega arith) (omega arith) (omega arith)
-          (omega arith); ends_in = c.requires.ends_in; position_in = control_in a.x0 a.y0 a.x1 a.y1 a.x2 a.y2 (fits c.before.before.before.before.before.before) c.requires.y0_le_y2 c.requires.ends_in; position_in_2 = c.requires.position_in }
+    let a = c.args in record {
+      box_in = in_box a.x0 a.y0 a.x1 a.y1 a.x2 a.y2 (fits c.before.before.before.before.before.before) c.requires.y0_le_y2 a.x a.y (omega arith) (omega arith) (omega arith)
+          (omega arith);
+      ends_in = c.requires.ends_in;
+      position_in = control_in a.x0 a.y0 a.x1 a.y1 a.x2 a.y2 (fits c.before.before.before.before.before.before) c.requires.y0_le_y2 c.requires.ends_in;
+      position_in_2 = c.requires.position_in;
+    }
 
 pub returns : goal.returns
 returns c =
-    let a = c.args in record { answer = c.curve_side.ensures.answer
-    ∙ on_row a.x0 a.y0 a.x1 a.y1 a.x2 a.y2 (fits c.before.before.before.before.before.before.before) c.requires.y0_le_y2 a.x a.y (omega arith) (omega arith) }
+    let a = c.args in record {
+      answer = c.curve_side.ensures.answer
+          ∙ on_row a.x0 a.y0 a.x1 a.y1 a.x2 a.y2 (fits c.before.before.before.before.before.before.before) c.requires.y0_le_y2 a.x a.y (omega arith) (omega arith);
+    }

@@ -26,9 +26,11 @@ side_by-requires-clause-s_bound c =
 pub returns : goal.returns
 unfolding side
 returns c =
-    record { answer = rw (
-      read_back _ c.signed_product-e.type_inv ∙ c.signed_product-e.ensures.answer,
-      read_back _ c.signed_product-c.type_inv ∙ c.signed_product-c.ensures.answer,
-      read_back _ c.signed_product-f.type_inv ∙ c.signed_product-f.ensures.answer,
-      read_back _ c.signed_product-s.type_inv ∙ c.signed_product-s.ensures.answer,
-    ) at c.side_by.ensures.answer }
+    record {
+      answer = rw (
+        read_back _ c.signed_product-e.type_inv ∙ c.signed_product-e.ensures.answer,
+        read_back _ c.signed_product-c.type_inv ∙ c.signed_product-c.ensures.answer,
+        read_back _ c.signed_product-f.type_inv ∙ c.signed_product-f.ensures.answer,
+        read_back _ c.signed_product-s.type_inv ∙ c.signed_product-s.ensures.answer,
+      ) at c.side_by.ensures.answer;
+    }

@@ -26,17 +26,21 @@ returns-then-e-gt0 c = record { answer = rw (ap (lt_z (pos 0)) (sym (back_e c.be
 
 pub returns-then-e-lt0 : goal.returns-then-e-lt0
 returns-then-e-lt0 c =
-    record { answer = rw (
-      ap (lt_z (pos 0)) (sym (back_e c.before.before.before)) ∙ c.if-e-gt0.false,
-      ap (λ z. lt_z z (pos 0)) (sym (back_e c.before.before.before)) ∙ c.if-e-lt0.true,
-      back_c c.before.before.before,
-      form c.before.before,
-    ) }
+    record {
+      answer = rw (
+        ap (lt_z (pos 0)) (sym (back_e c.before.before.before)) ∙ c.if-e-gt0.false,
+        ap (λ z. lt_z z (pos 0)) (sym (back_e c.before.before.before)) ∙ c.if-e-lt0.true,
+        back_c c.before.before.before,
+        form c.before.before,
+      );
+    }
 
 pub returns : goal.returns
 returns c =
-    record { answer = rw (
-      ap (lt_z (pos 0)) (sym (back_e c.before.before.before)) ∙ c.if-e-gt0.false,
-      ap (λ z. lt_z z (pos 0)) (sym (back_e c.before.before.before)) ∙ c.if-e-lt0.false,
-      back_c c.before.before.before,
-    ) }
+    record {
+      answer = rw (
+        ap (lt_z (pos 0)) (sym (back_e c.before.before.before)) ∙ c.if-e-gt0.false,
+        ap (λ z. lt_z z (pos 0)) (sym (back_e c.before.before.before)) ∙ c.if-e-lt0.false,
+        back_c c.before.before.before,
+      );
+    }

@@ -19,5 +19,7 @@ returns-then-d-y c = record { answer = simp (le-leb _ _ c.if-y-b.false, le-ltb c
 pub returns : goal.returns
 unfolding line_counts
 returns c =
-    record { answer = simp (le-leb _ _ c.if-y-b.false, lt-ltb _ _ c.if-d-y.false)
-    (ap (lt_z (pos 0)) (read_back _ c.signed_product.type_inv ∙ c.signed_product.ensures.answer)) }
+    record {
+      answer = simp (le-leb _ _ c.if-y-b.false, lt-ltb _ _ c.if-d-y.false)
+          (ap (lt_z (pos 0)) (read_back _ c.signed_product.type_inv ∙ c.signed_product.ensures.answer));
+    }

@@ -1,7 +1,5 @@
-use borrow.Author.Rules.{rules}
 use borrow.Author.Tests.{le-leb, lt-leb}
 use mathlib.Core.Path.{◌∙◌}
-use Rattle.std.proofs.Common.{arith}
 use Rattle.curves.proofs.Boxes.{fits_turn}
 use Rattle.geometry.proofs.edge.bent_counts.Goals as goal
 

@@ -4,7 +4,7 @@ use Rattle.geometry.specs.Windings.{straight_lines, sum_of}
 use Rattle.geometry.proofs.winding.contour_winding.Given as goal
 
 abbrev pub invariant-loop-i : goal.invariant-loop-i
-invariant-loop-i l = 
+invariant-loop-i l =
     (l.first ≤ l.i)
     × (l.i ≤ l.end)
     × Running (l.i - l.first) l.sum (sum_of l.xs l.ys (straight_lines l.first l.i (l.end - l.i)) l.x l.y) (sum_of l.xs l.ys (straight_lines l.first l.first (l.end - l.first)) l.x l.y)

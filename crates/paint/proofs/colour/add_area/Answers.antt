@@ -3,15 +3,18 @@ use Rattle.paint.proofs.colour.add_area.Goals as goal
 
 pub returns : goal.returns
 returns c =
-    record { answer = rw (
+    record {
+      answer = rw (
         c.add_channel-3.ensures.answer,
         c.add_channel-2.ensures.answer,
         c.add_channel.ensures.answer,
         c.weight_of-w.ensures.answer,
-      ); range = rw (
+      );
+      range = rw (
         c.add_channel-3.ensures.answer,
         c.add_channel-2.ensures.answer,
         c.add_channel.ensures.answer,
         c.weight_of-w.ensures.answer,
       )
-          (add_in c.args.p c.requires.paint_in c.args.m c.requires.mix_in) }
+          (add_in c.args.p c.requires.paint_in c.args.m c.requires.mix_in);
+    }

@@ -20,10 +20,13 @@ paint_at-p-requires c = c.requires.row _ (mix_area c.loop-rest.invariant c.loop-
 
 pub add_area-m-requires : goal.add_area-m-requires
 add_area-m-requires c =
-    record { mix_in = c.loop-rest.invariant.range; paint_in = rw c.paint_at-p.ensures.answer
+    record {
+      mix_in = c.loop-rest.invariant.range;
+      paint_in = rw c.paint_at-p.ensures.answer
           (c.requires.bytes _
           (mix_area c.loop-rest.invariant c.loop-rest-test.true c.lowest_area-k.result
-          c.lowest_area-k.ensures.answer)) }
+          c.lowest_area-k.ensures.answer));
+    }
 
 pub overflow_cast-rest : goal.overflow_cast-rest
 overflow_cast-rest c =
