@@ -6,7 +6,6 @@ use lib.ListN.{length}
 use Rattle.laws.proofs.Booleans.{clash}
 use Rattle.cells.specs.Drawings.{Drawing}
 use Rattle.tables.specs.Tables.{Tree}
-use Rattle.open.specs.declared.Answer as Opening
 use Rattle.open.specs.declared.Answer.TheVariants as Opens
 use Rattle.open.specs.Open.{drawing_tables, open_answer, open_tree}
 use Rattle.root_stream.specs.Opened.{drawing_in}
@@ -14,7 +13,7 @@ use Rattle.pixel_row.specs.Rows.{Filled, row_filled}
 use Rattle.zone_log.specs.Logs.{log_answer}
 use Rattle.demand.specs.History.{Node, begun}
 use Rattle.demand.specs.Stands.{drawing_of}
-use Rattle.demand.specs.Calls.{opens, splits, grows, finds, reads, rows, logs, opening, rowing, logging, gives}
+use Rattle.demand.specs.Calls.{opens, splits, grows, finds, reads, rows, logs, rowing, logging, gives}
 use Rattle.demand.specs.Lists.{Listed, own, other, Allowed, tables_after, nodes_after}
 use Rattle.demand.specs.Demand.{RightListed, Unmet, Throughout, Demand3}
 use Rattle.demand.proofs.Sound.{Sound, sound_stands}

@@ -9,7 +9,7 @@ use lib.Dec.{eqb, ltb}
 use lib.ListN.{length}
 use borrow.Author.Tests.{lt-ltb, le-leb}
 use Rattle.laws.proofs.Booleans.{or_right}
-use Rattle.cells.specs.Cells.{Cell, cell, side, root}
+use Rattle.cells.specs.Cells.{Cell, cell, root}
 use Rattle.ranges.proofs.Streams.{made_checks}
 use Rattle.celltable.specs.declared.CellWords.{CellWords}
 use Rattle.celltable.specs.Ranges.{child_range, parent_range, cell_range, level_of, cell_of}

@@ -4,7 +4,7 @@ use mathlib.Core.List.{List}
 use Prim.Native.Nat.{ℕ, suc, ◌+◌, ◌≤◌, ◌<◌}
 use native.Mathlib.Omega.{arith}
 use lib.ListN.{length}
-use Rattle.cells.specs.Cells.{Cell, level, side, Quarter, child}
+use Rattle.cells.specs.Cells.{Cell, level, Quarter, child}
 use Rattle.cells.specs.Drawings.{Drawing}
 use Rattle.stream.specs.Entry.{lines_in}
 use Rattle.stream.specs.Table.{words_from}
