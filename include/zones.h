@@ -1,6 +1,6 @@
 /* zones.h, version 0.6.0: which drawn area a position lies in.
  *
- * This header is the manual of libzones.a (made by: rt staticlib zones). A surveyor draws areas, a drawing is a
+ * This header is the manual of libzones.a (made by: tools/archive zones). A surveyor draws areas, a drawing is a
  * file of records; the library reads it into tables, opens a tree of map cells over it, and answers positions,
  * rows of pixels and zone logs from the tree. From top to bottom:
  *

@@ -1,7 +1,7 @@
 /* where DRAWING X Y: which area a position lies in. Reads a file of records, opens and grows a tree over it, and asks for the position. Where the answer
  * is that of each position of a square, a second line says which. Exit status: 1 where the library refuses, 2 where the arguments or the file are no use.
  *
- *     cc -O2 -Iinclude samples/where.c target/staticlib/libzones.a -o target/where
+ *     cc -O2 -Iinclude samples/where.c crates/zones/out/libzones.a -o target/where
  *     target/where samples/pit.zones 40000 30000
  */
 #include "zones.h"

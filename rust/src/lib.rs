@@ -27,7 +27,7 @@
 //! Every call ends with a result or with a [`Refused`], whatever it is given; a refused call leaves what it was lent as it was, but
 //! for a [`grow`] and a [`pixel_row`] that are met by 12.
 //!
-//! The archive is made by `rt staticlib zones` at the top of the repository. The build script takes it from there or from the folder
+//! The archive is made by `tools/archive zones` at the top of the repository. The build script takes it from there or from the folder
 //! that ZONES_LIB_DIR names.
 
 #![no_std]

@@ -14,7 +14,7 @@ pub const CC: Compiler = ("cc", "c", "c99");
 
 /// The archive that makers link.
 pub fn archive() -> PathBuf {
-    let folder = env::var_os("ZONES_LIB_DIR").unwrap_or("../target/staticlib".into());
+    let folder = env::var_os("ZONES_LIB_DIR").unwrap_or("../crates/zones/out".into());
     let tests = Path::new(env!("CARGO_MANIFEST_DIR"));
     tests.join(folder).join("libzones.a")
 }

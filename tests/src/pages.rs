@@ -49,10 +49,11 @@ pub fn sample(file: &str) -> PathBuf {
     top().join("samples").join(file)
 }
 
-/// Every file below a folder, in the order of the names.
+/// Every file below a folder, in the order of the names, but for what rt makes of a crate, in a folder `out`.
 pub fn files_below(folder: &Path) -> Vec<PathBuf> {
     let entries = fs::read_dir(folder).expect("a folder");
     let mut paths: Vec<PathBuf> = entries.flatten().map(|entry| entry.path()).collect();
+    paths.retain(|path| !path.ends_with("out"));
     paths.sort();
     let below = |path: PathBuf| {
         if path.is_dir() {

@@ -61,11 +61,14 @@ pub fn reached(top: &Path, roots: &[(&str, &str, &str)]) -> Vec<Reached> {
     for source in sources(&top.join("crates/zones/src")) {
         let text = fs::read_to_string(&source).expect("a source of zones");
         let scope = scope_of(&text);
-        for line in text
-            .lines()
-            .filter(|l| l.trim_start().starts_with("ensures"))
-        {
-            todo.extend(words(line).filter_map(|w| scope.find(w)));
+        // a clause goes on to the line that ends with its bracket
+        let mut inside = false;
+        for line in text.lines().map(str::trim) {
+            inside = inside || line.starts_with("ensures");
+            if inside {
+                todo.extend(words(line).filter_map(|w| scope.find(w)));
+                inside = !line.ends_with('}');
+            }
         }
     }
     let mut seen: BTreeSet<Name> = BTreeSet::new();
@@ -152,7 +155,7 @@ fn layers(text: &str) -> Vec<String> {
     for line in text.lines().filter(|l| !l.starts_with('#')) {
         if let Some((name, deps)) = line.split_once(':') {
             left.push((
-                name.trim().into(),
+                name.split(' ').next().unwrap_or(name).into(),
                 deps.split_whitespace().map(String::from).collect(),
             ));
         }
@@ -196,7 +199,7 @@ impl Scope {
     }
 }
 
-/// `use Rattle·CRATE.specs.FILE.{..}` and `use Rattle·CRATE.specs.FILE as NAME`; a crate names itself `CRATE·specs`.
+/// `use Rattle.CRATE.specs.FILE.{..}` and `use Rattle.CRATE.specs.FILE as NAME`.
 fn scope_of(text: &str) -> Scope {
     let mut scope = Scope::default();
     for line in text.lines() {
@@ -204,13 +207,13 @@ fn scope_of(text: &str) -> Scope {
             .strip_prefix("ghost ")
             .unwrap_or(line)
             .trim_end_matches(';');
-        let Some(path) = line.strip_prefix("use Rattle·") else {
+        let Some(path) = line.strip_prefix("use Rattle.") else {
             continue;
         };
         let Some((owner, rest)) = path.split_once(".specs.") else {
             continue;
         };
-        let owner = owner.trim_end_matches("·specs").to_string();
+        let owner = owner.to_string();
         if let Some((file, names)) = rest.split_once(".{") {
             for name in names.trim_end_matches('}').split(',').map(str::trim) {
                 scope

@@ -18,9 +18,9 @@ use zones_tests::scenes::{self, Look};
 use zones_tests::tally::Tally;
 use zones_tools::words;
 
-/// The program, in ZONES_BIN_DIR or in ../target/bin: `rt check lister` makes it.
+/// The program, in ZONES_BIN_DIR or in ../crates/lister/out: `rt run` there makes it, and so does `rt ci`.
 fn program() -> PathBuf {
-    let chosen = env::var_os("ZONES_BIN_DIR").unwrap_or("../target/bin".into());
+    let chosen = env::var_os("ZONES_BIN_DIR").unwrap_or("../crates/lister/out".into());
     Path::new(env!("CARGO_MANIFEST_DIR"))
         .join(chosen)
         .join("lister")
@@ -32,7 +32,7 @@ fn printed(parts: &[&[u8]]) -> String {
         .stdin(Stdio::piped())
         .stdout(Stdio::piped())
         .spawn()
-        .expect("the program is there: rt check lister");
+        .expect("the program is there: rt run, in crates/lister");
     let mut input = lister.stdin.take().expect("a pipe");
     for (index, part) in parts.iter().enumerate() {
         if index > 0 {
