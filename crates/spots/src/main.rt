@@ -2,10 +2,11 @@
 
 #![tactic(auto)]
 
-ghost use Rattle.std.specs.Prelude.{◌≡◌, false, ◌<◌};
+ghost use Rattle.std.specs.Prelude.{◌≡◌, false, ◌<◌, IsTrue};
 ghost use Rattle.curves.specs.code.Reach.{PositionIn, EndsIn};
 ghost use Rattle.geometry.specs.code.Reach.{SquareIn};
 ghost use Rattle.paint.specs.Areas.{Painted};
+ghost use Rattle.spots.specs.Starred.{all_right, table};
 
 use geometry::class::{Class, Square};
 use geometry::edge::Edge;
@@ -230,7 +231,13 @@ fn colours(rt: &impl Print) -> io::Result<()> {
     write_shown(rt, &[], 0)
 }
 
+// Document 01's starred spots, as one table: every row of it is right, by the definitions.
+fn starred()
+    ensures { IsTrue (all_right table) }
+{}
+
 fn main(rt: HostRuntime) -> io::Result<()> {
+    starred();
     triangles(&rt)?;
     passes(&rt)?;
     classes(&rt)?;
