@@ -2,7 +2,7 @@
 -- to refuse it.
 use Rattle.std.specs.Prelude.{Option, option_map}
 use Rattle.std.specs.Io.KnownBytes.{Appends}
-use Rattle.std.proofs.Common.{[], ◌++◌, Some, None, IfSome, ◌≡◌, ℕ, ◌+◌, ◌-◌, ◌*◌, ◌/◌, ◌%◌, ◌≤◌, ◌<◌, Bool, true, false, cond, ◌&&◌, List, length, take, replicate, refl, sym, ap, ◌∙◌, subst, arith}
+use Rattle.std.proofs.Common.{[], ◌++◌, Some, None, IfSome, ◌≡◌, ℕ, ◌/◌, ◌%◌, ◌≤◌, ◌<◌, Bool, true, false, cond, List, length, take, refl, sym, ap, ◌∙◌, subst, arith}
 use Rattle.std.proofs.lemmas.List.{length-replicate, length-take-le, take_all}
 use lib.Dec.{eqb, leb}
 use borrow.Author.Tests.{eq-eqb, le-leb, eqb-true, leb-true, leb-false}
@@ -14,7 +14,7 @@ use Rattle.grammar.specs.declared.Verdict.TheVariants.{Accepted, Refused}
 use Rattle.refusals.specs.declared.Refusal.{Refusal}
 use Rattle.refusals.specs.declared.Refusal.TheVariants.{Length, Argument, Room}
 use Rattle.read.specs.Words.{plan_words, area_words, x_words, y_words}
-use Rattle.read.specs.Reading.{records_in, verdict_of, holds, if_room, read_answer, Filed}
+use Rattle.read.specs.Reading.{records_in, verdict_of, holds, if_room, read_answer}
 use Rattle.read.proofs.Files.{filed}
 use Rattle.lister.specs.Text.{zeros, drawing_text, verdict_text, file_text, refused_text}
 

@@ -8,6 +8,7 @@ ghost use Rattle.std.specs.Fmt.{decimal};
 ghost use Rattle.listing.specs.Numbers.{lines_in};
 ghost use Rattle.tables.specs.Tables.{tree_lent_mut};
 ghost use Rattle.lister.specs.Printed.{lines_of, outcome_of, outcome_grown, rows_grown, outcome, rows_after};
+ghost use Rattle.lister.specs.Leaves.{PrintsEachLeaf};
 ghost use Rattle.lister.specs.Text.{line_text, lines_text, refused_text, outcome_text, drawing_text, file_text};
 
 use grammar::Verdict;
@@ -138,6 +139,7 @@ fn list_drawing(
     ensures answer { result ≡ outcome (tree_lent_mut plan areas xs ys head cells entries) }
     ensures rows { rows.new ≡ rows_after (tree_lent_mut plan areas xs ys head cells entries) rows.old }
     ensures range { lines_of result ≤ 256 }
+    ensures leaves { PrintsEachLeaf }
 {
     let a = open::open(plan, areas, xs, ys, head, cells, entries);
     match a {
@@ -162,7 +164,13 @@ fn print_outcome<W: Write>(out: &mut W, a: Outcome, rows: &[u32]) -> io::Result<
 }
 
 // What is printed of a drawing, from tables of zeros.
-fn print_drawing<W: Write>(out: &mut W, plan: &[u32], areas: &[u32], xs: &[u32], ys: &[u32]) -> io::Result<()>
+fn print_drawing<W: Write>(
+    out: &mut W,
+    plan: &[u32],
+    areas: &[u32],
+    xs: &[u32],
+    ys: &[u32],
+) -> io::Result<()>
     ensures { OnOk result (Appends (W.contents out.old) (W.contents out.new) (drawing_text plan.now areas.now xs.now ys.now)) }
 {
     let mut head = [0u32; celltable::HEAD_WORDS];

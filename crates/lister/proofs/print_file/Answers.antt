@@ -1,4 +1,4 @@
-use Rattle.std.proofs.Common.{subst, sym, ◌∙◌}
+use Rattle.std.proofs.Common.{subst, ◌∙◌}
 use Rattle.std.specs.Io.KnownBytes.{Appends}
 use Rattle.lister.proofs.Texts.{on_ok, zeros_are}
 use Rattle.lister.proofs.FileTexts.{verdict_read, refused_said, accepted_said}
