@@ -18,7 +18,7 @@ use Rattle.read.specs.Reading.{records_in, verdict_of, holds, if_room, read_answ
 use Rattle.read.proofs.Files.{filed}
 use Rattle.lister.specs.Text.{zeros, drawing_text, verdict_text, file_text, refused_text}
 
-length-zeros : (n : ℕ) → length (zeros n) ≡ n
+pub length-zeros : (n : ℕ) → length (zeros n) ≡ n
 unfolding zeros
 length-zeros n = length-replicate n 0
 

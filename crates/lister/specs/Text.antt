@@ -28,10 +28,13 @@ lines_text (l ∷ ls) = line_text l ++ lines_text ls
 abbrev pub refused_text : Refusal → (place : ℕ) → List ℕ
 refused_text r p = codes "refused " ++ decimal (number_of r) ++ (codes " at " ++ (decimal p ++ 10 ∷ []))
 
+abbrev pub full_text : List ℕ
+full_text = codes "full" ++ 10 ∷ []
+
 -- "if growing ends on "full", a last line `full` follows"
 abbrev pub outcome_text : Outcome → (rows : List ℕ) → List ℕ
 outcome_text (Done n) rows = lines_text (lines_in rows 0 n)
-outcome_text (Full n) rows = lines_text (lines_in rows 0 n) ++ (codes "full" ++ 10 ∷ [])
+outcome_text (Full n) rows = lines_text (lines_in rows 0 n) ++ full_text
 outcome_text (Not r) rows = refused_text r 0
 
 unfoldable pub zeros : (n : ℕ) → List ℕ
@@ -41,15 +44,22 @@ zeros n = replicate n 0
 abbrev pub begun_tree : (plan areas xs ys : List ℕ) → Tree
 begun_tree plan areas xs ys = tree plan areas xs ys (zeros 2) (zeros 8192) (zeros 16384)
 
--- of a drawing
-abbrev pub drawing_text : (plan areas xs ys : List ℕ) → List ℕ
-drawing_text plan areas xs ys = let t = begun_tree plan areas xs ys in outcome_text (outcome t) (rows_after t (zeros 1280))
+-- of a drawing, whose lines go into a table of 256
+abbrev pub tree_text : Tree → List ℕ
+tree_text t = outcome_text (outcome t) (rows_after t (zeros 1280))
 
--- of a file: of its drawing, in tables as long as the limits ask, or of its refusal
-abbrev pub verdict_text : (file : List ℕ) → Verdict → List ℕ
-verdict_text b (Accepted k) =
+abbrev pub drawing_text : (plan areas xs ys : List ℕ) → List ℕ
+drawing_text plan areas xs ys = tree_text (begun_tree plan areas xs ys)
+
+-- the tree of an accepted file, before it is opened: the words of its drawing stand at the beginning of tables as long as the limits ask
+abbrev pub file_tree : (file : List ℕ) → Tree
+file_tree b =
     let rs = records_in b in
-    drawing_text (sets (zeros 4099) 0 (plan_words rs)) (sets (zeros 512) 0 (area_words rs)) (sets (zeros 2048) 0 (x_words rs)) (sets (zeros 2048) 0 (y_words rs))
+    begun_tree (sets (zeros 4099) 0 (plan_words rs)) (sets (zeros 512) 0 (area_words rs)) (sets (zeros 2048) 0 (x_words rs)) (sets (zeros 2048) 0 (y_words rs))
+
+-- of a file: of its drawing, or of its refusal
+abbrev pub verdict_text : (file : List ℕ) → Verdict → List ℕ
+verdict_text b (Accepted k) = tree_text (file_tree b)
 verdict_text b (Refused r p) = refused_text r p
 
 abbrev pub file_text : (file : List ℕ) → List ℕ

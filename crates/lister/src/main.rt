@@ -8,7 +8,7 @@ ghost use Rattle.std.specs.Fmt.{decimal};
 ghost use Rattle.listing.specs.Numbers.{lines_in};
 ghost use Rattle.tables.specs.Tables.{tree_lent_mut};
 ghost use Rattle.lister.specs.Printed.{lines_of, outcome_of, outcome_grown, rows_grown, outcome, rows_after};
-ghost use Rattle.lister.specs.Leaves.{PrintsEachLeaf};
+ghost use Rattle.lister.specs.Leaves.{PrintsEachLeaf, FilePrintsEachLeaf};
 ghost use Rattle.lister.specs.Text.{line_text, lines_text, refused_text, outcome_text, drawing_text, file_text};
 
 use grammar::Verdict;
@@ -219,7 +219,8 @@ fn read_file<R: Read + Drop>(alloc: Global, file: R) -> io::Result<Vec<u8>>
 
 // Reads a file and prints what is to be printed of it.
 fn list_file<R: Read + Drop, W: Write>(alloc: Global, file: R, out: &mut W) -> io::Result<()>
-    ensures { OnOk result (IfSome (R.remaining file) (λ bytes. Appends (W.contents out.old) (W.contents out.new) (file_text bytes))) }
+    ensures text { OnOk result (IfSome (R.remaining file) (λ bytes. Appends (W.contents out.old) (W.contents out.new) (file_text bytes))) }
+    ensures leaves { FilePrintsEachLeaf }
 {
     let records = read_file(alloc, file)?;
     print_file(out, &records)
