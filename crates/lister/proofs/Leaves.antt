@@ -83,7 +83,7 @@ module _ (t : Tree) (H : List Node) (s : Sound t H) (i : ℕ) (o : IsLeaf t i) w
   found_corner : (f : FoundLeaf) × (find_answer t x y ≡ Finds.Found f) × (line_of f ≡ leaf_line t i)
   found_corner =
       let r = lands t H s x y on_grid in
-      let same : r.leaf ≡ i = s.grown.tiled.one_leaf_law (at x y) r.leaf i r.holds holds_corner in
+      let same : r.leaf ≡ i = s.grown.tiled.one_leaf (at x y) r.leaf i r.holds holds_corner in
       let f = report_of t.entries (leaf_of r.leaf (16 - level (cell_in H r.leaf)) (words t r.leaf)) in
       (f, rw (eq-eqb (length t.xs) (length t.ys) s.drawn.pair, in_range_law) (ap (found_by t) r.found), ap (leaf_line t) same)
 

@@ -1,13 +1,18 @@
 -- Document 01, "Spots to try": that the lister prints each leaf.
-use Rattle.std.specs.Prelude.{◌≡◌, List, ◌∷◌, ◌++◌, ℕ, ◌≤◌, length}
+use Rattle.std.specs.Prelude.{◌≡◌, List, [], ◌∷◌, ◌++◌, ℕ, ◌≤◌, length}
 use Rattle.refusals.specs.declared.Refusal.{Refusal}
+use Rattle.grammar.specs.declared.Counts.{Counts}
+use Rattle.grammar.specs.declared.Verdict.TheVariants.{Accepted}
+use Rattle.read.specs.Reading.{verdict_of}
 use Rattle.tables.specs.Tables.{Tree}
 use Rattle.open.specs.declared.Answer.TheVariants.{Opened}
 use Rattle.open.specs.Open.{open_answer, open_tree}
 use Rattle.listing.specs.declared.Line.{Line}
 use Rattle.listing.specs.Listed.{keys_from, Among, IsLeaf, leaf_line}
-use Rattle.lister.specs.declared.Outcome.TheVariants.{Not}
+use Rattle.lister.specs.declared.Outcome.{Outcome}
+use Rattle.lister.specs.declared.Outcome.TheVariants.{Done, Full, Not}
 use Rattle.lister.specs.Printed.{grown_tree, outcome, printed}
+use Rattle.lister.specs.Text.{lines_text, full_text, file_tree, file_text}
 
 -- the lines ls are those of the leaves of u: each leaf has its line, each line is a leaf's, no cell has two, and the keys ascend
 pub record EachLeaf (u : Tree) (ls : List Line) : Type 0 where
@@ -24,3 +29,19 @@ pub record Prints (t : Tree) (rows : List ℕ) : Type 0 where
 -- entries, lines.": after an accepted opening, whatever the table of 256 lines or more held
 abbrev pub PrintsEachLeaf : Type 0
 PrintsEachLeaf = (t : Tree) (n : ℕ) → open_answer t ≡ Opened n → (rows : List ℕ) → 1280 ≤ length rows → Prints t rows
+
+-- "if growing ends on "full", a last line `full` follows"
+abbrev pub last_line : Outcome → List ℕ
+last_line (Done n) = []
+last_line (Full n) = full_text
+last_line (Not r) = []
+
+-- what is printed of a file is the line of each leaf of its tree, and maybe the last line
+pub record PrintsLeaves (file : List ℕ) : Type 0 where
+  pub lines : List Line
+  pub leaves : EachLeaf (grown_tree (open_tree (file_tree file))) lines
+  pub text : file_text file ≡ lines_text lines ++ last_line (outcome (file_tree file))
+
+-- the same sentence, of the bytes that are printed: of any file that is accepted, and whose tree opens
+abbrev pub FilePrintsEachLeaf : Type 0
+FilePrintsEachLeaf = (file : List ℕ) (k : Counts) (n : ℕ) → verdict_of file ≡ Accepted k → open_answer (file_tree file) ≡ Opened n → PrintsLeaves file

@@ -2,13 +2,21 @@
 
 #![tactic(auto)]
 
-ghost use Rattle.std.specs.Prelude.{◌≡◌, ◌*◌, ◌≤◌, length};
+ghost use Rattle.std.specs.Prelude.{◌≡◌, ◌*◌, ◌≤◌, length, take, OnOk, IfOk, IfSome};
+ghost use Rattle.std.specs.Io.KnownBytes.{Appends};
+ghost use Rattle.std.specs.Fmt.{decimal};
+ghost use Rattle.listing.specs.Numbers.{lines_in};
 ghost use Rattle.tables.specs.Tables.{tree_lent_mut};
 ghost use Rattle.lister.specs.Printed.{lines_of, outcome_of, outcome_grown, rows_grown, outcome, rows_after};
+ghost use Rattle.lister.specs.Leaves.{PrintsEachLeaf, FilePrintsEachLeaf};
+ghost use Rattle.lister.specs.Text.{line_text, lines_text, refused_text, outcome_text, drawing_text, file_text};
 
 use grammar::Verdict;
 use listing::Line;
 use refusals::Refusal;
+use std::alloc::Global;
+use std::io;
+use std::io::{Read, Write};
 
 // "Its tables hold 1,024 cells and 4,096 entries"
 const CELLS: usize = 1024;
@@ -20,43 +28,49 @@ const THRESHOLD: u32 = 0;
 
 const DEPTH_LIMIT: u32 = 4;
 
-fn print_number(n: u32) {
-    io::print_decimal(1, n as u64);
+fn print_number<W: Write>(out: &mut W, n: u32) -> io::Result<()>
+    ensures { OnOk result (Appends (W.contents out.old) (W.contents out.new) (decimal n)) }
+{
+    write!(out, "{n}")
 }
 
 // "cell, key, side, entries, lines"
-fn print_line(l: Line) {
-    print_number(l.cell);
-    io::write_all(1, b" ");
-    print_number(l.key);
-    io::write_all(1, b" ");
-    print_number(l.side);
-    io::write_all(1, b" ");
-    print_number(l.entries);
-    io::write_all(1, b" ");
-    print_number(l.lines);
-    io::write_all(1, b"\n");
+fn print_line<W: Write>(out: &mut W, l: Line) -> io::Result<()>
+    ensures { OnOk result (Appends (W.contents out.old) (W.contents out.new) (line_text l)) }
+{
+    print_number(out, l.cell)?;
+    write!(out, " ")?;
+    print_number(out, l.key)?;
+    write!(out, " ")?;
+    print_number(out, l.side)?;
+    write!(out, " ")?;
+    print_number(out, l.entries)?;
+    write!(out, " ")?;
+    print_number(out, l.lines)?;
+    writeln!(out)
 }
 
 // "A refused drawing prints only `refused N at P`."
-fn print_refused(r: Refusal, place: usize) {
-    io::write_all(1, b"refused ");
-    print_number(refusals::number(r));
-    io::write_all(1, b" at ");
-    io::print_decimal(1, place as u64);
-    io::write_all(1, b"\n");
+fn print_refused<W: Write>(out: &mut W, r: Refusal, place: usize) -> io::Result<()>
+    ensures { OnOk result (Appends (W.contents out.old) (W.contents out.new) (refused_text r place)) }
+{
+    write!(out, "refused ")?;
+    print_number(out, refusals::number(r))?;
+    writeln!(out, " at {place}")
 }
 
 // The first n lines of the table.
-fn print_lines(rows: &[u32], n: usize)
+fn print_lines<W: Write>(out: &mut W, rows: &[u32], n: usize) -> io::Result<()>
     requires { n * 5 ≤ length rows.now }
+    ensures { OnOk result (Appends (W.contents out.old) (W.contents out.new) (lines_text (lines_in rows.now 0 n))) }
 {
     let mut i = 0;
     while i < n {
         let l = listing::read_line(rows, i);
-        print_line(l);
+        print_line(out, l)?;
         i += 1;
     }
+    Ok(())
 }
 
 // What is printed of a drawing: so many lines, with `full` after them or without, or a refusal.
@@ -125,6 +139,7 @@ fn list_drawing(
     ensures answer { result ≡ outcome (tree_lent_mut plan areas xs ys head cells entries) }
     ensures rows { rows.new ≡ rows_after (tree_lent_mut plan areas xs ys head cells entries) rows.old }
     ensures range { lines_of result ≤ 256 }
+    ensures leaves { PrintsEachLeaf }
 {
     let a = open::open(plan, areas, xs, ys, head, cells, entries);
     match a {
@@ -134,7 +149,30 @@ fn list_drawing(
 }
 
 // "if growing ends on "full", a last line `full` follows"
-fn print_drawing(plan: &[u32], areas: &[u32], xs: &[u32], ys: &[u32]) {
+fn print_outcome<W: Write>(out: &mut W, a: Outcome, rows: &[u32]) -> io::Result<()>
+    requires { lines_of a * 5 ≤ length rows.now }
+    ensures { OnOk result (Appends (W.contents out.old) (W.contents out.new) (outcome_text a rows.now)) }
+{
+    match a {
+        Outcome::Done(n) => print_lines(out, rows, n),
+        Outcome::Full(n) => {
+            print_lines(out, rows, n)?;
+            writeln!(out, "full")
+        }
+        Outcome::Not(r) => print_refused(out, r, 0),
+    }
+}
+
+// What is printed of a drawing, from tables of zeros.
+fn print_drawing<W: Write>(
+    out: &mut W,
+    plan: &[u32],
+    areas: &[u32],
+    xs: &[u32],
+    ys: &[u32],
+) -> io::Result<()>
+    ensures { OnOk result (Appends (W.contents out.old) (W.contents out.new) (drawing_text plan.now areas.now xs.now ys.now)) }
+{
     let mut head = [0u32; celltable::HEAD_WORDS];
     let mut cells = [0u32; CELLS * celltable::CELL_WORDS];
     let mut entries = [0u32; ENTRIES * celltable::ENTRY_WORDS];
@@ -149,35 +187,45 @@ fn print_drawing(plan: &[u32], areas: &[u32], xs: &[u32], ys: &[u32]) {
         &mut entries,
         &mut rows,
     );
-    match a {
-        Outcome::Done(n) => {
-            print_lines(&rows, n);
-        }
-        Outcome::Full(n) => {
-            print_lines(&rows, n);
-            io::write_all(1, b"full\n");
-        }
-        Outcome::Not(r) => {
-            print_refused(r, 0);
-        }
-    }
+    print_outcome(out, a, &rows)
 }
 
-// A file may have 4,096 records of 16 bytes, which is 65,536: one byte more shows that it is longer, and is refused for its length.
-fn main() {
-    let mut records = [0u8; records::MOST_RECORDS * records::RECORD_BYTES + 1];
-    let n = io::read_full(0, &mut records);
+// What is printed of a file.
+fn print_file<W: Write>(out: &mut W, records: &[u8]) -> io::Result<()>
+    ensures { OnOk result (Appends (W.contents out.old) (W.contents out.new) (file_text records.now)) }
+{
     let mut plan = [0u32; read::PLAN_COUNTS + records::MOST_RECORDS];
     let mut areas = [0u32; records::MOST_AREAS * records::AREA_WORDS];
     let mut xs = [0u32; records::MOST_CORNERS];
     let mut ys = [0u32; records::MOST_CORNERS];
-    let v = read::read(&records[..n], &mut plan, &mut areas, &mut xs, &mut ys);
+    let v = read::read(records, &mut plan, &mut areas, &mut xs, &mut ys);
     match v {
-        Verdict::Accepted(_) => {
-            print_drawing(&plan, &areas, &xs, &ys);
-        }
-        Verdict::Refused(r, p) => {
-            print_refused(r, p);
-        }
+        Verdict::Accepted(_) => print_drawing(out, &plan, &areas, &xs, &ys),
+        Verdict::Refused(r, p) => print_refused(out, r, p),
     }
+}
+
+// A file may have 4,096 records of 16 bytes, which is 65,536: one byte more shows that it is longer, and is refused for its length.
+const MOST_READ: usize = records::MOST_RECORDS * records::RECORD_BYTES + 1;
+
+// The file, or its first bytes where it has more: no more of it is read.
+fn read_file<R: Read + Drop>(alloc: Global, file: R) -> io::Result<Vec<u8>>
+    ensures { IfOk result (λ records. IfSome (R.remaining file) (λ bytes. records.items ≡ take 65537 bytes)) }
+{
+    let mut records = Vec::new(alloc);
+    file.take(MOST_READ as u64).read_to_end(&mut records)?;
+    Ok(records)
+}
+
+// Reads a file and prints what is to be printed of it.
+fn list_file<R: Read + Drop, W: Write>(alloc: Global, file: R, out: &mut W) -> io::Result<()>
+    ensures text { OnOk result (IfSome (R.remaining file) (λ bytes. Appends (W.contents out.old) (W.contents out.new) (file_text bytes))) }
+    ensures leaves { FilePrintsEachLeaf }
+{
+    let records = read_file(alloc, file)?;
+    print_file(out, &records)
+}
+
+fn main(rt: HostRuntime) -> io::Result<()> {
+    list_file(rt.alloc(), rt.reader(), &mut io::writer(&rt))
 }

@@ -2,23 +2,24 @@
 
 #![tactic(auto)]
 
-ghost use Rattle.std.specs.Prelude.{◌≡◌, false, ◌<◌};
+ghost use Rattle.std.specs.Prelude.{◌≡◌, false, ◌<◌, IsTrue};
 ghost use Rattle.curves.specs.code.Reach.{PositionIn, EndsIn};
 ghost use Rattle.geometry.specs.code.Reach.{SquareIn};
 ghost use Rattle.paint.specs.Areas.{Painted};
+ghost use Rattle.spots.specs.Starred.{all_right, table};
 
 use geometry::class::{Class, Square};
 use geometry::edge::Edge;
 use geometry::fill::FillRule;
+use std::io;
 
 // A space and a number.
-fn write_number(n: u32) {
-    io::write_all(1, b" ");
-    io::print_decimal(1, n as u64);
+fn write_number(rt: &impl Print, n: u32) -> io::Result<()> {
+    print!(rt; " {n}")
 }
 
 // The winding of the contour (0, 0), (p, q), (w, w).
-fn write_winding(p: u32, q: u32, w: u32, x: u32, y: u32)
+fn write_winding(rt: &impl Print, p: u32, q: u32, w: u32, x: u32, y: u32) -> io::Result<()>
     requires ends_in { EndsIn p q w w }
     requires position_in { PositionIn x y }
 {
@@ -26,26 +27,26 @@ fn write_winding(p: u32, q: u32, w: u32, x: u32, y: u32)
     let ys = [0, q, w];
     let ends = [3u32];
     let n = geometry::winding::area_winding(&xs, &ys, &ends, x, y);
-    io::write_all(1, b"winding at");
-    write_number(x);
-    write_number(y);
+    print!(rt; "winding at")?;
+    write_number(rt, x)?;
+    write_number(rt, y)?;
     if n == 1 {
-        io::write_all(1, b": 1\n");
+        println!(rt; ": 1")
     } else if n == 0 {
-        io::write_all(1, b": 0\n");
+        println!(rt; ": 0")
     } else if n == -1 {
-        io::write_all(1, b": -1\n");
+        println!(rt; ": -1")
     } else {
-        io::write_all(1, b": other\n");
+        println!(rt; ": other")
     }
 }
 
 // Whether a winding passes.
-fn write_passes(rule: FillRule, winding: i64) {
+fn write_passes(rt: &impl Print, rule: FillRule, winding: i64) -> io::Result<()> {
     if geometry::fill::fill_passes(rule, winding) {
-        io::write_all(1, b"passes\n");
+        println!(rt; "passes")
     } else {
-        io::write_all(1, b"fails\n");
+        println!(rt; "fails")
     }
 }
 
@@ -58,100 +59,94 @@ fn straight_class(e: Edge, s: Square) -> Class
     geometry::class::classify(e, s)
 }
 
-fn write_class(e: Edge, s: Square)
+fn write_class(rt: &impl Print, e: Edge, s: Square) -> io::Result<()>
     requires ends_in { EndsIn e.x0 e.y0 e.x1 e.y1 }
     requires bent_value { e.bent ≡ false }
     requires square_in { SquareIn s }
 {
     let c = straight_class(e, s);
     match c {
-        Class::Dropped => {
-            io::write_all(1, b"dropped\n");
-        }
-        Class::Start => {
-            io::write_all(1, b"start\n");
-        }
+        Class::Dropped => println!(rt; "dropped"),
+        Class::Start => println!(rt; "start"),
         Class::Shortcut(first, end) => {
-            io::write_all(1, b"shortcut");
-            write_number(first);
-            write_number(end);
-            io::write_all(1, b"\n");
+            print!(rt; "shortcut")?;
+            write_number(rt, first)?;
+            write_number(rt, end)?;
+            println!(rt)
         }
-        Class::Kept => {
-            io::write_all(1, b"kept\n");
-        }
+        Class::Kept => println!(rt; "kept"),
     }
 }
 
 // The material, the channel sums and the colour of a shown set.
-fn write_shown(areas: &[u32], set: u64)
+fn write_shown(rt: &impl Print, areas: &[u32], set: u64) -> io::Result<()>
     requires { Painted areas.now set }
 {
-    io::write_all(1, b"material");
-    write_number(paint::area::material_of(areas, set));
+    print!(rt; "material")?;
+    write_number(rt, paint::area::material_of(areas, set))?;
     let sums = paint::colour::channel_sums(areas, set);
-    io::write_all(1, b", sums");
-    write_number(sums.red);
-    write_number(sums.green);
-    write_number(sums.blue);
+    print!(rt; ", sums")?;
+    write_number(rt, sums.red)?;
+    write_number(rt, sums.green)?;
+    write_number(rt, sums.blue)?;
     let c = paint::colour::rounded_sums(sums);
-    io::write_all(1, b", colour");
-    write_number(c.red);
-    write_number(c.green);
-    write_number(c.blue);
-    io::write_all(1, b"\n");
+    print!(rt; ", colour")?;
+    write_number(rt, c.red)?;
+    write_number(rt, c.green)?;
+    write_number(rt, c.blue)?;
+    println!(rt)
 }
 
 // The key of a position.
-fn write_key(x: u32, y: u32)
+fn write_key(rt: &impl Print, x: u32, y: u32) -> io::Result<()>
     requires x_bound { x < 65536 }
     requires y_bound { y < 65536 }
 {
-    io::write_all(1, b"key of");
-    write_number(x);
-    write_number(y);
-    io::write_all(1, b":");
-    write_number(geometry::morton::key(x, y));
-    io::write_all(1, b"\n");
+    print!(rt; "key of")?;
+    write_number(rt, x)?;
+    write_number(rt, y)?;
+    print!(rt; ":")?;
+    write_number(rt, geometry::morton::key(x, y))?;
+    println!(rt)
 }
 
 // The samples of one pixel.
-fn write_samples() {
-    io::write_all(1, b"samples of pixel 4095 of row 1:");
+fn write_samples(rt: &impl Print) -> io::Result<()> {
+    print!(rt; "samples of pixel 4095 of row 1:")?;
     let mut i = 0;
     while i < 16 {
         let s = paint::pixel::sample_at(1, 4095, i);
-        write_number(s.x);
-        write_number(s.y);
+        write_number(rt, s.x)?;
+        write_number(rt, s.y)?;
         i += 1;
     }
-    io::write_all(1, b"\n");
+    println!(rt)
 }
 
 // The triangle (0,0) (10,0) (10,10), the largest of its shape, and that one mirrored.
-fn triangles() {
-    write_winding(10, 0, 10, 5, 5);
-    write_winding(10, 0, 10, 0, 0);
-    write_winding(10, 0, 10, 9, 9);
-    write_winding(10, 0, 10, 4, 5);
-    write_winding(10, 0, 10, 10, 5);
-    write_winding(10, 0, 10, 5, 10);
-    write_winding(67108864, 0, 67108864, 67108863, 67108863);
-    write_winding(67108864, 0, 67108864, 67108862, 67108863);
-    write_winding(0, 67108864, 67108864, 67108862, 67108863);
+fn triangles(rt: &impl Print) -> io::Result<()> {
+    write_winding(rt, 10, 0, 10, 5, 5)?;
+    write_winding(rt, 10, 0, 10, 0, 0)?;
+    write_winding(rt, 10, 0, 10, 9, 9)?;
+    write_winding(rt, 10, 0, 10, 4, 5)?;
+    write_winding(rt, 10, 0, 10, 10, 5)?;
+    write_winding(rt, 10, 0, 10, 5, 10)?;
+    write_winding(rt, 67108864, 0, 67108864, 67108863, 67108863)?;
+    write_winding(rt, 67108864, 0, 67108864, 67108862, 67108863)?;
+    write_winding(rt, 0, 67108864, 67108864, 67108862, 67108863)
 }
 
 // Fill rules, below zero too.
-fn passes() {
-    write_passes(FillRule::NonZero, 0);
-    write_passes(FillRule::NonZero, -1);
-    write_passes(FillRule::EvenOdd, -3);
-    write_passes(FillRule::EvenOdd, -2);
-    write_passes(FillRule::EvenOdd, 1);
+fn passes(rt: &impl Print) -> io::Result<()> {
+    write_passes(rt, FillRule::NonZero, 0)?;
+    write_passes(rt, FillRule::NonZero, -1)?;
+    write_passes(rt, FillRule::EvenOdd, -3)?;
+    write_passes(rt, FillRule::EvenOdd, -2)?;
+    write_passes(rt, FillRule::EvenOdd, 1)
 }
 
 // An upright edge in squares left of it, right of it and across it; and a slanted one.
-fn classes() {
+fn classes(rt: &impl Print) -> io::Result<()> {
     let upright = Edge {
         x0: 10,
         y0: 2,
@@ -162,46 +157,52 @@ fn classes() {
         cy: 0,
     };
     write_class(
+        rt,
         upright,
         Square {
             x: 0,
             y: 0,
             side: 8,
         },
-    );
+    )?;
     write_class(
+        rt,
         upright,
         Square {
             x: 0,
             y: 8,
             side: 8,
         },
-    );
+    )?;
     write_class(
+        rt,
         upright,
         Square {
             x: 8,
             y: 8,
             side: 8,
         },
-    );
+    )?;
     write_class(
+        rt,
         upright,
         Square {
             x: 16,
             y: 8,
             side: 8,
         },
-    );
+    )?;
     write_class(
+        rt,
         upright,
         Square {
             x: 0,
             y: 24,
             side: 8,
         },
-    );
+    )?;
     write_class(
+        rt,
         Edge {
             x0: 0,
             y0: 0,
@@ -216,27 +217,33 @@ fn classes() {
             y: 0,
             side: 8,
         },
-    );
+    )
 }
 
 // Black; red before black; two areas of alpha 254; no area.
-fn colours() {
+fn colours(rt: &impl Print) -> io::Result<()> {
     let black = [0u32, 0, 128, 0, 0, 0, 7, 0];
-    write_shown(&black, 1);
+    write_shown(rt, &black, 1)?;
     let red_black = [0u32, 0, 128, 255, 0, 0, 8, 0, 0, 0, 128, 0, 0, 0, 7, 0];
-    write_shown(&red_black, 3);
+    write_shown(rt, &red_black, 3)?;
     let two = [0u32, 0, 254, 1, 2, 3, 4, 0, 0, 0, 254, 1, 2, 3, 5, 0];
-    write_shown(&two, 3);
-    write_shown(&[], 0);
+    write_shown(rt, &two, 3)?;
+    write_shown(rt, &[], 0)
 }
 
-fn main() {
-    triangles();
-    passes();
-    classes();
-    colours();
-    write_key(32768, 0);
-    write_key(0, 32768);
-    write_key(65535, 65535);
-    write_samples();
+// Document 01's starred spots, as one table: every row of it is right, by the definitions.
+fn starred()
+    ensures { IsTrue (all_right table) }
+{}
+
+fn main(rt: HostRuntime) -> io::Result<()> {
+    starred();
+    triangles(&rt)?;
+    passes(&rt)?;
+    classes(&rt)?;
+    colours(&rt)?;
+    write_key(&rt, 32768, 0)?;
+    write_key(&rt, 0, 32768)?;
+    write_key(&rt, 65535, 65535)?;
+    write_samples(&rt)
 }
