@@ -170,14 +170,16 @@ module _ (D : Drawing) where
   opaque_same p (area n z gs) = refl
 
   -- elements whose entries are those of a stream, read at a position: the set that the stream shows
-  pub side_read : (p : Position) (ws : List Element) (x : Side Item) → entries_of (decode (role_in D) ws) ≡ flat paint x → read_at D p ws ≡ set_of (shown_in D p x)
+  pub side_read : (p : Position) (ws : List Element) (x : Side Item) → entries_of (decode (role_in D) ws) ≡ flat paint x → read_at D p ws
+      ≡ set_of (shown_in D p x)
   side_read p ws x h =
       read_side (role_in D) (passes_by D) (is_opaque D) (adds_at D.xs D.ys p) ws x h
       ∙ (ap (λ f. set_of (map number_of (shown f (opaque_item (role_in D) (passes_by D) (is_opaque D) (adds_at D.xs D.ys p)) x))) (fun_ext (pass_same p))
       ∙ ap (λ f. set_of (map number_of (shown (passes_in D p) f x))) (fun_ext (opaque_same p)))
 
   -- the elements of a stream whose areas stand on sides of their roles
-  pub elements_read : (p : Position) (x : Side Item) → Each (OnSide (role_in D)) (flat paint x) → read_at D p (elements_of (flat paint x)) ≡ set_of (shown_in D p x)
+  pub elements_read : (p : Position) (x : Side Item) → Each (OnSide (role_in D)) (flat paint x) → read_at D p (elements_of (flat paint x))
+      ≡ set_of (shown_in D p x)
   elements_read p x h = side_read p (elements_of (flat paint x)) x (ap entries_of (decode_elements (role_in D) (flat paint x) h))
 
   pub made_on_side : Fitted D → (c : Cell) → Each (OnSide (role_in D)) (flat paint (made D c (source D)))

@@ -93,7 +93,8 @@ module _ (t : List ℕ) (used entries px py : ℕ) where
       in_run : Bool
       in_run = entry_range (cell_at t i).first (cell_at t i).count entries
 
-      go : (b : Bool) → eqb (cell_at t i).parent p ≡ b → (in_child && (in_run && parent_range t i used)) ≡ (in_child && (in_run && (b || parent_range t i used)))
+      go : (b : Bool) → eqb (cell_at t i).parent p ≡ b → (in_child && (in_run && parent_range t i used))
+          ≡ (in_child && (in_run && (b || parent_range t i used)))
       go true f = ap (λ (b : Bool). in_child && (in_run && b)) (r e (eqb-true (cell_at t i).parent p f))
       go false f = refl
 

@@ -22,7 +22,8 @@ at_level w a b (suc k) e h =
     rw (sym (ap (λ (s : ℕ). s / 2) e) ∙ half_pow k)
     (λ d. record { x = part_x w.x (2 ^ k) a b d; y = part_y w.y (2 ^ k) a b d; side = 2 ^ k })
 
-pub quarter_is : (w : CellWords) (q : ℕ) → square_range w ≡ true → 1 < w.side → quarter_n w (eqb (q % 2) 1) (leb 2 q) ≡ square_of (child (cell_of w) (quarter_at q))
+pub quarter_is : (w : CellWords) (q : ℕ) → square_range w ≡ true → 1 < w.side → quarter_n w (eqb (q % 2) 1) (leb 2 q)
+    ≡ square_of (child (cell_of w) (quarter_at q))
 quarter_is w q h l = at_level w (eqb (q % 2) 1) (leb 2 q) (level_of w.side) (square_fits_law w h).power l
 
 pub place_quarter : (q : Quarter) → quarter_at (place_of q) ≡ q

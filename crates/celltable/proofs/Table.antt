@@ -112,7 +112,8 @@ put_cell_same t i w h =
 
 -- another cell is as it was
 pub put_cell_other : (t : List ℕ) (i j : ℕ) (w : CellWords) → (j ≡ i → ⊥) → cell_at (put_cell_at t i w) j ≡ cell_at t j
-put_cell_other t i j w n = cell_other (put_cell_at t i w) t i j (put_cell_before t (i * 8) i w (omega arith)) (put_cell_beyond t (i * 8 + 8) i w (omega arith)) n
+put_cell_other t i j w n =
+    cell_other (put_cell_at t i w) t i j (put_cell_before t (i * 8) i w (omega arith)) (put_cell_beyond t (i * 8 + 8) i w (omega arith)) n
 
 -- ---- a first child is written
 

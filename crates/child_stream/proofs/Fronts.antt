@@ -65,7 +65,8 @@ front_take : (p : ℕ) (out : List Element) → Front (starts_of (take p out)) (
 front_take p out = record { rest = starts_of (drop p out); is = ap starts_of (sym (take-append-drop p out)) ∙ starts_append (take p out) (drop p out) }
 
 -- an element that is no area behind them
-front_mark : (r : Element) (x out : List Element) → starts_of (r ∷ []) ≡ [] → Front (starts_of x) (starts_of out) → Front (starts_of (x ++ (r ∷ []))) (starts_of out)
+front_mark : (r : Element) (x out : List Element) → starts_of (r ∷ []) ≡ [] → Front (starts_of x) (starts_of out)
+    → Front (starts_of (x ++ (r ∷ []))) (starts_of out)
 front_mark r x out e f =
     subst (λ (l : List ℤ). Front l (starts_of out))
     (sym (starts_append x (r ∷ []) ∙ (ap (λ (l : List ℤ). starts_of x ++ l) e ∙ append-nil (starts_of x)))) f

@@ -79,7 +79,8 @@ module _ (x0 y0 x1 y1 x2 y2 x y : ℕ) where
   module _ (up : T (rises y0 y1 y2)) (across : T (in_order x0 x1 x2)) where
     side_counts : T (is_row y0 y2 y) → T (side x0 y0 x1 y1 x2 y2 x y) → T (curve_counts x0 y0 x1 y1 x2 y2 x y)
     unfolding curve_counts
-    side_counts r s = &&_both ordered tested (&&_both (rises y0 y1 y2) (in_order x0 x1 x2) up across) (&&_both (is_row y0 y2 y) (side x0 y0 x1 y1 x2 y2 x y) r s)
+    side_counts r s =
+        &&_both ordered tested (&&_both (rises y0 y1 y2) (in_order x0 x1 x2) up across) (&&_both (is_row y0 y2 y) (side x0 y0 x1 y1 x2 y2 x y) r s)
 
     -- in a row of the curve, the test of the side is the sentence's case
     side_under : T (is_row y0 y2 y)

@@ -81,7 +81,8 @@ module _ (D : Drawing) where
       )
 
 -- over any drawing that the tables of the opening hold
-pub demand_over : (D : Drawing) (t : Tree) (n : ℕ) → drawing_of t ≡ D → open_answer t ≡ Opens.Opened n → (cs : List Listed) → Throughout D cs (open_tree t) begun
+pub demand_over : (D : Drawing) (t : Tree) (n : ℕ) → drawing_of t ≡ D → open_answer t ≡ Opens.Opened n → (cs : List Listed)
+    → Throughout D cs (open_tree t) begun
 demand_over D t n d e cs = claimed D cs (open_tree t) begun (open_sound t n e) d
 
 pub demand_3 : Demand3

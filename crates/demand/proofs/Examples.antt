@@ -134,7 +134,8 @@ unfolding decoded_from decoded_raw unnamed_zero named fields_of area_range corne
 file_records = refl
 
 read_example : read_tree file blank ≡ example
-unfolding read_answer verdict_of holds decoded_from decoded_raw unnamed_zero named fields_of area_range corner_of delimiter_of Grammar.checked Grammar.course joined
+unfolding read_answer verdict_of holds decoded_from decoded_raw unnamed_zero named fields_of area_range corner_of delimiter_of Grammar.checked
+    Grammar.course joined
 read_example = refl
 
 pub file_opened : FileOpened file blank

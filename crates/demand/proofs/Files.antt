@@ -58,7 +58,8 @@ use Rattle.demand.proofs.Demand.{demand_over}
 use Rattle.demand.proofs.Lists.{list_goes_on}
 
 -- ---- the drawing of an accepted file
-pub file_drawing : (b p a x y : List ℕ) (k : Counts) → read_answer b p a x y ≡ Accepted k → drawing_in (after (Accepted k) b p a x y) ≡ drawing_from (records_in b)
+pub file_drawing : (b p a x y : List ℕ) (k : Counts) → read_answer b p a x y ≡ Accepted k → drawing_in (after (Accepted k) b p a x y)
+    ≡ drawing_from (records_in b)
 file_drawing b p a x y k e =
     ap drawing_from
     (drawn_records (after (Accepted k) b p a x y) (records_in b) (file_accepts b k (taken b p a x y k e).verdict).range

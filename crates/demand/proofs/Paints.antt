@@ -86,7 +86,8 @@ module _ (f g : ℕ → Paint) (set : ℕ) (same : (n : ℕ) → has set n ≡ t
 
   each_from_law : (i n : ℕ) (m : Mix) → each_from set i n (λ k m. add (f k) m) m ≡ each_from set i n (λ k m. add (g k) m) m
   each_from_law i zero m = refl
-  each_from_law i (suc n) m = each_from_law (suc i) n (cond (has set i) (add (f i) m) m) ∙ ap (each_from set (suc i) n (λ k m. add (g k) m)) (go (has set i) refl)
+  each_from_law i (suc n) m =
+      each_from_law (suc i) n (cond (has set i) (add (f i) m) m) ∙ ap (each_from set (suc i) n (λ k m. add (g k) m)) (go (has set i) refl)
     where
       go : (b : Bool) → has set i ≡ b → cond b (add (f i) m) m ≡ cond b (add (g i) m) m
       go true e = ap (λ (p : Paint). add p m) (same i e)

@@ -53,7 +53,8 @@ module _ (t : Tree) (H : List Node) (s : Sound t H) (row first : ℕ) where
     refused = filled (Not Argument 0) out
 
     spanned : row ≤ 4095 → (b : Bool) → leb (first + length out / 3) 4096 ≡ b
-        → cond b (fill_from t row first 0 (length out / 3) out) refused ≡ cond b (filled Done (fill_shown (drawing_of t) row first 0 (length out / 3) out)) refused
+        → cond b (fill_from t row first 0 (length out / 3) out) refused ≡ cond b (filled Done (fill_shown (drawing_of t) row first 0 (length out / 3) out))
+        refused
     spanned h true e = fill_is h 0 (length out / 3) out (omega (arith, leb-true (first + length out / 3) 4096 e))
     spanned h false e = refl
 

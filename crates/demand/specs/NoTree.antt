@@ -16,7 +16,13 @@ module _ (D : Drawing) where
   -- alpha, colour and material of area n
   abbrev pub paint_of : ℕ → Paint
   paint_of n =
-      record { alpha = (fields_of D n).alpha; red = (fields_of D n).red; green = (fields_of D n).green; blue = (fields_of D n).blue; material = (fields_of D n).material }
+      record {
+        alpha = (fields_of D n).alpha;
+        red = (fields_of D n).red;
+        green = (fields_of D n).green;
+        blue = (fields_of D n).blue;
+        material = (fields_of D n).material;
+      }
 
   -- "The shown set is the passing paint areas that every group around them shows, front to back, up to and including the first with alpha 255."
   abbrev pub set_shown : Position → ℕ

@@ -7,7 +7,8 @@ ghost use Rattle.curves.specs.Curves.{curve_fits};
 ghost use Rattle.groups.specs.code.Stack.{room_n};
 ghost use Rattle.grammar.specs.Grammar.{is_next, is_short, one_more};
 ghost use Rattle.grammar.specs.code.Machine.{role_n, breaks_n, stands_n, fits_n, ends_short_n, in_limit_n, area_n, first_n, next_n, control_n, after_open_n};
-ghost use Rattle.grammar.specs.code.Machine.{after_bar_n, after_close_n, after_n, step_n, settled_n, advance_at_n, advance_n, start_n, end_state_n, ended_n, is_stopped};
+ghost use Rattle.grammar.specs.code.Machine.{after_bar_n, after_close_n, after_n, step_n, settled_n};
+ghost use Rattle.grammar.specs.code.Machine.{advance_at_n, advance_n, start_n, end_state_n, ended_n, is_stopped};
 
 use records::{Decoded, Record};
 use refusals::Refusal;

@@ -23,31 +23,37 @@ small child lines =
 
 -- two lines are more than one, and depth 0 is below 1
 full_at_once : grow_answer (small 0 2) 1 1 ≡ Full 0
-unfolding grown growing round lowest_from tried counts_in head_range cell_range parent_range power_up_to level_up_to used_range accepts course words_from area_range area_row
+unfolding grown growing round lowest_from tried counts_in head_range cell_range parent_range power_up_to level_up_to used_range accepts course words_from
+    area_range area_row
 full_at_once = refl
 
 -- and not more than two: the shortcut is no line
 not_more_lines : grow_answer (small 0 2) 2 16 ≡ Done 0
-unfolding grown growing round lowest_from tried counts_in head_range cell_range parent_range power_up_to level_up_to used_range accepts course words_from area_range area_row
+unfolding grown growing round lowest_from tried counts_in head_range cell_range parent_range power_up_to level_up_to used_range accepts course words_from
+    area_range area_row
 not_more_lines = refl
 
 -- depth 0 is not below 0
 not_deeper : grow_answer (small 0 2) 0 0 ≡ Done 0
-unfolding grown growing round lowest_from tried counts_in head_range cell_range parent_range power_up_to level_up_to used_range accepts course words_from area_range area_row
+unfolding grown growing round lowest_from tried counts_in head_range cell_range parent_range power_up_to level_up_to used_range accepts course words_from
+    area_range area_row
 not_deeper = refl
 
 -- children that are not in use
 child_beyond : grow_answer (small 1 2) 2 16 ≡ Not Broken
-unfolding grown growing round lowest_from tried counts_in head_range cell_range parent_range power_up_to level_up_to used_range accepts course words_from area_range area_row
+unfolding grown growing round lowest_from tried counts_in head_range cell_range parent_range power_up_to level_up_to used_range accepts course words_from
+    area_range area_row
 child_beyond = refl
 
 -- a count that differs: of a leaf that is passed over it is read for what it says, of one that is to be split it is 12, and that before "full"
 false_count : grow_answer (small 0 1) 1 16 ≡ Done 0
-unfolding grown growing round lowest_from tried counts_in head_range cell_range parent_range power_up_to level_up_to used_range accepts course words_from area_range area_row
+unfolding grown growing round lowest_from tried counts_in head_range cell_range parent_range power_up_to level_up_to used_range accepts course words_from
+    area_range area_row
 false_count = refl
 
 count_tried : grow_answer (small 0 3) 2 16 ≡ Not Broken
-unfolding grown growing round lowest_from tried counts_in head_range cell_range parent_range power_up_to level_up_to used_range accepts course words_from area_range area_row
+unfolding grown growing round lowest_from tried counts_in head_range cell_range parent_range power_up_to level_up_to used_range accepts course words_from
+    area_range area_row
 count_tried = refl
 
 -- a depth limit of 17

@@ -35,7 +35,8 @@ module _ (n l : ℕ) (t : Tree) where
     lowest_here : (u : ℕ) → i < u → (x : Tried) → tried t n l i ≡ x → lowest_from t n l 0 u ≡ or_next x i (lowest_from t n l (i + 1) (u - i - 1))
     lowest_here u h x e =
         let q : u - i ≡ suc (u - i - 1) = omega arith in
-        from_zero u (omega arith) ∙ (ap (lowest_from t n l i) q ∙ (one i (u - i - 1) ∙ ap (λ (y : Tried). or_next y i (lowest_from t n l (i + 1) (u - i - 1))) e))
+        from_zero u (omega arith) ∙ (ap (lowest_from t n l i) q
+        ∙ (one i (u - i - 1) ∙ ap (λ (y : Tried). or_next y i (lowest_from t n l (i + 1) (u - i - 1))) e))
 
     lowest_none : (u : ℕ) → u ≤ i → i ≤ u → lowest_from t n l 0 u ≡ none
     unfolding lowest_from

@@ -24,7 +24,8 @@ use Rattle.grow.specs.declared.Tried.TheVariants.{Bad, Past, Wanted}
 use Rattle.grow.specs.declared.Sweep.{Sweep}
 use Rattle.grow.specs.declared.Turn.{Turn}
 use Rattle.grow.specs.declared.Turn.TheVariants.{Further, NoRoom, Stopped}
-use Rattle.grow.specs.Grow.{tried, Round, done, full, broken, round_at, round, Ending, none_left, no_room, not_passed, Grown, ended, also_split, go_on, grown, answer_by, answer_of}
+use Rattle.grow.specs.Grow.{tried, Round, done, full, broken, round_at, round, Ending, none_left}
+use Rattle.grow.specs.Grow.{no_room, not_passed, Grown, ended, also_split, go_on, grown, answer_by, answer_of}
 use Rattle.grow.specs.code.Numbers.{past_n, split_n, by_answer, turn_by, tree_by}
 use Rattle.grow.proofs.Tries.{past_keeps, past_split}
 use Rattle.grow.proofs.Fuel.{grown_step}

@@ -70,4 +70,5 @@ pub record IsLeaf (t : Tree) (i : ℕ) : Type 0 where
 
 -- "cell, key, side, entries, lines" of cell i, by its words and its stream; "A cell's key is that of its low corner."
 abbrev pub leaf_line : Tree → ℕ → Line
-leaf_line t i = record { cell = i; key = key_of (words t i).x (words t i).y; side = (words t i).side; entries = (words t i).count; lines = lines_in (stream t i) }
+leaf_line t i =
+    record { cell = i; key = key_of (words t i).x (words t i).y; side = (words t i).side; entries = (words t i).count; lines = lines_in (stream t i) }

@@ -145,7 +145,8 @@ module _ (areas : List ℕ) (D : Drawing) (c : Cell) (agrees : (n : ℕ) → n <
       opaque_by true = refl
       opaque_by false = refl
 
-      go : (b t : Bool) (k : Kind) → cond t paint clip ≡ k → Numbers.class_of (cond b (cond t (cond (opaque_at areas n) 1 2) 1) 0) ≡ cond b (passing D k n) fails
+      go : (b t : Bool) (k : Kind) → cond t paint clip ≡ k → Numbers.class_of (cond b (cond t (cond (opaque_at areas n) 1 2) 1) 0)
+          ≡ cond b (passing D k n) fails
       go true true k e = subst (λ j. Numbers.class_of (cond (opaque_at areas n) 1 2) ≡ passing D j n) e (rw opaque (opaque_by (is_opaque D n)))
       go true false k e = subst (λ j. passes ≡ passing D j n) e refl
       go false t k e = refl

@@ -69,7 +69,8 @@ pub record Standing (v : Env) (D : Drawing) (c : Cell) (k : ℕ) (p : Pruner) (a
 pub one_then : (D : Drawing) (c : Cell) (w : Words) (ws : List Element) (m : Making)
     → on_elements D c ws (on_elements D c (element_for (decode w) []) m) ≡ on_elements D c (element_for (decode w) ws) m
 one_then D c w ws m =
-    by_kind w (λ e. on_elements D c ws (on_elements D c (element_for e []) m) ≡ on_elements D c (element_for e ws) m) (λ e. refl) (λ e. refl) (λ e. refl) (λ e. refl)
+    by_kind w (λ e. on_elements D c ws (on_elements D c (element_for e []) m) ≡ on_elements D c (element_for e ws) m) (λ e. refl) (λ e. refl) (λ e. refl)
+    (λ e. refl)
     (λ s. rw (element_segment w [] s, element_segment w ws s)) (λ e. refl) refl
 
 -- ---- the frames are the open groups

@@ -175,7 +175,8 @@ module _ {A : Type 0} (step : ℕ → A → A) where
 
   -- the lowest area, and those behind it
   left_step : (left i n m : ℕ) (a : A) → n ≡ suc (count_trailing_zeros n left + m) →
-      each_left step left i n a ≡ each_left step (left / 2 ^ count_trailing_zeros n left / 2) (suc (i + count_trailing_zeros n left)) m (step (i + count_trailing_zeros n left) a)
+      each_left step left i n a ≡ each_left step (left / 2 ^ count_trailing_zeros n left / 2) (suc (i + count_trailing_zeros n left)) m
+      (step (i + count_trailing_zeros n left) a)
   unfolding count_trailing_zeros each_left
   left_step left i zero m a h = absurd (omega arith)
   left_step left i (suc n) m a h = go (left % 2) refl h (left_step (left / 2) (suc i) n m a)

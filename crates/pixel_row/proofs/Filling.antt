@@ -63,7 +63,8 @@ module _ (t : Tree) (row : ℕ) where
     unfolding fill_from
     fill_step n i out h k = rw (less_one n i h, k)
 
-    fill_off : (n i : ℕ) (out : List ℕ) → i < n → pixel_known t row (first + i) ≡ false → fill_from t row first i (n - i) out ≡ filled (Not Refusals.Broken i) out
+    fill_off : (n i : ℕ) (out : List ℕ) → i < n → pixel_known t row (first + i) ≡ false → fill_from t row first i (n - i) out
+        ≡ filled (Not Refusals.Broken i) out
     unfolding fill_from
     fill_off n i out h k = rw (less_one n i h, k)
 

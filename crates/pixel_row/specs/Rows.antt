@@ -46,7 +46,8 @@ module _ (t : Tree) (row : ℕ) where
   -- rest are untouched."
   unfoldable pub fill_from : (first i n : ℕ) → List ℕ → Filled
   fill_from first i zero out = filled Done out
-  fill_from first i (suc n) out = cond (pixel_known (first + i)) (fill_from first (i + 1) n (put_pixel out i (pixel_in (first + i)))) (filled (Not Broken i) out)
+  fill_from first i (suc n) out =
+      cond (pixel_known (first + i)) (fill_from first (i + 1) n (put_pixel out i (pixel_in (first + i)))) (filled (Not Broken i) out)
 
   -- 7: "first pixel plus pixels over 4,096", then the pixels
   abbrev pub row_span : (first : ℕ) → List ℕ → Filled

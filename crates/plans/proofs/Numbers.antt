@@ -132,7 +132,8 @@ each_on P k (group l r t) h =
 
 module _ (rs : List Record) (s : Side ℕ) (e : entries_from 0 rs ≡ flat paint s) where
   pub plan_roles : On (Role (fields_in rs)) paint s
-  plan_roles = each_on (Role (fields_in rs)) paint s (subst (Each (Role (fields_in rs))) e (roles_from (fields_in rs) rs 0 (follows_all (fields_in rs) no_fields)))
+  plan_roles =
+      each_on (Role (fields_in rs)) paint s (subst (Each (Role (fields_in rs))) e (roles_from (fields_in rs) rs 0 (follows_all (fields_in rs) no_fields)))
 
   pub plan_numbers : On (Numbered (length (fields_in rs))) paint s
   plan_numbers =

@@ -86,7 +86,8 @@ module _ (I : Items) (wid : Entry I.Item → ℕ) where
   tracks_push (ct n b going fs) k os h = h
   tracks_push (ct n b (shut m) fs) k os h = h
 
-  keeps_left : (t : Bool) (s b n : ℕ) (fs : List Frame) (o : Kind) (os : List Open) → Aligned fs os → Tracks (count_keep_left I wid t s b n fs) (in_right o ∷ os)
+  keeps_left : (t : Bool) (s b n : ℕ) (fs : List Frame) (o : Kind) (os : List Open) → Aligned fs os
+      → Tracks (count_keep_left I wid t s b n fs) (in_right o ∷ os)
   keeps_left true s b n fs o os h = h
   keeps_left false s b n fs o os h = h
 

@@ -105,7 +105,8 @@ module _ (I : Items) (Element : Type 0) (enc : Entry I.Item → List Element) (e
   right_counts out b w (frame through s o ∷ fs) h c = (refl, (h, rw c.0 c.2))
   right_counts out b w (frame dead s o ∷ fs) h c = (refl, (omega arith, c.2))
 
-  pub step_counts : (x : State Element) (e : Entry Item) → Fit (count x) → (count (step' x e) ≡ count_step I wid (count x) e) × Fit (count_step I wid (count x) e)
+  pub step_counts : (x : State Element) (e : Entry Item) → Fit (count x) → (count (step' x e) ≡ count_step I wid (count x) e)
+      × Fit (count_step I wid (count x) e)
   step_counts (st out b going fs) (item k a) f = item_counts k (class k a) a out b fs f.0 f.1
   step_counts (st out b going fs) push f = (rw (length-append out (enc push)), (omega arith, (omega arith, (f.0, f.1))))
   step_counts (st out b going fs) activate f = left_counts out b going fs f.0 f.1

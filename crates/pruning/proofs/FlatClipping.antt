@@ -80,7 +80,8 @@ module _ {A : Type 0} (pass opaque : A → Bool) where
       (rw (here (suc d), paint_side r (pop ∷ T) (suc d) u (stopped t z d u h), paint_side t z d u h))
 
   pub flat_clipping_law : (x : Side A) (u : ℕ) → flat_clipping pass opaque (flat paint x) processing 0 u ≡ shown pass opaque x
-  flat_clipping_law x u = ap (λ e. flat_clipping pass opaque e processing 0 u) (flat_is_over paint x) ∙ (paint_side x [] 0 u refl ∙ sym (shown_over_law pass opaque x))
+  flat_clipping_law x u =
+      ap (λ e. flat_clipping pass opaque e processing 0 u) (flat_is_over paint x) ∙ (paint_side x [] 0 u refl ∙ sym (shown_over_law pass opaque x))
 
   -- with document 000's "dummy push-pop pair" around the stream
   pub scene : (x : Side A) → flat_clipping pass opaque (push ∷ (flat paint x ++ (pop ∷ []))) processing 0 0 ≡ shown pass opaque x

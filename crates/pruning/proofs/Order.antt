@@ -211,7 +211,8 @@ module _ (I : Items) where
   rule18_sound : (k : Kind) (l r t : Side Item) → All (Step I k (group l r t)) (rule18 I k l r t)
   rule18_sound paint l r t = tt
   rule18_sound clip l r t = all_when (Step I clip (group l r t)) (has_one I clip r && ltb 1 (size r)) (group l (first_one I clip r) t)
-      (λ e. step_18 l r t (split clip r (and_left (has_one I clip r) (ltb 1 (size r)) e)) (ltb-true 1 (size r) (and_right (has_one I clip r) (ltb 1 (size r)) e)))
+      (λ e. step_18 l r t (split clip r (and_left (has_one I clip r) (ltb 1 (size r)) e))
+      (ltb-true 1 (size r) (and_right (has_one I clip r) (ltb 1 (size r)) e)))
 
   walk_leaf_sound : (k : Kind) (c : Class) (a : Item) (t : Side Item)
       → class k a ≡ c
@@ -238,7 +239,8 @@ module _ (I : Items) where
       let in_right : Option (Side Item) = within (λ r'. group l r' t) (walk I k r) in
       let in_rest_law : Option (Side Item) = within (group l r) (walk I k t) in
       all_first P (rules I k l r t) (first in_left (first in_right in_rest_law)) (rules_sound k l r t)
-      (all_first P in_left (first in_right in_rest_law) (all_within (Step I clip l) P (λ l'. group l' r t) (λ x q. in_left_law q) (walk I clip l) (walk_sound clip l))
+      (all_first P in_left (first in_right in_rest_law)
+      (all_within (Step I clip l) P (λ l'. group l' r t) (λ x q. in_left_law q) (walk I clip l) (walk_sound clip l))
       (all_first P in_right in_rest_law
       (all_within (Step I k r) P (λ r'. group l r' t) (λ x q. in_right_law q) (walk I k r) (walk_sound k r))
       (all_within (Step I k t) P (group l r) (λ x q. in_rest q) (walk I k t) (walk_sound k t))))

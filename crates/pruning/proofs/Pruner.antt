@@ -398,7 +398,8 @@ module _ (I : Items) (Element : Type 0) (enc : Entry I.Item → List Element) (e
         → run I Element enc T (step I Element enc (at k (q ++ enc push ++ elements I Element enc clip L ++ enc activate) R (in_group right)) pop)
         ≡ run I Element enc z (at k pre (put I k y (put I k (one_group I mixed L R) N)) fs)
     after_right_law true e =
-        rw (is_end_law R e) (ap (run I Element enc T) (at_pop_empty k (q ++ enc push ++ elements I Element enc clip L ++ enc activate) (length q) (length pre) fs
+        rw (is_end_law R e) (ap (run I Element enc T)
+        (at_pop_empty k (q ++ enc push ++ elements I Element enc clip L ++ enc activate) (length q) (length pre) fs
         ∙ (ap (λ o. st o (length pre) going fs) (take_whole q (elements I Element enc clip L) (enc push) (enc activate)) ∙ sym (at_open k pre y fs h)))
         ∙ (iht z pre y fs g ∙ ap (λ w. run I Element enc z (at k pre w fs)) (sym (put_seal k y N))))
     after_right_law false e =

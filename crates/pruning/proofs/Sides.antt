@@ -32,7 +32,11 @@ module _ {A : Type 0} where
   flat_over_law k end z = refl
   flat_over_law k (leaf a t) z = ap (λ x. item k a ∷ x) (flat_over_law k t z)
   flat_over_law k (group l r t) z =
-      simp append_assoc (rw (flat_over_law k t z, flat_over_law k r (pop ∷ flat_over k t z), flat_over_law clip l (activate ∷ flat_over k r (pop ∷ flat_over k t z))) refl)
+      simp append_assoc (rw (
+        flat_over_law k t z,
+        flat_over_law k r (pop ∷ flat_over k t z),
+        flat_over_law clip l (activate ∷ flat_over k r (pop ∷ flat_over k t z)),
+      ) refl)
 
   pub flat_is_over : (k : Kind) (s : Side A) → flat k s ≡ flat_over k s []
   flat_is_over k s = sym (append-nil (flat k s)) ∙ flat_over_law k s []

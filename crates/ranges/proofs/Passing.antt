@@ -45,7 +45,8 @@ module _ (v : Env) where
 
   -- the row of the area is good, its role fits the side, its start number and what follows it are in range
   abbrev pub AreaPasses : Kind → ℕ → ℤ → List Segment → Type 0
-  AreaPasses k n z gs = (is_good (area_met v n) ≡ true) × (role_fits (area_met v n) (is_paint_side k) ≡ true) × (start_range (of_z w32 z) ≡ true) × EachPasses gs
+  AreaPasses k n z gs =
+      (is_good (area_met v n) ≡ true) × (role_fits (area_met v n) (is_paint_side k) ≡ true) × (start_range (of_z w32 z) ≡ true) × EachPasses gs
 
   -- "passes" stands on a clip side
   abbrev pub ItemPasses : Kind → Item → Type 0

@@ -163,10 +163,12 @@ module _ (b : List ℕ) (k : Counts) (c : Filed b k) where
       → t₁ ≡ sets t 0 (joined words_of_area (records_in b))
   left_1 t t₁ q = q ∙ rw (← same_part, spread_1 (records_in b))
 
-  pub left_2 : (t t₁ : List ℕ) → t₁ ≡ sets t 0 (joined (words_of 2) (good_records (decoded_from b 0 k.records))) → t₁ ≡ sets t 0 (joined words_of_x (records_in b))
+  pub left_2 : (t t₁ : List ℕ) → t₁ ≡ sets t 0 (joined (words_of 2) (good_records (decoded_from b 0 k.records))) → t₁
+      ≡ sets t 0 (joined words_of_x (records_in b))
   left_2 t t₁ q = q ∙ rw (← same_part, spread_2 (records_in b))
 
-  pub left_3 : (t t₁ : List ℕ) → t₁ ≡ sets t 0 (joined (words_of 3) (good_records (decoded_from b 0 k.records))) → t₁ ≡ sets t 0 (joined words_of_y (records_in b))
+  pub left_3 : (t t₁ : List ℕ) → t₁ ≡ sets t 0 (joined (words_of 3) (good_records (decoded_from b 0 k.records))) → t₁
+      ≡ sets t 0 (joined words_of_y (records_in b))
   left_3 t t₁ q = q ∙ rw (← same_part, spread_3 (records_in b))
 
 -- ---- the room test

@@ -61,7 +61,8 @@ sum_four D c ws =
     )
 
 pub sum_is : (D : Drawing) (c : Cell) (ws : List Words) (ts : List Tally) (n : ℕ) → ts ≡ worked_to D c ws 4
-    → n ≡ (get_or ts 0 no_tally).entries + (get_or ts 1 no_tally).entries + (get_or ts 2 no_tally).entries + (get_or ts 3 no_tally).entries → n ≡ length (streams_to D c ws 4)
+    → n ≡ (get_or ts 0 no_tally).entries + (get_or ts 1 no_tally).entries + (get_or ts 2 no_tally).entries + (get_or ts 3 no_tally).entries → n
+    ≡ length (streams_to D c ws 4)
 sum_is D c ws ts n e h =
     omega (
       arith,

@@ -40,7 +40,8 @@ pub struct Judged {
 // The entries of all four children.
 fn entries_of(ts: [Tally; 4]) -> usize
     requires { FewEach ts }
-    ensures answer { result ≡ (get_or ts 0 no_tally).entries + (get_or ts 1 no_tally).entries + (get_or ts 2 no_tally).entries + (get_or ts 3 no_tally).entries }
+    ensures answer { result ≡ (get_or ts 0 no_tally).entries + (get_or ts 1 no_tally).entries + (get_or ts 2 no_tally).entries
+        + (get_or ts 3 no_tally).entries }
 {
     let a = ts[0];
     let b = ts[1];

@@ -222,7 +222,8 @@ module _ (v : Env) (t : List ℕ) (n a : ℕ) (some : n ≡ 0 → ⊥) where
       fit = segment_fits v.xs v.ys v.used (words_at t i) && ltb l 2048
 
       more : (d : Bool) → scan_n v (cond r (mk n true a (l + 1 + m)) off_n) (words_from t (i + 1 + m) (k - m)) ≡ scan_n v (mk n true a (l + 1)) ws
-          → scan_n v (cond (d && r) (mk n true a (l + suc m)) off_n) (words_from t (i + suc m) (suc k - suc m)) ≡ scan_n v (cond d (mk n true a (l + 1)) off_n) ws
+          → scan_n v (cond (d && r) (mk n true a (l + suc m)) off_n) (words_from t (i + suc m) (suc k - suc m))
+          ≡ scan_n v (cond d (mk n true a (l + 1)) off_n) ws
       more true ih =
           let x : l + suc m ≡ l + 1 + m = omega arith in
           let y : i + suc m ≡ i + 1 + m = omega arith in

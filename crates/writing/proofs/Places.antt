@@ -82,7 +82,8 @@ module _ (D : Drawing) (c : Cell) where
   bar_moves (st out b (shut zero) fs) = left_moves out b (shut zero) fs
   bar_moves (st out b (shut (suc m)) fs) = rests out bar
 
-  keep_right_law : (t : Bool) (s o : ℕ) (out : List Element) (fs : List Frame) → Moves out closes (out_of (keep_right (items D) Element entry_elements t s o out fs))
+  keep_right_law : (t : Bool) (s o : ℕ) (out : List Element) (fs : List Frame)
+      → Moves out closes (out_of (keep_right (items D) Element entry_elements t s o out fs))
   keep_right_law true s o out fs = cuts s refl
   keep_right_law false s o out fs = adds refl
 

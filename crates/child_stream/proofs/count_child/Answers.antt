@@ -50,7 +50,8 @@ pruner_after-q-requires c =
     let D = lent a.areas.now a.xs.now a.ys.now a.b in
     let m = maker c.loop-i.p c.loop-i.a in
     let held = looping v D (cell_in a.s) R a.entries.now a.first a.count c.requires.passed c.loop-i.i m c.loop-i.at c.loop-i.invariant in
-    let h = loop_asks v D (cell_in a.s) R a.entries.now a.first a.count c.requires.passed c.loop-i.i m held c.loop-i-test.true in record { inside = h.inside; room = rw c.read_entry-w.ensures.answer h.room }
+    let h = loop_asks v D (cell_in a.s) R a.entries.now a.first a.count c.requires.passed c.loop-i.i m held c.loop-i-test.true in
+    record { inside = h.inside; room = rw c.read_entry-w.ensures.answer h.room }
 
 pub waiting_from-n-requires : goal.waiting_from-n-requires
 waiting_from-n-requires c =

@@ -25,7 +25,14 @@ pub returns-then-k-lt-MOST_AREAS : goal.returns-then-k-lt-MOST_AREAS
 unfolding put_start
 returns-then-k-lt-MOST_AREAS c =
     let a = c.args in
-    let fits = small_fits a.a.start c.requires.start_bound in record { at = rw (lt-ltb (a.p.weight / 4294967296) 64 c.if-k-lt-MOST_AREAS.true, small_back a.a.start c.requires.start_bound, to_z-of_z w16 a.a.start fits) }
+    let fits = small_fits a.a.start c.requires.start_bound in
+    record {
+      at = rw (
+        lt-ltb (a.p.weight / 4294967296) 64 c.if-k-lt-MOST_AREAS.true,
+        small_back a.a.start c.requires.start_bound,
+        to_z-of_z w16 a.a.start fits,
+      );
+    }
 
 pub returns-else-k-lt-MOST_AREAS : goal.returns-else-k-lt-MOST_AREAS
 unfolding put_start

@@ -62,7 +62,8 @@ write_other-q-requires c =
     let e = c.read_entry-w.ensures.answer
     ∙ entry_is v D (cell_in a.s) R a.entries.now a.first a.count a.free a.made c.requires.passed c.requires.count_bound c.requires.made_in_bounds
     c.loop-i.i m c.loop-i.entries c.loop-i.invariant c.loop-i-test.true in record {
-      limit_in_bounds = part_room v D (cell_in a.s) R a.entries.now a.first a.count a.free a.made c.requires.passed c.requires.count_bound c.requires.made_in_bounds
+      limit_in_bounds =
+          part_room v D (cell_in a.s) R a.entries.now a.first a.count a.free a.made c.requires.passed c.requires.count_bound c.requires.made_in_bounds
           c.loop-i.i m c.loop-i.entries c.loop-i.invariant;
       inside = h.inside;
       room = rw e h.room;
@@ -130,7 +131,8 @@ put_segment-requires c =
     let e = c.read_entry-w.ensures.answer
     ∙ entry_is v D (cell_in a.s) R a.entries.now a.first a.count a.free a.made c.requires.passed c.requires.count_bound c.requires.made_in_bounds
     c.loop-i.i m c.loop-i.entries c.loop-i.invariant c.loop-i-test.true in record {
-      limit_in_bounds = part_room v D (cell_in a.s) R a.entries.now a.first a.count a.free a.made c.requires.passed c.requires.count_bound c.requires.made_in_bounds
+      limit_in_bounds =
+          part_room v D (cell_in a.s) R a.entries.now a.first a.count a.free a.made c.requires.passed c.requires.count_bound c.requires.made_in_bounds
           c.loop-i.i m c.loop-i.entries c.loop-i.invariant;
       sign_bound = rw c.left_of-l.ensures.answer.0
           (sign_of v D (cell_in a.s) R a.entries.now a.first a.count c.requires.passed c.loop-i.i m held
@@ -183,7 +185,8 @@ loop-i-preserved c =
           (fill_turn v D (cell_in a.s) R a.entries.now a.first a.count a.free a.made c.requires.passed c.requires.count_bound c.requires.made_in_bounds
           c.loop-i.i m c.loop-i.entries c.loop-i.invariant c.loop-i-test.true
           (maker w.write_other-q.result w.waiting_from-n.result) wd a.s f z _ e ok c.requires.s_value refl refl w.write_other-q.ensures.answer
-          (w.waiting_from-n.ensures.answer ∙ other_waits c.loop-i.a f z wd other) (w.write_other-q.ensures.out ∙ other_put a.made a.areas.now _ m f z wd _ other))
+          (w.waiting_from-n.ensures.answer ∙ other_waits c.loop-i.a f z wd other)
+          (w.write_other-q.ensures.out ∙ other_put a.made a.areas.now _ m f z wd _ other))
       | else-prunes w ↦
           let l = w.left_of-l in
           let segment = sym w.if-prunes.false ∙ c.prunes.ensures.answer in
@@ -225,7 +228,8 @@ put_settled-requires c =
     let R = lent_reads a.areas.now a.xs.now a.ys.now a.b in
     let v = env a.areas.now a.xs.now a.ys.now a.b in
     let D = lent a.areas.now a.xs.now a.ys.now a.b in record {
-      limit_in_bounds = part_room v D (cell_in a.s) R a.entries.now a.first a.count a.free a.made c.requires.passed c.requires.count_bound c.requires.made_in_bounds
+      limit_in_bounds =
+          part_room v D (cell_in a.s) R a.entries.now a.first a.count a.free a.made c.requires.passed c.requires.count_bound c.requires.made_in_bounds
           c.loop-i.i m c.loop-i.entries c.loop-i.invariant;
       inside = end_inside v D (cell_in a.s) R a.entries.now a.first a.count c.requires.passed c.loop-i.i m
           (looping v D (cell_in a.s) R a.entries.now a.first a.count a.free a.made c.requires.passed c.requires.count_bound

@@ -4,7 +4,8 @@ use Rattle.drawing.proofs.area_row.Goals as goal
 
 pub returns-then-areas-i-eq0 : goal.returns-then-areas-i-eq0
 unfolding area_row
-returns-then-areas-i-eq0 c = record { answer = rw (lt-ltb _ _ c.if-i-used.true, eq-eqb _ _ c.if-areas-i-eq0.true, c.ranged_of.ensures.answer, c.fields_at-f.ensures.answer) }
+returns-then-areas-i-eq0 c =
+    record { answer = rw (lt-ltb _ _ c.if-i-used.true, eq-eqb _ _ c.if-areas-i-eq0.true, c.ranged_of.ensures.answer, c.fields_at-f.ensures.answer) }
 
 pub returns-then-i-used : goal.returns-then-i-used
 unfolding area_row

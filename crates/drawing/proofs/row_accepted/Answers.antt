@@ -11,7 +11,10 @@ pub fields_at-f-requires : goal.fields_at-f-requires
 fields_at-f-requires c = omega (arith, (area_good _ _ _ _ c.requires.c_value (eq-eqb _ _ c.if-k-eq-KIND_AREA.true)).0, c.requires.ready.areas)
 
 pub returns-then-k-eq-KIND_AREA : goal.returns-then-k-eq-KIND_AREA
-returns-then-k-eq-KIND_AREA c = record { answer = ap (λ (f : Fields). Good (Area f)) c.fields_at-f.ensures.answer ∙ sym (area_good _ _ _ _ c.requires.c_value (eq-eqb _ _ c.if-k-eq-KIND_AREA.true)).1 }
+returns-then-k-eq-KIND_AREA c = record {
+  answer = ap (λ (f : Fields). Good (Area f)) c.fields_at-f.ensures.answer
+      ∙ sym (area_good _ _ _ _ c.requires.c_value (eq-eqb _ _ c.if-k-eq-KIND_AREA.true)).1;
+}
 
 pub offset_bounds-xs-j : goal.offset_bounds-xs-j
 offset_bounds-xs-j c =

@@ -8,7 +8,8 @@ write_if_room-requires c = sym c.check_drawing-v.ensures.answer ∙ c.in-Accepte
 
 pub returns-in-Accepted : goal.returns-in-Accepted
 unfolding write_answer
-returns-in-Accepted c = record { answer = rw (← c.check_drawing-v.ensures.answer, c.in-Accepted.is) c.write_if_room.ensures.answer; out = c.write_if_room.ensures.out }
+returns-in-Accepted c =
+    record { answer = rw (← c.check_drawing-v.ensures.answer, c.in-Accepted.is) c.write_if_room.ensures.answer; out = c.write_if_room.ensures.out }
 
 pub returns-in-Refused : goal.returns-in-Refused
 unfolding write_answer

@@ -6,7 +6,8 @@ use Rattle.laws.proofs.Signed.{read_back}
 use Rattle.evaluate.proofs.area_passes.Goals as goal
 
 pub returns-then-areas-n-eq-NON_ZERO : goal.returns-then-areas-n-eq-NON_ZERO
-returns-then-areas-n-eq-NON_ZERO c = record { answer = rw c.if-areas-n-eq-NON_ZERO.true (c.fill_passes.ensures.answer ∙ ap (passes NonZero) (read_back c.args.sum c.ranges.sum.sfits)) }
+returns-then-areas-n-eq-NON_ZERO c =
+    record { answer = rw c.if-areas-n-eq-NON_ZERO.true (c.fill_passes.ensures.answer ∙ ap (passes NonZero) (read_back c.args.sum c.ranges.sum.sfits)) }
 
 pub returns : goal.returns
 returns c =

@@ -7,7 +7,8 @@ use Rattle.evaluate.proofs.moved.Goals as goal
 pub returns-then-is_segment : goal.returns-then-is_segment
 returns-then-is_segment c =
     let k = c.args.kind in
-    let s = sym c.is_segment.ensures.answer ∙ c.if-is_segment.true in record { answer = (rw (segment_ne k 1 s refl, segment_ne k 2 s refl, segment_ne k 3 s refl, s), omega arith) }
+    let s = sym c.is_segment.ensures.answer ∙ c.if-is_segment.true in
+    record { answer = (rw (segment_ne k 1 s refl, segment_ne k 2 s refl, segment_ne k 3 s refl, s), omega arith) }
 
 pub returns-in-1 : goal.returns-in-1
 returns-in-1 c = record { answer = (rw c.in-1.is c.after_open.ensures.answer.0, omega (arith, c.after_open.ensures.answer.1)) }

@@ -39,7 +39,8 @@ after_area-n-requires c =
     let a = c.args in
     let h = ranged_name a.entries.now a.i a.end (env a.areas.now a.xs.now a.ys.now a.b) a.w c.requires.ranged
     c.requires.w_value.0 c.requires.w_value.1 in
-    let l = area_below a.areas.now a.b.areas a.w.p h.0 in record { n_bound = omega (arith, l, c.requires.ranged.few_areas); n_in_bounds = omega (arith, l, c.requires.ranged.ready.areas) }
+    let l = area_below a.areas.now a.b.areas a.w.p h.0 in
+    record { n_bound = omega (arith, l, c.requires.ranged.few_areas); n_in_bounds = omega (arith, l, c.requires.ranged.ready.areas) }
 
 pub returns-then-m-eq-P : goal.returns-then-m-eq-P
 returns-then-m-eq-P c =
@@ -52,7 +53,8 @@ returns-then-m-eq-P c =
     ∙ c.start_of-z.ensures.answer in record {
       onward = area_onward a.areas.now a.xs.now a.ys.now a.x a.y a.entries.now a.i a.end
           (env a.areas.now a.xs.now a.ys.now a.b) c.requires.ranged a.m a.w c.requires.w_value.0
-          (record { machine = c.after_area-n.result; next = c.winding_from-s.result.next }) (to_z w64 (of_z w64 c.winding_from-s.result.sum)) c.requires.w_value.1
+          (record { machine = c.after_area-n.result; next = c.winding_from-s.result.next }) (to_z w64 (of_z w64 c.winding_from-s.result.sum))
+          c.requires.w_value.1
           c.after_area-n.ensures.answer.0 c.after_area-n.ensures.answer.1
           (read_back _ c.winding_from-s.type_inv.1.1.0.1
           ∙ (c.winding_from-s.ensures.sum

@@ -22,7 +22,8 @@ loop-i-init c =
     )
 
 pub returns-then-m-eq-STOPPED : goal.returns-then-m-eq-STOPPED
-returns-then-m-eq-STOPPED c = let a = c.args in record { answer = stopped_set a.areas.now a.xs.now a.ys.now a.x a.y c.loop-i.m _ c.if-m-eq-STOPPED.true c.loop-i.invariant.3 }
+returns-then-m-eq-STOPPED c =
+    let a = c.args in record { answer = stopped_set a.areas.now a.xs.now a.ys.now a.x a.y c.loop-i.m _ c.if-m-eq-STOPPED.true c.loop-i.invariant.3 }
 
 pub read_next-r-requires : goal.read_next-r-requires
 read_next-r-requires c =
@@ -38,7 +39,12 @@ pub loop-i-smaller : goal.loop-i-smaller
 loop-i-smaller c = omega (arith, c.read_next-r.ensures.onward.later, c.read_next-r.ensures.onward.inside)
 
 pub loop-i-preserved : goal.loop-i-preserved
-loop-i-preserved c = (omega (arith, c.read_next-r.ensures.onward.later, c.loop-i.invariant.0), c.read_next-r.ensures.onward.inside, omega (arith, c.read_next-r.ensures.onward.later, c.read_next-r.ensures.onward.deeper, c.loop-i.invariant.0, c.loop-i.invariant.2), c.read_next-r.ensures.onward.same ∙ c.loop-i.invariant.3)
+loop-i-preserved c = (
+  omega (arith, c.read_next-r.ensures.onward.later, c.loop-i.invariant.0),
+  c.read_next-r.ensures.onward.inside,
+  omega (arith, c.read_next-r.ensures.onward.later, c.read_next-r.ensures.onward.deeper, c.loop-i.invariant.0, c.loop-i.invariant.2),
+  c.read_next-r.ensures.onward.same ∙ c.loop-i.invariant.3,
+)
 
 pub returns : goal.returns
 returns c =

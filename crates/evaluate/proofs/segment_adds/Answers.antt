@@ -10,7 +10,12 @@ use Rattle.evaluate.proofs.segment_adds.Goals as goal
 pub line_adds-requires : goal.line_adds-requires
 line_adds-requires c =
     let a = c.args in
-    let l = sym c.is_line.ensures.answer ∙ c.if-is_line.true in record { line_below = line_below a.xs.now a.ys.now a.corners a.w c.requires.w_value l c.requires.corners_in_bounds; edge_in = entry_edge_in a.xs.now a.ys.now a.corners a.w c.requires.w_value l; position_in = c.requires.position_in }
+    let l = sym c.is_line.ensures.answer ∙ c.if-is_line.true in
+    record {
+      line_below = line_below a.xs.now a.ys.now a.corners a.w c.requires.w_value l c.requires.corners_in_bounds;
+      edge_in = entry_edge_in a.xs.now a.ys.now a.corners a.w c.requires.w_value l;
+      position_in = c.requires.position_in;
+    }
 
 pub returns-then-is_line : goal.returns-then-is_line
 unfolding adds

@@ -57,7 +57,8 @@ pub record SegmentsIn (t : List ℕ) (from end : ℕ) (xs ys : List ℕ) (b : Bo
 -- after an entry that is no area; a line, a curve or a shortcut leaves it as it is
 abbrev pub moved_by : ℕ → Registers ℕ → Registers ℕ
 moved_by kind m =
-    cond (eqb kind 1) (on_push m) (cond (eqb kind 2) (on_activate m) (cond (eqb kind 3) (on_pop m) (cond (is_segment kind) m (on_item clip true true (λ s. s) m))))
+    cond (eqb kind 1) (on_push m) (cond (eqb kind 2) (on_activate m)
+    (cond (eqb kind 3) (on_pop m) (cond (is_segment kind) m (on_item clip true true (λ s. s) m))))
 
 -- the entries from i up to `end`, one at least, are in range
 pub record Ranged (t : List ℕ) (i end : ℕ) (v : Env) : Type 0 where

@@ -14,7 +14,8 @@ returns-then-is_position c =
 pub returns-then-xs-ys : goal.returns-then-xs-ys
 returns-then-xs-ys c =
     let a = c.args in
-    let T = tree a.plan.now a.areas.now a.xs.now a.ys.now a.head.now a.cells.now a.entries.now in record { answer = find_outside T a.x a.y c.if-xs-ys.true (sym c.is_position.ensures.answer ∙ c.if-is_position.false) }
+    let T = tree a.plan.now a.areas.now a.xs.now a.ys.now a.head.now a.cells.now a.entries.now in
+    record { answer = find_outside T a.x a.y c.if-xs-ys.true (sym c.is_position.ensures.answer ∙ c.if-is_position.false) }
 
 pub returns : goal.returns
 returns c =

@@ -13,4 +13,5 @@ returns-in-At c =
 pub returns-in-Broken : goal.returns-in-Broken
 returns-in-Broken c =
     let a = c.args in
-    let T = tree a.plan.now a.areas.now a.xs.now a.ys.now a.head.now a.cells.now a.entries.now in record { answer = found_no T a.x a.y c.read_leaf-f.result c.read_leaf-f.ensures.answer c.in-Broken.is }
+    let T = tree a.plan.now a.areas.now a.xs.now a.ys.now a.head.now a.cells.now a.entries.now in
+    record { answer = found_no T a.x a.y c.read_leaf-f.result c.read_leaf-f.ensures.answer c.in-Broken.is }

@@ -12,4 +12,8 @@ pub returns : goal.returns
 returns c =
     let a = c.args in
     let D = lent a.areas.now a.xs.now a.ys.now a.b in
-    let ws = words_from a.entries.now a.first a.count in record { answer = ap₂ (λ (ts : List Tally) (t : Tally). set ts a.q t) c.requires.ts_value c.count_one-t.ensures.answer ∙ worked_next D (cell_of a.w) ws a.q c.requires.q_bound }
+    let ws = words_from a.entries.now a.first a.count in
+    record {
+      answer = ap₂ (λ (ts : List Tally) (t : Tally). set ts a.q t) c.requires.ts_value c.count_one-t.ensures.answer
+          ∙ worked_next D (cell_of a.w) ws a.q c.requires.q_bound;
+    }

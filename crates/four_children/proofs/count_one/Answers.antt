@@ -14,7 +14,12 @@ use Rattle.four_children.proofs.Made.{few_elements}
 use Rattle.four_children.proofs.count_one.Goals as goal
 
 pub count_child-n-requires : goal.count_child-n-requires
-count_child-n-requires c = let a = c.args in record { passed = c.requires.passed; square_in = kid_square a.w c.requires.w_value a.q c.quarter_of-s.result c.quarter_of-s.ensures.answer; s_value = kid_back a.w c.requires.w_value a.q c.quarter_of-s.result c.quarter_of-s.ensures.answer }
+count_child-n-requires c = let a = c.args in
+    record {
+      passed = c.requires.passed;
+      square_in = kid_square a.w c.requires.w_value a.q c.quarter_of-s.result c.quarter_of-s.ensures.answer;
+      s_value = kid_back a.w c.requires.w_value a.q c.quarter_of-s.result c.quarter_of-s.ensures.answer;
+    }
 
 pub returns : goal.returns
 returns c =

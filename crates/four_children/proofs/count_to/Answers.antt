@@ -9,7 +9,13 @@ pub loop-q-init : goal.loop-q-init
 loop-q-init c = record { low = omega arith; tallies = c.no_tallies-ts.ensures.answer }
 
 pub count_next-next-requires : goal.count_next-next-requires
-count_next-next-requires c = record { q_bound = omega (arith, c.loop-q-test.true, c.requires.n_bound); passed = c.requires.passed; w_value = c.requires.w_value; lt_side = c.requires.lt_side; ts_value = c.loop-q.invariant.tallies }
+count_next-next-requires c = record {
+  q_bound = omega (arith, c.loop-q-test.true, c.requires.n_bound);
+  passed = c.requires.passed;
+  w_value = c.requires.w_value;
+  lt_side = c.requires.lt_side;
+  ts_value = c.loop-q.invariant.tallies;
+}
 
 pub overflow_add-q : goal.overflow_add-q
 overflow_add-q c = record { fits = omega (arith, c.loop-q-test.true, c.requires.n_bound) }

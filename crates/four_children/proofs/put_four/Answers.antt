@@ -11,7 +11,12 @@ loop-n-init c =
 pub child_words-c-requires : goal.child_words-c-requires
 child_words-c-requires c =
     let l = c.loop-n-test.true in
-    let few = c.requires.few_each in record { w_value = c.requires.w_value; lt_side = c.requires.lt_side; entries_bound = (few.few c.loop-n.n (omega (arith, l)), few.few_lines c.loop-n.n (omega (arith, l))) }
+    let few = c.requires.few_each in
+    record {
+      w_value = c.requires.w_value;
+      lt_side = c.requires.lt_side;
+      entries_bound = (few.few c.loop-n.n (omega (arith, l)), few.few_lines c.loop-n.n (omega (arith, l)));
+    }
 
 pub overflow_add-new : goal.overflow_add-new
 overflow_add-new c = record { fits = omega (arith, c.requires.used_bound.0, c.loop-n-test.true) }

@@ -13,7 +13,15 @@ write_child-requires c =
     let a = c.args in
     let D = lent a.areas.now a.xs.now a.ys.now a.b in
     let ws = words_from a.entries.now a.first a.count in
-    let s = c.quarter_of-s.result in record { passed = c.requires.passed; square_in = kid_square a.w c.requires.w_value a.q s c.quarter_of-s.ensures.answer; s_value = kid_back a.w c.requires.w_value a.q s c.quarter_of-s.ensures.answer; count_bound = c.requires.count_bound; made_in_bounds = c.requires.made_in_bounds; made_value = c.requires.made_value ∙ ap (λ (k : Cell). length (elements_made D k ws)) (sym (kid_in a.w c.requires.w_value a.q s c.quarter_of-s.ensures.answer)) }
+    let s = c.quarter_of-s.result in record {
+      passed = c.requires.passed;
+      square_in = kid_square a.w c.requires.w_value a.q s c.quarter_of-s.ensures.answer;
+      s_value = kid_back a.w c.requires.w_value a.q s c.quarter_of-s.ensures.answer;
+      count_bound = c.requires.count_bound;
+      made_in_bounds = c.requires.made_in_bounds;
+      made_value = c.requires.made_value
+          ∙ ap (λ (k : Cell). length (elements_made D k ws)) (sym (kid_in a.w c.requires.w_value a.q s c.quarter_of-s.ensures.answer));
+    }
 
 pub returns : goal.returns
 returns c =

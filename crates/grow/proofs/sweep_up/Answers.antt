@@ -25,7 +25,8 @@ loop-s-init c =
     sweeping_begin a.threshold a.limit T c.requires
 
 pub take_turn-r-requires : goal.take_turn-r-requires
-take_turn-r-requires c = let I = c.loop-s.invariant in record { entries_value = I.counts; used_value = (I.used, I.free); cell_lt_used = (c.loop-s-test.true, I.fewer) }
+take_turn-r-requires c =
+    let I = c.loop-s.invariant in record { entries_value = I.counts; used_value = (I.used, I.free); cell_lt_used = (c.loop-s-test.true, I.fewer) }
 
 pub loop-s-smaller : goal.loop-s-smaller
 loop-s-smaller c =
@@ -49,7 +50,8 @@ returns-in-NoRoom c =
     let T = tree a.plan.now a.areas.now a.xs.now a.ys.now a.head.now a.cells.now a.entries.now in
     let Q = full_tree a.threshold a.limit T a.plan.now a.areas.now a.xs.now a.ys.now
     c.loop-s.head c.loop-s.cells c.loop-s.entries c.loop-s.s c.loop-s.invariant c.loop-s-test.true _ _ _
-    c.take_turn-r.result c.take_turn-r.ensures.answer c.take_turn-r.ensures.head c.take_turn-r.ensures.cells c.take_turn-r.ensures.entries c.in-NoRoom.is in record {
+    c.take_turn-r.result c.take_turn-r.ensures.answer c.take_turn-r.ensures.head c.take_turn-r.ensures.cells c.take_turn-r.ensures.entries c.in-NoRoom.is in
+    record {
       answer = loop_full a.threshold a.limit T a.plan.now a.areas.now a.xs.now a.ys.now c.loop-s.head
           c.loop-s.cells c.loop-s.entries c.loop-s.s c.loop-s.invariant c.loop-s-test.true _ _ _
           c.take_turn-r.result c.take_turn-r.ensures.answer c.take_turn-r.ensures.head c.take_turn-r.ensures.cells c.take_turn-r.ensures.entries c.in-NoRoom.is;
@@ -64,10 +66,12 @@ returns-in-Stopped c =
     let T = tree a.plan.now a.areas.now a.xs.now a.ys.now a.head.now a.cells.now a.entries.now in
     let Q = stopped_tree a.threshold a.limit T a.plan.now a.areas.now a.xs.now a.ys.now
     c.loop-s.head c.loop-s.cells c.loop-s.entries c.loop-s.s c.loop-s.invariant c.loop-s-test.true _ _ _
-    c.take_turn-r.result c.take_turn-r.ensures.answer c.take_turn-r.ensures.head c.take_turn-r.ensures.cells c.take_turn-r.ensures.entries c.in-Stopped.is in record {
+    c.take_turn-r.result c.take_turn-r.ensures.answer c.take_turn-r.ensures.head c.take_turn-r.ensures.cells c.take_turn-r.ensures.entries
+    c.in-Stopped.is in record {
       answer = loop_stopped a.threshold a.limit T a.plan.now a.areas.now a.xs.now a.ys.now c.loop-s.head
           c.loop-s.cells c.loop-s.entries c.loop-s.s c.loop-s.invariant c.loop-s-test.true _ _ _
-          c.take_turn-r.result c.take_turn-r.ensures.answer c.take_turn-r.ensures.head c.take_turn-r.ensures.cells c.take_turn-r.ensures.entries c.in-Stopped.is;
+          c.take_turn-r.result c.take_turn-r.ensures.answer c.take_turn-r.ensures.head c.take_turn-r.ensures.cells c.take_turn-r.ensures.entries
+          c.in-Stopped.is;
       head = ap (λ (u : Tree). u.head) Q;
       cells = ap (λ (u : Tree). u.cells) Q;
       entries = ap (λ (u : Tree). u.entries) Q;
@@ -80,4 +84,5 @@ returns c =
     let D = sweep_done a.threshold a.limit T
     (tree a.plan.now a.areas.now a.xs.now a.ys.now c.loop-s.head c.loop-s.cells
     c.loop-s.entries)
-    c.loop-s.s c.loop-s.invariant c.loop-s-test.false in record { answer = D.0; head = ap (λ (u : Tree). u.head) D.1; cells = ap (λ (u : Tree). u.cells) D.1; entries = ap (λ (u : Tree). u.entries) D.1 }
+    c.loop-s.s c.loop-s.invariant c.loop-s-test.false in
+    record { answer = D.0; head = ap (λ (u : Tree). u.head) D.1; cells = ap (λ (u : Tree). u.cells) D.1; entries = ap (λ (u : Tree). u.entries) D.1 }

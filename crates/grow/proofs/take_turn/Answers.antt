@@ -20,7 +20,12 @@ returns-in-Bad c =
     let a = c.args in
     let T = tree a.plan.now a.areas.now a.xs.now a.ys.now a.head.now a.cells.now a.entries.now in
     let E = tried_here a.threshold a.limit T a.s c.try_cell-t.result c.requires.used_value.0 c.requires.used_value.1 c.try_cell-t.ensures.answer
-    ∙ c.in-Bad.is in record { answer = sym (ap (λ (x : Tried). turn_by x T a.s) E); head = sym (ap (λ (x : Tried). (tree_by x T a.s.cell).head) E); cells = sym (ap (λ (x : Tried). (tree_by x T a.s.cell).cells) E); entries = sym (ap (λ (x : Tried). (tree_by x T a.s.cell).entries) E) }
+    ∙ c.in-Bad.is in record {
+      answer = sym (ap (λ (x : Tried). turn_by x T a.s) E);
+      head = sym (ap (λ (x : Tried). (tree_by x T a.s.cell).head) E);
+      cells = sym (ap (λ (x : Tried). (tree_by x T a.s.cell).cells) E);
+      entries = sym (ap (λ (x : Tried). (tree_by x T a.s.cell).entries) E);
+    }
 
 pub past-next-requires : goal.past-next-requires
 past-next-requires c =
@@ -33,7 +38,12 @@ returns-in-Past c =
     let a = c.args in
     let T = tree a.plan.now a.areas.now a.xs.now a.ys.now a.head.now a.cells.now a.entries.now in
     let E = tried_here a.threshold a.limit T a.s c.try_cell-t.result c.requires.used_value.0 c.requires.used_value.1 c.try_cell-t.ensures.answer
-    ∙ c.in-Past.is in record { answer = ap (λ (q : Sweep). Further q) c.past-next.ensures.answer ∙ sym (ap (λ (x : Tried). turn_by x T a.s) E); head = sym (ap (λ (x : Tried). (tree_by x T a.s.cell).head) E); cells = sym (ap (λ (x : Tried). (tree_by x T a.s.cell).cells) E); entries = sym (ap (λ (x : Tried). (tree_by x T a.s.cell).entries) E) }
+    ∙ c.in-Past.is in record {
+      answer = ap (λ (q : Sweep). Further q) c.past-next.ensures.answer ∙ sym (ap (λ (x : Tried). turn_by x T a.s) E);
+      head = sym (ap (λ (x : Tried). (tree_by x T a.s.cell).head) E);
+      cells = sym (ap (λ (x : Tried). (tree_by x T a.s.cell).cells) E);
+      entries = sym (ap (λ (x : Tried). (tree_by x T a.s.cell).entries) E);
+    }
 
 pub split_wanted-requires : goal.split_wanted-requires
 split_wanted-requires c =
@@ -41,11 +51,22 @@ split_wanted-requires c =
     let T = tree a.plan.now a.areas.now a.xs.now a.ys.now a.head.now a.cells.now a.entries.now in
     let u = used_most T c.requires.entries_value in
     let e = c.requires.used_value.0 in
-    let q = c.requires.cell_lt_used in record { cell_bound = (omega (arith, u, e, q.0), omega (arith, u, e), omega (arith, u, e, q.0, q.1)); in_bounds = counts_long T c.requires.entries_value }
+    let q = c.requires.cell_lt_used in record {
+      cell_bound = (omega (arith, u, e, q.0), omega (arith, u, e), omega (arith, u, e, q.0, q.1));
+      in_bounds = counts_long T c.requires.entries_value;
+    }
 
 pub returns-in-Wanted : goal.returns-in-Wanted
 returns-in-Wanted c =
     let a = c.args in
     let T = tree a.plan.now a.areas.now a.xs.now a.ys.now a.head.now a.cells.now a.entries.now in
     let E = tried_here a.threshold a.limit T a.s c.try_cell-t.result c.requires.used_value.0 c.requires.used_value.1 c.try_cell-t.ensures.answer
-    ∙ c.in-Wanted.is in record { answer = c.split_wanted.ensures.answer ∙ sym (ap (λ (x : Tried). turn_by x T a.s) E); head = c.split_wanted.ensures.head ∙ sym (ap (λ (x : Tried). (tree_by x T a.s.cell).head) E); cells = c.split_wanted.ensures.cells ∙ sym (ap (λ (x : Tried). (tree_by x T a.s.cell).cells) E); entries = c.split_wanted.ensures.entries ∙ sym (ap (λ (x : Tried). (tree_by x T a.s.cell).entries) E) }
+    ∙ c.in-Wanted.is in record {
+      answer = c.split_wanted.ensures.answer ∙ sym (ap (λ (x : Tried). turn_by x T a.s) E);
+      head = c.split_wanted.ensures.head
+          ∙ sym (ap (λ (x : Tried). (tree_by x T a.s.cell).head) E);
+      cells = c.split_wanted.ensures.cells
+          ∙ sym (ap (λ (x : Tried). (tree_by x T a.s.cell).cells) E);
+      entries = c.split_wanted.ensures.entries
+          ∙ sym (ap (λ (x : Tried). (tree_by x T a.s.cell).entries) E);
+    }

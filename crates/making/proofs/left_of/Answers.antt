@@ -7,7 +7,12 @@ line_left-requires c =
     let a = c.args in
     let s = sym c.is_segment.ensures.answer ∙ c.if-is_segment.true in
     let l = sym c.is_line.ensures.answer ∙ c.if-is_line.true in
-    let r = rw s at c.requires.w_value in record { line_below = line_below a.xs.now a.ys.now a.corners a.w r l c.requires.corners_in_bounds; edge_in = entry_edge_in a.xs.now a.ys.now a.corners a.w r l; square_in = c.requires.square_in }
+    let r = rw s at c.requires.w_value in
+    record {
+      line_below = line_below a.xs.now a.ys.now a.corners a.w r l c.requires.corners_in_bounds;
+      edge_in = entry_edge_in a.xs.now a.ys.now a.corners a.w r l;
+      square_in = c.requires.square_in;
+    }
 
 pub returns-then-is_line : goal.returns-then-is_line
 returns-then-is_line c =

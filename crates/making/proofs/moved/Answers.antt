@@ -3,7 +3,8 @@ use native.Mathlib.Omega.{arith}
 use Rattle.making.proofs.moved.Goals as goal
 
 pub after_open-requires : goal.after_open-requires
-after_open-requires c = record { weight_bound = omega (arith, c.requires.weight_bound.0); skip_bound = c.requires.weight_bound.2; depth_bound = c.requires.depth_bound c.in-1.is }
+after_open-requires c =
+    record { weight_bound = omega (arith, c.requires.weight_bound.0); skip_bound = c.requires.weight_bound.2; depth_bound = c.requires.depth_bound c.in-1.is }
 
 pub returns-in-1 : goal.returns-in-1
 returns-in-1 c = record { answer = rw c.in-1.is c.after_open.ensures.answer }

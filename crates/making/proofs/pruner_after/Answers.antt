@@ -7,7 +7,8 @@ pub returns-then-is_segment : goal.returns-then-is_segment
 returns-then-is_segment c = let s = sym c.is_segment.ensures.answer ∙ c.if-is_segment.true in record { answer = rw s }
 
 pub moved-requires : goal.moved-requires
-moved-requires c = let a = c.args in let both = room_after a.areas.now a.p c.settled-q.result a.a a.kind c.settled-q.ensures.answer c.requires.room in record { weight_bound = both.0; depth_bound = both.1 }
+moved-requires c = let a = c.args in let both = room_after a.areas.now a.p c.settled-q.result a.a a.kind c.settled-q.ensures.answer c.requires.room in
+    record { weight_bound = both.0; depth_bound = both.1 }
 
 pub returns : goal.returns
 returns c =

@@ -10,14 +10,26 @@ judge_room-requires c = sym c.check_drawing-v.ensures.answer ∙ c.in-Accepted.i
 pub returns-in-Accepted : goal.returns-in-Accepted
 returns-in-Accepted c =
     let a = c.args in
-    let T = tree a.plan.now a.areas.now a.xs.now a.ys.now a.head.now a.cells.now a.entries.now in record { answer = c.judge_room.ensures.answer ∙ passed T _ c.if-xs-ys.true (sym c.check_drawing-v.ensures.answer ∙ c.in-Accepted.is); told = c.judge_room.ensures.told }
+    let T = tree a.plan.now a.areas.now a.xs.now a.ys.now a.head.now a.cells.now a.entries.now in
+    record {
+      answer = c.judge_room.ensures.answer ∙ passed T _ c.if-xs-ys.true (sym c.check_drawing-v.ensures.answer ∙ c.in-Accepted.is);
+      told = c.judge_room.ensures.told;
+    }
 
 pub returns-in-Refused : goal.returns-in-Refused
 returns-in-Refused c =
     let a = c.args in
-    let T = tree a.plan.now a.areas.now a.xs.now a.ys.now a.head.now a.cells.now a.entries.now in record { answer = c.refused.ensures.answer ∙ broken T _ _ c.if-xs-ys.true (sym c.check_drawing-v.ensures.answer ∙ c.in-Refused.is); told = told_refused T c.refused.result Broken c.refused.ensures.answer }
+    let T = tree a.plan.now a.areas.now a.xs.now a.ys.now a.head.now a.cells.now a.entries.now in
+    record {
+      answer = c.refused.ensures.answer ∙ broken T _ _ c.if-xs-ys.true (sym c.check_drawing-v.ensures.answer ∙ c.in-Refused.is);
+      told = told_refused T c.refused.result Broken c.refused.ensures.answer;
+    }
 
 pub returns : goal.returns
 returns c =
     let a = c.args in
-    let T = tree a.plan.now a.areas.now a.xs.now a.ys.now a.head.now a.cells.now a.entries.now in record { answer = c.refused-2.ensures.answer ∙ unequal T c.if-xs-ys.false; told = told_refused T c.refused-2.result Argument c.refused-2.ensures.answer }
+    let T = tree a.plan.now a.areas.now a.xs.now a.ys.now a.head.now a.cells.now a.entries.now in
+    record {
+      answer = c.refused-2.ensures.answer ∙ unequal T c.if-xs-ys.false;
+      told = told_refused T c.refused-2.result Argument c.refused-2.ensures.answer;
+    }

@@ -91,4 +91,5 @@ returns c =
     let i = c.loop-i.i in
     let k = c.loop-i-test.false in
     let v = c.loop-i.invariant.1 in
-    let e = filling_done T a.row a.first a.out.now n i c.loop-i.last c.loop-i.out k v in record { answer = ap (λ (z : Filled). z.answer) e; out = ap (λ (z : Filled). z.bytes) e }
+    let e = filling_done T a.row a.first a.out.now n i c.loop-i.last c.loop-i.out k v in
+    record { answer = ap (λ (z : Filled). z.answer) e; out = ap (λ (z : Filled). z.bytes) e }

@@ -6,7 +6,8 @@ use mathlib.Core.Path.{◌≡◌}
 use Rattle.pixel_row.proofs.fill_row.Given as goal
 
 abbrev pub invariant-loop-i : goal.invariant-loop-i
-invariant-loop-i l = (l.n ≡ length l.initial.out / 3) × Filling (tree l.plan l.areas l.xs l.ys l.head l.cells l.entries) l.row l.first l.initial.out l.n l.i l.last l.out
+invariant-loop-i l =
+    (l.n ≡ length l.initial.out / 3) × Filling (tree l.plan l.areas l.xs l.ys l.head l.cells l.entries) l.row l.first l.initial.out l.n l.i l.last l.out
 
 abbrev pub decreases-loop-i : goal.decreases-loop-i
 decreases-loop-i l = l.n - l.i

@@ -18,7 +18,8 @@ set_for-shown-requires c =
     let a = c.args in
     let T = tree a.plan.now a.areas.now a.xs.now a.ys.now a.head.now a.cells.now a.entries.now in
     let q = c.sample_at-p.result in
-    let k = readable T q.x q.y c.leaf_for-s.result _ _ _ c.leaf_for-s.ensures.answer c.in-In.is in record { in_bounds = k.plan_long; passed = k.stream; x_bound = (c.sample_at-p.ensures.x_range, c.sample_at-p.ensures.y_range); set_value = k.read }
+    let k = readable T q.x q.y c.leaf_for-s.result _ _ _ c.leaf_for-s.ensures.answer c.in-In.is in
+    record { in_bounds = k.plan_long; passed = k.stream; x_bound = (c.sample_at-p.ensures.x_range, c.sample_at-p.ensures.y_range); set_value = k.read }
 
 pub colour_of-c-requires : goal.colour_of-c-requires
 colour_of-c-requires c = c.set_for-shown.ensures.painted
@@ -55,7 +56,8 @@ pixel_from-requires c =
     let h = set_named T c.in-In.l q.x q.y x y c.set_for-shown.result c.sample_at-p.ensures.x c.sample_at-p.ensures.y c.set_for-shown.ensures.answer in
     let k = known_set T x y c.leaf_for-s.result c.in-In.l c.in-In.uniform c.in-In.set c.set_for-shown.result r c.in-In.is h in record {
       sampling = sampling_turn T a.row a.column 16 0 c.set_for-shown.result a.before _ no_channels c.channel_sums-sums.result
-          c.channel_sums-sums.result (omega arith) (sampling_begin T a.row a.column 16 a.before c.requires.last_in) k c.channel_sums-sums.ensures.answer c.channel_sums-sums.ensures.range
+          c.channel_sums-sums.result (omega arith) (sampling_begin T a.row a.column 16 a.before c.requires.last_in) k c.channel_sums-sums.ensures.answer
+          c.channel_sums-sums.ensures.range
           (plus_none c.channel_sums-sums.result);
       row_bound = c.requires.row_bound;
     }

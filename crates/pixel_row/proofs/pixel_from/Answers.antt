@@ -9,7 +9,8 @@ pub loop-i-init : goal.loop-i-init
 loop-i-init c = c.requires.sampling
 
 pub sample_at-p-requires : goal.sample_at-p-requires
-sample_at-p-requires c = let k = c.loop-i-test.true in record { row_bound = omega (arith, c.requires.row_bound); pixel_bound = omega (arith, c.requires.row_bound); i_bound = omega (arith, k) }
+sample_at-p-requires c = let k = c.loop-i-test.true in
+    record { row_bound = omega (arith, c.requires.row_bound); pixel_bound = omega (arith, c.requires.row_bound); i_bound = omega (arith, k) }
 
 pub leaf_for-s-requires : goal.leaf_for-s-requires
 leaf_for-s-requires c = record { last_in = c.loop-i.invariant.read; x_bound = (c.sample_at-p.ensures.x_range, c.sample_at-p.ensures.y_range) }
@@ -19,7 +20,8 @@ set_for-shown-requires c =
     let a = c.args in
     let T = tree a.plan.now a.areas.now a.xs.now a.ys.now a.head.now a.cells.now a.entries.now in
     let q = c.sample_at-p.result in
-    let k = readable T q.x q.y c.leaf_for-s.result _ _ _ c.leaf_for-s.ensures.answer c.in-In.is in record { in_bounds = k.plan_long; passed = k.stream; x_bound = (c.sample_at-p.ensures.x_range, c.sample_at-p.ensures.y_range); set_value = k.read }
+    let k = readable T q.x q.y c.leaf_for-s.result _ _ _ c.leaf_for-s.ensures.answer c.in-In.is in
+    record { in_bounds = k.plan_long; passed = k.stream; x_bound = (c.sample_at-p.ensures.x_range, c.sample_at-p.ensures.y_range); set_value = k.read }
 
 pub channel_sums-c-requires : goal.channel_sums-c-requires
 channel_sums-c-requires c = c.set_for-shown.ensures.painted
@@ -27,7 +29,10 @@ channel_sums-c-requires c = c.set_for-shown.ensures.painted
 pub add_sample-sum-requires : goal.add_sample-sum-requires
 add_sample-sum-requires c =
     let i = c.loop-i.i in
-    let k = c.loop-i-test.true in record { samples_in = fewer_in i 15 c.loop-i.sum (omega (arith, k)) c.loop-i.invariant.small; channels_in = c.channel_sums-c.ensures.range }
+    let k = c.loop-i-test.true in record {
+      samples_in = fewer_in i 15 c.loop-i.sum (omega (arith, k)) c.loop-i.invariant.small;
+      channels_in = c.channel_sums-c.ensures.range;
+    }
 
 pub overflow_add-i : goal.overflow_add-i
 overflow_add-i c = omega (arith, c.loop-i-test.true)

@@ -22,7 +22,11 @@ returns-then-out-eq0 c =
     (le-leb a.row 4095 c.if-row-le-LAST_ROW.true)
     ∙ pick_true (eqb (length a.xs.now) (length a.ys.now))
     (cond (leb a.row 4095) (cond (eqb (length out % 3) 0) (row_span T a.row a.first out) no) no) no
-    (eq-eqb (length a.xs.now) (length a.ys.now) c.if-xs-ys.true)) in record { answer = c.row_spanned.ensures.answer ∙ ap (λ (z : Filled). z.answer) e; out = c.row_spanned.ensures.out ∙ ap (λ (z : Filled). z.bytes) e }
+    (eq-eqb (length a.xs.now) (length a.ys.now) c.if-xs-ys.true)) in record {
+      answer =
+          c.row_spanned.ensures.answer ∙ ap (λ (z : Filled). z.answer) e;
+      out = c.row_spanned.ensures.out ∙ ap (λ (z : Filled). z.bytes) e;
+    }
 
 pub returns-then-row-le-LAST_ROW : goal.returns-then-row-le-LAST_ROW
 returns-then-row-le-LAST_ROW c =

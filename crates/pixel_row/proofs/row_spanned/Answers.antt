@@ -17,7 +17,8 @@ returns-then-first-out-le-PIXELS c =
     let out = a.out.now in
     let no = filled (Not Argument 0) out in
     let e = pick_true (leb (a.first + length out / 3) 4096) (fill_from T a.row a.first 0 (length out / 3) out) no
-    (le-leb (a.first + length out / 3) 4096 c.if-first-out-le-PIXELS.true) in record { answer = c.fill_row.ensures.answer ∙ ap (λ (z : Filled). z.answer) e; out = c.fill_row.ensures.out ∙ ap (λ (z : Filled). z.bytes) e }
+    (le-leb (a.first + length out / 3) 4096 c.if-first-out-le-PIXELS.true) in
+    record { answer = c.fill_row.ensures.answer ∙ ap (λ (z : Filled). z.answer) e; out = c.fill_row.ensures.out ∙ ap (λ (z : Filled). z.bytes) e }
 
 pub returns : goal.returns
 returns c =
@@ -26,4 +27,5 @@ returns c =
     let out = a.out.now in
     let no = filled (Not Argument 0) out in
     let e = pick_false (leb (a.first + length out / 3) 4096) (fill_from T a.row a.first 0 (length out / 3) out) no
-    (lt-leb (a.first + length out / 3) 4096 c.if-first-out-le-PIXELS.false) in record { answer = ap (λ (z : Filled). z.answer) e; out = ap (λ (z : Filled). z.bytes) e }
+    (lt-leb (a.first + length out / 3) 4096 c.if-first-out-le-PIXELS.false) in
+    record { answer = ap (λ (z : Filled). z.answer) e; out = ap (λ (z : Filled). z.bytes) e }

@@ -5,7 +5,10 @@ use native.Mathlib.Omega.{arith}
 use Rattle.position.proofs.set_in.Goals as goal
 
 pub read_stream-requires : goal.read_stream-requires
-read_stream-requires c = record { passed = rw c.bounds_in-b.ensures.answer (c.requires.passed); position_in = record { position_x = omega (arith, c.requires.x_bound); position_y = omega (arith, c.requires.x_bound) } }
+read_stream-requires c = record {
+  passed = rw c.bounds_in-b.ensures.answer (c.requires.passed);
+  position_in = record { position_x = omega (arith, c.requires.x_bound); position_y = omega (arith, c.requires.x_bound) };
+}
 
 pub returns : goal.returns
 returns c =

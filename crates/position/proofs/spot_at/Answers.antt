@@ -8,7 +8,8 @@ pub set_for-shown-requires : goal.set_for-shown-requires
 set_for-shown-requires c =
     let a = c.args in
     let T = tree a.plan.now a.areas.now a.xs.now a.ys.now a.head.now a.cells.now a.entries.now in
-    let k = readable T a.x a.y c.leaf_anew-s.result _ _ _ c.leaf_anew-s.ensures.answer c.in-In.is in record { in_bounds = k.plan_long; passed = k.stream; x_bound = c.requires; set_value = k.read }
+    let k = readable T a.x a.y c.leaf_anew-s.result _ _ _ c.leaf_anew-s.ensures.answer c.in-In.is in
+    record { in_bounds = k.plan_long; passed = k.stream; x_bound = c.requires; set_value = k.read }
 
 pub spot_of-spot-requires : goal.spot_of-spot-requires
 spot_of-spot-requires c = c.set_for-shown.ensures.painted
@@ -25,4 +26,5 @@ returns-in-In c =
 pub returns-in-Broken : goal.returns-in-Broken
 returns-in-Broken c =
     let a = c.args in
-    let T = tree a.plan.now a.areas.now a.xs.now a.ys.now a.head.now a.cells.now a.entries.now in record { answer = spot_broken T a.x a.y c.leaf_anew-s.result c.leaf_anew-s.ensures.answer c.in-Broken.is }
+    let T = tree a.plan.now a.areas.now a.xs.now a.ys.now a.head.now a.cells.now a.entries.now in
+    record { answer = spot_broken T a.x a.y c.leaf_anew-s.result c.leaf_anew-s.ensures.answer c.in-Broken.is }

@@ -5,7 +5,11 @@ use Rattle.probe.proofs.Laws.{children_in}
 use Rattle.probe.proofs.probe_tally.Goals as goal
 
 pub tally_number-requires : goal.tally_number-requires
-tally_number-requires c = record { passed = passed _ _ _ _ _ (sym c.stream_passes-passes.ensures.answer ∙ c.if-passes.true); s_value = sym c.square_fits-fits.ensures.answer ∙ c.if-fits.true; lt_side = children_in _ _ _ c.if-side-q.true }
+tally_number-requires c = record {
+  passed = passed _ _ _ _ _ (sym c.stream_passes-passes.ensures.answer ∙ c.if-passes.true);
+  s_value = sym c.square_fits-fits.ensures.answer ∙ c.if-fits.true;
+  lt_side = children_in _ _ _ c.if-side-q.true;
+}
 
 pub returns-then-side-q : goal.returns-then-side-q
 returns-then-side-q c =
@@ -30,7 +34,8 @@ returns-then-fits c =
     }
 
 pub returns-then-passes : goal.returns-then-passes
-returns-then-passes c = record { answer = rw (sym c.stream_passes-passes.ensures.answer ∙ c.if-passes.true, sym c.square_fits-fits.ensures.answer ∙ c.if-fits.false) }
+returns-then-passes c =
+    record { answer = rw (sym c.stream_passes-passes.ensures.answer ∙ c.if-passes.true, sym c.square_fits-fits.ensures.answer ∙ c.if-fits.false) }
 
 pub returns : goal.returns
 returns c = record { answer = rw (sym c.stream_passes-passes.ensures.answer ∙ c.if-passes.false) }

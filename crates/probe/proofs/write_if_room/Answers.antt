@@ -18,10 +18,25 @@ overflow_add-used c =
 pub write_child-requires : goal.write_child-requires
 write_child-requires c =
     let a = c.args in
-    let u = check_used a.entries.now a.first a.count a.used (env a.areas.now a.xs.now a.ys.now a.b) c.requires.b_value in record { passed = passed _ _ _ _ _ c.requires.b_value; square_in = square_in_law _ c.requires.s_value; s_value = square_cell _ c.requires.s_value; count_bound = u.1; made_in_bounds = omega (arith, c.if-used-n.true); made_value = c.entries_made-n.ensures.answer }
+    let u = check_used a.entries.now a.first a.count a.used (env a.areas.now a.xs.now a.ys.now a.b) c.requires.b_value in
+    record {
+      passed = passed _ _ _ _ _ c.requires.b_value;
+      square_in = square_in_law _ c.requires.s_value;
+      s_value = square_cell _ c.requires.s_value;
+      count_bound = u.1;
+      made_in_bounds = omega (arith, c.if-used-n.true);
+      made_value = c.entries_made-n.ensures.answer;
+    }
 
 pub returns-then-used-n : goal.returns-then-used-n
-returns-then-used-n c = let e = c.entries_made-n.ensures.answer in record { answer = rw (room_left _ _ _ _ e c.if-used-n.true) (ap (λ (n : ℕ). n + 1) e); entries = rw (room_left _ _ _ _ e c.if-used-n.true) ((c.write_child.ensures.entries)) }
+returns-then-used-n c = let e = c.entries_made-n.ensures.answer in
+    record {
+      answer = rw (room_left _ _ _ _ e c.if-used-n.true) (ap (λ (n : ℕ). n + 1) e);
+      entries = rw (room_left _ _ _ _ e c.if-used-n.true) ((c.write_child.ensures.entries));
+    }
 
 pub returns : goal.returns
-returns c = record { answer = rw (room_out _ _ _ _ c.entries_made-n.ensures.answer c.if-used-n.false) (refl); entries = rw (room_out _ _ _ _ c.entries_made-n.ensures.answer c.if-used-n.false) ((refl)) }
+returns c = record {
+  answer = rw (room_out _ _ _ _ c.entries_made-n.ensures.answer c.if-used-n.false) (refl);
+  entries = rw (room_out _ _ _ _ c.entries_made-n.ensures.answer c.if-used-n.false) ((refl));
+}

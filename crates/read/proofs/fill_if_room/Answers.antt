@@ -12,7 +12,13 @@ fill_all-requires c =
     }
 
 pub returns-then-h : goal.returns-then-h
-returns-then-h c = record { answer = rw (sym c.tables_hold-h.ensures.answer ∙ c.if-h.true); plan = c.fill_all.ensures.plan; areas = c.fill_all.ensures.areas; xs = c.fill_all.ensures.xs; ys = c.fill_all.ensures.ys }
+returns-then-h c = record {
+  answer = rw (sym c.tables_hold-h.ensures.answer ∙ c.if-h.true);
+  plan = c.fill_all.ensures.plan;
+  areas = c.fill_all.ensures.areas;
+  xs = c.fill_all.ensures.xs;
+  ys = c.fill_all.ensures.ys;
+}
 
 pub returns : goal.returns
 returns c = record { answer = rw (sym c.tables_hold-h.ensures.answer ∙ c.if-h.false); plan = refl; areas = refl; xs = refl; ys = refl }

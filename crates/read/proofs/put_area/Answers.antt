@@ -7,7 +7,10 @@ pub put_row-requires : goal.put_row-requires
 put_row-requires c = row_room _ _ _ _ (ap words_of_area c.in-Area.is) c.requires
 
 pub returns-in-Area : goal.returns-in-Area
-returns-in-Area c = record { answer = row_at _ _ _ _ (ap words_of_area c.in-Area.is) c.put_row.ensures.answer; table = row_table _ _ _ _ _ (ap words_of_area c.in-Area.is) c.put_row.ensures.table }
+returns-in-Area c = record {
+  answer = row_at _ _ _ _ (ap words_of_area c.in-Area.is) c.put_row.ensures.answer;
+  table = row_table _ _ _ _ _ (ap words_of_area c.in-Area.is) c.put_row.ensures.table;
+}
 
 pub returns-in-First : goal.returns-in-First
 returns-in-First c = record { answer = none_at _ _ (ap words_of_area c.in-First.is); table = none_table _ _ _ (ap words_of_area c.in-First.is) }

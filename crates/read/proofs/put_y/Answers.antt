@@ -16,10 +16,16 @@ pub returns-in-Area : goal.returns-in-Area
 returns-in-Area c = record { answer = none_at _ _ (ap words_of_y c.in-Area.is); table = none_table _ _ _ (ap words_of_y c.in-Area.is) }
 
 pub returns-in-First : goal.returns-in-First
-returns-in-First c = record { answer = one_at _ _ _ _ (ap words_of_y c.in-First.is) c.put_word.ensures.answer; table = one_table _ _ _ _ _ (ap words_of_y c.in-First.is) c.put_word.ensures.table }
+returns-in-First c = record {
+  answer = one_at _ _ _ _ (ap words_of_y c.in-First.is) c.put_word.ensures.answer;
+  table = one_table _ _ _ _ _ (ap words_of_y c.in-First.is) c.put_word.ensures.table;
+}
 
 pub returns-in-Next : goal.returns-in-Next
-returns-in-Next c = record { answer = one_at _ _ _ _ (ap words_of_y c.in-Next.is) c.put_word-in-Next.ensures.answer; table = one_table _ _ _ _ _ (ap words_of_y c.in-Next.is) c.put_word-in-Next.ensures.table }
+returns-in-Next c = record {
+  answer = one_at _ _ _ _ (ap words_of_y c.in-Next.is) c.put_word-in-Next.ensures.answer;
+  table = one_table _ _ _ _ _ (ap words_of_y c.in-Next.is) c.put_word-in-Next.ensures.table;
+}
 
 pub returns-in-Open : goal.returns-in-Open
 returns-in-Open c = record { answer = none_at _ _ (ap words_of_y c.in-Open.is); table = none_table _ _ _ (ap words_of_y c.in-Open.is) }
@@ -31,4 +37,7 @@ pub returns-in-Close : goal.returns-in-Close
 returns-in-Close c = record { answer = none_at _ _ (ap words_of_y c.in-Close.is); table = none_table _ _ _ (ap words_of_y c.in-Close.is) }
 
 pub returns-in-Control : goal.returns-in-Control
-returns-in-Control c = record { answer = one_at _ _ _ _ (ap words_of_y c.in-Control.is) c.put_word-in-Control.ensures.answer; table = one_table _ _ _ _ _ (ap words_of_y c.in-Control.is) c.put_word-in-Control.ensures.table }
+returns-in-Control c = record {
+  answer = one_at _ _ _ _ (ap words_of_y c.in-Control.is) c.put_word-in-Control.ensures.answer;
+  table = one_table _ _ _ _ _ (ap words_of_y c.in-Control.is) c.put_word-in-Control.ensures.table;
+}

@@ -5,7 +5,13 @@ use Rattle.read.proofs.read.Goals as goal
 
 pub returns-then-xs-ys : goal.returns-then-xs-ys
 unfolding read_answer
-returns-then-xs-ys c = record { answer = rw (eq-eqb _ _ c.if-xs-ys.true, ← c.check_records-v.ensures.answer) c.read_checked.ensures.answer; plan = c.read_checked.ensures.plan; areas = c.read_checked.ensures.areas; xs = c.read_checked.ensures.xs; ys = c.read_checked.ensures.ys }
+returns-then-xs-ys c = record {
+  answer = rw (eq-eqb _ _ c.if-xs-ys.true, ← c.check_records-v.ensures.answer) c.read_checked.ensures.answer;
+  plan = c.read_checked.ensures.plan;
+  areas = c.read_checked.ensures.areas;
+  xs = c.read_checked.ensures.xs;
+  ys = c.read_checked.ensures.ys;
+}
 
 pub returns : goal.returns
 unfolding read_answer

@@ -70,7 +70,12 @@ pruner_after-q-requires c =
     let v = env t.areas t.xs t.ys a.b in
     let B = base t a.records a.b c.requires in
     let h = loop_asks v (drawing_in t) t.plan a.records (words_in t) B c.loop-i.i c.loop-i.c
-    (maker c.loop-i.p c.loop-i.a) c.loop-i.invariant c.loop-i-test.true in record { inside = h.inside; room = rw (read_entry c.loop-i.c c.source_entry-w.ensures.answer c.kind_at-kind.ensures.answer c.kind_at-behind.ensures.answer) h.room }
+    (maker c.loop-i.p c.loop-i.a) c.loop-i.invariant c.loop-i-test.true in
+    record {
+      inside = h.inside;
+      room = rw (read_entry c.loop-i.c c.source_entry-w.ensures.answer c.kind_at-kind.ensures.answer
+          c.kind_at-behind.ensures.answer) h.room;
+    }
 
 pub waiting_after-t-requires : goal.waiting_after-t-requires
 waiting_after-t-requires c =
@@ -80,7 +85,10 @@ waiting_after-t-requires c =
     let B = base t a.records a.b c.requires in
     let h = loop_asks v (drawing_in t) t.plan a.records (words_in t) B c.loop-i.i c.loop-i.c
     (maker c.loop-i.p c.loop-i.a) c.loop-i.invariant c.loop-i-test.true in record {
-      start_bound = rw (c.left_of-l.ensures.answer.0, (read_entry c.loop-i.c c.source_entry-w.ensures.answer c.kind_at-kind.ensures.answer c.kind_at-behind.ensures.answer)) (
+      start_bound = rw (
+        c.left_of-l.ensures.answer.0,
+        (read_entry c.loop-i.c c.source_entry-w.ensures.answer c.kind_at-kind.ensures.answer c.kind_at-behind.ensures.answer),
+      ) (
         h.inside.small,
         loop_sign v (drawing_in t) t.plan a.records (words_in t) B c.loop-i.i c.loop-i.c
             (maker c.loop-i.p c.loop-i.a) c.loop-i.invariant c.loop-i-test.true,
@@ -112,7 +120,8 @@ loop-i-preserved c =
     (maker c.loop-i.p c.loop-i.a) c.loop-i.invariant c.loop-i-test.true
     (maker c.if-prunes.p c.waiting_after-t.result) c.source_entry-w.result
     c.root_square-s.result c.left_of-l.result.class c.left_of-l.result.sign
-    c.source_after-c.result _ (read_entry c.loop-i.c c.source_entry-w.ensures.answer c.kind_at-kind.ensures.answer c.kind_at-behind.ensures.answer) c.source_entry-w.type_inv.1.1.1.1.0.1
+    c.source_after-c.result _ (read_entry c.loop-i.c c.source_entry-w.ensures.answer c.kind_at-kind.ensures.answer c.kind_at-behind.ensures.answer)
+    c.source_entry-w.type_inv.1.1.1.1.0.1
     c.root_square-s.ensures.answer c.left_of-l.ensures.answer.1 c.left_of-l.ensures.answer.0
     (elim c.if-prunes.branch [
       | then-prunes w ↦ ap counted w.p-is ∙ w.pruner_after-q.ensures.answer

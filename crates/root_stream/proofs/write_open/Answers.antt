@@ -95,7 +95,10 @@ put_segment-requires c =
     let B = base t a.records a.b c.requires.opened in record {
       limit_in_bounds = room_now v (drawing_in t) t.plan a.records (words_in t) B a.made a.entries.now c.requires.made_in_bounds c.loop-i.i
           c.loop-i.c m c.loop-i.entries c.loop-i.invariant;
-      sign_bound = rw (c.left_of-l.ensures.answer.0, (read_entry c.loop-i.c c.source_entry-w.ensures.answer c.kind_at-kind.ensures.answer c.kind_at-behind.ensures.answer))
+      sign_bound = rw (
+        c.left_of-l.ensures.answer.0,
+        (read_entry c.loop-i.c c.source_entry-w.ensures.answer c.kind_at-kind.ensures.answer c.kind_at-behind.ensures.answer),
+      )
           (loop_sign v (drawing_in t) t.plan a.records (words_in t) B c.loop-i.i c.loop-i.c m
           (looping v (drawing_in t) t.plan a.records (words_in t) B a.made a.entries.now c.requires.made_in_bounds
           c.loop-i.i c.loop-i.c m c.loop-i.entries c.loop-i.invariant)
@@ -112,7 +115,10 @@ waiting_after-t-requires c =
     let held = looping v (drawing_in t) t.plan a.records (words_in t) B a.made a.entries.now c.requires.made_in_bounds
     c.loop-i.i c.loop-i.c m c.loop-i.entries c.loop-i.invariant in
     let h = loop_asks v (drawing_in t) t.plan a.records (words_in t) B c.loop-i.i c.loop-i.c m held c.loop-i-test.true in record {
-      start_bound = rw (c.left_of-l.ensures.answer.0, (read_entry c.loop-i.c c.source_entry-w.ensures.answer c.kind_at-kind.ensures.answer c.kind_at-behind.ensures.answer)) (
+      start_bound = rw (
+        c.left_of-l.ensures.answer.0,
+        (read_entry c.loop-i.c c.source_entry-w.ensures.answer c.kind_at-kind.ensures.answer c.kind_at-behind.ensures.answer),
+      ) (
         h.inside.small,
         loop_sign v (drawing_in t) t.plan a.records (words_in t) B c.loop-i.i c.loop-i.c m held
             c.loop-i-test.true,
@@ -147,7 +153,8 @@ loop-i-preserved c =
           c.loop-i.c m c.loop-i.entries c.loop-i.invariant c.loop-i-test.true
           (maker w.write_other-q.result c.waiting_after-t.result) c.source_entry-w.result
           c.root_square-s.result c.left_of-l.result.class c.left_of-l.result.sign
-          c.source_after-c.result _ _ (read_entry c.loop-i.c c.source_entry-w.ensures.answer c.kind_at-kind.ensures.answer c.kind_at-behind.ensures.answer) c.source_entry-w.type_inv.1.1.1.1.0.1
+          c.source_after-c.result _ _ (read_entry c.loop-i.c c.source_entry-w.ensures.answer c.kind_at-kind.ensures.answer c.kind_at-behind.ensures.answer)
+          c.source_entry-w.type_inv.1.1.1.1.0.1
           c.root_square-s.ensures.answer c.left_of-l.ensures.answer.1 c.left_of-l.ensures.answer.0 w.write_other-q.ensures.answer
           c.waiting_after-t.ensures.answer
           (w.write_other-q.ensures.out
@@ -161,8 +168,10 @@ loop-i-preserved c =
           c.loop-i.c m c.loop-i.entries c.loop-i.invariant c.loop-i-test.true
           (maker c.loop-i.p c.waiting_after-t.result) c.source_entry-w.result
           c.root_square-s.result c.left_of-l.result.class c.left_of-l.result.sign
-          c.source_after-c.result _ _ (read_entry c.loop-i.c c.source_entry-w.ensures.answer c.kind_at-kind.ensures.answer c.kind_at-behind.ensures.answer) c.source_entry-w.type_inv.1.1.1.1.0.1
-          c.root_square-s.ensures.answer c.left_of-l.ensures.answer.1 c.left_of-l.ensures.answer.0 (stays_pruned a.areas.now (counted c.loop-i.p) c.loop-i.a c.source_entry-w.result.kind
+          c.source_after-c.result _ _ (read_entry c.loop-i.c c.source_entry-w.ensures.answer c.kind_at-kind.ensures.answer c.kind_at-behind.ensures.answer)
+          c.source_entry-w.type_inv.1.1.1.1.0.1
+          c.root_square-s.ensures.answer c.left_of-l.ensures.answer.1 c.left_of-l.ensures.answer.0
+          (stays_pruned a.areas.now (counted c.loop-i.p) c.loop-i.a c.source_entry-w.result.kind
           (sym w.if-prunes.false ∙ c.prunes.ensures.answer))
           c.waiting_after-t.ensures.answer
           (w.put_segment.ensures.out

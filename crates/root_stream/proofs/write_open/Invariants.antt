@@ -9,7 +9,8 @@ use Rattle.root_stream.proofs.write_open.Given as goal
 
 abbrev pub invariant-loop-i : goal.invariant-loop-i
 invariant-loop-i l =
-    Filling (env l.areas l.xs l.ys l.b) (drawing_in (tables l.plan l.areas l.xs l.ys)) l.plan l.records (words_in (tables l.plan l.areas l.xs l.ys)) l.made l.initial.entries l.i l.c
+    Filling (env l.areas l.xs l.ys l.b) (drawing_in (tables l.plan l.areas l.xs l.ys)) l.plan l.records (words_in (tables l.plan l.areas l.xs l.ys)) l.made
+    l.initial.entries l.i l.c
     (maker l.p l.a) l.entries
 
 abbrev pub decreases-loop-i : goal.decreases-loop-i

@@ -31,13 +31,23 @@ pub judge_cell-requires : goal.judge_cell-requires
 judge_cell-requires c =
     let a = c.args in
     let T = tree a.plan.now a.areas.now a.xs.now a.ys.now a.head.now a.cells.now a.entries.now in
-    let h = sym c.counts_fit.ensures.answer ∙ c.if-counts_fit.true in record { used_bound = (omega (arith, used_most T h, c.cells_used-used.ensures.answer), free_most T h); i_lt_used = (c.if-i-used.true, omega (arith, used_within T h, c.cells_used-used.ensures.answer)); w_value = c.read_cell-w.ensures.answer }
+    let h = sym c.counts_fit.ensures.answer ∙ c.if-counts_fit.true in
+    record {
+      used_bound = (omega (arith, used_most T h, c.cells_used-used.ensures.answer), free_most T h);
+      i_lt_used = (c.if-i-used.true, omega (arith, used_within T h, c.cells_used-used.ensures.answer));
+      w_value = c.read_cell-w.ensures.answer;
+    }
 
 pub returns-then-counts_fit : goal.returns-then-counts_fit
 returns-then-counts_fit c =
     let a = c.args in
     let T = tree a.plan.now a.areas.now a.xs.now a.ys.now a.head.now a.cells.now a.entries.now in
-    let h = sym c.counts_fit.ensures.answer ∙ c.if-counts_fit.true in record { answer = call_cell T a.i _ c.if-xs-ys.true _ c.cells_used-used.ensures.answer c.if-i-used.true _ _ _ h refl c.read_cell-w.ensures.answer c.bounds_in-b.ensures.answer c.judge_cell.ensures.answer; children = told_cell T a.i c.judge_cell.result _ _ c.read_cell-w.ensures.answer c.bounds_in-b.ensures.answer c.judge_cell.ensures.children }
+    let h = sym c.counts_fit.ensures.answer ∙ c.if-counts_fit.true in
+    record {
+      answer = call_cell T a.i _ c.if-xs-ys.true _ c.cells_used-used.ensures.answer c.if-i-used.true _ _ _ h refl c.read_cell-w.ensures.answer
+          c.bounds_in-b.ensures.answer c.judge_cell.ensures.answer;
+      children = told_cell T a.i c.judge_cell.result _ _ c.read_cell-w.ensures.answer c.bounds_in-b.ensures.answer c.judge_cell.ensures.children;
+    }
 
 pub returns-then-i-used : goal.returns-then-i-used
 returns-then-i-used c =
@@ -51,9 +61,17 @@ returns-then-i-used c =
 pub returns-then-xs-ys : goal.returns-then-xs-ys
 returns-then-xs-ys c =
     let a = c.args in
-    let T = tree a.plan.now a.areas.now a.xs.now a.ys.now a.head.now a.cells.now a.entries.now in record { answer = call_beyond T a.i _ c.if-xs-ys.true _ c.cells_used-used.ensures.answer c.if-i-used.false c.refused-then-xs-ys.ensures.answer; children = λ n e. not_split n _ (sym c.refused-then-xs-ys.ensures.answer ∙ e) }
+    let T = tree a.plan.now a.areas.now a.xs.now a.ys.now a.head.now a.cells.now a.entries.now in
+    record {
+      answer = call_beyond T a.i _ c.if-xs-ys.true _ c.cells_used-used.ensures.answer c.if-i-used.false c.refused-then-xs-ys.ensures.answer;
+      children = λ n e. not_split n _ (sym c.refused-then-xs-ys.ensures.answer ∙ e);
+    }
 
 pub returns : goal.returns
 returns c =
     let a = c.args in
-    let T = tree a.plan.now a.areas.now a.xs.now a.ys.now a.head.now a.cells.now a.entries.now in record { answer = call_uneven T a.i _ c.if-xs-ys.false c.refused-2.ensures.answer; children = λ n e. not_split n _ (sym c.refused-2.ensures.answer ∙ e) }
+    let T = tree a.plan.now a.areas.now a.xs.now a.ys.now a.head.now a.cells.now a.entries.now in
+    record {
+      answer = call_uneven T a.i _ c.if-xs-ys.false c.refused-2.ensures.answer;
+      children = λ n e. not_split n _ (sym c.refused-2.ensures.answer ∙ e);
+    }

@@ -8,7 +8,8 @@ use Rattle.split.proofs.judge_cell.Goals as goal
 pub judge_leaf-requires : goal.judge_leaf-requires
 judge_leaf-requires c =
     let a = c.args in
-    let h = sym c.cell_fits.ensures.answer ∙ c.if-cell_fits.true in record { w_value = ap square_range c.requires.w_value ∙ passes_range a.cells.now a.i a.used a.free h; used_bound = c.requires.used_bound }
+    let h = sym c.cell_fits.ensures.answer ∙ c.if-cell_fits.true in
+    record { w_value = ap square_range c.requires.w_value ∙ passes_range a.cells.now a.i a.used a.free h; used_bound = c.requires.used_bound }
 
 pub returns-then-w-eq0 : goal.returns-then-w-eq0
 returns-then-w-eq0 c =

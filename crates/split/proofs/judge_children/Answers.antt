@@ -33,4 +33,7 @@ returns c =
     let D = lent a.areas.now a.xs.now a.ys.now a.b in
     let ws = words_from a.entries.now a.w.first a.w.count in
     let n = sum_is D (cell_of a.w) ws c.count_to-ts.result c.entries_of-n.result c.count_to-ts.ensures.answer
-    c.entries_of-n.ensures.answer in record { answer = c.judge_room-a.ensures.answer ∙ ap (room_answer a.cells (length a.entries.now) a.used a.free) n; children = c.count_to-ts.ensures.answer }
+    c.entries_of-n.ensures.answer in record {
+      answer = c.judge_room-a.ensures.answer ∙ ap (room_answer a.cells (length a.entries.now) a.used a.free) n;
+      children = c.count_to-ts.ensures.answer;
+    }

@@ -25,7 +25,13 @@ judge_children-requires c =
     let told = leaf_told a.entries.now a.w.first a.w.count a.w.lines a.free (env a.areas.now a.xs.now a.ys.now a.b)
     c.check_stream-c.result c.check_stream-c.ensures.answer in
     let passes = leaf_stream_law a.entries.now a.w.first a.w.count a.w.lines a.free
-    (env a.areas.now a.xs.now a.ys.now a.b) (sym told ∙ c.if-c-w.true) in record { passed = passed a.entries.now a.w.first a.w.count a.free (env a.areas.now a.xs.now a.ys.now a.b) passes; w_value = c.requires.w_value; lt_side = omega (arith, (square_fits_law a.w c.requires.w_value).some_side, c.if-w-eq1.false); used_bound = c.requires.used_bound }
+    (env a.areas.now a.xs.now a.ys.now a.b) (sym told ∙ c.if-c-w.true) in
+    record {
+      passed = passed a.entries.now a.w.first a.w.count a.free (env a.areas.now a.xs.now a.ys.now a.b) passes;
+      w_value = c.requires.w_value;
+      lt_side = omega (arith, (square_fits_law a.w c.requires.w_value).some_side, c.if-w-eq1.false);
+      used_bound = c.requires.used_bound;
+    }
 
 pub returns-then-c-w : goal.returns-then-c-w
 returns-then-c-w c =

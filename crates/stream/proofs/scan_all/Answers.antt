@@ -18,10 +18,24 @@ loop-i-init c =
     (omega arith, omega arith, scan_begin _ _ _ _ _, λ _ _ h. clash h, omega arith, λ _. omega (arith, e))
 
 pub scan_next-r-requires : goal.scan_next-r-requires
-scan_next-r-requires c = let t = c.loop-i-test.true in record { i_lt_end = (t, omega (arith, c.requires.count_bound, c.loop-i.invariant.0), c.requires.count_in_bounds); ready = c.requires.ready; apart = c.loop-i.invariant.3 }
+scan_next-r-requires c = let t = c.loop-i-test.true in
+    record {
+      i_lt_end = (t, omega (arith, c.requires.count_bound, c.loop-i.invariant.0), c.requires.count_in_bounds);
+      ready = c.requires.ready;
+      apart = c.loop-i.invariant.3;
+    }
 
 pub overflow_add-lines : goal.overflow_add-lines
-overflow_add-lines c = record { fits = omega (arith, c.requires.count_bound, c.scan_next-r.ensures.onward.few, c.scan_next-r.ensures.onward.inside, c.loop-i.invariant.0, c.loop-i.invariant.4) }
+overflow_add-lines c = record {
+  fits = omega (
+    arith,
+    c.requires.count_bound,
+    c.scan_next-r.ensures.onward.few,
+    c.scan_next-r.ensures.onward.inside,
+    c.loop-i.invariant.0,
+    c.loop-i.invariant.4,
+  );
+}
 
 pub loop-i-smaller : goal.loop-i-smaller
 loop-i-smaller c = omega (arith, c.scan_next-r.ensures.onward.later, c.scan_next-r.ensures.onward.inside)

@@ -10,7 +10,8 @@ abbrev pub invariant-loop-i : goal.invariant-loop-i
 invariant-loop-i l =
     (l.first ≤ l.i)
     × (l.i ≤ l.end)
-    × (scan_n (env l.areas l.xs l.ys l.b) l.s (words_from l.entries l.i (l.end - l.i)) ≡ scan_n (env l.areas l.xs l.ys l.b) start_n (words_from l.entries l.first l.count))
+    × (scan_n (env l.areas l.xs l.ys l.b) l.s (words_from l.entries l.i (l.end - l.i))
+    ≡ scan_n (env l.areas l.xs l.ys l.b) start_n (words_from l.entries l.first l.count))
     × Apart l.entries l.i l.end l.s
     × (l.first + l.lines ≤ l.i)
     × ((l.s.stack ≡ 0 → ⊥) → l.lines + lines_in (words_from l.entries l.i (l.end - l.i)) ≡ lines_in (words_from l.entries l.first l.count))

@@ -20,7 +20,11 @@ returns-then-n-eq-OFF c =
     }
 
 pub scan_run-r-requires : goal.scan_run-r-requires
-scan_run-r-requires c = record { from_le_end = (omega (arith, c.requires.i_lt_end.0), omega (arith, c.requires.i_lt_end.1), c.requires.i_lt_end.2); corners_in_bounds = (c.requires.ready.xs, c.requires.ready.ys); before_bound = omega (arith, c.step-n.type_inv.1.1.1.1.1.0.1) }
+scan_run-r-requires c = record {
+  from_le_end = (omega (arith, c.requires.i_lt_end.0), omega (arith, c.requires.i_lt_end.1), c.requires.i_lt_end.2);
+  corners_in_bounds = (c.requires.ready.xs, c.requires.ready.ys);
+  before_bound = omega (arith, c.step-n.type_inv.1.1.1.1.1.0.1);
+}
 
 pub after_run-m-requires : goal.after_run-m-requires
 after_run-m-requires c =
@@ -37,7 +41,8 @@ pub returns-then-n : goal.returns-then-n
 returns-then-n c =
     let a = c.args in record {
       onward = run_onward (env a.areas.now a.xs.now a.ys.now a.b) a.entries.now a.i a.end a.s c.read_entry-w.result c.read_entry-w.ensures.answer
-          c.requires.i_lt_end.0 c.requires.apart c.step-n.result c.step-n.ensures.answer c.if-n-eq-OFF.false c.if-n.true _ c.scan_run-r.result.fits c.scan_run-r.result.segments
+          c.requires.i_lt_end.0 c.requires.apart c.step-n.result c.step-n.ensures.answer c.if-n-eq-OFF.false c.if-n.true _ c.scan_run-r.result.fits
+          c.scan_run-r.result.segments
           c.scan_run-r.ensures.fits c.scan_run-r.ensures.segments c.after_run-m.ensures.answer c.scan_run-r.ensures.next c.scan_run-r.ensures.behind
           c.scan_run-r.ensures.few c.scan_run-r.ensures.lines;
     }

@@ -38,7 +38,12 @@ loop-i-preserved c =
           ∙ c.loop-i.invariant.2),
       omega (arith, count_more a.entries.now c.loop-i.i a.end c.read_entry-w.result c.read_entry-w.ensures.answer t s, c.loop-i.invariant.3),
       omega (arith, c.segment_fits-g.ensures.range, c.loop-i.invariant.4),
-      omega (arith, c.segment_fits-g.ensures.line, lines_more a.entries.now c.loop-i.i a.end c.read_entry-w.result c.read_entry-w.ensures.answer t, c.loop-i.invariant.5),
+      omega (
+        arith,
+        c.segment_fits-g.ensures.line,
+        lines_more a.entries.now c.loop-i.i a.end c.read_entry-w.result c.read_entry-w.ensures.answer t,
+        c.loop-i.invariant.5,
+      ),
     )
 
 pub run_to-requires : goal.run_to-requires
@@ -48,11 +53,13 @@ pub returns-else-is_segment : goal.returns-else-is_segment
 returns-else-is_segment c =
     let a = c.args in
     let t = c.loop-i-test.true in
-    let s = sym c.is_segment.ensures.answer ∙ c.if-is_segment.false in let both = run_ended a.xs.now a.ys.now a.b a.entries.now a.from a.end a.before c.loop-i.i c.loop-i.lines c.loop-i.fits
+    let s = sym c.is_segment.ensures.answer ∙ c.if-is_segment.false in let both = run_ended a.xs.now a.ys.now a.b a.entries.now a.from a.end a.before
+    c.loop-i.i c.loop-i.lines c.loop-i.fits
     c.run_to.result c.run_to.ensures.answer c.loop-i.invariant.2
     (fits_stop a.xs.now a.ys.now a.b a.entries.now c.loop-i.i a.end c.read_entry-w.result c.read_entry-w.ensures.answer t s) c.loop-i.invariant.3
     (count_stop a.entries.now c.loop-i.i a.end c.read_entry-w.result c.read_entry-w.ensures.answer t s)
-    (λ _. ap (λ (u : Words). is_segment u.kind) (sym c.read_entry-w.ensures.answer) ∙ s) c.loop-i.invariant.4 c.loop-i.invariant.5 in record { fits = both.0; segments = both.1.0; next = both.1.1.0; behind = both.1.1.1.0; few = both.1.1.1.1.0; lines = both.1.1.1.1.1 }
+    (λ _. ap (λ (u : Words). is_segment u.kind) (sym c.read_entry-w.ensures.answer) ∙ s) c.loop-i.invariant.4 c.loop-i.invariant.5 in
+    record { fits = both.0; segments = both.1.0; next = both.1.1.0; behind = both.1.1.1.0; few = both.1.1.1.1.0; lines = both.1.1.1.1.1 }
 
 pub run_to-requires-2 : goal.run_to-requires-2
 run_to-requires-2 c = (c.loop-i.invariant.0, omega (arith, c.requires.from_le_end.1, c.loop-i.invariant.1), c.requires.before_bound)
@@ -62,4 +69,5 @@ returns c =
     let a = c.args in
     let t = c.loop-i-test.false in let both = run_ended a.xs.now a.ys.now a.b a.entries.now a.from a.end a.before c.loop-i.i c.loop-i.lines c.loop-i.fits
     c.run_to-2.result c.run_to-2.ensures.answer c.loop-i.invariant.2 (fits_last a.xs.now a.ys.now a.b a.entries.now c.loop-i.i a.end t)
-    c.loop-i.invariant.3 (count_last a.entries.now c.loop-i.i a.end t) (λ p. absurd (omega (arith, p, t))) c.loop-i.invariant.4 c.loop-i.invariant.5 in record { fits = both.0; segments = both.1.0; next = both.1.1.0; behind = both.1.1.1.0; few = both.1.1.1.1.0; lines = both.1.1.1.1.1 }
+    c.loop-i.invariant.3 (count_last a.entries.now c.loop-i.i a.end t) (λ p. absurd (omega (arith, p, t))) c.loop-i.invariant.4 c.loop-i.invariant.5 in
+    record { fits = both.0; segments = both.1.0; next = both.1.1.0; behind = both.1.1.1.0; few = both.1.1.1.1.0; lines = both.1.1.1.1.1 }

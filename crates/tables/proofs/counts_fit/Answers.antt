@@ -22,9 +22,11 @@ returns-then-plan-ge-PLAN_COUNTS c =
 pub returns-then-head_fits : goal.returns-then-head_fits
 returns-then-head_fits c =
     let a = c.args in
-    let T = tree a.plan.now a.areas.now a.xs.now a.ys.now a.head.now a.cells.now a.entries.now in record { answer = counts_short T (sym c.head_fits.ensures.answer ∙ c.if-head_fits.true) c.if-plan-ge-PLAN_COUNTS.false }
+    let T = tree a.plan.now a.areas.now a.xs.now a.ys.now a.head.now a.cells.now a.entries.now in
+    record { answer = counts_short T (sym c.head_fits.ensures.answer ∙ c.if-head_fits.true) c.if-plan-ge-PLAN_COUNTS.false }
 
 pub returns : goal.returns
 returns c =
     let a = c.args in
-    let T = tree a.plan.now a.areas.now a.xs.now a.ys.now a.head.now a.cells.now a.entries.now in record { answer = counts_no T (sym c.head_fits.ensures.answer ∙ c.if-head_fits.false) }
+    let T = tree a.plan.now a.areas.now a.xs.now a.ys.now a.head.now a.cells.now a.entries.now in
+    record { answer = counts_no T (sym c.head_fits.ensures.answer ∙ c.if-head_fits.false) }

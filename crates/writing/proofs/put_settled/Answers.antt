@@ -6,7 +6,8 @@ pub class_of-k-requires : goal.class_of-k-requires
 class_of-k-requires c = record { start_bound = c.requires.inside.small; number_in_bounds = c.requires.inside.inside c.if-a.true }
 
 pub put_class-requires : goal.put_class-requires
-put_class-requires c = record { limit_in_bounds = c.requires.limit_in_bounds; start_bound = c.requires.inside.small; number_in_bounds = c.requires.inside.inside c.if-a.true }
+put_class-requires c =
+    record { limit_in_bounds = c.requires.limit_in_bounds; start_bound = c.requires.inside.small; number_in_bounds = c.requires.inside.inside c.if-a.true }
 
 pub returns-then-p-eq0 : goal.returns-then-p-eq0
 returns-then-p-eq0 c =

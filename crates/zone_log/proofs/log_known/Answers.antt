@@ -19,7 +19,8 @@ log_pass-requires c =
     let px = a.px.now in
     let py = a.py.now in
     let h = count_told T px py c.log_pass-c.result c.in-Known.count c.in-Known.fits
-    c.log_pass-c.ensures.answer c.in-Known.is in record { run_in = c.requires; accepted = λ _. log_room_law T px py _ c.in-Known.count c.in-Known.fits h c.if-count-out.true }
+    c.log_pass-c.ensures.answer c.in-Known.is in
+    record { run_in = c.requires; accepted = λ _. log_room_law T px py _ c.in-Known.count c.in-Known.fits h c.if-count-out.true }
 
 pub returns-then-count-out : goal.returns-then-count-out
 returns-then-count-out c =
@@ -29,7 +30,12 @@ returns-then-count-out c =
     let py = a.py.now in
     let h = count_told T px py c.log_pass-c.result c.in-Known.count c.in-Known.fits
     c.log_pass-c.ensures.answer c.in-Known.is in
-    let e = c.log_pass-c.ensures.out in record { answer = log_written T px py _ c.in-Known.count c.in-Known.fits h c.if-count-out.true ∙ ap (λ (o : List ℕ). log_known T px py (length o)) e; out = c.log_pass.ensures.out ∙ ap (λ (o : List ℕ). sets o 0 (zone_log T px py)) e }
+    let e = c.log_pass-c.ensures.out in
+    record {
+      answer = log_written T px py _ c.in-Known.count c.in-Known.fits h c.if-count-out.true
+          ∙ ap (λ (o : List ℕ). log_known T px py (length o)) e;
+      out = c.log_pass.ensures.out ∙ ap (λ (o : List ℕ). sets o 0 (zone_log T px py)) e;
+    }
 
 pub returns-else-count-out : goal.returns-else-count-out
 returns-else-count-out c =
@@ -39,7 +45,11 @@ returns-else-count-out c =
     let py = a.py.now in
     let h = count_told T px py c.log_pass-c.result c.in-Known.count c.in-Known.fits
     c.log_pass-c.ensures.answer c.in-Known.is in
-    let e = c.log_pass-c.ensures.out in record { answer = log_full T px py _ c.in-Known.count c.in-Known.fits h c.if-count-out.false ∙ ap (λ (o : List ℕ). log_known T px py (length o)) e; out = e }
+    let e = c.log_pass-c.ensures.out in
+    record {
+      answer = log_full T px py _ c.in-Known.count c.in-Known.fits h c.if-count-out.false ∙ ap (λ (o : List ℕ). log_known T px py (length o)) e;
+      out = e;
+    }
 
 pub returns-in-Broken : goal.returns-in-Broken
 returns-in-Broken c =

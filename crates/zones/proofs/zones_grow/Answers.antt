@@ -11,4 +11,9 @@ pack_grow-requires c =
     rw c.grow-a.ensures.answer (grow_low t a.threshold a.limit)
 
 pub returns : goal.returns
-returns c = record { answer = c.pack_grow.ensures.answer ∙ ap grow_number c.grow-a.ensures.answer; head = c.grow-a.ensures.head; cells = c.grow-a.ensures.cells; entries = c.grow-a.ensures.entries }
+returns c = record {
+  answer = c.pack_grow.ensures.answer ∙ ap grow_number c.grow-a.ensures.answer;
+  head = c.grow-a.ensures.head;
+  cells = c.grow-a.ensures.cells;
+  entries = c.grow-a.ensures.entries;
+}

@@ -7,4 +7,5 @@ pub pack_written-requires : goal.pack_written-requires
 pack_written-requires c = rw c.write-w.ensures.answer (write_low_law _ _)
 
 pub returns : goal.returns
-returns c = record { answer = c.pack_written.ensures.answer ∙ ap write_number c.write-w.ensures.answer; out = rw (← c.write-w.ensures.answer) c.write-w.ensures.out }
+returns c =
+    record { answer = c.pack_written.ensures.answer ∙ ap write_number c.write-w.ensures.answer; out = rw (← c.write-w.ensures.answer) c.write-w.ensures.out }

@@ -15,19 +15,22 @@ pub returns-then-y2-y : goal.returns-then-y2-y
 returns-then-y2-y c = let a = c.args in record { answer = off_row a.x0 a.y0 a.x1 a.y1 a.x2 a.y2 a.x a.y (λ w. omega (arith, w, c.if-y2-y.true)) }
 
 pub returns-then-larger-x : goal.returns-then-larger-x
-returns-then-larger-x c = let a = c.args in record { answer = right_of_box a.x0 a.y0 a.x1 a.y1 a.x2 a.y2 (fits c.before.before.before.before) c.requires.y0_le_y2 a.x a.y (omega arith) }
+returns-then-larger-x c = let a = c.args in
+    record { answer = right_of_box a.x0 a.y0 a.x1 a.y1 a.x2 a.y2 (fits c.before.before.before.before) c.requires.y0_le_y2 a.x a.y (omega arith) }
 
 pub returns-then-x-smaller : goal.returns-then-x-smaller
 returns-then-x-smaller c =
     let a = c.args in record {
-      answer = left_of_box a.x0 a.y0 a.x1 a.y1 a.x2 a.y2 (fits c.before.before.before.before.before.before) c.requires.y0_le_y2 a.x a.y (omega arith) (omega arith)
+      answer =
+          left_of_box a.x0 a.y0 a.x1 a.y1 a.x2 a.y2 (fits c.before.before.before.before.before.before) c.requires.y0_le_y2 a.x a.y (omega arith) (omega arith)
           (omega arith);
     }
 
 pub curve_side-requires : goal.curve_side-requires
 curve_side-requires c =
     let a = c.args in record {
-      box_in = in_box a.x0 a.y0 a.x1 a.y1 a.x2 a.y2 (fits c.before.before.before.before.before.before) c.requires.y0_le_y2 a.x a.y (omega arith) (omega arith) (omega arith)
+      box_in = in_box a.x0 a.y0 a.x1 a.y1 a.x2 a.y2 (fits c.before.before.before.before.before.before) c.requires.y0_le_y2 a.x a.y (omega arith)
+          (omega arith) (omega arith)
           (omega arith);
       ends_in = c.requires.ends_in;
       position_in = control_in a.x0 a.y0 a.x1 a.y1 a.x2 a.y2 (fits c.before.before.before.before.before.before) c.requires.y0_le_y2 c.requires.ends_in;
@@ -38,5 +41,6 @@ pub returns : goal.returns
 returns c =
     let a = c.args in record {
       answer = c.curve_side.ensures.answer
-          ∙ on_row a.x0 a.y0 a.x1 a.y1 a.x2 a.y2 (fits c.before.before.before.before.before.before.before) c.requires.y0_le_y2 a.x a.y (omega arith) (omega arith);
+          ∙ on_row a.x0 a.y0 a.x1 a.y1 a.x2 a.y2 (fits c.before.before.before.before.before.before.before) c.requires.y0_le_y2 a.x a.y (omega arith)
+          (omega arith);
     }

@@ -36,11 +36,13 @@ whole : (c : After-difference-4) → let s = c.args in
     +ℤ to_z w64 (of_z w64 (to_z w64 (of_z w64 c.difference-3.result) *ℤ to_z w64 (of_z w64 c.difference-4.result)))
     ≡ sub_ℕ (plus s.a s.b s.c s.d s.x s.y) (minus s.a s.b s.c s.d s.x s.y)
 whole c = let s = c.args in
-    ap₂ ◌+ℤ◌ (reads (first c.before.before) (left_fits c.requires.ends_in c.requires.position_in)) (reads (second c) (right_fits c.requires.ends_in c.requires.position_in))
+    ap₂ ◌+ℤ◌ (reads (first c.before.before) (left_fits c.requires.ends_in c.requires.position_in))
+    (reads (second c) (right_fits c.requires.ends_in c.requires.position_in))
     ∙ add_sub (s.a * s.d + s.x * s.b) (s.a * s.b + s.x * s.d) (s.y * s.c + s.b * s.a) (s.y * s.a + s.b * s.c)
 
 pub overflow_add-result : goal.overflow_add-result
 overflow_add-result c = fits_as (whole c) (product_fits c.requires.ends_in c.requires.position_in)
 
 pub returns : goal.returns
-returns c = let s = c.args in record { answer = reads (whole c) (product_fits c.requires.ends_in c.requires.position_in) ∙ sym (product_is s.a s.b s.c s.d s.x s.y) }
+returns c =
+    let s = c.args in record { answer = reads (whole c) (product_fits c.requires.ends_in c.requires.position_in) ∙ sym (product_is s.a s.b s.c s.d s.x s.y) }

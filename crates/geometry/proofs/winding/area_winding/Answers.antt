@@ -22,7 +22,8 @@ pub loop-k-init : goal.loop-k-init
 loop-k-init c = (omega arith, c.requires.t, running_start _ _)
 
 pub contour_winding-sum-requires : goal.contour_winding-sum-requires
-contour_winding-sum-requires c = let n = next_in c in record { corners_in = c.requires.corners_in; first_le_end = n.0; end_in_bounds = n.1; position_in = c.requires.position_in }
+contour_winding-sum-requires c =
+    let n = next_in c in record { corners_in = c.requires.corners_in; first_le_end = n.0; end_in_bounds = n.1; position_in = c.requires.position_in }
 
 pub overflow_add-sum : goal.overflow_add-sum
 overflow_add-sum c =

@@ -5,7 +5,8 @@ use Rattle.geometry.specs.Windings.{adds}
 use Rattle.geometry.proofs.winding.bent_adds.Goals as goal
 
 pub bent_counts-requires : goal.bent_counts-requires
-bent_counts-requires c = record { ends_in = c.requires.edge_in.ends; y1_value = c.requires.edge_in.fits c.requires.bent_value; position_in = c.requires.position_in }
+bent_counts-requires c =
+    record { ends_in = c.requires.edge_in.ends; y1_value = c.requires.edge_in.fits c.requires.bent_value; position_in = c.requires.position_in }
 
 pub returns-then-bent_counts : goal.returns-then-bent_counts
 unfolding adds counts

@@ -9,7 +9,11 @@ use borrow.Author.Rules.{rules}
 use Rattle.geometry.proofs.winding.corner_adds.Goals as goal
 
 pub edge_adds-requires : goal.edge_adds-requires
-edge_adds-requires c = let l = line c.args.i c.next_corner-next.result in record { edge_in = subst EdgeIn (sym c.edge_between-e.ensures.answer) (edge_in _ _ c.requires.corners_in l (omega arith) (λ h. clash h)); position_in = search rules }
+edge_adds-requires c = let l = line c.args.i c.next_corner-next.result in
+    record {
+      edge_in = subst EdgeIn (sym c.edge_between-e.ensures.answer) (edge_in _ _ c.requires.corners_in l (omega arith) (λ h. clash h));
+      position_in = search rules;
+    }
 
 pub returns : goal.returns
 returns c =

@@ -8,7 +8,8 @@ returns-then-e c = record { answer = read_back _ c.bent_adds.type_inv ∙ c.bent
 
 pub returns-then-edge_counts : goal.returns-then-edge_counts
 unfolding adds
-returns-then-edge_counts c = record { answer = simp (sym c.edge_counts.ensures.answer ∙ c.if-edge_counts.true) (read_back _ c.edge_sign.type_inv ∙ c.edge_sign.ensures.answer) }
+returns-then-edge_counts c =
+    record { answer = simp (sym c.edge_counts.ensures.answer ∙ c.if-edge_counts.true) (read_back _ c.edge_sign.type_inv ∙ c.edge_sign.ensures.answer) }
 
 pub returns-else-edge_counts : goal.returns-else-edge_counts
 unfolding adds

@@ -64,4 +64,5 @@ pub over_white-requires : goal.over_white-requires
 over_white-requires c = c.loop-rest.invariant.range
 
 pub returns : goal.returns
-returns c = record { answer = c.over_white.ensures.answer ∙ ap over (mix_done c.loop-rest.invariant c.loop-rest-test.false); range = c.over_white.ensures.range }
+returns c =
+    record { answer = c.over_white.ensures.answer ∙ ap over (mix_done c.loop-rest.invariant c.loop-rest-test.false); range = c.over_white.ensures.range }
