@@ -1,5 +1,26 @@
 -- The text of one line more, and texts one after another.
-use Rattle.std.proofs.Common.{◌≡◌, ℕ, zero, suc, ◌+◌, List, [], ◌++◌, Result, Ok, Err, OnOk, refl, sym, ap, ◌∙◌, append_assoc, append-nil, replicate, arith}
+use Rattle.std.proofs.Common.{
+  ◌≡◌,
+  ℕ,
+  zero,
+  suc,
+  ◌+◌,
+  List,
+  [],
+  ◌++◌,
+  Result,
+  Ok,
+  Err,
+  OnOk,
+  refl,
+  sym,
+  ap,
+  ◌∙◌,
+  append_assoc,
+  append-nil,
+  replicate,
+  arith,
+}
 use Rattle.listing.specs.Numbers.{line_at, lines_in}
 use Rattle.tables.specs.Tables.{tree}
 use Rattle.lister.specs.declared.Outcome.{Outcome}

@@ -6,4 +6,11 @@ pub returns : goal.returns
 returns c =
     let a = c.args in
     let u = tree a.plan.now a.areas.now a.xs.now a.ys.now a.head.now a.cells.now a.entries.now in
-    let same = handed_grown u _ _ _ c.grow-a.ensures.head c.grow-a.ensures.cells c.grow-a.ensures.entries in record { answer = grown_outcome u _ same _ _ _ c.grow-a.ensures.answer c.list_leaves-n.ensures.answer c.outcome_of.ensures.answer; rows = grown_rows u _ same _ _ c.list_leaves-n.ensures.rows; range = c.outcome_of.ensures.range }
+    let g = c.grow-a.ensures in
+    let l = c.list_leaves-n.ensures in
+    let same = handed_grown u _ _ _ g.head g.cells g.entries in
+    record {
+      answer = grown_outcome u _ same _ _ _ g.answer l.answer c.outcome_of.ensures.answer;
+      rows = grown_rows u _ same _ _ l.rows;
+      range = c.outcome_of.ensures.range;
+    }
