@@ -21,7 +21,7 @@ use stream::Bounds;
 
 // ---- the start numbers of the areas
 // How many, and the numbers, with zeros behind them: the `starts` of document 01's "child tallies (entries, lines, starts)". They are proved to be those
-// of the child's stream (`count_child`: `startsIn`), which is written from its parent's stream and not from them. 16 bits hold each.
+// of the child's stream (`count_child`: `starts_in`), which is written from its parent's stream and not from them. 16 bits hold each.
 #[derive(Clone, Copy)]
 pub struct Starts {
     pub count: usize,

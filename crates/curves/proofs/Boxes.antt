@@ -19,7 +19,7 @@ weighed_most : (p0 p1 p2 n k x : ℕ) → p0 ≤ x → p1 ≤ x → p2 ≤ x →
 weighed_most p0 p1 p2 n k x a b c = omega (arith, mul-le-mul_right (k * k) a, mul-le-mul_right (2 * (k * n)) b, mul-le-mul_right (n * n) c)
 
 module _ (x0 y0 x1 y1 x2 y2 : ℕ) where
-  -- ---- what `curveFits` says
+  -- ---- what `curve_fits` says
 
   abbrev orders : Bool
   orders = in_order x0 x1 x2 && in_order y0 y1 y2

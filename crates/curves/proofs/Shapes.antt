@@ -1,4 +1,4 @@
--- A curve is a segment, in order or not (`curve-segment`): by the same fraction it counts further left, and in every higher row where its x do not fall,
+-- A curve is a segment, in order or not (`curve_segment`): by the same fraction it counts further left, and in every higher row where its x do not fall,
 -- in every lower one where they fall.
 use mathlib.Core.Bool.{Bool}
 use Prim.Native.Nat.{ℕ, ◌≤◌, ◌<◌}

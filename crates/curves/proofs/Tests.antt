@@ -1,4 +1,4 @@
--- The quick test in integers is the side in naturals; so, in the rows of a curve in order, it is the sentence's case: `not-falling` where its x do not fall,
+-- The quick test in integers is the side in naturals; so, in the rows of a curve in order, it is the sentence's case: `not_falling` where its x do not fall,
 -- and `falling`, by mirroring, where they fall.
 use mathlib.Core.Path.{◌≡◌, refl, ap, ap₂, ◌∙◌, subst}
 use mathlib.Core.Bool.{Bool, true, false, cond, ◌&&◌, ◌||◌}

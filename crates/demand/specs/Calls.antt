@@ -148,7 +148,7 @@ abbrev pub after_split : List Node → ℕ → Splitting.Answer → List Node
 after_split H i (Splits.Split n) = split_at H i
 after_split H i (Splits.Not r) = H
 
--- the cells that growing splits, in order; it is refused with 7 as `growAnswer` says
+-- the cells that growing splits, in order; it is refused with 7 as `grow_answer` says
 abbrev pub grown_cells : Tree → (n l : ℕ) → List ℕ
 grown_cells t n l = cond (eqb (length t.xs) (length t.ys)) (cond (leb l 16) (grown n l t).cells []) []
 

@@ -1,8 +1,8 @@
 -- The laws of classes, for any segment f with the rows b to d − 1:
--- L1 a dropped segment counts at no position of the square (`dropped-counts`);
--- L2 one that counts everywhere counts in the square exactly at its rows there (`start-counts`, `shortcut-counts`);
--- L3 in a square within a square, dropped stays dropped, and everywhere stays everywhere over the cut rows or has none (`child-class`).
--- And the class by four positions (`quick-dropped`, `quick-every`, `quick-kept`), which the code computes.
+-- L1 a dropped segment counts at no position of the square (`dropped_counts`);
+-- L2 one that counts everywhere counts in the square exactly at its rows there (`start_counts`, `shortcut_counts`);
+-- L3 in a square within a square, dropped stays dropped, and everywhere stays everywhere over the cut rows or has none (`child_class`).
+-- And the class by four positions (`quick_dropped`, `quick_every`, `quick_kept`), which the code computes.
 use mathlib.Core.Path.{◌≡◌, refl, sym, ap, ap₂, ◌∙◌, subst₂}
 use mathlib.Core.Bool.{Bool, true, false, not, cond, ◌&&◌, ◌||◌, or-true}
 use mathlib.Core.Logic.{◌⊎◌, inl, inr}

@@ -16,7 +16,7 @@ bent_counts x0 y0 cx cy x1 y1 x y = cond (leb y0 y1) (curve_counts x0 y0 cx cy x
 unfoldable pub counts : Edge → (x y : ℕ) → Bool
 counts e x y = cond e.bent (bent_counts e.x0 e.y0 e.cx e.cy e.x1 e.y1 x y) (straight_counts e x y)
 
--- its rows are firstRow to endRow − 1; document 02: "A curve has the rows of its ends"
+-- its rows are first_row to end_row − 1; document 02: "A curve has the rows of its ends"
 abbrev pub first_row : Edge → ℕ
 first_row e = min e.y0 e.y1
 

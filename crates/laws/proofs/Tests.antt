@@ -7,6 +7,6 @@ use borrow.Author.Tests.{lt-ltb, le-ltb, le-leb, lt-leb, eq-eqb, ne_eqb}
 
 pub ruleset tests = (lt-ltb, le-ltb, le-leb, lt-leb, eq-eqb, ne_eqb)
 
--- a number that is one key of a `match` is no other: `key-ne _ _ 1 c.match.keys2 refl`
+-- a number that is one key of a `match` is no other
 pub key_ne : (k m n : ℕ) → k ≡ m → eqb m n ≡ false → eqb k n ≡ false
 key_ne k m n e f = rw e f

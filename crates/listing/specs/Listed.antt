@@ -18,7 +18,7 @@ abbrev pub every_other : ℕ → ℕ
 every_other k = k % 2 + 2 * (k / 4 % 2) + (4 * (k / 16 % 2) + 8 * (k / 64 % 2))
 
 -- A leaf of a depth of at most 4 has its low corner at multiples of 65,536 / 2^4 = 4,096: 256 corners. The key of corner k is k * 2^24
--- (`corner-key`), so k counts them in the order of their keys.
+-- (`corner_key`), so k counts them in the order of their keys.
 unfoldable pub corner_x : ℕ → ℕ
 corner_x k = 4096 * every_other k
 
@@ -50,7 +50,7 @@ lines_from t k zero = []
 lines_from t k (suc n) = with_corner (corner_at t k) (lines_from t (k + 1) n)
 
 -- The lines of all leaves of a depth of at most 4, and of no others, by a sweep over the corners, as the code goes. The sentence "prints each leaf in key
--- order" is the theorems `in-key-order`, `every-leaf`, `only-leaves` and `one_line`.
+-- order" is the theorems `in_key_order`, `every_leaf`, `only_leaves` and `one_line`.
 abbrev pub listed : Tree → List Line
 listed t = lines_from t 0 256
 

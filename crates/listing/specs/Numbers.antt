@@ -1,5 +1,5 @@
 -- The lines in a lent table, five words a line, as the code writes and reads them. `Rattle.listing.proofs` says that the table read back is the lines
--- (`Written-Read`).
+-- (`written_read`).
 use Rattle.std.specs.Prelude.{List, [], ◌∷◌, ℕ, zero, suc, ◌+◌, ◌*◌, get_or, set}
 use Rattle.std.proofs.lemmas.List.Edits.{sets}
 use Rattle.listing.specs.declared.Line.{Line}

@@ -57,7 +57,7 @@ module _ (t : Tree) where
   abbrev pub lent_to : Leaf → Drawing
   lent_to l = lent t.areas t.xs t.ys (leaf_bounds t l)
 
-  -- ""Read there" is by "Winding and meaning" over the leaf's stream": `Rattle.position.proofs.Known.leaf-meaning` says that the pass gives this set,
+  -- ""Read there" is by "Winding and meaning" over the leaf's stream": `Rattle.position.proofs.Known.leaf_meaning` says that the pass gives this set,
   -- whoever wrote the tables
   abbrev pub set_meant : (x y : ℕ) → Leaf → ℕ
   set_meant x y l = set_of (shown_in (lent_to l) (at x y) (stream_of (role_in (lent_to l)) (elements_in (leaf_stream t l))))

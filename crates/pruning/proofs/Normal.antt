@@ -62,7 +62,7 @@ module _ (I : Items) where
   join_join k (leaf x a) b c = join_cut k (class k x) x (join I k a b) c refl ∙ ap (cut_leaf I (class k x) x) (join_join k a b c)
   join_join k (group l r a) b c = ap (group l r) (join_join k a b c)
 
-  -- hasOne I of a join I
+  -- has_one I of a join I
   has_one_cut : (k : Kind) (c : Class) (x : Item) (s : Side Item) → class k x ≡ c → has_one I k (cut_leaf I c x s) ≡ (is_passes c || has_one I k s)
   has_one_cut k fails x s e = rw e
   has_one_cut k passes x s e = rw e
@@ -165,7 +165,7 @@ module _ (I : Items) where
   no_right always l = refl
   no_right mixed l = refl
 
-  -- the same from hasOne I
+  -- the same from has_one I
   has_one_leaf : (c : Class) (a : Item) (t : Side Item)
       → class clip a ≡ c
       → (has_one I clip t ≡ true → has_one I clip (normal I clip t) ≡ true)

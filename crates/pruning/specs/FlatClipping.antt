@@ -1,7 +1,7 @@
 -- Document 000's flat clipping machine, with its three variables and its arrows as the text tells them. Document 01: "A stream is read in one pass as in
 -- document 000's flat clipping, states P, S and SA; the machine's move is decided by state, kind of entry and depth, and it stops on an alpha of 255, not on
--- left = 0." Our machine, `scan`, has no u. Proved in `Rattle.pruning.proofs`: on every stream in the grammar both show the same (`Machine`: `without-u`),
--- and this one shows the same from any u (`FlatClipping`: `flat-clipping`), so that its arrow at u = 0 changes nothing; also with the "dummy push-pop pair"
+-- left = 0." Our machine, `scan`, has no u. Proved in `Rattle.pruning.proofs`: on every stream in the grammar both show the same (`Machine`: `without_u`),
+-- and this one shows the same from any u (`FlatClipping`: `flat_clipping_law`), so that its arrow at u = 0 changes nothing; also with the "dummy push-pop pair"
 -- of document 000 around the stream (`scene`).
 use Rattle.std.specs.Prelude.{Bool, cond, List, [], ◌∷◌, ℕ, suc, pred, leb, eqb}
 use Rattle.pruning.specs.Sides.{paint, clip, Entry, item, push, activate, pop}

@@ -1,6 +1,6 @@
 -- Document 01, "Cells": "A stream is read in one pass as in document 000's flat clipping, states P, S and SA; the machine's move is decided by state,
 -- kind of entry and depth, and it stops on an alpha of 255, not on left = 0." `FlatClipping` has document 000's machine as it stands there, with its count u;
--- `Rattle.pruning.proofs.Machine` says that both show the same (`without-u`).
+-- `Rattle.pruning.proofs.Machine` says that both show the same (`without_u`).
 use Rattle.std.specs.Prelude.{Bool, cond, List, [], ◌∷◌, ℕ, suc, pred, leb}
 use Rattle.pruning.specs.Sides.{paint, clip, Entry, item, push, activate, pop}
 

@@ -1,6 +1,6 @@
 -- Document 01, "Cells": pruning "by rules 12 to 18 of document 000", as one relation: any rule at any place, and any C1 made bare at any time.
--- `Rattle.pruning.proofs` says that every sequence of such steps ends (`Sequences`: `every-sequence-ends`), and where no step is left it is the pruned side
--- (`any-sequence`; `Order`: `any_order`).
+-- `Rattle.pruning.proofs` says that every sequence of such steps ends (`Sequences`: `every_sequence_ends`), and where no step is left it is the pruned side
+-- (`any_sequence`; `Order`: `any_order`).
 use Rattle.std.specs.Prelude.{◌≡◌, ◌<◌}
 use Rattle.pruning.specs.Sides.{Kind, paint, clip, Side, end, leaf, group, append, size}
 use Rattle.pruning.specs.Items.{Items, fails, passes}

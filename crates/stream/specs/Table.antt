@@ -21,6 +21,6 @@ unfoldable pub flat : List Words → List ℕ
 flat [] = []
 flat (w ∷ ws) = w.kind ∷ w.p ∷ w.q ∷ w.r ∷ flat ws
 
--- the table with ws from entry i on, stored one after the other; `written-eq` says it with take and drop
+-- the table with ws from entry i on, stored one after the other; `written_eq` says it with take and drop
 unfoldable pub written : List ℕ → ℕ → List Words → List ℕ
 written t i ws = sets t (i * 4) (flat ws)

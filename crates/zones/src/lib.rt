@@ -3,9 +3,10 @@
 // Each answer is one number: the number of the refusal times 2^32, and its place. Where nothing is refused the high half is 0 and the low
 // half is the result.
 //
-// How to read a contract: `answer` says what is returned, and each further clause, named after a table, what that table holds afterwards.
-// `now head.entry` is what the table `head` holds when the call begins, `now head.exit` when it returns; `treeLent plan ... entries` is all
-// seven tables when the call begins, `drawingLent plan areas xs ys` the drawing's four. A table with no clause is lent by `&`: read only.
+// How to read a contract: `answer` says what is returned (`result`), and each further clause, named after a table, what that table holds afterwards.
+// `head.old` is what the table `head` holds when the call begins, `head.new` when it returns; `tree_lent plan .. entries` is all seven tables when
+// the call begins, `tree_lent_mut` the same where head, cells and entries are lent to be written, `drawing_lent plan areas xs ys` the drawing's four.
+// A table with no clause is lent by `&`: read only.
 
 #![tactic(auto)]
 

@@ -1,4 +1,4 @@
--- The path down over the numbers that the code holds. `Rattle.celltable.proofs.Meaning` says that it is `descendIn`.
+-- The path down over the numbers that the code holds. `Rattle.celltable.proofs.Meaning` says that it is `descend_in`.
 use Rattle.std.specs.Prelude.{ℕ, zero, suc, ◌+◌, ◌*◌, ◌/◌, ◌≤◌, ◌<◌, Bool, cond, ◌&&◌, ◌||◌, List, eqb, leb}
 use Rattle.celltable.specs.declared.CellWords.{CellWords}
 use Rattle.celltable.specs.declared.Half.{Half}

@@ -1,6 +1,6 @@
 -- What cell 0's stream is made from, in the code's order: one element for each record but a control corner. Document 01's form is `source`
 -- (`Rattle.cells.specs.Streams`);
--- `source-elements` says that the elements are the same.
+-- `source_elements` says that the elements are the same.
 use Rattle.std.specs.Prelude.{List, [], ◌∷◌, ℕ, suc, pos}
 use Rattle.geometry.specs.Windings.{Line, line, curve}
 use Rattle.records.specs.declared.Record.{Record}
