@@ -8,13 +8,15 @@ use std::path::{Path, PathBuf};
 use zones_tests::pages;
 use zones_tests::quotations::{self, Document};
 
-/// The documents, from the folder that ZONES_DOCUMENTS names, if it does, and the customer's demands.
+/// The documents, from ZONES_DOCUMENTS or from the folder `shared` beside the repository, if they
+/// are there, and the customer's demands.
 fn documents() -> Option<Vec<Document>> {
-    let Some(chosen) = env::var_os("ZONES_DOCUMENTS") else {
-        println!("ZONES_DOCUMENTS names no documents: nothing compared");
-        return None;
-    };
+    let chosen = env::var_os("ZONES_DOCUMENTS").unwrap_or("../shared/documents".into());
     let folder = pages::top().join(chosen);
+    if !folder.is_dir() {
+        println!("no documents at {}: nothing compared", folder.display());
+        return None;
+    }
     let demands = include_str!("../data/demands.txt");
     Some(quotations::documents(&folder, demands))
 }
