@@ -319,9 +319,9 @@ static inline const char *zones_refusal_text(uint32_t number) {
  * recursive and no frame depends on the tables: what was measured is the longest path through the object code, so
  * other drawings take no more.
  *
- *     zones_read     346     zones_split    4584     zones_position    967
- *     zones_write    538     zones_grow     4648     zones_pixel_row  1271
- *     zones_open    1832     zones_find_leaf 839     zones_zone_log   1271
+ *     zones_read     341     zones_split    7576     zones_position    862
+ *     zones_write    485     zones_grow     7656     zones_pixel_row   990
+ *     zones_open    2152     zones_find_leaf 750     zones_zone_log   1150
  *
  * What memcpy and memset take comes on top. In a program that binds a shared C library lazily, the first call of
  * either runs the dynamic linker on this stack, another 3 to 4 KB.
