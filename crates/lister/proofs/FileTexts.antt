@@ -1,33 +1,8 @@
 -- The lister's tables hold every drawing that passes, so reading into them gives the file's own verdict; and one byte more than a file may have is enough
 -- to refuse it.
-use Rattle.std.specs.Prelude.{Option, option_map}
+use Rattle.std.specs.Prelude.{Option}
 use Rattle.std.specs.Io.KnownBytes.{Appends}
-use Rattle.std.proofs.Common.{
-  [],
-  ◌++◌,
-  Some,
-  None,
-  IfSome,
-  ◌≡◌,
-  ℕ,
-  ◌/◌,
-  ◌%◌,
-  ◌≤◌,
-  ◌<◌,
-  Bool,
-  true,
-  false,
-  cond,
-  List,
-  length,
-  take,
-  refl,
-  sym,
-  ap,
-  ◌∙◌,
-  subst,
-  arith,
-}
+use Rattle.std.proofs.Common.{Some, None, IfSome, ◌≡◌, ℕ, ◌/◌, ◌%◌, ◌≤◌, ◌<◌, Bool, true, false, cond, List, length, take, refl, sym, ap, ◌∙◌, subst, arith}
 use Rattle.std.proofs.lemmas.List.{length-replicate, length-take-le, take_all}
 use lib.Dec.{eqb, leb}
 use borrow.Author.Tests.{eq-eqb, le-leb, eqb-true, leb-true, leb-false}
@@ -120,12 +95,7 @@ one_byte_more b = go (leb (length b) 65537) refl
         let n : length (take 65537 b) ≡ 65537 = length-take-le 65537 b (omega arith) in
         ap (verdict_text (take 65537 b)) (too_long (take 65537 b) (omega arith)) ∙ sym (ap (verdict_text b) (too_long b (omega arith)))
 
-pub first_bytes : (n : ℕ) (o : Option (List ℕ)) (before after : List ℕ) → before ≡ [] → IfSome (option_map (take n) o) (λ bs. after ≡ before ++ bs)
-    → IfSome o (λ bs. after ≡ take n bs)
-first_bytes n None before after e h = tt
-first_bytes n (Some bs) before after e h = h ∙ ap (λ l. l ++ take n bs) e
-
-pub listed_said : (o : Option (List ℕ)) (items records : List ℕ) (old new : Option (List ℕ)) → records ≡ items → IfSome o (λ bs. items ≡ take 65537 bs)
+pub listed_said : (o : Option (List ℕ)) (records : List ℕ) (old new : Option (List ℕ)) → IfSome o (λ bs. records ≡ take 65537 bs)
     → Appends old new (file_text records) → IfSome o (λ bs. Appends old new (file_text bs))
-listed_said None items records old new s e h = tt
-listed_said (Some bs) items records old new s e h = subst (Appends old new) (ap file_text (s ∙ e) ∙ one_byte_more bs) h
+listed_said None records old new e h = tt
+listed_said (Some bs) records old new e h = subst (Appends old new) (ap file_text e ∙ one_byte_more bs) h

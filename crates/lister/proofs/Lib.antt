@@ -2,6 +2,7 @@
 pub mod Depths
 pub mod FileLeaves
 pub mod FileTexts
+pub mod Filling
 pub mod Leaves
 pub mod Outcomes
 pub mod Texts

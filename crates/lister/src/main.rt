@@ -14,9 +14,8 @@ ghost use Rattle.lister.specs.Text.{line_text, lines_text, refused_text, outcome
 use grammar::Verdict;
 use listing::Line;
 use refusals::Refusal;
-use std::alloc::Global;
 use std::io;
-use std::io::{Read, Write};
+use std::io::{ErrorKind, Read, Write};
 
 // "Its tables hold 1,024 cells and 4,096 entries"
 const CELLS: usize = 1024;
@@ -208,24 +207,39 @@ fn print_file<W: Write>(out: &mut W, records: &[u8]) -> io::Result<()>
 // A file may have 4,096 records of 16 bytes, which is 65,536: one byte more shows that it is longer, and is refused for its length.
 const MOST_READ: usize = records::MOST_RECORDS * records::RECORD_BYTES + 1;
 
-// The file, or its first bytes where it has more: no more of it is read.
-fn read_file<R: Read + Drop>(alloc: Global, file: R) -> io::Result<Vec<u8>>
-    ensures { IfOk result (λ records. IfSome (R.remaining file) (λ bytes. records.items ≡ take 65537 bytes)) }
+// Reads the file into the table, until the file ends or the table is full: no more of it is read. A read that a signal interrupts is tried again.
+fn read_file<R: Read + Drop>(mut file: R, records: &mut [u8]) -> io::Result<usize>
+    ensures range { IfOk result (λ n. n ≤ length records.new) }
+    ensures bytes { IfOk result (λ n. IfSome (R.remaining file) (λ bytes. take n records.new ≡ take (length records.old) bytes)) }
 {
-    let mut records = Vec::new(alloc);
-    file.take(MOST_READ as u64).read_to_end(&mut records)?;
-    Ok(records)
+    let mut n = 0;
+    for _ in 0..u64::MAX {
+        if n == records.len() {
+            return Ok(n);
+        }
+        match file.read(&mut records[n..]) {
+            Ok(0) => return Ok(n),
+            Ok(more) => n += more,
+            Err(e) => {
+                if e.kind() != ErrorKind::Interrupted {
+                    return Err(e);
+                }
+            }
+        }
+    }
+    Err(ErrorKind::TimedOut.into())
 }
 
 // Reads a file and prints what is to be printed of it.
-fn list_file<R: Read + Drop, W: Write>(alloc: Global, file: R, out: &mut W) -> io::Result<()>
+fn list_file<R: Read + Drop, W: Write>(file: R, out: &mut W) -> io::Result<()>
     ensures text { OnOk result (IfSome (R.remaining file) (λ bytes. Appends (W.contents out.old) (W.contents out.new) (file_text bytes))) }
     ensures leaves { FilePrintsEachLeaf }
 {
-    let records = read_file(alloc, file)?;
-    print_file(out, &records)
+    let mut records = [0u8; MOST_READ];
+    let n = read_file(file, &mut records)?;
+    print_file(out, &records[..n])
 }
 
 fn main(rt: HostRuntime) -> io::Result<()> {
-    list_file(rt.alloc(), rt.reader(), &mut io::writer(&rt))
+    list_file(rt.reader(), &mut io::writer(&rt))
 }

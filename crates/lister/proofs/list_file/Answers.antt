@@ -4,12 +4,10 @@ use Rattle.lister.proofs.FileLeaves.{file_prints_each_leaf}
 use Rattle.lister.proofs.list_file.Goals as goal
 
 pub returns-clause-text : goal.returns-clause-text
-returns-clause-text g c =
-    let records = c.deref.ensures.value in
-    on_ok c.print_file.result (listed_said (g.R.Read.remaining c.args.file) _ _ _ _ records c.in_ok-records.ensures) c.print_file.ensures
+returns-clause-text g c = on_ok c.print_file.result (listed_said (g.R.Read.remaining c.args.file) _ _ _ c.in_ok-n.ensures.bytes) c.print_file.ensures
 
 pub returns-clause-leaves : goal.returns-clause-leaves
 returns-clause-leaves g c = file_prints_each_leaf
 
-pub returns-in_err-records-clause-leaves : goal.returns-in_err-records-clause-leaves
-returns-in_err-records-clause-leaves g c = file_prints_each_leaf
+pub returns-in_err-n-clause-leaves : goal.returns-in_err-n-clause-leaves
+returns-in_err-n-clause-leaves g c = file_prints_each_leaf
