@@ -304,7 +304,7 @@ static inline const char *zones_refusal_text(uint32_t number) {
 /* 6  MEMORY, STACK, THRESHOLD AND DEPTH LIMIT
  *
  * Memory. Tables at the limits (struct zones_memory) take 1,214,484 bytes: plan 16,396, areas 2,048, xs and ys 8,192
- * each, head 8, cells 131,072, entries 1,048,576. The archive has 29 KB of code and constants and no variable. Shorter
+ * each, head 8, cells 131,072, entries 1,048,576. The archive has 37 KB of code and constants and no variable. Shorter
  * tables serve smaller drawings (ZONES_TABLES, in section 8); where they are too short for a whole tree, it is cut
  * less, and as right. The samples, grown with the advised numbers below: what is in use, and the bytes of tables just
  * so long:
@@ -333,24 +333,24 @@ static inline const char *zones_refusal_text(uint32_t number) {
  *
  *      | pit                       | berms                     | full                      | mine
  *      |cells  entr.   pos.  pixel |cells  entr.   pos.  pixel |cells  entr.   pos.  pixel |cells  entr.   pos.  pixel
- * none |    1     72   5937  31845 |    1    117  16911  95476 |    1     72   8392  54135 |    1   1247 140243 498768
- *   16 |   17    427   2775  14732 |   29    936   3446  19322 |   53   1590   3250  21187 |  429  38480   5627  20494
- *    8 |   45    962   1905   9607 |   73   1656   2287  11950 |  229   3849   2347  14014 | 1065  65158   4405  15834
- *    4 |   89   1390   1796   8310 |  253   4228   1766   9409 |  905   8523   1801   9853 | 1081f 65452   4129  12794
- *    2 |  329   3180   1516   6171 |  673   7615   1639   7898 | 2661  15606   1386   4256 | 1129f 65467   3927  12371
- *    1 | 1453   7811   1355   5616 | 2005  14840   1448   6844 | 4093f 20713   1324   3664 | 1145f 65382   3869  11764
- *    0 | 4093f 18119   1143   3675 | 4093f 24055   1227   4452 | 4093f 20187   1259   3345 | 1149f 65514   3684  12371
+ * none |    1     72   6549  36709 |    1    117  18310  99355 |    1     72   9196  59708 |    1   1247 153265 537233
+ *   16 |   17    427   2985  15305 |   29    936   3686  19515 |   53   1590   3487  22220 |  429  38480   6046  20806
+ *    8 |   45    962   2024   9667 |   73   1656   2427  11893 |  229   3849   2493  14472 | 1065  65158   4718  15957
+ *    4 |   89   1390   1904   8284 |  253   4228   1864   9283 |  905   8523   1894   9847 | 1081f 65452   4417  12661
+ *    2 |  329   3180   1595   6040 |  673   7615   1725   7738 | 2661  15606   1442   4133 | 1129f 65467   4197  12341
+ *    1 | 1453   7811   1417   5408 | 2005  14840   1515   6608 | 4093f 20713   1373   3490 | 1145f 65382   4134  11696
+ *    0 | 4093f 18119   1182   3530 | 4093f 24055   1272   4298 | 4093f 20187   1304   3191 | 1149f 65514   3933  12341
  *
  * Then over depth limits, with threshold 2:
  *
  *      | pit                       | berms                     | full                      | mine
  *      |cells  entr.   pos.  pixel |cells  entr.   pos.  pixel |cells  entr.   pos.  pixel |cells  entr.   pos.  pixel
- *    4 |  153   2016   1549   7423 |  121   2680   1766   8909 |  293   4399   1900  11743 |  317  31278   5657  24995
- *    5 |  249   2763   1521   6333 |  229   4096   1669   8148 | 1057   9329   1472   4852 |  973  60736   3986  12371
- *    6 |  301   3040   1517   6171 |  373   5493   1651   7898 | 2661  15606   1386   4256 | 1129f 65467   3927  12371
- *    7 |  317   3126   1516   6171 |  553   6889   1642   7898 | 2661  15606   1386   4256 | 1129f 65467   3927  12371
- *    8 |  329   3180   1516   6171 |  673   7615   1639   7898 | 2661  15606   1386   4256 | 1129f 65467   3927  12371
- *   10 |  333   3186   1516   6171 |  681   7641   1639   7898 | 2661  15606   1386   4256 | 1129f 65467   3927  12371
+ *    4 |  153   2016   1632   7387 |  121   2680   1862   8772 |  293   4399   2009  11957 |  317  31278   6080  25598
+ *    5 |  249   2763   1600   6211 |  229   4096   1758   7993 | 1057   9329   1539   4784 |  973  60736   4261  12341
+ *    6 |  301   3040   1596   6040 |  373   5493   1738   7738 | 2661  15606   1442   4133 | 1129f 65467   4197  12341
+ *    7 |  317   3126   1595   6040 |  553   6889   1728   7738 | 2661  15606   1442   4133 | 1129f 65467   4197  12341
+ *    8 |  329   3180   1595   6040 |  673   7615   1725   7738 | 2661  15606   1442   4133 | 1129f 65467   4197  12341
+ *   10 |  333   3186   1595   6040 |  681   7641   1725   7738 | 2661  15606   1442   4133 | 1129f 65467   4197  12341
  *
  * - In tables at the limits: threshold 2, depth limit 8. Below 2 the tables fill up for little; a large drawing fills
  *   them at any threshold up to 4, and what is cut then is cut evenly, as growing goes from the large cells down.
