@@ -15,7 +15,7 @@ returns-then-fits c =
       entries = rw (
         sym c.stream_passes-passes.ensures.answer ∙ c.if-passes.true,
         sym c.square_fits-fits.ensures.answer ∙ c.if-fits.true,
-      ) ((c.write_if_room.ensures.entries));
+      ) c.write_if_room.ensures.entries;
     }
 
 pub returns-then-passes : goal.returns-then-passes
@@ -29,11 +29,11 @@ returns-then-passes c = record {
     sym c.stream_passes-passes.ensures.answer ∙ c.if-passes.true,
     sym c.square_fits-fits.ensures.answer
         ∙ c.if-fits.false,
-  ) ((refl));
+  ) refl;
 }
 
 pub returns : goal.returns
 returns c = record {
   answer = rw (sym c.stream_passes-passes.ensures.answer ∙ c.if-passes.false) (refl);
-  entries = rw (sym c.stream_passes-passes.ensures.answer ∙ c.if-passes.false) ((refl));
+  entries = rw (sym c.stream_passes-passes.ensures.answer ∙ c.if-passes.false) refl;
 }

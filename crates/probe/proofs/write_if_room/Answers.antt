@@ -32,11 +32,11 @@ pub returns-then-used-n : goal.returns-then-used-n
 returns-then-used-n c = let e = c.entries_made-n.ensures.answer in
     record {
       answer = rw (room_left _ _ _ _ e c.if-used-n.true) (ap (λ (n : ℕ). n + 1) e);
-      entries = rw (room_left _ _ _ _ e c.if-used-n.true) ((c.write_child.ensures.entries));
+      entries = rw (room_left _ _ _ _ e c.if-used-n.true) c.write_child.ensures.entries;
     }
 
 pub returns : goal.returns
 returns c = record {
   answer = rw (room_out _ _ _ _ c.entries_made-n.ensures.answer c.if-used-n.false) (refl);
-  entries = rw (room_out _ _ _ _ c.entries_made-n.ensures.answer c.if-used-n.false) ((refl));
+  entries = rw (room_out _ _ _ _ c.entries_made-n.ensures.answer c.if-used-n.false) refl;
 }

@@ -34,7 +34,7 @@ judge_cell-requires c =
     let h = sym c.counts_fit.ensures.answer ∙ c.if-counts_fit.true in
     record {
       used_bound = (omega (arith, used_most T h, c.cells_used-used.ensures.answer), free_most T h);
-      i_lt_used = (c.if-i-used.true, omega (arith, used_within T h, c.cells_used-used.ensures.answer));
+      i_lt_used = (omega (arith, c.if-i-used.true), omega (arith, used_within T h, c.cells_used-used.ensures.answer));
       w_value = c.read_cell-w.ensures.answer;
     }
 
@@ -44,7 +44,7 @@ returns-then-counts_fit c =
     let T = tree a.plan.now a.areas.now a.xs.now a.ys.now a.head.now a.cells.now a.entries.now in
     let h = sym c.counts_fit.ensures.answer ∙ c.if-counts_fit.true in
     record {
-      answer = call_cell T a.i _ c.if-xs-ys.true _ c.cells_used-used.ensures.answer c.if-i-used.true _ _ _ h refl c.read_cell-w.ensures.answer
+      answer = call_cell T a.i _ c.if-xs-ys.true _ c.cells_used-used.ensures.answer (omega (arith, c.if-i-used.true)) _ _ _ h refl c.read_cell-w.ensures.answer
           c.bounds_in-b.ensures.answer c.judge_cell.ensures.answer;
       children = told_cell T a.i c.judge_cell.result _ _ c.read_cell-w.ensures.answer c.bounds_in-b.ensures.answer c.judge_cell.ensures.children;
     }
@@ -53,7 +53,7 @@ pub returns-then-i-used : goal.returns-then-i-used
 returns-then-i-used c =
     let a = c.args in
     let T = tree a.plan.now a.areas.now a.xs.now a.ys.now a.head.now a.cells.now a.entries.now in record {
-      answer = call_uncounted T a.i _ c.if-xs-ys.true _ c.cells_used-used.ensures.answer c.if-i-used.true
+      answer = call_uncounted T a.i _ c.if-xs-ys.true _ c.cells_used-used.ensures.answer (omega (arith, c.if-i-used.true))
           (sym c.counts_fit.ensures.answer ∙ c.if-counts_fit.false) c.refused.ensures.answer;
       children = λ n e. not_split n _ (sym c.refused.ensures.answer ∙ e);
     }
