@@ -37,7 +37,7 @@ fn pack(number: u32, low: usize) -> u64
 fn refused(r: Refusal) -> u64
     ensures answer { result ≡ packed (number_of r) 0 }
 {
-    let n = refusals::number(r);
+    let n = u32::from(r);
     pack(n, 0)
 }
 
@@ -48,7 +48,7 @@ pub fn pack_read(v: Verdict) -> u64
     match v {
         Verdict::Accepted(k) => pack(0, k.records),
         Verdict::Refused(r, p) => {
-            let n = refusals::number(r);
+            let n = u32::from(r);
             pack(n, p)
         }
     }
@@ -196,7 +196,7 @@ pub fn pack_log(a: LogAnswer) -> u64
             pack(0, low)
         }
         LogAnswer::Not(r, place) => {
-            let n = refusals::number(r);
+            let n = u32::from(r);
             let low = low_half(place);
             pack(n, low)
         }
@@ -211,7 +211,7 @@ pub fn pack_row(a: RowAnswer) -> u64
     match a {
         RowAnswer::Done => pack(0, 0),
         RowAnswer::Not(r, place) => {
-            let n = refusals::number(r);
+            let n = u32::from(r);
             pack(n, place)
         }
     }

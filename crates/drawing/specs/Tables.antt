@@ -16,6 +16,7 @@ use Rattle.grammar.specs.declared.Verdict.TheVariants.{Accepted, Refused}
 use Rattle.grammar.specs.Grammar.{checked, counts}
 use Rattle.grammar.specs.Lists.{good_records, area_one, corner_one}
 use Rattle.drawing.specs.declared.Cursor.{Cursor}
+use Rattle.drawing.specs.declared.Drawing.{Drawing}
 use Rattle.drawing.specs.declared.Written.{Written}
 use Rattle.drawing.specs.declared.Written.TheVariants.{Bytes, Not}
 use Rattle.read.specs.Words.{file_of}
@@ -34,6 +35,13 @@ tables p a x y = record { plan = p; areas = a; xs = x; ys = y }
 -- this takes what each holds at entry
 abbrev pub drawing_lent : (plan areas xs ys : Both (Bor (List ℕ)) (Bor (List ℕ))) → Tables
 drawing_lent p a x y = tables p.entry.now a.entry.now x.entry.now y.entry.now
+
+-- what the four tables of a drawing hold, and what they hold as a call begins
+abbrev pub tables_of : Drawing → Tables
+tables_of d = tables d.plan.now d.areas.now d.xs.now d.ys.now
+
+abbrev pub drawing_passed : Both Drawing Drawing → Tables
+drawing_passed d = tables_of d.entry
 
 -- the tables have the words that these counts speak of
 pub record Ready (p a x y : List ℕ) (u : Counts) : Type 0 where

@@ -20,6 +20,15 @@ use read::PLAN_COUNTS;
 use records::{AREA_WORDS, Decoded, Fields, KIND_AREA, RECORD_BYTES, Record};
 use refusals::Refusal;
 
+// The four tables of a drawing, as they are lent to a call.
+#[derive(Clone, Copy)]
+pub struct Drawing<'a> {
+    pub plan: &'a [u32],
+    pub areas: &'a [u32],
+    pub xs: &'a [u32],
+    pub ys: &'a [u32],
+}
+
 // The areas and the corners before a record.
 #[derive(Clone, Copy)]
 pub struct Cursor {

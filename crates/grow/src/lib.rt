@@ -137,11 +137,11 @@ fn split_past(s: Sweep, head: &[u32]) -> Sweep
 fn ended_by(r: Refusal) -> Turn
     ensures answer { result ≡ cond (eqb (number_of r) 11) NoRoom Stopped }
 {
-    let n = refusals::number(r);
-    if n == 11 {
-        return Turn::NoRoom;
+    if r == Refusal::Room {
+        Turn::NoRoom
+    } else {
+        Turn::Stopped
     }
-    Turn::Stopped
 }
 
 // The leaf is split; 12 over its stream comes before 11.

@@ -54,7 +54,7 @@ fn print_refused<W: Write>(out: &mut W, r: Refusal, place: usize) -> io::Result<
     ensures { OnOk result (Appends (W.contents out.old) (W.contents out.new) (refused_text r place)) }
 {
     write!(out, "refused ")?;
-    print_number(out, refusals::number(r))?;
+    print_number(out, u32::from(r))?;
     writeln!(out, " at {place}")
 }
 

@@ -1,6 +1,7 @@
 -- Document 01, "From the input" and "From the state", and document 02: the number of each refusal.
 use Rattle.std.specs.Prelude.{ℕ}
 use Rattle.refusals.specs.declared.Refusal.{Refusal}
+use Rattle.refusals.specs.declared.Refused.{Refused}
 use Rattle.refusals.specs.declared.Refusal.TheVariants.{
   Length,
   Kind,
@@ -44,3 +45,7 @@ number_of Room = 11
 number_of Broken = 12
 -- document 02, Item 2: "13 for a curve that breaks the order or span"
 number_of Curve = 13
+
+-- a refusal, "and the place where it is refused": "record number, position index or pixel index", else 0
+abbrev pub at_place : Refusal → ℕ → Refused
+at_place r p = record { refusal = r; place = p }

@@ -9,7 +9,9 @@ use Rattle.records.specs.declared.Decoded.TheVariants.{Good, Bad}
 use Rattle.records.specs.Record.{corner_range, is_good}
 use Rattle.drawing.specs.Tables.{area_row}
 use Rattle.stream.specs.declared.Words.{Words}
+use denote.Triple.Both.{Both}
 use Rattle.stream.specs.declared.Bounds.{Bounds}
+use Rattle.stream.specs.declared.Context.{Context}
 use Rattle.stream.specs.Entry.{Entry, opens, bar, closes, area, line, curve, shortcut, passes, bad, decode, start_range, sign_range}
 use Rattle.stream.specs.Table.{words_from}
 
@@ -22,6 +24,12 @@ pub record Env : Type 0 where
 
 abbrev pub env : List ℕ → List ℕ → List ℕ → Bounds → Env
 env a x y b = record { areas = a; xs = x; ys = y; used = b }
+
+abbrev pub env_of : Context → Env
+env_of c = env c.areas.now c.xs.now c.ys.now c.bounds
+
+abbrev pub env_passed : Both Context Context → Env
+env_passed c = env_of c.entry
 
 abbrev pub bounds : ℕ → ℕ → ℕ → ℕ → Bounds
 bounds a c low side = record { areas = a; corners = c; low = low; side = side }

@@ -69,6 +69,23 @@ pub struct Bounds {
     pub side: u32,
 }
 
+// What a stream is read against: the drawing's areas and corners, and the bounds on what an entry may name.
+#[derive(Clone, Copy)]
+pub struct Context<'a> {
+    pub areas: &'a [u32],
+    pub xs: &'a [u32],
+    pub ys: &'a [u32],
+    pub bounds: Bounds,
+}
+
+// A stream in the table of entries: its first entry, and how many it has.
+#[derive(Clone, Copy)]
+pub struct Stream<'a> {
+    pub entries: &'a [u32],
+    pub first: usize,
+    pub count: usize,
+}
+
 // Where a reader of a stream stands. `stack`: the open groups (crate `groups`), or 0 where an entry was out of range or did not fit. `held`: an
 // area, a line, a curve or a shortcut stands straight before. `areas`, `segments`: how many areas, and how many lines, curves and shortcuts, so far.
 #[derive(Clone, Copy)]

@@ -8,6 +8,8 @@ use Rattle.stream.specs.Table.{words_from}
 use Rattle.stream.specs.Grammar.{Env, bounds, used_range, check_stream}
 use Rattle.celltable.specs.declared.CellWords.{CellWords}
 use Rattle.celltable.specs.Ranges.{head_range}
+use Rattle.drawing.specs.declared.Drawing.{Drawing}
+use Rattle.tables.specs.declared.Tree.{Tree as LentTree}
 
 -- the seven tables: the drawing's plan, areas, xs and ys, and the tree's head, cells and entries
 pub record Tree : Type 0 where
@@ -34,6 +36,19 @@ abbrev pub tree_lent_mut : (plan areas xs ys : Both (Bor (List ℕ)) (Bor (List 
     → Tree
 tree_lent_mut p a x y h c e =
     tree p.entry.now a.entry.now x.entry.now y.entry.now h.entry.now c.entry.now e.entry.now
+
+-- what the seven tables of a tree hold, and what they hold as a call begins
+abbrev pub tree_of : LentTree → Tree
+tree_of t =
+    tree t.drawing.plan.now t.drawing.areas.now t.drawing.xs.now t.drawing.ys.now t.head.now t.cells.now t.entries.now
+
+abbrev pub tree_passed : Both LentTree LentTree → Tree
+tree_passed t = tree_of t.entry
+
+-- the same of a drawing and three tables that are lent to be written
+abbrev pub tree_passed_mut : Both Drawing Drawing → (head cells entries : Both (MutBor (List ℕ)) (MutBor (List ℕ))) → Tree
+tree_passed_mut d h c e =
+    tree d.entry.plan.now d.entry.areas.now d.entry.xs.now d.entry.ys.now h.entry.now c.entry.now e.entry.now
 
 -- "cells in use": a head too short for its two words has none
 abbrev pub cells_used : List ℕ → ℕ

@@ -7,10 +7,20 @@ ghost use Rattle.stream.specs.Grammar.{bounds};
 ghost use Rattle.celltable.specs.Ranges.{cells_held, entries_held};
 ghost use Rattle.tables.specs.Tables.{tree_lent, cells_used, counts_in};
 
+use drawing::Drawing;
 use stream::Bounds;
 
 // The limit of the cells, as a word.
 const MOST_CELLS: u32 = celltable::MOST_CELLS as u32;
+
+// The seven tables of a tree and of its drawing, as they are lent to a call that reads them.
+#[derive(Clone, Copy)]
+pub struct Tree<'a> {
+    pub drawing: Drawing<'a>,
+    pub head: &'a [u32],
+    pub cells: &'a [u32],
+    pub entries: &'a [u32],
+}
 
 pub fn cells_used(head: &[u32]) -> u32
     ensures answer { result ≡ cells_used head.now }
