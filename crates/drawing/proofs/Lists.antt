@@ -7,8 +7,8 @@ use native.Mathlib.Omega.{arith}
 use lib.ListN.{length, get_or}
 use Rattle.records.specs.declared.Record.{Record}
 use Rattle.records.specs.declared.Record.TheVariants.{Area, First, Next, Open, Bar, Close, Control}
-use Rattle.records.specs.declared.Decoded.{Decoded}
-use Rattle.records.specs.declared.Decoded.TheVariants.{Good}
+use Rattle.records.specs.Record.{Decoded}
+use Rattle.std.specs.Prelude.{Ok}
 use Rattle.records.specs.Record.{in_range, kind_of}
 use Rattle.records.specs.Bytes.{raw_at, decoded_raw, bytes_of}
 use Rattle.laws.proofs.Booleans.{and_left, and_right, and_both}
@@ -22,7 +22,7 @@ use Rattle.drawing.specs.Tables.{Tables, record_at, past_record, past_of, rebuil
 use Rattle.drawing.proofs.Has.{has_left, has_right, has_join, has_nil, has_at, has_first, has_one_law}
 use Rattle.drawing.proofs.Rowlaws.{byte_read, byte_told, row_read, row_told, RowTold}
 
-pub goods_map : (rs : List Record) → good_records (map Good rs) ≡ rs
+pub goods_map : (rs : List Record) → good_records (map Ok rs) ≡ rs
 goods_map [] = refl
 goods_map (r ∷ rs) = ap (λ (l : List Record). r ∷ l) (goods_map rs)
 
@@ -39,7 +39,7 @@ not_cons : {A : Type 0} (d : Decoded) (ds : List Decoded) → d ∷ ds ≡ [] �
 not_cons d ds h = absurd (let z : ◌≡◌ {A = ℕ} 0 1 = cc in omega arith)
 
 -- ---- a file
-pub file_read : (b : List ℕ) (i : ℕ) (rs : List Record) → all_range rs ≡ true → Has b (i * 16) (file_of rs) → decoded_from b i (length rs) ≡ map Good rs
+pub file_read : (b : List ℕ) (i : ℕ) (rs : List Record) → all_range rs ≡ true → Has b (i * 16) (file_of rs) → decoded_from b i (length rs) ≡ map Ok rs
 unfolding decoded_from joined
 file_read b i [] g h = refl
 file_read b i (r ∷ rs) g h =
@@ -52,27 +52,27 @@ file_read b i (r ∷ rs) g h =
 pub file_told : (b : List ℕ) (i n : ℕ) (rs : List Record)
     → ((k : ℕ) → get_or b k 0 < 256)
     → (i + n) * 16 ≤ length b
-    → decoded_from b i n ≡ map Good rs
+    → decoded_from b i n ≡ map Ok rs
     → Has b (i * 16) (file_of rs)
 unfolding decoded_from joined
 file_told b i zero [] s h e = has_nil b (i * 16) (omega arith)
-file_told b i zero (r ∷ rs) s h e = not_nil (Good r) (map Good rs) e
+file_told b i zero (r ∷ rs) s h e = not_nil (Ok r) (map Ok rs) e
 file_told b i (suc n) [] s h e = not_cons (decoded_raw (raw_at b i)) (decoded_from b (i + 1) n) e
 file_told b i (suc n) (r ∷ rs) s h e =
     let m : (i + 1) * 16 ≡ i * 16 + 16 = omega arith in
     has_join b (i * 16) (bytes_of r) (file_of rs)
-    (byte_told b i r s (omega arith) (head_is (decoded_raw (raw_at b i)) (Good r) (decoded_from b (i + 1) n) (map Good rs) e))
+    (byte_told b i r s (omega arith) (head_is (decoded_raw (raw_at b i)) (Ok r) (decoded_from b (i + 1) n) (map Ok rs) e))
     (has_at b ((i + 1) * 16) (i * 16 + 16) (file_of rs) m
-    (file_told b (i + 1) n rs s (omega arith) (tail_is (decoded_raw (raw_at b i)) (Good r) (decoded_from b (i + 1) n) (map Good rs) e)))
+    (file_told b (i + 1) n rs s (omega arith) (tail_is (decoded_raw (raw_at b i)) (Ok r) (decoded_from b (i + 1) n) (map Ok rs) e)))
 
-pub file_range : (b : List ℕ) (i n : ℕ) (rs : List Record) → decoded_from b i n ≡ map Good rs → all_range rs ≡ true
+pub file_range : (b : List ℕ) (i n : ℕ) (rs : List Record) → decoded_from b i n ≡ map Ok rs → all_range rs ≡ true
 unfolding decoded_from
 file_range b i zero [] e = refl
-file_range b i zero (r ∷ rs) e = not_nil (Good r) (map Good rs) e
+file_range b i zero (r ∷ rs) e = not_nil (Ok r) (map Ok rs) e
 file_range b i (suc n) [] e = refl
 file_range b i (suc n) (r ∷ rs) e =
-    and_both (in_range r) (all_range rs) (told (raw_at b i) r (head_is (decoded_raw (raw_at b i)) (Good r) (decoded_from b (i + 1) n) (map Good rs) e)).range
-    (file_range b (i + 1) n rs (tail_is (decoded_raw (raw_at b i)) (Good r) (decoded_from b (i + 1) n) (map Good rs) e))
+    and_both (in_range r) (all_range rs) (told (raw_at b i) r (head_is (decoded_raw (raw_at b i)) (Ok r) (decoded_from b (i + 1) n) (map Ok rs) e)).range
+    (file_range b (i + 1) n rs (tail_is (decoded_raw (raw_at b i)) (Ok r) (decoded_from b (i + 1) n) (map Ok rs) e))
 
 -- ---- tables
 area_long : (r : Record) (n : ℕ) → n * 8 + length (words_of_area r) ≡ (n + area_one r) * 8
@@ -127,16 +127,16 @@ pub tables_read : (t : Tables) (u : Counts) (i : ℕ) (c : Cursor) (rs : List Re
     → From t i c rs
     → c.area + areas_in rs ≤ u.areas
     → c.corner + corners_in rs ≤ u.corners
-    → rebuilt t u i c (length rs) ≡ map Good rs
+    → rebuilt t u i c (length rs) ≡ map Ok rs
 unfolding rebuilt joined
 tables_read t u i c [] g h p q = refl
 tables_read t u i c (r ∷ rs) g h p q =
     rw here
-    (ap (λ (l : List Decoded). Good r ∷ l)
+    (ap (λ (l : List Decoded). Ok r ∷ l)
     (tables_read t u (i + 1) (past_record c r) rs (and_right (in_range r) (all_range rs) g) (from_rest t i c r rs h) (omega arith)
     (omega arith)))
   where
-    here : record_at t u i c ≡ Good r
+    here : record_at t u i c ≡ Ok r
     here =
         row_read t u i c r (and_left (in_range r) (all_range rs) g) (has_first t.plan (i + 3) (kind_of r) (joined words_of_kind rs) h.plan)
         (has_left t.areas (c.area * 8) (words_of_area r) (joined words_of_area rs) h.areas)
@@ -197,7 +197,7 @@ pub tables_told : (t : Tables) (u : Counts) (i : ℕ) (c : Cursor) (n : ℕ) (rs
     → i + n ≤ u.records
     → c.area ≤ u.areas
     → c.corner ≤ u.corners
-    → rebuilt t u i c n ≡ map Good rs
+    → rebuilt t u i c n ≡ map Ok rs
     → TablesTold t u i c rs
 unfolding rebuilt joined
 tables_told t u i c zero [] w l la lc e =
@@ -210,12 +210,12 @@ tables_told t u i c zero [] w l la lc e =
       };
       range = refl;
     }
-tables_told t u i c zero (r ∷ rs) w l la lc e = not_nil (Good r) (map Good rs) e
+tables_told t u i c zero (r ∷ rs) w l la lc e = not_nil (Ok r) (map Ok rs) e
 tables_told t u i c (suc n) [] w l la lc e = not_cons (record_at t u i c) (rebuilt t u (i + 1) (past_of c (record_at t u i c)) n) e
 tables_told t u i c (suc n) (r ∷ rs) w l la lc e =
-    let q : record_at t u i c ≡ Good r = head_is (record_at t u i c) (Good r) (rebuilt t u (i + 1) (past_of c (record_at t u i c)) n) (map Good rs) e in
+    let q : record_at t u i c ≡ Ok r = head_is (record_at t u i c) (Ok r) (rebuilt t u (i + 1) (past_of c (record_at t u i c)) n) (map Ok rs) e in
     let k : RowTold t u (get_or t.plan (i + 3) 0) c r = row_told t u c r i q in
-    let f : rebuilt t u (i + 1) (past_record c r) n ≡ map Good rs = subst (λ (d : Decoded). rebuilt t u (i + 1) (past_of c d) n ≡ map Good rs)
-    q (tail_is (record_at t u i c) (Good r) (rebuilt t u (i + 1) (past_of c (record_at t u i c)) n) (map Good rs) e) in
+    let f : rebuilt t u (i + 1) (past_record c r) n ≡ map Ok rs = subst (λ (d : Decoded). rebuilt t u (i + 1) (past_of c d) n ≡ map Ok rs)
+    q (tail_is (record_at t u i c) (Ok r) (rebuilt t u (i + 1) (past_of c (record_at t u i c)) n) (map Ok rs) e) in
     told_more t u i c r rs w (omega arith) la lc k
     (tables_told t u (i + 1) (past_record c r) n rs w (omega arith) (k.few la) (k.many lc) f)

@@ -14,8 +14,8 @@ use Rattle.refusals.specs.declared.Refusal.{Refusal}
 use Rattle.refusals.specs.declared.Refusal.TheVariants.{Kind, Field}
 use Rattle.records.specs.declared.Record.{Record}
 use Rattle.records.specs.declared.Record.TheVariants.{Area, First, Next, Open, Bar, Close, Control}
-use Rattle.records.specs.declared.Decoded.{Decoded}
-use Rattle.records.specs.declared.Decoded.TheVariants.{Good, Bad}
+use Rattle.records.specs.Record.{Decoded}
+use Rattle.std.specs.Prelude.{Ok, Err}
 use Rattle.records.specs.Record.{in_range, ranged, is_corner, corner_of, delimiter_of, kind_of, is_good}
 use Rattle.records.specs.Bytes.{raw_at, raw_bytes, raw_of, decoded_raw, bytes_of}
 use Rattle.records.proofs.Laws.{kinds, ranged_told, Small, raw_back, raw_again}
@@ -117,13 +117,13 @@ raw_same r s e =
     p15 : r.b15 ≡ s.b15
     p15 = ap (λ (l : List ℕ). get_or l 15 0) e
 
-pub byte_read : (b : List ℕ) (i : ℕ) (r : Record) → in_range r ≡ true → Has b (i * 16) (bytes_of r) → decoded_raw (raw_at b i) ≡ Good r
+pub byte_read : (b : List ℕ) (i : ℕ) (r : Record) → in_range r ≡ true → Has b (i * 16) (bytes_of r) → decoded_raw (raw_at b i) ≡ Ok r
 byte_read b i r g h = ap decoded_raw (raw_same (raw_at b i) (raw_of r) (sym (raw_words b i) ∙ h.same)) ∙ raw_again r g
 
 pub byte_told : (b : List ℕ) (i : ℕ) (r : Record)
     → ((k : ℕ) → get_or b k 0 < 256)
     → i * 16 + 16 ≤ length b
-    → decoded_raw (raw_at b i) ≡ Good r
+    → decoded_raw (raw_at b i) ≡ Ok r
     → Has b (i * 16) (bytes_of r)
 byte_told b i r s h e = record { room = h; same = raw_words b i ∙ ap raw_bytes (sym (raw_back (raw_at b i) r small e)) }
   where
@@ -184,7 +184,7 @@ module _ (t : Tables) (u : Counts) (i : ℕ) (c : Cursor) where
       → in_range (Area f) ≡ true
       → Has t.areas (c.area * 8) (words_of_fields f)
       → c.area < u.areas
-      → area_row t.areas u.areas c.area ≡ Good (Area f)
+      → area_row t.areas u.areas c.area ≡ Ok (Area f)
   unfolding area_row
   area_read f g h l = rw (lt-ltb _ _ l, row_last t.areas c.area f h.same, row_fields t.areas c.area f h.same, g)
 
@@ -194,7 +194,7 @@ module _ (t : Tables) (u : Counts) (i : ℕ) (c : Cursor) where
       → get_or t.xs c.corner 0 ≡ x
       → get_or t.ys c.corner 0 ≡ y
       → c.corner < u.corners
-      → corner_row t.xs t.ys u.corners k c.corner ≡ Good r
+      → corner_row t.xs t.ys u.corners k c.corner ≡ Ok r
   unfolding corner_row
   corner_read k x y r q g a b l = rw (lt-ltb _ _ l, a, b, q, g)
 
@@ -206,7 +206,7 @@ module _ (t : Tables) (u : Counts) (i : ℕ) (c : Cursor) where
       → Has t.ys c.corner (words_of_y r)
       → c.area + area_one r ≤ u.areas
       → c.corner + corner_one r ≤ u.corners
-      → record_at t u i c ≡ Good r
+      → record_at t u i c ≡ Ok r
   unfolding record_at kind_row corner_of delimiter_of
   row_read (Area f) g k a x y p q = rw k (area_read f g a (omega arith))
   row_read (First m n) g k a x y p q = rw k (corner_read 2 m n (First m n) refl g (has_first _ _ m [] x) (has_first _ _ n [] y) (omega arith))
@@ -226,14 +226,11 @@ pub record RowTold (t : Tables) (u : Counts) (k : ℕ) (c : Cursor) (r : Record)
   pub many : c.corner ≤ u.corners → c.corner + corner_one r ≤ u.corners
   pub range : in_range r ≡ true
 
-good_bad : {A : Type 0} (x : Refusal) (r : Record) → Bad x ≡ Good r → A
-good_bad x r e = absurd (let z : ◌≡◌ {A = ℕ} 0 1 = cc in omega arith)
-
-good_is : (r s : Record) → Good r ≡ Good s → r ≡ s
+good_is : (r s : Record) → ◌≡◌ {A = Decoded} (Ok r) (Ok s) → r ≡ s
 good_is r s e = cc
 
 module _ (t : Tables) (u : Counts) (c : Cursor) (r : Record) where
-  told_area : area_row t.areas u.areas c.area ≡ Good r → RowTold t u 1 c r
+  told_area : area_row t.areas u.areas c.area ≡ Ok r → RowTold t u 1 c r
   unfolding area_row
   told_area e₀ = go (ltb c.area u.areas) (eqb (get_or t.areas (c.area * 8 + 7) 0) 0) refl refl e₀
     where
@@ -255,10 +252,10 @@ module _ (t : Tables) (u : Counts) (c : Cursor) (r : Record) where
       go : (a b : Bool)
           → ltb c.area u.areas ≡ a
           → eqb (get_or t.areas (c.area * 8 + 7) 0) 0 ≡ b
-          → cond a (cond b (ranged (Area f)) (Bad Field)) (Bad Field) ≡ Good r
+          → cond a (cond b (ranged (Area f)) (Err Field)) (Err Field) ≡ Ok r
           → RowTold t u 1 c r
-      go false b p q e = good_bad Field r e
-      go true false p q e = good_bad Field r e
+      go false b p q e = absurd cc
+      go true false p q e = absurd cc
       go true true p q e =
           let s = ranged_told (Area f) r e in
           rw (← s.0) (told_row (ltb-true _ _ p) (eqb-true _ _ q) (rw (← s.0) at s.1))
@@ -267,54 +264,54 @@ module _ (t : Tables) (u : Counts) (c : Cursor) (r : Record) where
   told_corner : (k : ℕ) (m : Record)
       → corner_of k (get_or t.xs c.corner 0) (get_or t.ys c.corner 0) ≡ m
       → (c.corner < u.corners → in_range m ≡ true → RowTold t u k c m)
-      → corner_row t.xs t.ys u.corners k c.corner ≡ Good r
+      → corner_row t.xs t.ys u.corners k c.corner ≡ Ok r
       → RowTold t u k c r
   unfolding corner_row
   told_corner k m is told_row e₀ = go (ltb c.corner u.corners) refl (rw is at e₀)
     where
-      go : (a : Bool) → ltb c.corner u.corners ≡ a → cond a (ranged m) (Bad Field) ≡ Good r → RowTold t u k c r
-      go false p e = good_bad Field r e
+      go : (a : Bool) → ltb c.corner u.corners ≡ a → cond a (ranged m) (Err Field) ≡ Ok r → RowTold t u k c r
+      go false p e = absurd cc
       go true p e =
           let s = ranged_told m r e in
           rw (← s.0) (told_row (ltb-true _ _ p) (rw (← s.0) at s.1))
 
-  told_first : corner_row t.xs t.ys u.corners 2 c.corner ≡ Good r → RowTold t u 2 c r
+  told_first : corner_row t.xs t.ys u.corners 2 c.corner ≡ Ok r → RowTold t u 2 c r
   unfolding corner_of
   told_first =
       told_corner 2 (First (get_or t.xs c.corner 0) (get_or t.ys c.corner 0)) refl
       (λ l g. record { kind = refl; areas = refl; xs = refl; ys = refl; few = λ h. omega arith; many = λ h. omega arith; range = g })
 
-  told_next : corner_row t.xs t.ys u.corners 3 c.corner ≡ Good r → RowTold t u 3 c r
+  told_next : corner_row t.xs t.ys u.corners 3 c.corner ≡ Ok r → RowTold t u 3 c r
   unfolding corner_of
   told_next =
       told_corner 3 (Next (get_or t.xs c.corner 0) (get_or t.ys c.corner 0)) refl
       (λ l g. record { kind = refl; areas = refl; xs = refl; ys = refl; few = λ h. omega arith; many = λ h. omega arith; range = g })
 
-  told_control : corner_row t.xs t.ys u.corners 7 c.corner ≡ Good r → RowTold t u 7 c r
+  told_control : corner_row t.xs t.ys u.corners 7 c.corner ≡ Ok r → RowTold t u 7 c r
   unfolding corner_of
   told_control =
       told_corner 7 (Control (get_or t.xs c.corner 0) (get_or t.ys c.corner 0)) refl
       (λ l g. record { kind = refl; areas = refl; xs = refl; ys = refl; few = λ h. omega arith; many = λ h. omega arith; range = g })
 
-  told_open : Good Open ≡ Good r → RowTold t u 4 c r
+  told_open : ◌≡◌ {A = Decoded} (Ok Open) (Ok r) → RowTold t u 4 c r
   told_open e =
       rw (← good_is Open r e)
       (record { kind = refl; areas = refl; xs = refl; ys = refl; few = λ h. omega arith; many = λ h. omega arith; range = refl })
 
-  told_bar : Good Bar ≡ Good r → RowTold t u 5 c r
+  told_bar : ◌≡◌ {A = Decoded} (Ok Bar) (Ok r) → RowTold t u 5 c r
   told_bar e =
       rw (← good_is Bar r e)
       (record { kind = refl; areas = refl; xs = refl; ys = refl; few = λ h. omega arith; many = λ h. omega arith; range = refl })
 
-  told_close : Good Close ≡ Good r → RowTold t u 6 c r
+  told_close : ◌≡◌ {A = Decoded} (Ok Close) (Ok r) → RowTold t u 6 c r
   told_close e =
       rw (← good_is Close r e)
       (record { kind = refl; areas = refl; xs = refl; ys = refl; few = λ h. omega arith; many = λ h. omega arith; range = refl })
 
-  told_kind : (k : ℕ) → leb 1 k ≡ true → leb k 7 ≡ true → kind_row t.areas t.xs t.ys u k c ≡ Good r → RowTold t u k c r
+  told_kind : (k : ℕ) → leb 1 k ≡ true → leb k 7 ≡ true → kind_row t.areas t.xs t.ys u k c ≡ Ok r → RowTold t u k c r
   unfolding kind_row delimiter_of
   told_kind =
-      kinds (λ k. kind_row t.areas t.xs t.ys u k c ≡ Good r → RowTold t u k c r)
+      kinds (λ k. kind_row t.areas t.xs t.ys u k c ≡ Ok r → RowTold t u k c r)
       told_area
       told_first
       told_next
@@ -323,7 +320,7 @@ module _ (t : Tables) (u : Counts) (c : Cursor) (r : Record) where
       told_close
       told_control
 
-  pub row_told : (i : ℕ) → record_at t u i c ≡ Good r → RowTold t u (get_or t.plan (i + 3) 0) c r
+  pub row_told : (i : ℕ) → record_at t u i c ≡ Ok r → RowTold t u (get_or t.plan (i + 3) 0) c r
   unfolding record_at
   row_told i e₀ = go (leb 1 k) (leb k 7) refl refl e₀
     where
@@ -333,10 +330,10 @@ module _ (t : Tables) (u : Counts) (c : Cursor) (r : Record) where
       go : (a b : Bool)
           → leb 1 k ≡ a
           → leb k 7 ≡ b
-          → cond a (cond b (kind_row t.areas t.xs t.ys u k c) (Bad Kind)) (Bad Kind) ≡ Good r
+          → cond a (cond b (kind_row t.areas t.xs t.ys u k c) (Err Kind)) (Err Kind) ≡ Ok r
           → RowTold t u k c r
-      go false b p q e = good_bad Kind r e
-      go true false p q e = good_bad Kind r e
+      go false b p q e = absurd cc
+      go true false p q e = absurd cc
       go true true p q e = told_kind k p q e
 
 -- ---- a row that is good: its number is in use, and it is what the tables say
@@ -352,16 +349,16 @@ module _ (t : Tables) (u : Counts) (i : ℕ) (c : Cursor) (g : is_good (record_a
       row = kind_row t.areas t.xs t.ys u kind_at c
 
       go : (a b : Bool)
-          → is_good (cond a (cond b row (Bad Kind)) (Bad Kind)) ≡ true
-          → (cond a (cond b row (Bad Kind)) (Bad Kind) ≡ row) × (is_good row ≡ true)
+          → is_good (cond a (cond b row (Err Kind)) (Err Kind)) ≡ true
+          → (cond a (cond b row (Err Kind)) (Err Kind) ≡ row) × (is_good row ≡ true)
       go false b h = clash h
       go true false h = clash h
       go true true h = (refl, h)
 
-  pub area_good : eqb kind_at 1 ≡ true → (c.area < u.areas) × (record_at t u i c ≡ Good (Area (fields_at t.areas c.area)))
+  pub area_good : eqb kind_at 1 ≡ true → (c.area < u.areas) × (record_at t u i c ≡ Ok (Area (fields_at t.areas c.area)))
   unfolding kind_row area_row
   area_good e =
-      let h : (ltb c.area u.areas ≡ true) × (area_row t.areas u.areas c.area ≡ Good (Area f)) =
+      let h : (ltb c.area u.areas ≡ true) × (area_row t.areas u.areas c.area ≡ Ok (Area f)) =
       go (ltb c.area u.areas) (eqb (get_or t.areas (c.area * 8 + 7) 0) 0) (in_range (Area f)) (rw e at kind_good.1) in
       (ltb-true _ _ h.0, rw e at kind_good.0 ∙ h.1)
     where
@@ -369,8 +366,8 @@ module _ (t : Tables) (u : Counts) (i : ℕ) (c : Cursor) (g : is_good (record_a
       f = fields_at t.areas c.area
 
       go : (a b d : Bool)
-          → is_good (cond a (cond b (cond d (Good (Area f)) (Bad Field)) (Bad Field)) (Bad Field)) ≡ true
-          → (a ≡ true) × (cond a (cond b (cond d (Good (Area f)) (Bad Field)) (Bad Field)) (Bad Field) ≡ Good (Area f))
+          → is_good (cond a (cond b (cond d (Ok (Area f)) (Err Field)) (Err Field)) (Err Field)) ≡ true
+          → (a ≡ true) × (cond a (cond b (cond d (Ok (Area f)) (Err Field)) (Err Field)) (Err Field) ≡ Ok (Area f))
       go false b d h = clash h
       go true false d h = clash h
       go true true false h = clash h
@@ -378,10 +375,10 @@ module _ (t : Tables) (u : Counts) (i : ℕ) (c : Cursor) (g : is_good (record_a
 
   pub corner_good : eqb kind_at 1 ≡ false
       → is_corner kind_at ≡ true
-      → (c.corner < u.corners) × (record_at t u i c ≡ Good (corner_of kind_at (get_or t.xs c.corner 0) (get_or t.ys c.corner 0)))
+      → (c.corner < u.corners) × (record_at t u i c ≡ Ok (corner_of kind_at (get_or t.xs c.corner 0) (get_or t.ys c.corner 0)))
   unfolding kind_row corner_row
   corner_good e k =
-      let h : (ltb c.corner u.corners ≡ true) × (corner_row t.xs t.ys u.corners kind_at c.corner ≡ Good m) =
+      let h : (ltb c.corner u.corners ≡ true) × (corner_row t.xs t.ys u.corners kind_at c.corner ≡ Ok m) =
       go (ltb c.corner u.corners) (in_range m) (rw (e, k) at kind_good.1) in
       (ltb-true _ _ h.0, rw (e, k) at kind_good.0 ∙ h.1)
     where
@@ -389,12 +386,12 @@ module _ (t : Tables) (u : Counts) (i : ℕ) (c : Cursor) (g : is_good (record_a
       m = corner_of kind_at (get_or t.xs c.corner 0) (get_or t.ys c.corner 0)
 
       go : (a d : Bool)
-          → is_good (cond a (cond d (Good m) (Bad Field)) (Bad Field)) ≡ true
-          → (a ≡ true) × (cond a (cond d (Good m) (Bad Field)) (Bad Field) ≡ Good m)
+          → is_good (cond a (cond d (Ok m) (Err Field)) (Err Field)) ≡ true
+          → (a ≡ true) × (cond a (cond d (Ok m) (Err Field)) (Err Field) ≡ Ok m)
       go false d h = clash h
       go true false h = clash h
       go true true h = (refl, refl)
 
-  pub delimiter_good : eqb kind_at 1 ≡ false → is_corner kind_at ≡ false → record_at t u i c ≡ Good (delimiter_of kind_at)
+  pub delimiter_good : eqb kind_at 1 ≡ false → is_corner kind_at ≡ false → record_at t u i c ≡ Ok (delimiter_of kind_at)
   unfolding kind_row
   delimiter_good e k = rw (e, k) at kind_good.0

@@ -14,8 +14,8 @@ use Rattle.records.specs.declared.Raw.{Raw}
 use Rattle.refusals.specs.declared.Refusal.TheVariants.{Unfit, Short, Limit, Argument, Broken, Curve}
 use Rattle.records.specs.declared.Record.{Record}
 use Rattle.records.specs.declared.Record.TheVariants.{Area, First, Next, Open, Bar, Close, Control}
-use Rattle.records.specs.declared.Decoded.{Decoded}
-use Rattle.records.specs.declared.Decoded.TheVariants.{Good, Bad}
+use Rattle.records.specs.Record.{Decoded}
+use Rattle.std.specs.Prelude.{Ok, Err}
 use Rattle.records.specs.Bytes.{raw_of, raw_bytes, put_raw, bytes_of}
 use Rattle.records.proofs.Laws.{put_is}
 use Rattle.grammar.specs.declared.Counts.{Counts}
@@ -80,12 +80,12 @@ corner_one_law Close = omega arith
 corner_one_law (Control x y) = omega arith
 
 pub past_area : (i : ℕ) (c c' : Cursor) (d : Decoded) → c.area ≤ i → c' ≡ past_of c d → c'.area ≤ i + 1
-past_area i c c' (Good r) h e = rw e (omega (arith, area_one_law r))
-past_area i c c' (Bad x) h e = rw e (omega arith)
+past_area i c c' (Ok r) h e = rw e (omega (arith, area_one_law r))
+past_area i c c' (Err x) h e = rw e (omega arith)
 
 pub past_corner : (i : ℕ) (c c' : Cursor) (d : Decoded) → c.corner ≤ i → c' ≡ past_of c d → c'.corner ≤ i + 1
-past_corner i c c' (Good r) h e = rw e (omega (arith, corner_one_law r))
-past_corner i c c' (Bad x) h e = rw e (omega arith)
+past_corner i c c' (Ok r) h e = rw e (omega (arith, corner_one_law r))
+past_corner i c c' (Err x) h e = rw e (omega arith)
 
 -- ---- the check: the cursor is told by the scan
 after_cursor : (s : State) (r : Record) → cursor_n (At (after_n s r)) ≡ past_record (cursor_n (At s)) r
@@ -99,8 +99,8 @@ after_cursor s (Control x y) = ap (λ (a : ℕ). cursor a (s.corners + 1)) (sym 
 
 scan_cursor : (s : Scan) (d : Decoded) (i : ℕ) → is_stopped (advance_n s d i) ≡ false → cursor_n (advance_n s d i) ≡ past_of (cursor_n s) d
 scan_cursor (Stopped x j) d i h = clash (sym h)
-scan_cursor (At s) (Bad x) i h = clash (sym h)
-scan_cursor (At s) (Good r) i h = go (breaks_n s r) (fits_n s r) (ends_short_n s r) (in_limit_n s r) h
+scan_cursor (At s) (Err x) i h = clash (sym h)
+scan_cursor (At s) (Ok r) i h = go (breaks_n s r) (fits_n s r) (ends_short_n s r) (in_limit_n s r) h
   where
     step : (w a b d : Bool) → Step
     step w a b d = cond w (Off Curve) (cond a (cond b (Off Short) (cond d (On (after_n s r)) (Off Limit))) (Off Unfit))
@@ -166,8 +166,8 @@ pub record Copying (t : Tables) (u : Counts) (n : ℕ) (b₀ b : List ℕ) (i at
 
 goods_length : (ds : List Decoded) → length (good_records ds) ≤ length ds
 goods_length [] = le_refl _
-goods_length (Good r ∷ ds) = omega (arith, goods_length ds)
-goods_length (Bad x ∷ ds) = omega (arith, goods_length ds)
+goods_length (Ok r ∷ ds) = omega (arith, goods_length ds)
+goods_length (Err x ∷ ds) = omega (arith, goods_length ds)
 
 pub copy_begin : (t : Tables) (u : Counts) (n : ℕ) (b : List ℕ)
     → n * 16 ≤ length b
@@ -248,7 +248,7 @@ copy_done t u n b₀ b i at c h k = rw (re_none t u i n c h) at k.rest
 
 -- ---- one record's bytes
 pub bytes_table : (t t' : List ℕ) (at : ℕ) (d : Decoded) (r : Record) (w : Raw)
-    → d ≡ Good r
+    → d ≡ Ok r
     → w ≡ raw_of r
     → t' ≡ put_raw t at w
     → t' ≡ sets t at (on_good bytes_of d)

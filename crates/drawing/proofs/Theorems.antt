@@ -13,7 +13,7 @@ use Rattle.records.specs.declared.Fields.{Fields}
 use Rattle.records.specs.declared.Record.{Record}
 use Rattle.records.specs.declared.Record.TheVariants.{Area, First, Next, Open, Bar, Close, Control}
 use Rattle.records.specs.Bytes.{raw_bytes, raw_area, raw_corner, raw_delimiter, bytes_of}
-use Rattle.records.specs.declared.Decoded.TheVariants.{Good}
+use Rattle.std.specs.Prelude.{Ok}
 use Rattle.grammar.specs.declared.Counts.{Counts}
 use Rattle.grammar.specs.declared.Verdict.{Verdict}
 use Rattle.grammar.specs.declared.Verdict.TheVariants.{Accepted, Refused}
@@ -60,7 +60,7 @@ has_self w = subst (λ (t : List ℕ). Has t 0 w) same (has_sets w 0 w (omega ar
 whole_file : (rs : List Record) → length (file_of rs) / 16 ≡ length rs
 whole_file rs = omega (arith, file_length rs)
 
-again_decoded : (rs : List Record) → all_range rs ≡ true → decoded_in (file_of rs) ≡ map Good rs
+again_decoded : (rs : List Record) → all_range rs ≡ true → decoded_in (file_of rs) ≡ map Ok rs
 again_decoded rs g = ap (decoded_from (file_of rs) 0) (whole_file rs) ∙ file_read (file_of rs) 0 rs g (has_self (file_of rs))
 
 -- acceptable records, written as bytes, are read as they were
@@ -80,9 +80,9 @@ file_records rs k a = ap good_records (again_decoded rs a.range) ∙ goods_map r
 -- ---- tables
 counted : (rs : List Record) (k : Counts) → Acceptable rs k → k ≡ counts (length rs) (areas_in rs) (corners_in rs)
 counted rs k a =
-    let s = sound (map Good rs) k a.fold in
+    let s = sound (map Ok rs) k a.fold in
     λ i. record {
-      records = (s.records ∙ length-map rs Good) i;
+      records = (s.records ∙ length-map rs Ok) i;
       areas = (s.areas ∙ ap areas_in (goods_map rs)) i;
       corners = (s.corners ∙ ap corners_in (goods_map rs)) i;
     }
@@ -104,7 +104,7 @@ from_start t rs h =
     record { plan = has_rest t.plan 2 (corners_in rs) _ h2; areas = h.areas; xs = h.xs; ys = h.ys }
 
 -- decode (encode rs) is rs
-pub decoded_encoded : (t : Tables) (rs : List Record) → all_range rs ≡ true → Holding t rs → rebuilt_in t ≡ map Good rs
+pub decoded_encoded : (t : Tables) (rs : List Record) → all_range rs ≡ true → Holding t rs → rebuilt_in t ≡ map Ok rs
 decoded_encoded t rs g h =
     let u : Counts = counts (length rs) (areas_in rs) (corners_in rs) in
     ap (λ (v : Counts). rebuilt t v 0 (cursor 0 0) v.records) (used_is t rs h)

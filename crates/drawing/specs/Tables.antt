@@ -7,8 +7,8 @@ use Rattle.records.specs.declared.Fields.{Fields}
 use Rattle.refusals.specs.declared.Refusal.TheVariants.{Kind, Field, Argument, Room, Broken}
 use Rattle.records.specs.declared.Record.{Record}
 use Rattle.records.specs.declared.Record.TheVariants.{Area}
-use Rattle.records.specs.declared.Decoded.{Decoded}
-use Rattle.records.specs.declared.Decoded.TheVariants.{Good, Bad}
+use Rattle.records.specs.Record.{Decoded}
+use Rattle.std.specs.Prelude.{Ok, Err}
 use Rattle.records.specs.Record.{ranged, is_corner, corner_of, delimiter_of}
 use Rattle.grammar.specs.declared.Counts.{Counts}
 use Rattle.grammar.specs.declared.Verdict.{Verdict}
@@ -67,27 +67,27 @@ fields_at t i =
     }
 
 unfoldable pub area_row : List ℕ → ℕ → ℕ → Decoded
-area_row t used i = cond (ltb i used) (cond (eqb (get_or t (i * 8 + 7) 0) 0) (ranged (Area (fields_at t i))) (Bad Field)) (Bad Field)
+area_row t used i = cond (ltb i used) (cond (eqb (get_or t (i * 8 + 7) 0) 0) (ranged (Area (fields_at t i))) (Err Field)) (Err Field)
 
 unfoldable pub corner_row : List ℕ → List ℕ → ℕ → ℕ → ℕ → Decoded
-corner_row xs ys used k i = cond (ltb i used) (ranged (corner_of k (get_or xs i 0) (get_or ys i 0))) (Bad Field)
+corner_row xs ys used k i = cond (ltb i used) (ranged (corner_of k (get_or xs i 0) (get_or ys i 0))) (Err Field)
 
 unfoldable pub kind_row : List ℕ → List ℕ → List ℕ → Counts → ℕ → Cursor → Decoded
 kind_row areas xs ys u k c =
-    cond (eqb k 1) (area_row areas u.areas c.area) (cond (is_corner k) (corner_row xs ys u.corners k c.corner) (Good (delimiter_of k)))
+    cond (eqb k 1) (area_row areas u.areas c.area) (cond (is_corner k) (corner_row xs ys u.corners k c.corner) (Ok (delimiter_of k)))
 
 -- record i, with the areas and the corners before it
 unfoldable pub record_at : Tables → Counts → ℕ → Cursor → Decoded
 record_at t u i c =
     cond (leb 1 (get_or t.plan (i + 3) 0))
-    (cond (leb (get_or t.plan (i + 3) 0) 7) (kind_row t.areas t.xs t.ys u (get_or t.plan (i + 3) 0) c) (Bad Kind)) (Bad Kind)
+    (cond (leb (get_or t.plan (i + 3) 0) 7) (kind_row t.areas t.xs t.ys u (get_or t.plan (i + 3) 0) c) (Err Kind)) (Err Kind)
 
 abbrev pub past_record : Cursor → Record → Cursor
 past_record c r = cursor (c.area + area_one r) (c.corner + corner_one r)
 
 abbrev pub past_of : Cursor → Decoded → Cursor
-past_of c (Good r) = past_record c r
-past_of c (Bad x) = c
+past_of c (Ok r) = past_record c r
+past_of c (Err x) = c
 
 -- the n records from record i on
 unfoldable pub rebuilt : Tables → Counts → ℕ → Cursor → ℕ → List Decoded

@@ -17,7 +17,7 @@ ghost use Rattle.drawing.specs.Tables.{rebuilt, drawn_in, agreed, counts_judged,
 
 use grammar::{Counts, Scan, Verdict};
 use read::PLAN_COUNTS;
-use records::{AREA_WORDS, Decoded, Fields, KIND_AREA, RECORD_BYTES, Record};
+use records::{AREA_WORDS, Fields, KIND_AREA, RECORD_BYTES, Record};
 use refusals::Refusal;
 
 // The four tables of a drawing, as they are lent to a call.
@@ -60,7 +60,7 @@ fn fields_at(areas: &[u32], i: usize) -> Fields
 }
 
 // Area i, where it is in use and its fields are in range.
-pub fn area_row(areas: &[u32], used: usize, i: usize) -> Decoded
+pub fn area_row(areas: &[u32], used: usize, i: usize) -> Result<Record, Refusal>
     requires { used * 8 ≤ length areas.now }
     ensures answer { result ≡ area_row areas.now used i }
 {
@@ -69,12 +69,12 @@ pub fn area_row(areas: &[u32], used: usize, i: usize) -> Decoded
             let f = fields_at(areas, i);
             return records::ranged_of(Record::Area(f));
         }
-        return Decoded::Bad(Refusal::Field);
+        return Err(Refusal::Field);
     }
-    Decoded::Bad(Refusal::Field)
+    Err(Refusal::Field)
 }
 
-fn corner_row(xs: &[u32], ys: &[u32], used: usize, k: u32, i: usize) -> Decoded
+fn corner_row(xs: &[u32], ys: &[u32], used: usize, k: u32, i: usize) -> Result<Record, Refusal>
     requires { (used ≤ length xs.now) × (used ≤ length ys.now) }
     ensures answer { result ≡ corner_row xs.now ys.now used k i }
 {
@@ -82,10 +82,17 @@ fn corner_row(xs: &[u32], ys: &[u32], used: usize, k: u32, i: usize) -> Decoded
         let r = records::corner_of(k, xs[i], ys[i]);
         return records::ranged_of(r);
     }
-    Decoded::Bad(Refusal::Field)
+    Err(Refusal::Field)
 }
 
-fn kind_row(areas: &[u32], xs: &[u32], ys: &[u32], used: Counts, k: u32, c: Cursor) -> Decoded
+fn kind_row(
+    areas: &[u32],
+    xs: &[u32],
+    ys: &[u32],
+    used: Counts,
+    k: u32,
+    c: Cursor,
+) -> Result<Record, Refusal>
     requires { (used.areas * 8 ≤ length areas.now) × (used.corners ≤ length xs.now) × (used.corners ≤ length ys.now) }
     ensures answer { result ≡ kind_row areas.now xs.now ys.now used k c }
 {
@@ -97,7 +104,7 @@ fn kind_row(areas: &[u32], xs: &[u32], ys: &[u32], used: Counts, k: u32, c: Curs
         return corner_row(xs, ys, used.corners, k, c.corner);
     }
     let r = records::delimiter_of(k);
-    Decoded::Good(r)
+    Ok(r)
 }
 
 // Record i, with the areas and the corners before it.
@@ -109,7 +116,7 @@ fn row(
     used: Counts,
     i: usize,
     c: Cursor,
-) -> Decoded
+) -> Result<Record, Refusal>
     requires ready { Ready plan.now areas.now xs.now ys.now used }
     requires i_lt_records { i < used.records }
     ensures answer { result ≡ record_at (drawing_lent plan areas xs ys) used i c }
@@ -119,9 +126,9 @@ fn row(
         if k <= records::KIND_CONTROL {
             return kind_row(areas, xs, ys, used, k, c);
         }
-        return Decoded::Bad(Refusal::Kind);
+        return Err(Refusal::Kind);
     }
-    Decoded::Bad(Refusal::Kind)
+    Err(Refusal::Kind)
 }
 
 // Record i of a drawing that passed: nothing is tried again.
@@ -133,7 +140,7 @@ fn row_accepted(
     used: Counts,
     i: usize,
     c: Cursor,
-) -> Decoded
+) -> Result<Record, Refusal>
     requires ready { Ready plan.now areas.now xs.now ys.now used }
     requires i_lt_records { i < used.records }
     requires c_value { is_good (record_at (tables plan.now areas.now xs.now ys.now) used i c) ≡ true }
@@ -142,16 +149,16 @@ fn row_accepted(
     let k = plan[i + PLAN_COUNTS];
     if k == KIND_AREA {
         let f = fields_at(areas, c.area);
-        return Decoded::Good(Record::Area(f));
+        return Ok(Record::Area(f));
     }
     let t = records::is_corner(k);
     if t {
         let j = c.corner;
         let r = records::corner_of(k, xs[j], ys[j]);
-        return Decoded::Good(r);
+        return Ok(r);
     }
     let r = records::delimiter_of(k);
-    Decoded::Good(r)
+    Ok(r)
 }
 
 fn area_one(r: Record) -> usize
@@ -196,13 +203,13 @@ fn past_record(c: Cursor, r: Record) -> Cursor
     }
 }
 
-fn past(c: Cursor, d: Decoded) -> Cursor
+fn past(c: Cursor, d: Result<Record, Refusal>) -> Cursor
     requires { (c.area < 65536) × (c.corner < 65536) }
     ensures answer { result ≡ past_of c d }
 {
     match d {
-        Decoded::Good(r) => past_record(c, r),
-        Decoded::Bad(_) => c,
+        Ok(r) => past_record(c, r),
+        Err(_) => c,
     }
 }
 
@@ -298,18 +305,18 @@ pub fn check_drawing(plan: &[u32], areas: &[u32], xs: &[u32], ys: &[u32]) -> Ver
 }
 
 // ---- writing
-fn put_bytes(out: &mut [u8], at: usize, d: Decoded) -> usize
+fn put_bytes(out: &mut [u8], at: usize, d: Result<Record, Refusal>) -> usize
     requires { at + length (on_good bytes_of d) ≤ length out.old }
     ensures answer { result ≡ at + length (on_good bytes_of d) }
     ensures out { out.new ≡ sets out.old at (on_good bytes_of d) }
 {
     match d {
-        Decoded::Good(r) => {
+        Ok(r) => {
             let b = records::raw_of(r);
             records::put_raw(out, at, b);
             at + RECORD_BYTES
         }
-        Decoded::Bad(_) => at,
+        Err(_) => at,
     }
 }
 

@@ -24,7 +24,7 @@ use Rattle.cells.specs.Segments.{drawn, shortcut}
 use Rattle.cells.specs.Elements.{Element, segment}
 use Rattle.records.specs.Record.{corner_range, ranged, is_good}
 use Rattle.records.specs.declared.Record.TheVariants.{Area}
-use Rattle.records.specs.declared.Decoded.TheVariants.{Bad}
+use Rattle.std.specs.Prelude.{Err}
 use Rattle.refusals.specs.declared.Refusal.TheVariants.{Field}
 use Rattle.drawing.specs.Tables.{fields_at, area_row}
 use Rattle.stream.specs.declared.Words.{Words}
@@ -206,7 +206,7 @@ area_below areas used n h = go (ltb n used) refl h
   where
     go : (b : Bool)
         → ltb n used ≡ b
-        → is_good (cond b (cond (eqb (get_or areas (n * 8 + 7) 0) 0) (ranged (Area (fields_at areas n))) (Bad Field)) (Bad Field)) ≡ true
+        → is_good (cond b (cond (eqb (get_or areas (n * 8 + 7) 0) 0) (ranged (Area (fields_at areas n))) (Err Field)) (Err Field)) ≡ true
         → n < used
     go true e t = ltb-true n used e
     go false e t = clash t

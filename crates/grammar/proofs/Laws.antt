@@ -12,8 +12,8 @@ use Rattle.laws.proofs.Booleans.{clash}
 use Rattle.groups.specs.Sides.{is_empty}
 use Rattle.records.specs.declared.Record.{Record}
 use Rattle.records.specs.declared.Record.TheVariants.{Area, First, Next, Open, Bar, Close, Control}
-use Rattle.records.specs.declared.Decoded.{Decoded}
-use Rattle.records.specs.declared.Decoded.TheVariants.{Good, Bad}
+use Rattle.records.specs.Record.{Decoded}
+use Rattle.std.specs.Prelude.{Ok, Err}
 use Rattle.grammar.specs.declared.Counts.{Counts}
 use Rattle.grammar.specs.declared.Verdict.TheVariants.{Accepted, Refused}
 use Rattle.grammar.specs.Grammar.{
@@ -43,7 +43,7 @@ use Rattle.grammar.specs.code.Machine.{scan_n, is_stopped}
 use Rattle.grammar.specs.Lists.{good_records, area_one, corner_one, areas_in, corners_in}
 
 pub record Ran (p q : Progress) (ds : List Decoded) : Type 0 where
-  pub good : ds ≡ map Good (good_records ds)
+  pub good : ds ≡ map Ok (good_records ds)
   pub areas : q.areas ≡ p.areas + areas_in (good_records ds)
   pub corners : q.corners ≡ p.corners + corners_in (good_records ds)
   pub few : p.areas ≤ 64 → q.areas ≤ 64
@@ -89,10 +89,10 @@ went p p' r i = go (breaks p r) (fits p r) (ends_short p r) (in_limit p r) refl
     go false true false false h e = halted Limit i p' e
     go false true false true h e = rw (← same_progress (after p r) p' e) (moved p r h)
 
-more : (p p' q : Progress) (r : Record) (ds : List Decoded) → Moved p p' r → Ran p' q ds → Ran p q (Good r ∷ ds)
+more : (p p' q : Progress) (r : Record) (ds : List Decoded) → Moved p p' r → Ran p' q ds → Ran p q (Ok r ∷ ds)
 more p p' q r ds m n =
     record {
-      good = ap (λ (l : List Decoded). Good r ∷ l) n.good;
+      good = ap (λ (l : List Decoded). Ok r ∷ l) n.good;
       areas = omega (arith, m.areas, n.areas);
       corners = omega (arith, m.corners, n.corners);
       few = λ l. n.few (m.few l);
@@ -103,18 +103,18 @@ by_course : (p q : Progress) (r : Record) (i : ℕ) (ds : List Decoded) (c : Cou
     → next p r i ≡ c
     → ((p' : Progress) → course (at p') (i + 1) ds ≡ at q → Ran p' q ds)
     → course c (i + 1) ds ≡ at q
-    → Ran p q (Good r ∷ ds)
+    → Ran p q (Ok r ∷ ds)
 by_course p q r i ds (at p') h rest e = more p p' q r ds (went p p' r i h) (rest p' e)
 by_course p q r i ds (stopped x j) h rest e = halted x j q (sym (stays x j (i + 1) ds) ∙ e)
 
 pub ran : (p q : Progress) (i : ℕ) (ds : List Decoded) → course (at p) i ds ≡ at q → Ran p q ds
 unfolding course
 ran p q i [] e = rw (same_progress p q e) (record { good = refl; areas = omega arith; corners = omega arith; few = λ l. l; many = λ l. l })
-ran p q i (Good r ∷ ds) e = by_course p q r i ds (next p r i) refl (λ p'. ran p' q (i + 1) ds) e
-ran p q i (Bad x ∷ ds) e = halted x i q (sym (stays x i (i + 1) ds) ∙ e)
+ran p q i (Ok r ∷ ds) e = by_course p q r i ds (next p r i) refl (λ p'. ran p' q (i + 1) ds) e
+ran p q i (Err x ∷ ds) e = halted x i q (sym (stays x i (i + 1) ds) ∙ e)
 
 pub record Sound (ds : List Decoded) (k : Counts) : Type 0 where
-  pub good : ds ≡ map Good (good_records ds)
+  pub good : ds ≡ map Ok (good_records ds)
   pub records : k.records ≡ length ds
   pub areas : k.areas ≡ areas_in (good_records ds)
   pub corners : k.corners ≡ corners_in (good_records ds)
@@ -182,8 +182,8 @@ next_place p r i = go (breaks p r) (fits p r) (ends_short p r) (in_limit p r)
     go false true false true = omega arith
 
 met_place : (c : Course) (d : Decoded) (i : ℕ) → place_of (met c d i) ≤ max (place_of c) i
-met_place (at p) (Good r) i = omega (arith, next_place p r i)
-met_place (at p) (Bad x) i = omega arith
+met_place (at p) (Ok r) i = omega (arith, next_place p r i)
+met_place (at p) (Err x) i = omega arith
 met_place (stopped x j) d i = omega arith
 
 course_place : (c : Course) (i : ℕ) (ds : List Decoded) → place_of (course c i ds) ≤ max (place_of c) (i + length ds)

@@ -11,8 +11,8 @@ use Rattle.groups.specs.code.Stack.{num}
 use Rattle.groups.proofs.Stack.{paint_is, left_is, right_is, room_is, bar_is, close_is, open_is, empty_is}
 use Rattle.records.specs.declared.Record.{Record}
 use Rattle.records.specs.declared.Record.TheVariants.{Area, First, Next, Open, Bar, Close, Control}
-use Rattle.records.specs.declared.Decoded.{Decoded}
-use Rattle.records.specs.declared.Decoded.TheVariants.{Good, Bad}
+use Rattle.records.specs.Record.{Decoded}
+use Rattle.std.specs.Prelude.{Ok, Err}
 use Rattle.grammar.specs.declared.State.{State}
 use Rattle.grammar.specs.declared.Step.TheVariants.{On, Off}
 use Rattle.grammar.specs.declared.Scan.{Scan}
@@ -123,8 +123,8 @@ next_is p r i = rw (breaks_is p r, fits_is p r, ends_is p r, limit_is p r) (go (
     go false true false true h = ap At (after_is p r h)
 
 met_is : (c : Course) (d : Decoded) (i : ℕ) → advance_n (enc_c c) d i ≡ enc_c (met c d i)
-met_is (at p) (Good r) i = next_is p r i
-met_is (at p) (Bad x) i = refl
+met_is (at p) (Ok r) i = next_is p r i
+met_is (at p) (Err x) i = refl
 met_is (stopped x j) d i = refl
 
 course_is : (c : Course) (i : ℕ) (ds : List Decoded) → scan_n (enc_c c) i ds ≡ enc_c (course c i ds)

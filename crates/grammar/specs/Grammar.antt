@@ -6,8 +6,8 @@ use Rattle.refusals.specs.declared.Refusal.{Refusal}
 use Rattle.refusals.specs.declared.Refusal.TheVariants.{Unfit, Short, Limit, Curve}
 use Rattle.records.specs.declared.Record.{Record}
 use Rattle.records.specs.declared.Record.TheVariants.{Area, First, Next, Open, Bar, Close, Control}
-use Rattle.records.specs.declared.Decoded.{Decoded}
-use Rattle.records.specs.declared.Decoded.TheVariants.{Good, Bad}
+use Rattle.records.specs.Record.{Decoded}
+use Rattle.std.specs.Prelude.{Ok, Err}
 use Rattle.grammar.specs.declared.Counts.{Counts}
 use Rattle.grammar.specs.declared.Verdict.{Verdict}
 use Rattle.grammar.specs.declared.Verdict.TheVariants.{Accepted, Refused}
@@ -131,8 +131,8 @@ next p r i =
 
 -- 2 and 3 stand in what was decoded; the first refusal stays
 abbrev pub met : Course → Decoded → ℕ → Course
-met (at p) (Good r) i = next p r i
-met (at p) (Bad x) i = stopped x i
+met (at p) (Ok r) i = next p r i
+met (at p) (Err x) i = stopped x i
 met (stopped x j) d i = stopped x j
 
 unfoldable pub course : Course → ℕ → List Decoded → Course

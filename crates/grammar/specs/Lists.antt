@@ -2,14 +2,14 @@
 use Rattle.std.specs.Prelude.{ℕ, ◌+◌, List, [], ◌∷◌}
 use Rattle.records.specs.declared.Record.{Record}
 use Rattle.records.specs.declared.Record.TheVariants.{Area, First, Next, Open, Bar, Close, Control}
-use Rattle.records.specs.declared.Decoded.{Decoded}
-use Rattle.records.specs.declared.Decoded.TheVariants.{Good, Bad}
+use Rattle.records.specs.Record.{Decoded}
+use Rattle.std.specs.Prelude.{Ok, Err}
 
 -- the records among what was decoded: all of it where nothing is refused
 abbrev pub good_records : List Decoded → List Record
 good_records [] = []
-good_records (Good r ∷ ds) = r ∷ good_records ds
-good_records (Bad x ∷ ds) = good_records ds
+good_records (Ok r ∷ ds) = r ∷ good_records ds
+good_records (Err x ∷ ds) = good_records ds
 
 abbrev pub area_one : Record → ℕ
 area_one (Area f) = 1

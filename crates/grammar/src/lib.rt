@@ -10,7 +10,7 @@ ghost use Rattle.grammar.specs.code.Machine.{role_n, breaks_n, stands_n, fits_n,
 ghost use Rattle.grammar.specs.code.Machine.{after_bar_n, after_close_n, after_n, step_n, settled_n};
 ghost use Rattle.grammar.specs.code.Machine.{advance_at_n, advance_n, start_n, end_state_n, ended_n, is_stopped};
 
-use records::{Decoded, Record};
+use records::Record;
 use refusals::Refusal;
 
 // The corners that a contour has at least.
@@ -351,20 +351,20 @@ fn settled(t: Step, i: usize) -> Scan
     }
 }
 
-fn advance_at(s: State, d: Decoded, i: usize) -> Scan
+fn advance_at(s: State, d: Result<Record, Refusal>, i: usize) -> Scan
     ensures answer { result ≡ advance_at_n s d i }
 {
     match d {
-        Decoded::Good(r) => {
+        Ok(r) => {
             let t = stepped(s, r);
             settled(t, i)
         }
-        Decoded::Bad(x) => Scan::Stopped(x, i),
+        Err(x) => Scan::Stopped(x, i),
     }
 }
 
 // What was decoded as record i, 2 and 3 among it.
-pub fn advance(c: Scan, d: Decoded, i: usize) -> Scan
+pub fn advance(c: Scan, d: Result<Record, Refusal>, i: usize) -> Scan
     ensures answer { result ≡ advance_n c d i }
 {
     match c {

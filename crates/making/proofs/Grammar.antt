@@ -12,7 +12,7 @@ use borrow.Author.Tests.{eqb-true}
 use Rattle.laws.proofs.Booleans.{clash, and_both}
 use Rattle.groups.specs.Sides.{is_paint, on_left, on_right}
 use Rattle.records.specs.declared.Record.TheVariants.{Area}
-use Rattle.records.specs.declared.Decoded.TheVariants.{Good, Bad}
+use Rattle.std.specs.Prelude.{Ok, Err}
 use Rattle.refusals.specs.declared.Refusal.TheVariants.{Field}
 use Rattle.records.specs.Record.{in_range, is_good}
 use Rattle.drawing.specs.Tables.{fields_at, area_row}
@@ -78,7 +78,7 @@ role_by areas used n b h = go (ltb n used) (eqb (get_or areas (n * 8 + 7) 0) 0) 
     told false h = rw (eqb-true (get_or areas (n * 8) 0) 1 h)
 
     go : (x y z : Bool)
-        → role_fits (cond x (cond y (cond z (Good (Area (fields_at areas n))) (Bad Field)) (Bad Field)) (Bad Field)) b ≡ true
+        → role_fits (cond x (cond y (cond z (Ok (Area (fields_at areas n))) (Err Field)) (Err Field)) (Err Field)) b ≡ true
         → same_kind (role_at areas n) (kind_by b) ≡ true
     go true true true h = told b h
     go true true false h = clash h

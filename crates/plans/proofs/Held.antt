@@ -9,7 +9,7 @@ use Rattle.laws.proofs.Booleans.{and_left, and_right}
 use Rattle.records.specs.declared.Fields.{Fields}
 use Rattle.records.specs.declared.Record.{Record}
 use Rattle.records.specs.declared.Record.TheVariants.{Area, First, Next, Control, Open, Bar, Close}
-use Rattle.records.specs.declared.Decoded.TheVariants.{Good}
+use Rattle.std.specs.Prelude.{Ok}
 use Rattle.records.specs.Record.{in_range}
 use Rattle.grammar.specs.declared.Counts.{Counts}
 use Rattle.grammar.specs.Lists.{areas_in, corners_in}
@@ -51,7 +51,7 @@ fields_held t (Close ∷ rs) i n e h = fields_held t rs i n (omega arith) h
 
 module _ (t : Tables) (u : Counts) where
   abbrev Reads : ℕ → Fields → Type 0
-  Reads i f = area_row t.areas u.areas i ≡ Good (Area f)
+  Reads i f = area_row t.areas u.areas i ≡ Ok (Area f)
 
   rows_held : (rs : List Record) (i n : ℕ)
       → all_range rs ≡ true
@@ -101,7 +101,7 @@ accepted_held t rs k a h b ea ec =
       xs_same = words_taken t.xs (x_words rs) b.corners (nc ∙ sym (xs_length rs)) h.xs;
       ys_same = words_taken t.ys (y_words rs) b.corners (nc ∙ sym (ys_length rs)) h.ys;
       rows = λ n l.
-          subst (λ (m : ℕ). area_row t.areas m n ≡ Good (Area (get_or (fields_in rs) n no_fields))) (sym ea)
-          (subst (λ (j : ℕ). area_row t.areas k.areas j ≡ Good (Area (get_or (fields_in rs) n no_fields))) (omega arith)
+          subst (λ (m : ℕ). area_row t.areas m n ≡ Ok (Area (get_or (fields_in rs) n no_fields))) (sym ea)
+          (subst (λ (j : ℕ). area_row t.areas k.areas j ≡ Ok (Area (get_or (fields_in rs) n no_fields))) (omega arith)
           (rows_held t k rs 0 n a.range h.areas (omega (arith, c.areas)) (omega arith)));
     }

@@ -11,8 +11,8 @@ use Rattle.refusals.specs.declared.Refusal.{Refusal}
 use Rattle.refusals.specs.declared.Refusal.TheVariants.{Unfit, Short, Limit, Curve}
 use Rattle.groups.specs.Sides.{is_empty}
 use Rattle.records.specs.declared.Record.{Record}
-use Rattle.records.specs.declared.Decoded.{Decoded}
-use Rattle.records.specs.declared.Decoded.TheVariants.{Good}
+use Rattle.records.specs.Record.{Decoded}
+use Rattle.std.specs.Prelude.{Ok}
 use Rattle.grammar.specs.declared.Counts.{Counts}
 use Rattle.grammar.specs.declared.Verdict.TheVariants.{Accepted, Refused}
 use Rattle.grammar.specs.Grammar.{Progress, progress, breaks, stands, is_next, fits, is_short, ends_short, in_limit, after}
@@ -47,7 +47,7 @@ ended p n k = go p.bends (is_empty p.groups) (is_short p.run)
     go false false b e = refused_not Unfit n k e
     go false true b e = (refl, refl)
 
-runs_on : (rs : List Record) (p : Progress) (i n : ℕ) (k : Counts) → final (course (at p) i (map Good rs)) n ≡ Accepted k → Runs p rs
+runs_on : (rs : List Record) (p : Progress) (i n : ℕ) (k : Counts) → final (course (at p) i (map Ok rs)) n ≡ Accepted k → Runs p rs
 unfolding course
 runs_on [] p i n k h = ended p n k h
 runs_on (r ∷ rs) p i n k h = go (breaks p r) (fits p r) (ends_short p r) (in_limit p r) refl refl refl refl (runs_on rs (after p r) (i + 1) n k) h
@@ -57,25 +57,25 @@ runs_on (r ∷ rs) p i n k h = go (breaks p r) (fits p r) (ends_short p r) (in_l
         → fits p r ≡ a
         → ends_short p r ≡ b
         → in_limit p r ≡ d
-        → (final (course (at (after p r)) (i + 1) (map Good rs)) n ≡ Accepted k → Runs (after p r) rs)
+        → (final (course (at (after p r)) (i + 1) (map Ok rs)) n ≡ Accepted k → Runs (after p r) rs)
         → final
         (course (cond t (stopped Curve i) (cond a (cond b (stopped Short i) (cond d (at (after p r)) (stopped Limit i))) (stopped Unfit i))) (i + 1)
-        (map Good rs))
+        (map Ok rs))
         n
         ≡ Accepted k
         → Runs p (r ∷ rs)
-    go true a b d et ea eb ed rest e = stopped_not Curve i (i + 1) n (map Good rs) k e
-    go false false b d et ea eb ed rest e = stopped_not Unfit i (i + 1) n (map Good rs) k e
-    go false true true d et ea eb ed rest e = stopped_not Short i (i + 1) n (map Good rs) k e
-    go false true false false et ea eb ed rest e = stopped_not Limit i (i + 1) n (map Good rs) k e
+    go true a b d et ea eb ed rest e = stopped_not Curve i (i + 1) n (map Ok rs) k e
+    go false false b d et ea eb ed rest e = stopped_not Unfit i (i + 1) n (map Ok rs) k e
+    go false true true d et ea eb ed rest e = stopped_not Short i (i + 1) n (map Ok rs) k e
+    go false true false false et ea eb ed rest e = stopped_not Limit i (i + 1) n (map Ok rs) k e
     go false true false true et ea eb ed rest e = (record { curve = et; fit = ea; whole = eb; room = ed }, rest e)
 
 abbrev pub start : Progress
 start = progress [] false 0 0
 
-pub runs : (rs : List Record) (k : Counts) → checked (map Good rs) ≡ Accepted k → Runs start rs
+pub runs : (rs : List Record) (k : Counts) → checked (map Ok rs) ≡ Accepted k → Runs start rs
 unfolding checked
-runs rs k e = runs_on rs start 0 (length (map Good rs)) k e
+runs rs k e = runs_on rs start 0 (length (map Ok rs)) k e
 
 -- a record that is no next corner, where it is accepted, stands where it may
 pub stood : (p : Progress) (r : Record) → is_next r ≡ false → fits p r ≡ true → stands p r ≡ true
@@ -94,7 +94,7 @@ pub record Counted (rs : List Record) (k : Counts) : Type 0 where
 
 pub counted : (rs : List Record) (k : Counts) → Acceptable rs k → Counted rs k
 counted rs k a =
-    let s = sound (map Good rs) k a.fold in
+    let s = sound (map Ok rs) k a.fold in
     let e : k.areas ≡ areas_in rs = s.areas ∙ ap areas_in (goods_map rs) in
     let f : k.corners ≡ corners_in rs = s.corners ∙ ap corners_in (goods_map rs) in
     record { areas = e; corners = f; few_areas = omega (arith, s.few); few_corners = omega (arith, s.many) }

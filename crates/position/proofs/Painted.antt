@@ -17,7 +17,7 @@ use Rattle.pruning.specs.Sides.{Kind, paint, clip}
 use Rattle.pruning.specs.Registers.{P, S, SA, Registers, reg, halted, out_of, on_item, on_push, on_activate, on_pop}
 use Rattle.records.specs.declared.Fields.{Fields}
 use Rattle.records.specs.declared.Record.TheVariants.{Area}
-use Rattle.records.specs.declared.Decoded.TheVariants.{Good, Bad}
+use Rattle.std.specs.Prelude.{Ok, Err}
 use Rattle.records.specs.Record.{area_range, paint_range, clip_range, is_good}
 use Rattle.refusals.specs.declared.Refusal.TheVariants.{Field}
 use Rattle.drawing.specs.Tables.{fields_at, area_row}
@@ -87,7 +87,7 @@ area_fields : (areas : List ℕ) (used n : ℕ) → is_good (area_row areas used
 unfolding area_row
 area_fields areas used n h = go (ltb n used) (eqb (get_or areas (n * 8 + 7) 0) 0) (area_range (fields_at areas n)) h
   where
-    go : (a b r : Bool) → is_good (cond a (cond b (cond r (Good (Area (fields_at areas n))) (Bad Field)) (Bad Field)) (Bad Field)) ≡ true → r ≡ true
+    go : (a b r : Bool) → is_good (cond a (cond b (cond r (Ok (Area (fields_at areas n))) (Err Field)) (Err Field)) (Err Field)) ≡ true → r ≡ true
     go true true true h = refl
     go true true false h = clash h
     go true false r h = clash h

@@ -9,7 +9,7 @@ use Rattle.laws.proofs.Booleans.{clash}
 use Rattle.curves.specs.Curves.{curve_fits}
 use Rattle.geometry.specs.Windings.{contour, straight, bent}
 use Rattle.records.specs.declared.Record.TheVariants.{Area}
-use Rattle.records.specs.declared.Decoded.TheVariants.{Good}
+use Rattle.std.specs.Prelude.{Ok}
 use Rattle.records.specs.Record.{area_range, corner_range}
 use Rattle.drawing.specs.Tables.{area_row}
 use Rattle.pruning.specs.Sides.{paint, end, leaf, group, flat}
@@ -101,7 +101,7 @@ ys = 0 ∷ 0 ∷ 8 ∷ 0 ∷ 4 ∷ 8 ∷ 65536 ∷ 7 ∷ []
 abbrev in_use : Bounds
 in_use = bounds 2 7 0 65536
 
-rows_in : (n : ℕ) → n < 2 → area_row areas 2 n ≡ Good (Area (fields_of clipped n))
+rows_in : (n : ℕ) → n < 2 → area_row areas 2 n ≡ Ok (Area (fields_of clipped n))
 unfolding area_row area_range
 rows_in zero l = refl
 rows_in (suc zero) l = refl

@@ -7,7 +7,7 @@ use native.Mathlib.Omega.{arith}
 use lib.ListN.{length}
 use lib.IntN.{ℤ, nat_abs}
 use Rattle.records.specs.declared.Record.TheVariants.{Area}
-use Rattle.records.specs.declared.Decoded.TheVariants.{Good}
+use Rattle.std.specs.Prelude.{Ok}
 use Rattle.drawing.specs.Tables.{area_row}
 use Rattle.pruning.specs.Sides.{Kind, paint, clip, Side, end, leaf, group, Entry, item, push, activate, pop, flat, map_side}
 use Rattle.pruning.proofs.Sides.{map_map}
@@ -91,7 +91,7 @@ module _ (D : Drawing) (c : Cell) where
 
   -- the words of each pass, in tables that hold the drawing
   module _ (ok : Valid D) (areas xs ys : List ℕ) (b : Bounds) (H : Held areas xs ys b D) (same_low : b.low ≡ low c) (same_side : b.side ≡ side c) where
-    row : (n : ℕ) → n < length D.fields → area_row areas b.areas n ≡ Good (Area (fields_of D n))
+    row : (n : ℕ) → n < length D.fields → area_row areas b.areas n ≡ Ok (Area (fields_of D n))
     row n l = H.rows n (omega (arith, H.areas_used))
 
     role : (k : Kind) (n : ℕ) → n < length D.fields → role_in D n ≡ k → role_fits (area_row areas b.areas n) (is_paint_side k) ≡ true

@@ -2,7 +2,7 @@
 use Rattle.std.specs.Prelude.{◌≡◌, List, [], ◌∷◌, ℕ, zero, suc, ◌+◌, ◌<◌, length, take}
 use Rattle.records.specs.declared.Fields.{Fields}
 use Rattle.records.specs.declared.Record.TheVariants.{Area}
-use Rattle.records.specs.declared.Decoded.TheVariants.{Good}
+use Rattle.std.specs.Prelude.{Ok}
 use Rattle.drawing.specs.Tables.{fields_at, area_row}
 use Rattle.pruning.specs.Sides.{end}
 use Rattle.cells.specs.Drawings.{Drawing, fields_of}
@@ -27,4 +27,4 @@ pub record Held (areas xs ys : List ℕ) (b : Bounds) (D : Drawing) : Type 0 whe
   pub fields_same : fields_from areas 0 b.areas ≡ D.fields
   pub xs_same : take b.corners xs ≡ D.xs
   pub ys_same : take b.corners ys ≡ D.ys
-  pub rows : (n : ℕ) → n < b.areas → area_row areas b.areas n ≡ Good (Area (fields_of D n))
+  pub rows : (n : ℕ) → n < b.areas → area_row areas b.areas n ≡ Ok (Area (fields_of D n))

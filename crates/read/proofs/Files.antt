@@ -11,8 +11,8 @@ use borrow.Author.Tests.{leb-true, eqb-true}
 use Rattle.refusals.specs.declared.Refusal.TheVariants.{Length}
 use Rattle.records.specs.declared.Record.{Record}
 use Rattle.records.specs.declared.Record.TheVariants.{Area, First, Next, Open, Bar, Close, Control}
-use Rattle.records.specs.declared.Decoded.{Decoded}
-use Rattle.records.specs.declared.Decoded.TheVariants.{Good}
+use Rattle.records.specs.Record.{Decoded}
+use Rattle.std.specs.Prelude.{Ok}
 use Rattle.records.specs.Bytes.{bytes_of}
 use Rattle.laws.proofs.Booleans.{and_left, and_right, clash}
 use Rattle.grammar.specs.declared.Counts.{Counts}
@@ -28,14 +28,14 @@ unfolding decoded_from
 length_from b i zero = refl
 length_from b i (suc n) = ap suc (length_from b (i + 1) n)
 
-pub length_good : (ds : List Decoded) → ds ≡ map Good (good_records ds) → length ds ≡ length (good_records ds)
-length_good ds e = ap length e ∙ length-map (good_records ds) Good
+pub length_good : (ds : List Decoded) → ds ≡ map Ok (good_records ds) → length ds ≡ length (good_records ds)
+length_good ds e = ap length e ∙ length-map (good_records ds) Ok
 
-good_map : (rs : List Record) → all_good (map Good rs) ≡ true
+good_map : (rs : List Record) → all_good (map Ok rs) ≡ true
 good_map [] = refl
 good_map (r ∷ rs) = good_map rs
 
-pub all_good_law : (ds : List Decoded) → ds ≡ map Good (good_records ds) → all_good ds ≡ true
+pub all_good_law : (ds : List Decoded) → ds ≡ map Ok (good_records ds) → all_good ds ≡ true
 all_good_law ds e = ap all_good e ∙ good_map (good_records ds)
 
 pub filed_checked : (b : List ℕ) (k : Counts) → verdict_of b ≡ Accepted k → checked (decoded_in b) ≡ Accepted k

@@ -9,8 +9,8 @@ use lib.Seq.{sets, length-sets}
 use Rattle.laws.proofs.Booleans.{clash, and_left, and_right}
 use Rattle.records.specs.declared.Raw.{Raw}
 use Rattle.records.specs.declared.Record.{Record}
-use Rattle.records.specs.declared.Decoded.{Decoded}
-use Rattle.records.specs.declared.Decoded.TheVariants.{Good, Bad}
+use Rattle.records.specs.Record.{Decoded}
+use Rattle.std.specs.Prelude.{Ok, Err}
 use Rattle.records.specs.Bytes.{raw_at, named, decoded_raw}
 use Rattle.records.proofs.Laws.{told}
 use Rattle.grammar.specs.declared.Scan.{Scan}
@@ -75,12 +75,12 @@ pub fill_good : (b : List ℕ) (n i : ℕ) → i < n → all_good (decoded_from 
 fill_good b n i l h = subst (λ (k : ℕ). is_good (decoded_raw (raw_at b k)) ≡ true) (omega arith) (good_at b 0 i n h l)
 
 -- a good record is what its named bytes say
-pub named_good : (r : Raw) → is_good (decoded_raw r) ≡ true → decoded_raw r ≡ Good (named r)
+pub named_good : (r : Raw) → is_good (decoded_raw r) ≡ true → decoded_raw r ≡ Ok (named r)
 named_good r = go (decoded_raw r) refl
   where
-    go : (d : Decoded) → decoded_raw r ≡ d → is_good d ≡ true → decoded_raw r ≡ Good (named r)
-    go (Good t) e h = e ∙ ap Good (sym (told r t e).is)
-    go (Bad x) e h = clash h
+    go : (d : Decoded) → decoded_raw r ≡ d → is_good d ≡ true → decoded_raw r ≡ Ok (named r)
+    go (Ok t) e h = e ∙ ap Ok (sym (told r t e).is)
+    go (Err x) e h = clash h
 
 -- ---- a table's words: the table is t and was t₀; the records from i to n are to come, and their words go to `at`
 pub record Filling (f : Record → List ℕ) (b : List ℕ) (n : ℕ) (t₀ : List ℕ) (first : ℕ) (t : List ℕ) (i at : ℕ) : Type 0 where

@@ -10,8 +10,8 @@ use lib.Seq.{sets}
 use borrow.Author.Tests.{eq-eqb, ne_eqb}
 use Rattle.records.specs.declared.Fields.{Fields}
 use Rattle.records.specs.declared.Record.{Record}
-use Rattle.records.specs.declared.Decoded.{Decoded}
-use Rattle.records.specs.declared.Decoded.TheVariants.{Good, Bad}
+use Rattle.records.specs.Record.{Decoded}
+use Rattle.std.specs.Prelude.{Ok, Err}
 use Rattle.grammar.specs.Lists.{good_records}
 use Rattle.read.specs.Words.{words_of_kind, words_of_fields, words_of_area, words_of_x, words_of_y, words_of, joined, on_good}
 
@@ -75,8 +75,8 @@ words_3 w r a b d = rw (ne_eqb _ _ a, ne_eqb _ _ b, ne_eqb _ _ d)
 -- ---- spread
 pub spread_on : (f : Record → List ℕ) (d : Decoded) (ds : List Decoded) → joined f (good_records (d ∷ ds)) ≡ on_good f d ++ joined f (good_records ds)
 unfolding joined
-spread_on f (Good r) ds = refl
-spread_on f (Bad x) ds = refl
+spread_on f (Ok r) ds = refl
+spread_on f (Err x) ds = refl
 
 pub length_on : (f : Record → List ℕ) (d : Decoded) (ds : List Decoded)
     → length (joined f (good_records (d ∷ ds))) ≡ length (on_good f d) + length (joined f (good_records ds))

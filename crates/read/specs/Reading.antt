@@ -5,7 +5,7 @@ use denote.Triple.Both.{Both}
 use Rattle.std.specs.Borrow.{Bor, MutBor}
 use Rattle.refusals.specs.declared.Refusal.TheVariants.{Length, Argument, Room}
 use Rattle.records.specs.declared.Record.{Record}
-use Rattle.records.specs.declared.Decoded.{Decoded}
+use Rattle.records.specs.Record.{Decoded}
 use Rattle.records.specs.Record.{is_good}
 use Rattle.records.specs.Bytes.{raw_at, decoded_raw}
 use Rattle.grammar.specs.declared.Counts.{Counts}

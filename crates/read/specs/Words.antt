@@ -3,8 +3,8 @@ use Rattle.std.specs.Prelude.{ℕ, zero, suc, ◌+◌, ◌≤◌, ◌≡◌, Boo
 use Rattle.records.specs.declared.Fields.{Fields}
 use Rattle.records.specs.declared.Record.{Record}
 use Rattle.records.specs.declared.Record.TheVariants.{Area, First, Next, Open, Bar, Close, Control}
-use Rattle.records.specs.declared.Decoded.{Decoded}
-use Rattle.records.specs.declared.Decoded.TheVariants.{Good, Bad}
+use Rattle.records.specs.Record.{Decoded}
+use Rattle.std.specs.Prelude.{Ok, Err}
 use Rattle.records.specs.Record.{kind_of, in_range}
 use Rattle.records.specs.Bytes.{bytes_of}
 use Rattle.grammar.specs.Lists.{areas_in, corners_in}
@@ -72,8 +72,8 @@ abbrev pub file_of : List Record → List ℕ
 file_of rs = joined bytes_of rs
 
 abbrev pub on_good : (Record → List ℕ) → Decoded → List ℕ
-on_good f (Good r) = f r
-on_good f (Bad x) = []
+on_good f (Ok r) = f r
+on_good f (Err x) = []
 
 -- the n words of a table from word i on
 abbrev pub words_from : List ℕ → ℕ → ℕ → List ℕ

@@ -13,7 +13,7 @@ ghost use Rattle.read.specs.Words.{words_of_kind, words_of_area, words_of_x, wor
 ghost use Rattle.read.specs.Reading.{decoded_from, all_good, records_lent, verdict_of, holds, if_room, read_lent, left_by, Filed};
 
 use grammar::{Counts, Scan, Verdict};
-use records::{AREA_WORDS, Decoded, Fields, RECORD_BYTES, Record};
+use records::{AREA_WORDS, Fields, RECORD_BYTES, Record};
 use refusals::Refusal;
 
 // The plan: its first words, the counts in use; the kinds of the records follow.
@@ -35,7 +35,7 @@ const TO_XS: u32 = 2;
 const TO_YS: u32 = 3;
 
 // ---- the file
-fn read_record(records: &[u8], i: usize) -> Decoded
+fn read_record(records: &[u8], i: usize) -> Result<Record, Refusal>
     requires { i * 16 + 16 ≤ length records.now }
     ensures answer { result ≡ decoded_raw (raw_at records.now i) }
 {
@@ -44,14 +44,14 @@ fn read_record(records: &[u8], i: usize) -> Decoded
 }
 
 // Record i of a file that was accepted: nothing is tried again.
-fn read_accepted(records: &[u8], i: usize) -> Decoded
+fn read_accepted(records: &[u8], i: usize) -> Result<Record, Refusal>
     requires i_in_bounds { i * 16 + 16 ≤ length records.now }
     requires i_value { is_good (decoded_raw (raw_at records.now i)) ≡ true }
     ensures answer { result ≡ decoded_raw (raw_at records.now i) }
 {
     let r = records::read_raw(records, i);
     let t = records::named_of(r);
-    Decoded::Good(t)
+    Ok(t)
 }
 
 fn scan_records(records: &[u8], n: usize) -> Scan
@@ -202,14 +202,14 @@ fn put_record(table: &mut [u32], at: usize, which: u32, r: Record) -> usize
     put_y(table, at, r)
 }
 
-fn put_decoded(table: &mut [u32], at: usize, which: u32, d: Decoded) -> usize
+fn put_decoded(table: &mut [u32], at: usize, which: u32, d: Result<Record, Refusal>) -> usize
     requires { at + length (on_good (words_of which) d) ≤ length table.old }
     ensures answer { result ≡ at + length (on_good (words_of which) d) }
     ensures table { table.new ≡ sets table.old at (on_good (words_of which) d) }
 {
     match d {
-        Decoded::Good(r) => put_record(table, at, which, r),
-        Decoded::Bad(_) => at,
+        Ok(r) => put_record(table, at, which, r),
+        Err(_) => at,
     }
 }
 

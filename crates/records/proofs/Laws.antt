@@ -14,7 +14,7 @@ use Rattle.refusals.specs.declared.Refusal.{Refusal}
 use Rattle.refusals.specs.declared.Refusal.TheVariants.{Kind, Field}
 use Rattle.records.specs.declared.Record.{Record}
 use Rattle.records.specs.declared.Record.TheVariants.{Area, First, Next, Open, Bar, Close, Control}
-use Rattle.records.specs.declared.Decoded.TheVariants.{Good, Bad}
+use Rattle.std.specs.Prelude.{Ok, Err}
 use Rattle.records.specs.Record.{all_zero, paint_range, clip_range, area_range, corner_range, in_range, ranged, corner_of, delimiter_of}
 use Rattle.records.specs.Bytes.{put_raw, raw_bytes, number4, unnamed_zero, fields_of, named, decoded_raw, raw_area, raw_corner, raw_delimiter, raw_of}
 
@@ -123,7 +123,7 @@ again_area f a = λ d. record { role = r d; rule = u d; alpha = p d; red = e d; 
 four : (x : ℕ) → x ≤ 65536 → number4 (x % 256) (x / 256 % 256) (x / 65536 % 256) (x / 16777216 % 256) ≡ x
 four x h = omega arith
 
-pub raw_again : (t : Record) → in_range t ≡ true → decoded_raw (raw_of t) ≡ Good t
+pub raw_again : (t : Record) → in_range t ≡ true → decoded_raw (raw_of t) ≡ Ok t
 unfolding decoded_raw unnamed_zero named corner_of delimiter_of
 raw_again (Area f) h = rw (again_area f (area_facts f h), h)
 raw_again (First x y) h = rw (four x (corner_x_law x y h), four y (corner_y_law x y h), h)
@@ -141,21 +141,15 @@ pub record Told (r : Raw) (t : Record) : Type 0 where
   pub is : named r ≡ t
   pub range : in_range t ≡ true
 
-good_is : (r t : Record) → Good r ≡ Good t → r ≡ t
-good_is r t e = cc
-
-good_bad : {A : Type 0} (x : Refusal) (t : Record) → Bad x ≡ Good t → A
-good_bad x t e = absurd (let z : ◌≡◌ {A = ℕ} 0 1 = cc in omega arith)
-
 -- also for any other place that ranges a record
-pub ranged_told : (r t : Record) → ranged r ≡ Good t → (r ≡ t) × (in_range t ≡ true)
+pub ranged_told : (r t : Record) → ranged r ≡ Ok t → (r ≡ t) × (in_range t ≡ true)
 ranged_told r t = go (in_range r) refl
   where
-    go : (b : Bool) → in_range r ≡ b → cond b (Good r) (Bad Field) ≡ Good t → (r ≡ t) × (in_range t ≡ true)
-    go true p e = (good_is r t e, rw (good_is r t e) at p)
-    go false p e = good_bad Field t e
+    go : (b : Bool) → in_range r ≡ b → cond b (Ok r) (Err Field) ≡ Ok t → (r ≡ t) × (in_range t ≡ true)
+    go true p e = let q : r ≡ t = cc in (q, rw q at p)
+    go false p e = absurd cc
 
-pub told : (r : Raw) (t : Record) → decoded_raw r ≡ Good t → Told r t
+pub told : (r : Raw) (t : Record) → decoded_raw r ≡ Ok t → Told r t
 unfolding decoded_raw
 told r t = go (leb 1 r.b0) (leb r.b0 7) (unnamed_zero r) refl refl refl
   where
@@ -163,11 +157,11 @@ told r t = go (leb 1 r.b0) (leb r.b0 7) (unnamed_zero r) refl refl refl
         → leb 1 r.b0 ≡ a
         → leb r.b0 7 ≡ b
         → unnamed_zero r ≡ d
-        → cond a (cond b (cond d (ranged (named r)) (Bad Field)) (Bad Kind)) (Bad Kind) ≡ Good t
+        → cond a (cond b (cond d (ranged (named r)) (Err Field)) (Err Kind)) (Err Kind) ≡ Ok t
         → Told r t
-    go false b d p q u e = good_bad Kind t e
-    go true false d p q u e = good_bad Kind t e
-    go true true false p q u e = good_bad Field t e
+    go false b d p q u e = absurd cc
+    go true false d p q u e = absurd cc
+    go true true false p q u e = absurd cc
     go true true true p q u e = let s = ranged_told (named r) t e in record { low = p; high = q; zero = u; is = s.0; range = s.1 }
 
 abbrev raw : ℕ → ℕ → ℕ → ℕ → ℕ → ℕ → ℕ → ℕ → ℕ → ℕ → ℕ → ℕ → ℕ → ℕ → ℕ → ℕ → Raw
@@ -324,7 +318,7 @@ module _ (a1 a2 a3 a4 a5 a6 a7 a8 a9 a10 a11 a12 a13 a14 a15 : ℕ) where
       (λ s. back_delimiter 6)
       (back_corner 7)
 
-pub raw_back : (r : Raw) (t : Record) → Small r → decoded_raw r ≡ Good t → raw_of t ≡ r
+pub raw_back : (r : Raw) (t : Record) → Small r → decoded_raw r ≡ Ok t → raw_of t ≡ r
 raw_back r t s e =
     let q = told r t e in
     ap raw_of (sym q.is)

@@ -1,13 +1,11 @@
 -- Document 01, "Drawing", and document 02, Item 2: a record as sixteen bytes.
-use Rattle.std.specs.Prelude.{ℕ, ◌+◌, ◌*◌, ◌/◌, ◌%◌, Bool, cond, List, [], ◌∷◌, get_or, set, eqb, leb}
+use Rattle.std.specs.Prelude.{Err, ℕ, ◌+◌, ◌*◌, ◌/◌, ◌%◌, Bool, cond, List, [], ◌∷◌, get_or, set, eqb, leb}
 use Rattle.records.specs.declared.Raw.{Raw}
 use Rattle.records.specs.declared.Fields.{Fields}
 use Rattle.refusals.specs.declared.Refusal.TheVariants.{Kind, Field}
 use Rattle.records.specs.declared.Record.{Record}
 use Rattle.records.specs.declared.Record.TheVariants.{Area, First, Next, Open, Bar, Close, Control}
-use Rattle.records.specs.declared.Decoded.{Decoded}
-use Rattle.records.specs.declared.Decoded.TheVariants.{Bad}
-use Rattle.records.specs.Record.{all_zero, ranged, is_corner, corner_of, delimiter_of}
+use Rattle.records.specs.Record.{Decoded, all_zero, ranged, is_corner, corner_of, delimiter_of}
 
 -- "A file of 16-byte records, no header": the bytes of record i
 abbrev pub raw_at : List ℕ → ℕ → Raw
@@ -76,7 +74,7 @@ named r =
 
 -- a record; or 2, "unknown kind"; or 3, "field out of range or unnamed byte not zero"
 unfoldable pub decoded_raw : Raw → Decoded
-decoded_raw r = cond (leb 1 r.b0) (cond (leb r.b0 7) (cond (unnamed_zero r) (ranged (named r)) (Bad Field)) (Bad Kind)) (Bad Kind)
+decoded_raw r = cond (leb 1 r.b0) (cond (leb r.b0 7) (cond (unnamed_zero r) (ranged (named r)) (Err Field)) (Err Kind)) (Err Kind)
 
 -- ---- the bytes of a record, for writing out
 abbrev pub raw_area : Fields → Raw

@@ -1,11 +1,14 @@
 -- Document 01, "Drawing", and document 02, Item 2: a record, and the ranges of its fields.
-use Rattle.std.specs.Prelude.{ℕ, Bool, true, false, cond, ◌&&◌, ◌||◌, List, [], ◌∷◌, eqb, ltb, leb}
+use Rattle.std.specs.Prelude.{ℕ, Bool, true, false, cond, ◌&&◌, ◌||◌, List, [], ◌∷◌, Result, Ok, Err, eqb, ltb, leb}
 use Rattle.records.specs.declared.Fields.{Fields}
+use Rattle.refusals.specs.declared.Refusal.{Refusal}
 use Rattle.refusals.specs.declared.Refusal.TheVariants.{Field}
 use Rattle.records.specs.declared.Record.{Record}
 use Rattle.records.specs.declared.Record.TheVariants.{Area, First, Next, Open, Bar, Close, Control}
-use Rattle.records.specs.declared.Decoded.{Decoded}
-use Rattle.records.specs.declared.Decoded.TheVariants.{Good, Bad}
+
+-- a record, or why there is none: Kind or Field
+abbrev pub Decoded : Type 0
+Decoded = Result Record Refusal
 
 -- every number of a list that is not empty is zero
 abbrev pub all_zero : ℕ → List ℕ → Bool
@@ -39,12 +42,12 @@ in_range (Control x y) = corner_range x y
 
 -- 3, "field out of range"
 abbrev pub ranged : Record → Decoded
-ranged r = cond (in_range r) (Good r) (Bad Field)
+ranged r = cond (in_range r) (Ok r) (Err Field)
 
 -- a record, and no refusal
 abbrev pub is_good : Decoded → Bool
-is_good (Good r) = true
-is_good (Bad x) = false
+is_good (Ok r) = true
+is_good (Err x) = false
 
 -- ---- kinds: 1 area; 2 first corner of a contour; 3 next corner; 4 `(`, 5 `|`, 6 `)`; 7 control corner
 

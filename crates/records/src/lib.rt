@@ -85,7 +85,7 @@ pub const MATERIAL: usize = 6;
 pub const UNNAMED: usize = 7;
 
 // The fields of an area.
-#[derive(Clone, Copy)]
+#[derive(Clone, Copy, Debug, PartialEq, Eq)]
 pub struct Fields {
     pub role: u32,
     pub rule: u32,
@@ -96,7 +96,8 @@ pub struct Fields {
     pub material: u32,
 }
 
-#[derive(Clone, Copy)]
+// What sixteen bytes, or a row of a drawing's tables, say.
+#[derive(Clone, Copy, Debug, PartialEq, Eq)]
 pub enum Record {
     Area(Fields),
     First(u32, u32),
@@ -105,13 +106,6 @@ pub enum Record {
     Bar,
     Close,
     Control(u32, u32),
-}
-
-// A record, or why there is none: Kind or Field.
-#[derive(Clone, Copy)]
-pub enum Decoded {
-    Good(Record),
-    Bad(Refusal),
 }
 
 #[derive(Clone, Copy)]
@@ -256,14 +250,14 @@ fn in_range(r: Record) -> bool
 }
 
 // A record whose fields are in range.
-pub fn ranged_of(r: Record) -> Decoded
+pub fn ranged_of(r: Record) -> Result<Record, Refusal>
     ensures answer { result ≡ ranged r }
 {
     let t = in_range(r);
     if t {
-        return Decoded::Good(r);
+        return Ok(r);
     }
-    Decoded::Bad(Refusal::Field)
+    Err(Refusal::Field)
 }
 
 // ---- from bytes
@@ -381,7 +375,7 @@ pub fn named_of(r: Raw) -> Record
 }
 
 // What sixteen bytes say.
-pub fn decoded_raw(r: Raw) -> Decoded
+pub fn decoded_raw(r: Raw) -> Result<Record, Refusal>
     ensures answer { result ≡ decoded_raw r }
 {
     if BYTE_AREA <= r.b0 {
@@ -391,11 +385,11 @@ pub fn decoded_raw(r: Raw) -> Decoded
                 let t = named_of(r);
                 return ranged_of(t);
             }
-            return Decoded::Bad(Refusal::Field);
+            return Err(Refusal::Field);
         }
-        return Decoded::Bad(Refusal::Kind);
+        return Err(Refusal::Kind);
     }
-    Decoded::Bad(Refusal::Kind)
+    Err(Refusal::Kind)
 }
 
 // ---- to bytes

@@ -6,7 +6,7 @@ use Prim.Native.Nat.{ℕ, ◌+◌, ◌≤◌}
 use native.Mathlib.Omega.{arith}
 use lib.ListN.{length, length-map}
 use Rattle.records.specs.declared.Record.{Record}
-use Rattle.records.specs.declared.Decoded.TheVariants.{Good}
+use Rattle.std.specs.Prelude.{Ok}
 use Rattle.grammar.specs.Lists.{areas_in, corners_in}
 use Rattle.grammar.proofs.Laws.{sound}
 use Rattle.read.specs.Words.{Has, words_of_kind, joined}
@@ -49,7 +49,7 @@ words_in t = map words_of (source_of (drawn_in t))
 
 module _ (t : Tables) (records : ℕ) (b : Bounds) (o : Opened t records b) where
   records_are : records ≡ length (drawn_in t)
-  records_are = o.records_used ∙ ((sound (map Good (drawn_in t)) o.used o.accepted.fold).records ∙ length-map (drawn_in t) Good)
+  records_are = o.records_used ∙ ((sound (map Ok (drawn_in t)) o.used o.accepted.fold).records ∙ length-map (drawn_in t) Ok)
 
   pub valid : Valid (drawing_in t)
   valid = accepted_valid (drawn_in t) o.used o.accepted

@@ -13,7 +13,7 @@ use Rattle.geometry.specs.code.Reach.{LineBelow}
 use Rattle.records.specs.declared.Fields.{Fields}
 use Rattle.records.specs.declared.Record.{Record}
 use Rattle.records.specs.declared.Record.TheVariants.{Area, First, Next, Control, Open, Bar, Close}
-use Rattle.records.specs.declared.Decoded.TheVariants.{Good}
+use Rattle.std.specs.Prelude.{Ok}
 use Rattle.grammar.specs.declared.Counts.{Counts}
 use Rattle.drawing.specs.Tables.{area_row}
 use Rattle.drawing.specs.code.Held.{Acceptable}
@@ -76,7 +76,7 @@ module _ (D : Drawing) (areas xs ys : List ℕ) (b : Bounds) (H : Held areas xs 
     abbrev Placed : Kind → ℕ → Type 0
     Placed k n = (n < length D.fields) × (role_in D n ≡ k)
 
-    row : (n : ℕ) → n < length D.fields → area_row areas b.areas n ≡ Good (Area (fields_of D n))
+    row : (n : ℕ) → n < length D.fields → area_row areas b.areas n ≡ Ok (Area (fields_of D n))
     row n l = H.rows n (omega (arith, H.areas_used))
 
     area_in : (k : Kind) (n : ℕ) → Placed k n → AreaPasses (env areas xs ys b) k n (pos 0) (map drawn (lines D n))

@@ -10,8 +10,8 @@ use borrow.Author.Tests.{ne_eqb}
 use Rattle.groups.specs.Sides.{Frame, is_paint, on_left, on_right, to_outer}
 use Rattle.groups.specs.code.Stack.{num, close_n}
 use Rattle.groups.proofs.Stack.{paint_is, left_is, right_is, room_is, bar_is, close_is, open_is, empty_is, num_pos}
-use Rattle.records.specs.declared.Decoded.{Decoded}
-use Rattle.records.specs.declared.Decoded.TheVariants.{Good, Bad}
+use Rattle.records.specs.Record.{Decoded}
+use Rattle.std.specs.Prelude.{Ok, Err}
 use Rattle.stream.specs.declared.Words.{Words}
 use Rattle.stream.specs.declared.Scan.{Scan}
 use Rattle.stream.specs.Entry.{Entry, opens, bar, closes, area, line, curve, shortcut, passes, decode, is_curve, is_line, is_segment, start_range}
@@ -93,8 +93,8 @@ module _ (v : Env) (p : Place) where
           → with_area_n (enc (at p)) (role_fits d paint && b)
           ≡ enc
           (cond (is_good d && b) (cond (role_fits d paint) (cond (ltb p.areas 64) (at (place p.groups true (p.areas + 1) p.segments)) off) off) off)
-      go (Good r) paint b = pick (role_fits (Good r) paint) b
-      go (Bad x) paint b = refl
+      go (Ok r) paint b = pick (role_fits (Ok r) paint) b
+      go (Err x) paint b = refl
 
   line_is : (b : Bool)
       → with_line_n (enc (at p)) b

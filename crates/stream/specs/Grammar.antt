@@ -4,8 +4,8 @@ use Rattle.curves.specs.Curves.{curve_fits}
 use Rattle.groups.specs.Sides.{Frame, is_paint, on_left, on_right, opening, to_right, to_outer, is_empty}
 use Rattle.records.specs.declared.Record.{Record}
 use Rattle.records.specs.declared.Record.TheVariants.{Area, First, Next, Open, Bar, Close, Control}
-use Rattle.records.specs.declared.Decoded.{Decoded}
-use Rattle.records.specs.declared.Decoded.TheVariants.{Good, Bad}
+use Rattle.records.specs.Record.{Decoded}
+use Rattle.std.specs.Prelude.{Ok, Err}
 use Rattle.records.specs.Record.{corner_range, is_good}
 use Rattle.drawing.specs.Tables.{area_row}
 use Rattle.stream.specs.declared.Words.{Words}
@@ -93,8 +93,8 @@ record_fits Close paint = false
 record_fits (Control x y) paint = false
 
 abbrev pub role_fits : Decoded → Bool → Bool
-role_fits (Good r) paint = record_fits r paint
-role_fits (Bad x) paint = false
+role_fits (Ok r) paint = record_fits r paint
+role_fits (Err x) paint = false
 
 -- "`|` fits on the left side of the innermost open group, `)` on its right." "In a stream, "passes" stands where a clip area may, and a line
 -- or shortcut stands straight after an area, line or shortcut." document 02: "In cells, streams, their grammar and pruning a curve goes as an

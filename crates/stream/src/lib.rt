@@ -10,7 +10,8 @@ ghost use Rattle.stream.specs.code.Machine.{off_n, in_groups, after_open_n, afte
 ghost use Rattle.stream.specs.code.Machine.{line_fits, segment_fits, run_length, run_fits, run_to, after_run_n, Apart, Onward};
 ghost use Rattle.stream.specs.code.Checks.{unfit, told, told_at, checked};
 
-use records::{Decoded, Record};
+use records::Record;
+use refusals::Refusal;
 
 // How many words an entry has, and the kinds, its first word.
 pub const ENTRY_WORDS: usize = 4;
@@ -179,12 +180,12 @@ fn record_fits(r: Record, paint: bool) -> bool
     }
 }
 
-fn role_fits(d: Decoded, paint: bool) -> bool
+fn role_fits(d: Result<Record, Refusal>, paint: bool) -> bool
     ensures answer { result ≡ role_fits d paint }
 {
     match d {
-        Decoded::Good(r) => record_fits(r, paint),
-        Decoded::Bad(_) => false,
+        Ok(r) => record_fits(r, paint),
+        Err(_) => false,
     }
 }
 

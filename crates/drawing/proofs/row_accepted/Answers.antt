@@ -3,7 +3,7 @@ use mathlib.Core.Path.{sym, ap, ◌∙◌}
 use native.Mathlib.Omega.{arith}
 use Rattle.records.specs.declared.Fields.{Fields}
 use Rattle.records.specs.declared.Record.TheVariants.{Area}
-use Rattle.records.specs.declared.Decoded.TheVariants.{Good}
+use Rattle.std.specs.Prelude.{Ok}
 use Rattle.drawing.proofs.Rowlaws.{area_good, corner_good, delimiter_good}
 use Rattle.drawing.proofs.row_accepted.Goals as goal
 
@@ -12,7 +12,7 @@ fields_at-f-requires c = omega (arith, (area_good _ _ _ _ c.requires.c_value (eq
 
 pub returns-then-k-eq-KIND_AREA : goal.returns-then-k-eq-KIND_AREA
 returns-then-k-eq-KIND_AREA c = record {
-  answer = ap (λ (f : Fields). Good (Area f)) c.fields_at-f.ensures.answer
+  answer = ap (λ (f : Fields). Ok (Area f)) c.fields_at-f.ensures.answer
       ∙ sym (area_good _ _ _ _ c.requires.c_value (eq-eqb _ _ c.if-k-eq-KIND_AREA.true)).1;
 }
 
@@ -43,11 +43,11 @@ bounds-ys-j c =
 pub returns-then-t : goal.returns-then-t
 returns-then-t c =
     let used = corner_good _ _ _ _ c.requires.c_value (ne_eqb _ _ c.if-k-eq-KIND_AREA.false)
-    (sym c.is_corner-t.ensures.answer ∙ c.if-t.true) in record { answer = ap Good c.corner_of-r.ensures.answer ∙ sym used.1 }
+    (sym c.is_corner-t.ensures.answer ∙ c.if-t.true) in record { answer = ap Ok c.corner_of-r.ensures.answer ∙ sym used.1 }
 
 pub returns : goal.returns
 returns c =
     record {
-      answer = ap Good c.delimiter_of-r.ensures.answer
+      answer = ap Ok c.delimiter_of-r.ensures.answer
           ∙ sym (delimiter_good _ _ _ _ c.requires.c_value (ne_eqb _ _ c.if-k-eq-KIND_AREA.false) (sym c.is_corner-t.ensures.answer ∙ c.if-t.false));
     }

@@ -1,7 +1,7 @@
 use Rattle.grammar.proofs.advance_at.Goals as goal
 
-pub returns-in-Good : goal.returns-in-Good
-returns-in-Good c = record { answer = rw (c.in-Good.is, c.settled.ensures.answer, c.stepped-t.ensures.answer) }
+pub returns-in-Ok : goal.returns-in-Ok
+returns-in-Ok c = record { answer = rw (c.in-Ok.is, c.settled.ensures.answer, c.stepped-t.ensures.answer) }
 
-pub returns-in-Bad : goal.returns-in-Bad
-returns-in-Bad c = record { answer = rw c.in-Bad.is }
+pub returns-in-Err : goal.returns-in-Err
+returns-in-Err c = record { answer = rw c.in-Err.is }

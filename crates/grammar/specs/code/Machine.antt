@@ -5,8 +5,8 @@ use Rattle.groups.specs.code.Stack.{paint_n, left_n, right_n, room_n, open_n, ba
 use Rattle.refusals.specs.declared.Refusal.TheVariants.{Unfit, Short, Limit, Curve}
 use Rattle.records.specs.declared.Record.{Record}
 use Rattle.records.specs.declared.Record.TheVariants.{Area, First, Next, Open, Bar, Close, Control}
-use Rattle.records.specs.declared.Decoded.{Decoded}
-use Rattle.records.specs.declared.Decoded.TheVariants.{Good, Bad}
+use Rattle.records.specs.Record.{Decoded}
+use Rattle.std.specs.Prelude.{Ok, Err}
 use Rattle.grammar.specs.declared.State.{State}
 use Rattle.grammar.specs.declared.Step.{Step}
 use Rattle.grammar.specs.declared.Step.TheVariants.{On, Off}
@@ -118,8 +118,8 @@ settled_n (On s) i = At s
 settled_n (Off r) i = Stopped r i
 
 abbrev pub advance_at_n : State → Decoded → ℕ → Scan
-advance_at_n s (Good r) i = settled_n (step_n s r) i
-advance_at_n s (Bad x) i = Stopped x i
+advance_at_n s (Ok r) i = settled_n (step_n s r) i
+advance_at_n s (Err x) i = Stopped x i
 
 abbrev pub advance_n : Scan → Decoded → ℕ → Scan
 advance_n (At s) d i = advance_at_n s d i
