@@ -1,5 +1,5 @@
 -- Weights, what is left, and the range of the sums.
-use mathlib.Core.Path.{◌≡◌, refl, ap, ◌∙◌}
+use mathlib.Core.Path.{◌≡◌, refl, sym, ap, ◌∙◌}
 use mathlib.Core.Bool.{Bool, true, false, cond}
 use Prim.Native.Nat.{ℕ, zero, suc, ◌+◌, ◌*◌, ◌-◌, ◌/◌, ◌^◌, ◌≤◌, ◌<◌}
 use native.Mathlib.Nat.{mul-le-mul, le_refl, zero-add, div-le_self}
@@ -8,10 +8,11 @@ use native.Mathlib.Omega.{arith}
 use lib.Count.{count_trailing_zeros}
 use Rattle.paint.specs.Sets.{has, each_from, each}
 use Rattle.paint.specs.Areas.{PaintIn}
-use Rattle.paint.specs.Colours.{weight, add, start, mix_of, MixIn, Shares, shares, left, weights, share, shares_of}
-use Rattle.paint.proofs.Sets.{has_below, lowest_some, lowest_has, each_left, each_turn, each_done, each_begin, left_has}
+use Rattle.paint.specs.Colours.{weight, add, start, mix_of, rounded, MixIn, ChannelsIn, ColourIn, Shares, shares, left, weights, share, shares_of}
+use Rattle.paint.proofs.Sets.{has_none, has_below, lowest_has, each_left, each_turn, each_done, each_begin, left_has}
 use Rattle.paint.specs.declared.area.Paint.{Paint}
 use Rattle.paint.specs.declared.colour.Mix.{Mix}
+use Rattle.paint.specs.declared.colour.Channels.{Channels}
 
 -- a weight is at most what is left
 pub weight_le : (left alpha : ℕ) → alpha ≤ 255 → weight left alpha ≤ left
@@ -81,6 +82,10 @@ add_in p h m k =
 pub start_in_law : MixIn start
 start_in_law = record { left_in = omega arith; red_in = omega arith; green_in = omega arith; blue_in = omega arith }
 
+-- a colour's channels are bytes, as the type of its code says
+pub rounded_in : (c : Channels) → ChannelsIn c → ColourIn (rounded c)
+rounded_in c h = record { red_in = omega arith; green_in = omega arith; blue_in = omega arith }
+
 -- ---- the loop over a shown set: what is left of the set, moved down, and the mix so far
 
 pub record Mixing (paint : ℕ → Paint) (shown left first : ℕ) (m : Mix) : Type 0 where
@@ -101,31 +106,31 @@ mix_begin paint shown h =
       range = start_in_law;
     }
 
-module _ {paint : ℕ → Paint} {shown left first : ℕ} {m : Mix} (x : Mixing paint shown left first m) (some : left ≡ 0 → ⊥) (t : ℕ)
-    (lowest : t ≡ count_trailing_zeros 64 left) where
-  pub mix_bit : t < 64
-  mix_bit = omega (arith, lowest_some 64 left x.bits some)
+module _ {paint : ℕ → Paint} {shown left first : ℕ} {m : Mix} (x : Mixing paint shown left first m) (t : ℕ)
+    (low : t < 64 × t ≡ count_trailing_zeros 64 left) where
+  mix_low : has left t ≡ true
+  mix_low = rw low.1 (lowest_has 64 left (omega (arith, low)))
 
   -- the lowest area that is left is in the shown set
   pub mix_area : has shown (first + t) ≡ true
-  mix_area = x.same t ∙ rw lowest (lowest_has 64 left (lowest_some 64 left x.bits some))
+  mix_area = x.same t ∙ mix_low
 
   pub mix_number : first + t < 64
   mix_number = has_below 64 shown (first + t) x.limit mix_area
 
   pub mix_less : left / 2 ^ t / 2 < left
-  mix_less = omega (arith, div-le_self left (2 ^ t), nonzero left some)
+  mix_less = omega (arith, div-le_self left (2 ^ t), nonzero left refl)
     where
-      nonzero : (n : ℕ) → (n ≡ 0 → ⊥) → 0 < n
-      nonzero zero f = absurd (f refl)
-      nonzero (suc n) f = omega arith
+      nonzero : (n : ℕ) → left ≡ n → 0 < n
+      nonzero zero e = absurd (let q : false ≡ true = sym (has_none t) ∙ (ap (λ s. has s t) (sym e) ∙ mix_low) in cc)
+      nonzero (suc n) e = omega arith
 
   pub mix_turn : (m' : Mix) → m' ≡ add (paint (first + t)) m → MixIn m' → Mixing paint shown (left / 2 ^ t / 2) (first + t + 1) m'
   mix_turn m' e r = rw (add-one (first + t)) (record {
     limit = x.limit;
     bits = omega (arith, mix_less, x.bits);
     same = left_has shown left first t x.same;
-    rest = rw e (each_turn (λ n m. add (paint n) m) 64 left first t m (mix_of paint shown) x.bits lowest mix_bit x.rest);
+    rest = rw e (each_turn (λ n m. add (paint n) m) 64 left first t m (mix_of paint shown) x.bits low.1 low.0 x.rest);
     range = r;
   })
 

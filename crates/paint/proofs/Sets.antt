@@ -142,8 +142,9 @@ module _ (paint : ℕ → Paint) (set : ℕ) where
   pub material_some : (n : ℕ) → n ≡ count_trailing_zeros 64 set → n < 64 → (paint n).material ≡ material_of paint set
   material_some n e h = sym (lowest ∙ rw (← e, lt-ltb n 64 h))
 
-  pub material_none : (n : ℕ) → n ≡ count_trailing_zeros 64 set → 64 ≤ n → 0 ≡ material_of paint set
-  material_none n e h = sym (lowest ∙ rw (← e, le-ltb n 64 h))
+  pub material_none : set ≡ 0 → 0 ≡ material_of paint set
+  unfolding count_trailing_zeros
+  material_none z = sym (lowest ∙ rw z refl)
 
 -- ---- steps over a set, from lowest area to lowest area: what is left of the set is moved down, so that its bit j stands for area i + j
 

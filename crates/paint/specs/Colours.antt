@@ -32,6 +32,10 @@ over m = record { red = m.red + m.left * 255; green = m.green + m.left * 255; bl
 abbrev pub sums_of : (ℕ → Paint) → (set : ℕ) → Channels
 sums_of paint set = over (mix_of paint set)
 
+-- each sum and half the whole, over the whole, rounded down
+abbrev pub rounded_by : (whole : ℕ) → Channels → Colour
+rounded_by whole c = record { red = (c.red + whole / 2) / whole; green = (c.green + whole / 2) / whole; blue = (c.blue + whole / 2) / whole }
+
 -- "Each channel is (sum of weight × channel + left × 255 + 127) / 255 rounded down"
 abbrev pub rounded : Channels → Colour
 rounded c = record { red = (c.red + 127) / 255; green = (c.green + 127) / 255; blue = (c.blue + 127) / 255 }

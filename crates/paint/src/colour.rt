@@ -1,15 +1,19 @@
 // The colour of a shown set: weights, the three unrounded channel sums, and their rounding.
-ghost use Rattle.std.specs.Prelude.{◌≡◌, ◌+◌, ◌*◌, ◌≤◌};
+ghost use Rattle.std.specs.Prelude.{◌≡◌, ◌+◌, ◌*◌, ◌/◌, ◌≤◌, ◌<◌};
 ghost use Rattle.paint.specs.Areas.{paint_at, PaintIn, Painted};
-ghost use Rattle.paint.specs.Colours.{weight, add, over, sums_of, rounded, colour_of, MixIn, ChannelsIn, ColourIn};
+ghost use Rattle.paint.specs.Colours.{weight, add, over, sums_of, rounded, rounded_by, colour_of, MixIn, ChannelsIn};
+ghost use Rattle.paint.specs.Pixels.{plus, mean, SamplesIn};
 
 use crate::area::Paint;
-use crate::{area, set};
+use crate::set;
 
 // What the weights and what is left always make, and its half, for rounding.
 const WHOLE: u32 = 255;
 
-const HALF: u32 = 127;
+const HALF: u32 = WHOLE / 2;
+
+// What they make in the samples of a pixel together.
+const PIXEL_WHOLE: u32 = 4080;
 
 // Each channel of the ground.
 pub const WHITE: u32 = 255;
@@ -23,7 +27,8 @@ pub struct Mix {
     pub blue: u32,
 }
 
-// The three unrounded channel sums.
+// The three unrounded channel sums. These and Colour stay two structs: contracts would read one generic struct as three numbers at both types,
+// so that nothing there would tell sums from channels.
 #[derive(Clone, Copy)]
 pub struct Channels {
     pub red: u32,
@@ -31,22 +36,12 @@ pub struct Channels {
     pub blue: u32,
 }
 
-// A colour: each channel 0 to 255.
+// A colour.
 #[derive(Clone, Copy)]
 pub struct Colour {
-    pub red: u32,
-    pub green: u32,
-    pub blue: u32,
-}
-
-// The weight of an area with this alpha, where so much is left.
-fn weight_of(left: u32, alpha: u32) -> u32
-    requires left_bound { left ≤ 255 }
-    requires alpha_bound { alpha ≤ 255 }
-    ensures answer { result ≡ weight left alpha }
-    ensures range { result ≤ left }
-{
-    (left * alpha + HALF) / WHOLE
+    pub red: u8,
+    pub green: u8,
+    pub blue: u8,
 }
 
 // A channel's sum with one area more.
@@ -59,33 +54,101 @@ fn add_channel(sum: u32, w: u32, channel: u32) -> u32
     sum + w * channel
 }
 
-// One shown area more, behind those that are mixed.
-fn add_area(m: Mix, p: Paint) -> Mix
-    requires mix_in { MixIn m }
-    requires paint_in { PaintIn p }
-    ensures answer { result ≡ add p m }
-    ensures range { MixIn result }
-{
-    let w = weight_of(m.left, p.alpha);
-    Mix {
-        left: m.left - w,
-        red: add_channel(m.red, w, p.red),
-        green: add_channel(m.green, w, p.green),
-        blue: add_channel(m.blue, w, p.blue),
+impl Mix {
+    // Nothing is mixed yet.
+    const START: Mix = Mix {
+        left: WHOLE,
+        red: 0,
+        green: 0,
+        blue: 0,
+    };
+
+    // The weight of an area with this alpha, behind those that are mixed.
+    fn weight_of(self, alpha: u32) -> u32
+        requires left_bound { self.left ≤ 255 }
+        requires alpha_bound { alpha ≤ 255 }
+        ensures answer { result ≡ weight self.left alpha }
+        ensures range { result ≤ self.left }
+    {
+        (self.left * alpha + HALF) / WHOLE
+    }
+
+    // One shown area more, behind those that are mixed.
+    fn add_area(self, p: Paint) -> Mix
+        requires mix_in { MixIn self }
+        requires paint_in { PaintIn p }
+        ensures answer { result ≡ add p self }
+        ensures range { MixIn result }
+    {
+        let w = self.weight_of(p.alpha);
+        Mix {
+            left: self.left - w,
+            red: add_channel(self.red, w, p.red),
+            green: add_channel(self.green, w, p.green),
+            blue: add_channel(self.blue, w, p.blue),
+        }
+    }
+
+    // The ground is white.
+    fn over_white(self) -> Channels
+        requires { MixIn self }
+        ensures answer { result ≡ over self }
+        ensures range { ChannelsIn result }
+    {
+        let white = self.left * WHITE;
+        Channels {
+            red: self.red + white,
+            green: self.green + white,
+            blue: self.blue + white,
+        }
     }
 }
 
-// The ground is white.
-fn over_white(m: Mix) -> Channels
-    requires { MixIn m }
-    ensures answer { result ≡ over m }
-    ensures range { ChannelsIn result }
-{
-    let white = m.left * WHITE;
-    Channels {
-        red: m.red + white,
-        green: m.green + white,
-        blue: m.blue + white,
+impl Channels {
+    // Each sum divided by what weights make in it together, and rounded.
+    fn rounded_by(self, whole: u32) -> Colour
+        requires some { 0 < whole }
+        requires whole_bound { whole ≤ 65536 }
+        requires red_bound { self.red ≤ whole * 255 }
+        requires green_bound { self.green ≤ whole * 255 }
+        requires blue_bound { self.blue ≤ whole * 255 }
+        ensures answer { result ≡ rounded_by whole self }
+    {
+        let half = whole / 2;
+        Colour {
+            red: ((self.red + half) / whole) as u8,
+            green: ((self.green + half) / whole) as u8,
+            blue: ((self.blue + half) / whole) as u8,
+        }
+    }
+
+    // Channel sums, rounded to a colour.
+    pub fn rounded(self) -> Colour
+        requires { ChannelsIn self }
+        ensures answer { result ≡ rounded self }
+    {
+        self.rounded_by(WHOLE)
+    }
+
+    // The unrounded channel sums of one sample more, of at most sixteen.
+    pub fn plus(self, c: Channels) -> Channels
+        requires samples_in { SamplesIn 15 self }
+        requires channels_in { ChannelsIn c }
+        ensures answer { result ≡ plus self c }
+    {
+        Channels {
+            red: self.red + c.red,
+            green: self.green + c.green,
+            blue: self.blue + c.blue,
+        }
+    }
+
+    // The pixel of sixteen samples.
+    pub fn mean(self) -> Colour
+        requires { SamplesIn 16 self }
+        ensures answer { result ≡ mean self }
+    {
+        self.rounded_by(PIXEL_WHOLE)
     }
 }
 
@@ -97,42 +160,20 @@ pub fn channel_sums(areas: &[u32], shown: u64) -> Channels
 {
     let mut rest = shown;
     let mut first = 0;
-    let mut m = Mix {
-        left: WHOLE,
-        red: 0,
-        green: 0,
-        blue: 0,
-    };
-    while rest != 0 {
-        let k = set::lowest_area(rest);
+    let mut m = Mix::START;
+    while let Some(k) = set::lowest_area(rest) {
         let n = first + k;
-        let p = area::paint_at(areas, n as usize);
-        m = add_area(m, p);
+        m = m.add_area(Paint::of_area(areas, n as usize));
         rest = (rest >> k) / 2;
         first = n + 1;
     }
-    over_white(m)
-}
-
-// Channel sums, rounded to a colour.
-pub fn rounded_sums(c: Channels) -> Colour
-    requires { ChannelsIn c }
-    ensures answer { result ≡ rounded c }
-    ensures range { ColourIn result }
-{
-    Colour {
-        red: (c.red + HALF) / WHOLE,
-        green: (c.green + HALF) / WHOLE,
-        blue: (c.blue + HALF) / WHOLE,
-    }
+    m.over_white()
 }
 
 // The colour of a shown set.
 pub fn colour_of(areas: &[u32], shown: u64) -> Colour
     requires { Painted areas.now shown }
     ensures answer { result ≡ colour_of (paint_at areas.now) shown }
-    ensures range { ColourIn result }
 {
-    let sums = channel_sums(areas, shown);
-    rounded_sums(sums)
+    channel_sums(areas, shown).rounded()
 }

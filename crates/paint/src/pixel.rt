@@ -1,19 +1,11 @@
 // A pixel's sixteen samples, and the pixel that they make.
 ghost use Rattle.std.specs.Prelude.{◌≡◌, ◌≤◌, ◌<◌};
-ghost use Rattle.paint.specs.Colours.{ChannelsIn, ColourIn};
-ghost use Rattle.paint.specs.Pixels.{row_offset, sample_x, sample_y, plus, mean, SamplesIn};
-
-use crate::colour::{Channels, Colour};
+ghost use Rattle.paint.specs.Pixels.{row_offset, sample_x, sample_y};
 
 // The side of a pixel in units, and its samples, one in each column.
 pub const PIXEL_SIDE: u32 = 16;
 
 pub const SAMPLES: u32 = 16;
-
-// What the weights and what is left of sixteen samples make together, and its half, for rounding.
-const WHOLE: u32 = 4080;
-
-const HALF: u32 = 2040;
 
 // The row offsets, for column offsets 0 to 15.
 const ROW_OFFSETS: [u32; 16] = [3, 8, 13, 2, 7, 12, 1, 6, 11, 0, 5, 10, 15, 4, 9, 14];
@@ -46,31 +38,5 @@ pub fn sample_at(row: u32, pixel: u32, i: u32) -> Sample
     Sample {
         x: PIXEL_SIDE * pixel + i,
         y: PIXEL_SIDE * row + row_offset(i),
-    }
-}
-
-// The unrounded channel sums of one sample more, of at most sixteen.
-pub fn add_sample(sum: Channels, c: Channels) -> Channels
-    requires samples_in { SamplesIn 15 sum }
-    requires channels_in { ChannelsIn c }
-    ensures answer { result ≡ plus sum c }
-{
-    Channels {
-        red: sum.red + c.red,
-        green: sum.green + c.green,
-        blue: sum.blue + c.blue,
-    }
-}
-
-// The pixel of sixteen samples.
-pub fn pixel_of(sum: Channels) -> Colour
-    requires { SamplesIn 16 sum }
-    ensures answer { result ≡ mean sum }
-    ensures range { ColourIn result }
-{
-    Colour {
-        red: (sum.red + HALF) / WHOLE,
-        green: (sum.green + HALF) / WHOLE,
-        blue: (sum.blue + HALF) / WHOLE,
     }
 }

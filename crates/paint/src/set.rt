@@ -1,10 +1,7 @@
 // A set of areas as a 64-bit mask: area n is bit n.
-ghost use Rattle.std.specs.Prelude.{◌≡◌, ◌<◌};
+ghost use Rattle.std.specs.Prelude.{◌≡◌, ◌<◌, MatchOption};
 ghost use Rattle.std.specs.Int.Count.{count_trailing_zeros};
 ghost use Rattle.paint.specs.Sets.{with_area};
-
-// The areas that a set can name.
-pub const MOST_AREAS: u32 = 64;
 
 // The set with area n.
 pub fn with_area(set: u64, n: u32) -> u64
@@ -14,9 +11,9 @@ pub fn with_area(set: u64, n: u32) -> u64
     set | (1 << n)
 }
 
-// The number of the lowest area of a set; 64 if it is empty.
-pub fn lowest_area(set: u64) -> u32
-    ensures answer { result ≡ count_trailing_zeros 64 set }
+// The number of the lowest area of a set.
+pub fn lowest_area(set: u64) -> Option<u32>
+    ensures { MatchOption result (set ≡ 0) (λ n. n < 64 × n ≡ count_trailing_zeros 64 set) }
 {
-    u64::trailing_zeros(set)
+    (set != 0).then_some(set.trailing_zeros())
 }

@@ -1,5 +1,5 @@
 -- The pixels of a row, one after the other.
-use mathlib.Core.Path.{◌≡◌, refl, sym, ap, subst, ◌∙◌}
+use mathlib.Core.Path.{◌≡◌, refl, sym, ap, ◌∙◌}
 use mathlib.Core.Bool.{Bool, true, false, cond}
 use mathlib.Core.List.{List}
 use Prim.Native.Nat.{ℕ, suc, ◌+◌, ◌-◌, ◌*◌, ◌≤◌, ◌<◌}
@@ -7,7 +7,6 @@ use native.Mathlib.Omega.{arith}
 use lib.ListN.{length, set, length-set}
 use Rattle.refusals.specs.declared.Refusal.TheVariants as Refusals
 use Rattle.paint.specs.declared.colour.Colour.{Colour}
-use Rattle.paint.specs.Colours.{ColourIn}
 use Rattle.paint.specs.Pixels.{sample_x, sample_y}
 use Rattle.tables.specs.Tables.{Tree}
 use Rattle.position.specs.declared.Shown.{Shown}
@@ -17,7 +16,7 @@ use Rattle.pixel_row.specs.declared.Pixel.{Pixel}
 use Rattle.pixel_row.specs.declared.Pixel.TheVariants.{Known, Broken}
 use Rattle.pixel_row.specs.declared.RowAnswer.TheVariants.{Done, Not}
 use Rattle.pixel_row.specs.Rows.{filled, put_pixel, pixel_known, pixel_in, fill_from}
-use Rattle.pixel_row.specs.code.Numbers.{pixel_told, PixelBytes}
+use Rattle.pixel_row.specs.code.Numbers.{pixel_told}
 
 less_one : (e i : ℕ) → i < e → e - i ≡ suc (e - (i + 1))
 less_one e i h = omega arith
@@ -33,16 +32,15 @@ module _ (t : Tree) (row : ℕ) where
     pub is_known : pixel_known t row pixel ≡ true
     pub is_pixel : c ≡ pixel_in t row pixel
     pub is_read : LastIn t f
-    pub bytes : ColourIn c
 
-  pub pixel_told_law : (pixel : ℕ) (r : Pixel) (c : Colour) (f : Shown) → r ≡ pixel_told t row pixel → PixelBytes r → r ≡ Known c f → Told pixel c f
-  pixel_told_law pixel r c f e b g = go (pixel_known t row pixel) refl (sym e ∙ g)
+  pub pixel_told_law : (pixel : ℕ) (r : Pixel) (c : Colour) (f : Shown) → r ≡ pixel_told t row pixel → r ≡ Known c f → Told pixel c f
+  pixel_told_law pixel r c f e g = go (pixel_known t row pixel) refl (sym e ∙ g)
     where
       go : (k : Bool)
           → pixel_known t row pixel ≡ k
           → cond k (Known (pixel_in t row pixel) (shown_there t (sample_x pixel 15) (sample_y row 15))) Broken ≡ Known c f
           → Told pixel c f
-      go true h q = record { is_known = h; is_pixel = cc; is_read = last_in t (sample_x pixel 15) (sample_y row 15) f cc; bytes = subst PixelBytes g b }
+      go true h q = record { is_known = h; is_pixel = cc; is_read = last_in t (sample_x pixel 15) (sample_y row 15) f cc }
       go false h q = absurd (let z : ◌≡◌ {A = ℕ} 0 1 = cc in omega arith)
 
   pub pixel_broken : (pixel : ℕ) (r : Pixel) → r ≡ pixel_told t row pixel → r ≡ Broken → pixel_known t row pixel ≡ false

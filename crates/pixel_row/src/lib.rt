@@ -3,11 +3,10 @@
 #![tactic(auto)]
 
 ghost use Rattle.std.specs.Prelude.{◌≡◌, ◌+◌, ◌*◌, ◌/◌, ◌≤◌, length};
-ghost use Rattle.paint.specs.Colours.{ColourIn};
 ghost use Rattle.tables.specs.Tables.{tree, tree_lent};
 ghost use Rattle.position.specs.code.Numbers.{LastIn};
 ghost use Rattle.pixel_row.specs.Rows.{put_pixel, fill_from, row_span, row_filled};
-ghost use Rattle.pixel_row.specs.code.Numbers.{holds_pixel, Sampling, pixel_told, PixelBytes};
+ghost use Rattle.pixel_row.specs.code.Numbers.{holds_pixel, Sampling, pixel_told};
 
 use celltable::Leaf;
 use paint::colour::{Channels, Colour};
@@ -71,7 +70,6 @@ fn pixel_from(
     requires sampling { Sampling (tree plan.now areas.now xs.now ys.now head.now cells.now entries.now) row column 16 1 first sums }
     requires row_bound { (row ≤ 4095) × (column ≤ 4095) }
     ensures answer { result ≡ pixel_told (tree_lent plan areas xs ys head cells entries) row column }
-    ensures range { PixelBytes result }
 {
     let mut last = first;
     let mut sum = sums;
@@ -85,7 +83,7 @@ fn pixel_from(
                     plan, areas, xs, ys, entries, l, uniform, set, p.x, p.y,
                 );
                 let c = colour::channel_sums(areas, shown);
-                sum = pixel::add_sample(sum, c);
+                sum = sum.plus(c);
                 last = s;
                 i += 1;
             }
@@ -94,8 +92,7 @@ fn pixel_from(
             }
         }
     }
-    let c = pixel::pixel_of(sum);
-    Pixel::Known(c, last)
+    Pixel::Known(sum.mean(), last)
 }
 
 // The pixel of a row, where `before` was read last. One sample is enough for a pixel that lies in a uniform leaf.
@@ -114,7 +111,6 @@ fn pixel_at(
     requires last_in { LastIn (tree plan.now areas.now xs.now ys.now head.now cells.now entries.now) before }
     requires row_bound { (row ≤ 4095) × (column ≤ 4095) }
     ensures answer { result ≡ pixel_told (tree_lent plan areas xs ys head cells entries) row column }
-    ensures range { PixelBytes result }
 {
     let p = pixel::sample_at(row, column, 0);
     let s = position::leaf_for(plan, areas, xs, ys, head, cells, entries, before, p.x, p.y);
@@ -139,14 +135,13 @@ fn pixel_at(
 
 // Writes the three bytes of pixel i.
 fn put_pixel(out: &mut [u8], i: usize, c: Colour)
-    requires i_in_bounds { i * 3 + 3 ≤ length out.old }
-    requires colour_in { ColourIn c }
+    requires { i * 3 + 3 ≤ length out.old }
     ensures out { out.new ≡ put_pixel out.old i c }
 {
     let at = i * CHANNELS;
-    out[at] = c.red as u8;
-    out[at + 1] = c.green as u8;
-    out[at + 2] = c.blue as u8;
+    out[at] = c.red;
+    out[at + 1] = c.green;
+    out[at + 2] = c.blue;
 }
 
 // ---- the call

@@ -80,9 +80,9 @@ fn spot_of(areas: &[u32], l: Leaf, uniform: bool, set: u64) -> Spot
     Spot {
         set: set,
         material: material,
-        red: c.red,
-        green: c.green,
-        blue: c.blue,
+        red: u32::from(c.red),
+        green: u32::from(c.green),
+        blue: u32::from(c.blue),
         uniform: uniform,
         x: l.x,
         y: l.y,

@@ -13,11 +13,6 @@ use geometry::edge::Edge;
 use geometry::fill::FillRule;
 use std::io;
 
-// A space and a number.
-fn write_number(rt: &impl Print, n: u32) -> io::Result<()> {
-    print!(rt; " {n}")
-}
-
 // The winding of the contour (0, 0), (p, q), (w, w).
 fn write_winding(rt: &impl Print, p: u32, q: u32, w: u32, x: u32, y: u32) -> io::Result<()>
     requires ends_in { EndsIn p q w w }
@@ -27,18 +22,7 @@ fn write_winding(rt: &impl Print, p: u32, q: u32, w: u32, x: u32, y: u32) -> io:
     let ys = [0, q, w];
     let ends = [3u32];
     let n = geometry::winding::area_winding(&xs, &ys, &ends, x, y);
-    print!(rt; "winding at")?;
-    write_number(rt, x)?;
-    write_number(rt, y)?;
-    if n == 1 {
-        println!(rt; ": 1")
-    } else if n == 0 {
-        println!(rt; ": 0")
-    } else if n == -1 {
-        println!(rt; ": -1")
-    } else {
-        println!(rt; ": other")
-    }
+    println!(rt; "winding at {x} {y}: {n}")
 }
 
 // Whether a winding passes.
@@ -68,12 +52,7 @@ fn write_class(rt: &impl Print, e: Edge, s: Square) -> io::Result<()>
     match c {
         Class::Dropped => println!(rt; "dropped"),
         Class::Start => println!(rt; "start"),
-        Class::Shortcut(first, end) => {
-            print!(rt; "shortcut")?;
-            write_number(rt, first)?;
-            write_number(rt, end)?;
-            println!(rt)
-        }
+        Class::Shortcut(first, end) => println!(rt; "shortcut {first} {end}"),
         Class::Kept => println!(rt; "kept"),
     }
 }
@@ -82,19 +61,10 @@ fn write_class(rt: &impl Print, e: Edge, s: Square) -> io::Result<()>
 fn write_shown(rt: &impl Print, areas: &[u32], set: u64) -> io::Result<()>
     requires { Painted areas.now set }
 {
-    print!(rt; "material")?;
-    write_number(rt, paint::area::material_of(areas, set))?;
+    let material = paint::area::material_of(areas, set);
     let sums = paint::colour::channel_sums(areas, set);
-    print!(rt; ", sums")?;
-    write_number(rt, sums.red)?;
-    write_number(rt, sums.green)?;
-    write_number(rt, sums.blue)?;
-    let c = paint::colour::rounded_sums(sums);
-    print!(rt; ", colour")?;
-    write_number(rt, c.red)?;
-    write_number(rt, c.green)?;
-    write_number(rt, c.blue)?;
-    println!(rt)
+    let colour = sums.rounded();
+    println!(rt; "material {material}, sums {} {} {}, colour {} {} {}", sums.red, sums.green, sums.blue, colour.red, colour.green, colour.blue)
 }
 
 // The key of a position.
@@ -102,23 +72,16 @@ fn write_key(rt: &impl Print, x: u32, y: u32) -> io::Result<()>
     requires x_bound { x < 65536 }
     requires y_bound { y < 65536 }
 {
-    print!(rt; "key of")?;
-    write_number(rt, x)?;
-    write_number(rt, y)?;
-    print!(rt; ":")?;
-    write_number(rt, geometry::morton::key(x, y))?;
-    println!(rt)
+    let key = geometry::morton::key(x, y);
+    println!(rt; "key of {x} {y}: {key}")
 }
 
 // The samples of one pixel.
 fn write_samples(rt: &impl Print) -> io::Result<()> {
     print!(rt; "samples of pixel 4095 of row 1:")?;
-    let mut i = 0;
-    while i < 16 {
+    for i in 0..paint::pixel::SAMPLES {
         let s = paint::pixel::sample_at(1, 4095, i);
-        write_number(rt, s.x)?;
-        write_number(rt, s.y)?;
-        i += 1;
+        print!(rt; " {} {}", s.x, s.y)?;
     }
     println!(rt)
 }

@@ -31,14 +31,7 @@ pixel_at-p-requires c =
     let v = c.loop-i.invariant.1 in record { last_in = v.read; row_bound = (c.requires.0, omega (arith, k, c.requires.1)) }
 
 pub put_pixel-requires : goal.put_pixel-requires
-put_pixel-requires c =
-    let a = c.args in
-    let T = tree a.plan.now a.areas.now a.xs.now a.ys.now a.head.now a.cells.now a.entries.now in
-    let i = c.loop-i.i in
-    let k = c.loop-i-test.true in
-    let v = c.loop-i.invariant.1 in
-    let g = pixel_told_law T a.row (a.first + i) c.pixel_at-p.result c.in-Known.c c.in-Known.f
-    c.pixel_at-p.ensures.answer c.pixel_at-p.ensures.range c.in-Known.is in record { i_in_bounds = omega (arith, k, v.size); colour_in = g.bytes }
+put_pixel-requires c = omega (arith, c.loop-i-test.true, c.loop-i.invariant.1.size)
 
 pub overflow_add-i : goal.overflow_add-i
 overflow_add-i c = omega (arith, c.well_formed, c.loop-i-test.true)
@@ -55,7 +48,7 @@ loop-i-preserved c =
     let k = c.loop-i-test.true in
     let v = c.loop-i.invariant.1 in
     let g = pixel_told_law T a.row (a.first + i) c.pixel_at-p.result c.in-Known.c c.in-Known.f
-    c.pixel_at-p.ensures.answer c.pixel_at-p.ensures.range c.in-Known.is in (
+    c.pixel_at-p.ensures.answer c.in-Known.is in (
       c.loop-i.invariant.0,
       filling_turn T a.row a.first a.out.now n i c.loop-i.last c.in-Known.f c.loop-i.out _
           c.in-Known.c k v g c.put_pixel.ensures.out,

@@ -39,7 +39,6 @@ returns-then-uniform-inside c =
     let set = (shown_in_law T x y c.in-In.l c.in-In.uniform c.in-In.set k.is_shown).is_read u in record {
       answer = uniform_told T a.row a.column c.in-In.l c.in-In.uniform c.in-In.set k.is_shown u (sym c.holds_pixel-inside.ensures.answer ∙ inside)
           c.colour_of-c.result (c.colour_of-c.ensures.answer ∙ ap (colour_of (paint_at a.areas.now)) (h ∙ sym set));
-      range = c.colour_of-c.ensures.range;
     }
 
 pub channel_sums-sums-requires : goal.channel_sums-sums-requires
@@ -71,5 +70,4 @@ returns-in-Broken c =
       answer = sampling_broken T a.row a.column 0 a.before no_channels (omega arith)
           (sampling_begin T a.row a.column 16 a.before c.requires.last_in)
           (unknown_at T q.x q.y (sample_x a.column 0) (sample_y a.row 0) c.sample_at-p.ensures.x c.sample_at-p.ensures.y u);
-      range = tt;
     }

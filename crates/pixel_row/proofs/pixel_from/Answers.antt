@@ -26,8 +26,8 @@ set_for-shown-requires c =
 pub channel_sums-c-requires : goal.channel_sums-c-requires
 channel_sums-c-requires c = c.set_for-shown.ensures.painted
 
-pub add_sample-sum-requires : goal.add_sample-sum-requires
-add_sample-sum-requires c =
+pub plus-sum-requires : goal.plus-sum-requires
+plus-sum-requires c =
     let i = c.loop-i.i in
     let k = c.loop-i-test.true in record {
       samples_in = fewer_in i 15 c.loop-i.sum (omega (arith, k)) c.loop-i.invariant.small;
@@ -52,8 +52,8 @@ loop-i-preserved c =
     (known_set T q.x q.y c.leaf_for-s.result _ _ _ c.set_for-shown.result c.leaf_for-s.ensures.answer
     c.in-In.is c.set_for-shown.ensures.answer) in
     sampling_turn T a.row a.column 16 i c.set_for-shown.result c.loop-i.last _
-    c.loop-i.sum c.add_sample-sum.result c.channel_sums-c.result k c.loop-i.invariant g
-    c.channel_sums-c.ensures.answer c.channel_sums-c.ensures.range c.add_sample-sum.ensures.answer
+    c.loop-i.sum c.plus-sum.result c.channel_sums-c.result k c.loop-i.invariant g
+    c.channel_sums-c.ensures.answer c.channel_sums-c.ensures.range c.plus-sum.ensures.answer
 
 pub returns-in-Broken : goal.returns-in-Broken
 returns-in-Broken c =
@@ -65,17 +65,15 @@ returns-in-Broken c =
       answer = sampling_broken T a.row a.column i c.loop-i.last c.loop-i.sum k c.loop-i.invariant
           (unknown_at T q.x q.y (sample_x a.column i) (sample_y a.row i) c.sample_at-p.ensures.x c.sample_at-p.ensures.y
           (unknown_set T q.x q.y c.leaf_for-s.result c.leaf_for-s.ensures.answer c.in-Broken.is));
-      range = tt;
     }
 
-pub pixel_of-c-requires : goal.pixel_of-c-requires
-pixel_of-c-requires c = fewer_in c.loop-i.i 16 c.loop-i.sum c.loop-i.invariant.to c.loop-i.invariant.small
+pub mean-requires : goal.mean-requires
+mean-requires c = fewer_in c.loop-i.i 16 c.loop-i.sum c.loop-i.invariant.to c.loop-i.invariant.small
 
 pub returns : goal.returns
 returns c =
     let a = c.args in
     let T = tree a.plan.now a.areas.now a.xs.now a.ys.now a.head.now a.cells.now a.entries.now in record {
-      answer = sampling_done T a.row a.column c.loop-i.i c.loop-i.last c.loop-i.sum c.pixel_of-c.result
-          c.loop-i-test.false c.loop-i.invariant c.pixel_of-c.ensures.answer;
-      range = c.pixel_of-c.ensures.range;
+      answer = sampling_done T a.row a.column c.loop-i.i c.loop-i.last c.loop-i.sum c.mean.result
+          c.loop-i-test.false c.loop-i.invariant c.mean.ensures.answer;
     }

@@ -2,7 +2,6 @@
 use Rattle.std.specs.Prelude.{◌≡◌, Bool, cond, ◌&&◌, ℕ, ◌+◌, ◌*◌, ◌-◌, ◌≤◌}
 use Rattle.celltable.specs.declared.Leaf.{Leaf}
 use Rattle.paint.specs.declared.colour.Channels.{Channels}
-use Rattle.paint.specs.Colours.{ColourIn}
 use Rattle.paint.specs.Pixels.{sample_x, sample_y, samples, SamplesIn}
 use Rattle.tables.specs.Tables.{Tree}
 use Rattle.position.specs.declared.Shown.{Shown}
@@ -19,11 +18,6 @@ holds_pixel l row pixel = in_square l (16 * pixel) (16 * row) && in_square l (16
 -- a pixel, with what is read at its last sample; or 12
 abbrev pub pixel_told : Tree → (row pixel : ℕ) → Pixel
 pixel_told t row pixel = cond (pixel_known t row pixel) (Known (pixel_in t row pixel) (shown_there t (sample_x pixel 15) (sample_y row 15))) Broken
-
--- its channels are bytes
-abbrev pub PixelBytes : Pixel → Type 0
-PixelBytes (Known c f) = ColourIn c
-PixelBytes Broken = Unit {0}
 
 abbrev pub no_channels : Channels
 no_channels = record { red = 0; green = 0; blue = 0 }

@@ -3,12 +3,15 @@ use native.Mathlib.Omega.{arith}
 use Rattle.paint.proofs.Sets.{lowest_has, material_some, material_none}
 use Rattle.paint.proofs.area.material_of.Goals as goal
 
-pub paint_at-p-requires : goal.paint_at-p-requires
-paint_at-p-requires c = c.requires.row c.lowest_area-n.result (rw c.lowest_area-n.ensures.answer (lowest_has 64 _ (omega arith)))
+pub of_area-requires : goal.of_area-requires
+of_area-requires c =
+    let e = c.in-Some.ensures in
+    c.requires.row c.in-Some.n (rw e.1 (lowest_has 64 _ (omega (arith, e))))
 
-pub returns-then-n-lt-MOST_AREAS : goal.returns-then-n-lt-MOST_AREAS
-returns-then-n-lt-MOST_AREAS c =
-    record { answer = ap (λ p. p.material) c.paint_at-p.ensures.answer ∙ material_some _ _ _ c.lowest_area-n.ensures.answer c.if-n-lt-MOST_AREAS.true }
+pub returns-in-Some : goal.returns-in-Some
+returns-in-Some c =
+    let e = c.in-Some.ensures in
+    record { answer = ap (λ p. p.material) c.of_area.ensures.answer ∙ material_some _ _ _ e.1 e.0 }
 
-pub returns : goal.returns
-returns c = record { answer = material_none _ _ _ c.lowest_area-n.ensures.answer c.if-n-lt-MOST_AREAS.false }
+pub returns-in-None : goal.returns-in-None
+returns-in-None c = record { answer = material_none _ _ c.in-None.ensures }
