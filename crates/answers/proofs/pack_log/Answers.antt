@@ -4,4 +4,4 @@ pub returns-in-Indices : goal.returns-in-Indices
 returns-in-Indices c = record { answer = rw (c.in-Indices.is, ← c.low_half-low.ensures.answer) c.pack.ensures.answer }
 
 pub returns-in-Not : goal.returns-in-Not
-returns-in-Not c = record { answer = rw (c.in-Not.is, ← c.from-n.ensures.answer, ← c.low_half-low-in-Not.ensures.answer) c.pack-in-Not.ensures.answer }
+returns-in-Not c = record { answer = rw (c.in-Not.is, ← c.from-n.ensures, ← c.low_half-low-in-Not.ensures.answer) c.pack-in-Not.ensures.answer }

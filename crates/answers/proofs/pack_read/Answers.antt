@@ -15,4 +15,4 @@ pub returns-in-Accepted : goal.returns-in-Accepted
 returns-in-Accepted c = record { answer = rw c.in-Accepted.is c.pack.ensures.answer }
 
 pub returns-in-Refused : goal.returns-in-Refused
-returns-in-Refused c = record { answer = rw (c.in-Refused.is, ← c.from-n.ensures.answer) c.pack-in-Refused.ensures.answer }
+returns-in-Refused c = record { answer = rw (c.in-Refused.is, ← c.from-n.ensures) c.pack-in-Refused.ensures.answer }

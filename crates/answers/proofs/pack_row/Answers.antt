@@ -7,4 +7,4 @@ pack-requires-in-Not c =
     omega arith
 
 pub returns-in-Not : goal.returns-in-Not
-returns-in-Not c = record { answer = rw (c.in-Not.is, ← c.from-n.ensures.answer) c.pack-in-Not.ensures.answer }
+returns-in-Not c = record { answer = rw (c.in-Not.is, ← c.from-n.ensures) c.pack-in-Not.ensures.answer }
