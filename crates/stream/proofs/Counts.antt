@@ -4,6 +4,7 @@ use mathlib.Core.Bool.{Bool, true, false, cond, ◌||◌}
 use mathlib.Core.List.{List, ◌∷◌}
 use Prim.Native.Nat.{ℕ, ◌+◌, ◌-◌, ◌≤◌, ◌<◌}
 use native.Mathlib.Omega.{arith}
+use Rattle.std.proofs.Common.{Option, None, Some}
 use lib.Dec.{eqb}
 use borrow.Author.Tests.{eq-eqb, ne_eqb}
 use Rattle.laws.proofs.Booleans.{clash}
@@ -40,27 +41,21 @@ lines_more t i e w q l =
 pub lines_done : (t : List ℕ) (i e n whole : ℕ) → e ≤ i → n + lines_in (words_from t i (e - i)) ≡ whole → n ≡ whole
 lines_done t i e n whole h k = omega (arith, ap lines_in (words_none t i e h), k)
 
--- an entry that stops no scan finds a scan that nothing has stopped, and is no line, curve or shortcut
-module _ (areas : List ℕ) (used : ℕ) (s : Scan) (w : Words) (alive : (other_n areas used s w).stack ≡ 0 → ⊥) where
-  pub alive_before : s.stack ≡ 0 → ⊥
-  alive_before z = alive (rw (eq-eqb s.stack 0 z) z)
-
-  pub alive_other : is_segment w.kind ≡ false
+-- an entry that stops no scan is no line, curve or shortcut
+module _ (areas : List ℕ) (used : ℕ) (s n : Scan) (w : Words) (alive : other_n areas used s w ≡ Some n) where
+  alive_other : is_segment w.kind ≡ false
   alive_other = go (is_segment w.kind) refl
     where
       go : (b : Bool) → is_segment w.kind ≡ b → b ≡ false
       go true e =
-          absurd
-          (alive
-          (rw (
-            ne_eqb s.stack 0 alive_before,
+          let z : None ≡ Some n = rw (
             segment_ne w.kind 1 e refl,
             segment_ne w.kind 2 e refl,
             segment_ne w.kind 3 e refl,
             segment_ne w.kind 4 e refl,
             segment_ne w.kind 7 e refl,
-          )
-          refl))
+          ) at alive in
+          cc
       go false e = refl
 
   pub alive_lines : (t : List ℕ) (i e : ℕ)

@@ -4,6 +4,7 @@ use mathlib.Core.Path.{◌≡◌, ap}
 use mathlib.Core.Bool.{Bool, true, ◌&&◌}
 use mathlib.Core.List.{List}
 use native.Mathlib.Omega.{arith}
+use Rattle.std.proofs.Common.{Option}
 use lib.ListN.{length}
 use lib.Dec.{leb}
 use borrow.Author.Tests.{leb-true}
@@ -16,10 +17,10 @@ use Rattle.stream.specs.code.Machine.{scan_n}
 use Rattle.stream.proofs.Table.{words_none}
 
 -- where the loop begins, and where it ends: what is left gives what the whole gives
-pub scan_begin : (v : Env) (s : Scan) (t : List ℕ) (f n : ℕ) → scan_n v s (words_from t f (f + n - f)) ≡ scan_n v s (words_from t f n)
+pub scan_begin : (v : Env) (s : Option Scan) (t : List ℕ) (f n : ℕ) → scan_n v s (words_from t f (f + n - f)) ≡ scan_n v s (words_from t f n)
 scan_begin v s t f n = ap (λ (k : ℕ). scan_n v s (words_from t f k)) (omega arith)
 
-pub scan_done : (v : Env) (t : List ℕ) (i e : ℕ) (s whole : Scan) → e ≤ i → scan_n v s (words_from t i (e - i)) ≡ whole → s ≡ whole
+pub scan_done : (v : Env) (t : List ℕ) (i e : ℕ) (s whole : Option Scan) → e ≤ i → scan_n v s (words_from t i (e - i)) ≡ whole → s ≡ whole
 unfolding scan_n
 scan_done v t i e s whole h inv = rw (words_none t i e h) at inv
 

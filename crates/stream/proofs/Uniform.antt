@@ -4,8 +4,9 @@ use mathlib.Core.Bool.{Bool, true, false, cond}
 use mathlib.Core.List.{List, [], ◌∷◌}
 use Prim.Native.Nat.{ℕ, ◌+◌}
 use native.Mathlib.Omega.{arith}
+use Rattle.std.proofs.Common.{Option, None, Some}
 use lib.Dec.{eqb}
-use borrow.Author.Tests.{eqb-true, ne_eqb}
+use borrow.Author.Tests.{ne_eqb}
 use Rattle.laws.proofs.Booleans.{clash}
 use Rattle.stream.specs.declared.Words.{Words}
 use Rattle.stream.specs.declared.Scan.{Scan}
@@ -18,7 +19,7 @@ use Rattle.stream.specs.code.Machine.{start_n, scan_n}
 use Rattle.stream.specs.code.Checks.{fit, unfit, told, told_at, checked}
 use Rattle.stream.proofs.Counts.{one_more_law}
 use Rattle.stream.proofs.Entries.{decode_is, decode_segment, by_tests}
-use Rattle.stream.proofs.Meaning.{enc, course_is, accepts_is}
+use Rattle.stream.proofs.Meaning.{held_at, enc, ends, course_is, accepts_is}
 
 -- ---- an entry is a line, a curve or a shortcut, or it is none
 abbrev size_of : Entry → ℕ
@@ -95,46 +96,63 @@ course_size v p q (w ∷ ws) h = go (next v p (decode w)) refl (λ x. course_siz
         omega (arith, ih x k, y, after_size p (decode w), size_decoded w, one_more_law (is_segment w.kind) (segments_in ws))
     go off e ih k = let z : off ≡ at q = sym (course_off v ws) ∙ k in cc
 
-scan_size : (v : Env) (ws : List Words) → ((scan_n v start_n ws).stack ≡ 0 → ⊥) → (scan_n v start_n ws).segments ≡ segments_in ws
-scan_size v ws alive =
-    go (course v begin ws) refl (λ z. alive (ap (λ (x : Scan). x.stack) (course_is v begin ws) ∙ z))
+scan_size : (v : Env) (ws : List Words) (s : Scan) → Some s ≡ scan_n v (Some start_n) ws → s.segments ≡ segments_in ws
+scan_size v ws s h = go (course v begin ws) refl
   where
-    go : (c : Course) → course v begin ws ≡ c → ((enc c).stack ≡ 0 → ⊥) → (scan_n v start_n ws).segments ≡ segments_in ws
-    go (at q) e a = omega (arith, ap (λ (x : Scan). x.segments) (course_is v begin ws ∙ ap enc e), course_size v (place [] false 0 0) q ws e)
-    go off e a = absurd (a refl)
+    go : (c : Course) → course v begin ws ≡ c → s.segments ≡ segments_in ws
+    go (at q) e =
+        let k : Some s ≡ enc (at q) = h ∙ (course_is v begin ws ∙ ap enc e) in
+        let m : s ≡ held_at q = cc in
+        omega (arith, ap (λ (x : Scan). x.segments) m, course_size v (place [] false 0 0) q ws e)
+    go off e =
+        let k : Some s ≡ None = h ∙ (course_is v begin ws ∙ ap enc e) in
+        cc
 
 -- what the code says at the end of a stream is what the check says of its words
 pub told_is : (v : Env) (ws : List Words) (s : Scan) (l : ℕ)
-    → s ≡ scan_n v start_n ws
-    → ((s.stack ≡ 0 → ⊥) → l ≡ lines_in ws)
+    → Some s ≡ scan_n v (Some start_n) ws
+    → l ≡ lines_in ws
     → told_at s l ≡ told (accepts v ws) ws
-told_is v ws s l e h = go (eqb s.stack 1) refl (sym (ap (λ (x : Scan). eqb x.stack 1) e))
-  where
-    go : (b : Bool) → eqb s.stack 1 ≡ b → eqb (scan_n v start_n ws).stack 1 ≡ eqb s.stack 1 → cond b (fit l s.segments) unfit ≡ told (accepts v ws) ws
-    go true q r =
-        let one = eqb-true s.stack 1 q in
-        let alive : (s.stack ≡ 0 → ⊥) = λ z. omega (arith, one, z) in
-        let n : s.segments ≡ segments_in ws = ap (λ (x : Scan). x.segments) e ∙ scan_size v ws (λ z. alive (ap (λ (x : Scan). x.stack) e ∙ z)) in
-        ap₂ fit (h alive) n ∙ ap (λ b. told b ws) (sym q ∙ (sym r ∙ accepts_is v ws))
-    go false q r = ap (λ b. told b ws) (sym q ∙ (sym r ∙ accepts_is v ws))
+told_is v ws s l e h =
+    ap₂ (λ m n. cond (eqb s.stack 1) (fit m n) unfit) h (scan_size v ws s e)
+    ∙ ap (λ b. told b ws) (ap ends e ∙ accepts_is v ws)
+
+-- a stream that stops the code does not pass
+pub told_none : (v : Env) (ws : List Words) → scan_n v (Some start_n) ws ≡ None → None ≡ told (accepts v ws) ws
+told_none v ws e = ap (λ b. told b ws) (sym (ap ends e) ∙ accepts_is v ws)
 
 -- ---- the check, part by part
-module _ (t : List ℕ) (first count used : ℕ) (v : Env) (r : Checked) (e : r ≡ checked t first count used v) where
-  parts : (b : Bool)
-      → r ≡ told b (words_from t first count)
-      → (r.fits ≡ b) × (r.fits ≡ true → (r.lines ≡ lines_in (words_from t first count)) × (r.segments ≡ segments_in (words_from t first count)))
-  parts true q = (ap (λ (x : Checked). x.fits) q, λ _. (ap (λ (x : Checked). x.lines) q, ap (λ (x : Checked). x.segments) q))
-  parts false q = (ap (λ (x : Checked). x.fits) q, λ h. clash (sym (ap (λ (x : Checked). x.fits) q) ∙ h))
+module _ (t : List ℕ) (first count used : ℕ) (v : Env) where
+  abbrev accepted : Bool
+  accepted = check_stream t first count used v
 
-  pub fits_is : r.fits ≡ check_stream t first count used v
-  fits_is = (parts (check_stream t first count used v) e).0
+  -- it says nothing of a stream that does not pass
+  pub unfit_is : None ≡ checked t first count used v → accepted ≡ false
+  unfit_is e = go accepted refl
+    where
+      go : (b : Bool) → accepted ≡ b → b ≡ false
+      go true q = let z : None ≡ fit (lines_in (words_from t first count)) (segments_in (words_from t first count))
+          = e ∙ ap (λ b. told b (words_from t first count)) q in cc
+      go false q = refl
 
-  module _ (h : r.fits ≡ true) where
+  module _ (r : Checked) (e : Some r ≡ checked t first count used v) where
+    parts : (b : Bool) → accepted ≡ b → (b ≡ true)
+        × ((r.lines ≡ lines_in (words_from t first count)) × (r.segments ≡ segments_in (words_from t first count)))
+    parts true q =
+        let k : Some r ≡ fit (lines_in (words_from t first count)) (segments_in (words_from t first count))
+        = e ∙ ap (λ b. told b (words_from t first count)) q in
+        let m : r ≡ record { lines = lines_in (words_from t first count); segments = segments_in (words_from t first count) } = cc in
+        (refl, (ap (λ (x : Checked). x.lines) m, ap (λ (x : Checked). x.segments) m))
+    parts false q = let k : Some r ≡ None = e ∙ ap (λ b. told b (words_from t first count)) q in cc
+
+    pub fits_is : accepted ≡ true
+    fits_is = (parts accepted refl).0
+
     pub lines_is : r.lines ≡ lines_in (words_from t first count)
-    lines_is = ((parts (check_stream t first count used v) e).1 h).0
+    lines_is = (parts accepted refl).1.0
 
     pub uniform_is : eqb r.segments 0 ≡ is_uniform (words_from t first count)
-    uniform_is = ap (λ n. eqb n 0) ((parts (check_stream t first count used v) e).1 h).1
+    uniform_is = ap (λ n. eqb n 0) (parts accepted refl).1.1
 
 -- ---- uniform, both ways
 

@@ -176,6 +176,9 @@ pub record Ready (a x y : List ℕ) (b : Bounds) : Type 0 where
   pub xs : b.corners ≤ length x
   pub ys : b.corners ≤ length y
 
+abbrev pub ContextReady : Context → Type 0
+ContextReady c = Ready c.areas.now c.xs.now c.ys.now c.bounds
+
 -- "entry numbers below what is in use (the first number of an empty stream ... at most that)"; "Limits: 4,096 records"
 abbrev pub run_range : ℕ → ℕ → ℕ → Bool
 run_range first count used = cond (leb count used) (cond (leb first (used - count)) (leb count 4096) false) false

@@ -2,13 +2,14 @@
 
 #![tactic(auto)]
 
-ghost use Rattle.std.specs.Prelude.{◌≡◌, true, false, cond, ◌+◌, ◌*◌, ◌-◌, ◌≤◌, ◌<◌, length};
+ghost use Rattle.std.specs.Prelude.{◌≡◌, false, ◌+◌, ◌*◌, ◌-◌, ◌≤◌, ◌<◌, length, None, Some, MatchOption};
 ghost use Rattle.stream.specs.Table.{words_at, words_from, put_at};
-ghost use Rattle.stream.specs.Grammar.{env, corner_met, line_range, curve_range, shortcut_range, record_fits, role_fits, used_range, Ready, accepts};
-ghost use Rattle.stream.specs.Entry.{is_curve, is_line, is_segment, lines_in};
-ghost use Rattle.stream.specs.code.Machine.{off_n, in_groups, after_open_n, after_bar_n, after_close_n, after_passes_n, with_area_n, area_fits_n, other_n};
-ghost use Rattle.stream.specs.code.Machine.{line_fits, segment_fits, run_length, run_fits, run_to, after_run_n, Apart, Onward};
-ghost use Rattle.stream.specs.code.Checks.{unfit, told, told_at, checked};
+ghost use Rattle.stream.specs.Grammar.{env_passed, corner_met, line_range, curve_range, shortcut_range, record_fits, role_fits, used_range};
+ghost use Rattle.stream.specs.Grammar.{ContextReady, accepts};
+ghost use Rattle.stream.specs.Entry.{is_curve, is_line, is_segment};
+ghost use Rattle.stream.specs.code.Machine.{in_groups, after_open_n, after_bar_n, after_close_n, after_passes_n, with_area_n, area_fits_n, other_n};
+ghost use Rattle.stream.specs.code.Machine.{line_fits, segment_fits, run_fits, run_to, scan_n, end_passed, Apart, Ran, Onward};
+ghost use Rattle.stream.specs.code.Checks.{told, told_at, checked};
 
 use records::Record;
 use refusals::Refusal;
@@ -49,9 +50,6 @@ pub const MOST_IN_STREAM: usize = records::MOST_RECORDS;
 // Areas in a stream.
 const MOST_AREAS: u32 = records::MOST_AREAS as u32;
 
-// The open groups of a reader that an entry has stopped.
-const OFF: u32 = 0;
-
 // The four words of an entry.
 #[derive(Clone, Copy)]
 pub struct Words {
@@ -87,8 +85,8 @@ pub struct Stream<'a> {
     pub count: usize,
 }
 
-// Where a reader of a stream stands. `stack`: the open groups (crate `groups`), or 0 where an entry was out of range or did not fit. `held`: an
-// area, a line, a curve or a shortcut stands straight before. `areas`, `segments`: how many areas, and how many lines, curves and shortcuts, so far.
+// Where a reader of a stream stands. `stack`: the open groups (crate `groups`). `held`: an area, a line, a curve or a shortcut stands straight
+// before. `areas`, `segments`: how many areas, and how many lines, curves and shortcuts, so far.
 #[derive(Clone, Copy)]
 pub struct Scan {
     pub stack: u32,
@@ -135,48 +133,24 @@ pub fn is_curve(kind: u32) -> bool
 pub fn is_line(kind: u32) -> bool
     ensures answer { result ≡ is_line kind }
 {
-    let curve = is_curve(kind);
-    (kind == ENTRY_LINE) | curve
+    (kind == ENTRY_LINE) | is_curve(kind)
 }
 
 // Whether an entry of this kind is a line, a curve or a shortcut.
 pub fn is_segment(kind: u32) -> bool
     ensures answer { result ≡ is_segment kind }
 {
-    let line = is_line(kind);
-    line | (kind == ENTRY_SHORTCUT)
+    is_line(kind) | (kind == ENTRY_SHORTCUT)
 }
 
 // ---- the numbers of an entry
-// Whether corner i is in use and its coordinates are in range.
-fn corner_met(xs: &[u32], ys: &[u32], used: usize, i: usize) -> bool
-    requires { (used ≤ length xs.now) × (used ≤ length ys.now) }
-    ensures answer { result ≡ corner_met xs.now ys.now used i }
-{
-    if i < used {
-        return (xs[i] <= records::GRID) & (ys[i] <= records::GRID);
-    }
-    false
-}
-
 // Whether an area's role fits a paint side, or a clip side.
 fn record_fits(r: Record, paint: bool) -> bool
     ensures answer { result ≡ record_fits r paint }
 {
     match r {
-        Record::Area(f) => {
-            if paint {
-                f.role == records::PAINT
-            } else {
-                f.role == records::CLIP
-            }
-        }
-        Record::First(_, _) => false,
-        Record::Next(_, _) => false,
-        Record::Open => false,
-        Record::Bar => false,
-        Record::Close => false,
-        Record::Control(_, _) => false,
+        Record::Area(f) => f.role == if paint { records::PAINT } else { records::CLIP },
+        _ => false,
     }
 }
 
@@ -189,266 +163,224 @@ fn role_fits(d: Result<Record, Refusal>, paint: bool) -> bool
     }
 }
 
-// Whether the area that is named is in range and fits here, and its start number is in range.
-fn area_fits(areas: &[u32], used: usize, stack: u32, w: Words) -> bool
-    requires { used * 8 ≤ length areas.now }
-    ensures answer { result ≡ area_fits_n areas.now used stack w }
-{
-    let d = drawing::area_row(areas, used, w.p as usize);
-    let paint = groups::on_paint(stack);
-    let fits = role_fits(d, paint);
-    fits & ((w.q <= MOST_START) | (LEAST_START <= w.q))
-}
+impl Context<'_> {
+    // Whether corner i is in use and its coordinates are in range.
+    fn corner_met(self, i: usize) -> bool
+        requires ready { ContextReady self }
+        ensures answer { result ≡ corner_met (env_passed self).xs (env_passed self).ys (env_passed self).used.corners i }
+    {
+        i < self.bounds.corners && (self.xs[i] <= records::GRID) & (self.ys[i] <= records::GRID)
+    }
 
-// Whether both corners of a line are in use and in range.
-fn line_range(xs: &[u32], ys: &[u32], used: usize, w: Words) -> bool
-    requires { (used ≤ length xs.now) × (used ≤ length ys.now) }
-    ensures answer { result ≡ line_range xs.now ys.now used w.p w.q }
-{
-    let a = corner_met(xs, ys, used, w.p as usize);
-    let b = corner_met(xs, ys, used, w.q as usize);
-    a & b
-}
+    // Whether the area that is named is in range and fits here, and its start number is in range.
+    fn area_fits(self, stack: u32, w: Words) -> bool
+        requires ready { ContextReady self }
+        ensures answer { result ≡ area_fits_n (env_passed self).areas (env_passed self).used.areas stack w }
+    {
+        let d = drawing::area_row(self.areas, self.bounds.areas, w.p as usize);
+        let fits = role_fits(d, groups::on_paint(stack));
+        fits & ((w.q <= MOST_START) | (LEAST_START <= w.q))
+    }
 
-// Whether the three corners of a curve are in use and in range, and in order and span.
-fn curve_range(xs: &[u32], ys: &[u32], used: usize, w: Words) -> bool
-    requires { (used ≤ length xs.now) × (used ≤ length ys.now) }
-    ensures answer { result ≡ curve_range xs.now ys.now used w.p }
-{
-    let p = w.p as usize;
-    let control = p + 1;
-    let end = p + 2;
-    if end < used {
-        let a = corner_met(xs, ys, used, p);
-        let b = corner_met(xs, ys, used, control);
-        let c = corner_met(xs, ys, used, end);
+    // Whether both corners of a line are in use and in range.
+    fn line_range(self, w: Words) -> bool
+        requires ready { ContextReady self }
+        ensures answer { result ≡ line_range (env_passed self).xs (env_passed self).ys (env_passed self).used.corners w.p w.q }
+    {
+        self.corner_met(w.p as usize) & self.corner_met(w.q as usize)
+    }
+
+    // Whether the three corners of a curve are in use and in range, and in order and span.
+    fn curve_range(self, w: Words) -> bool
+        requires ready { ContextReady self }
+        ensures answer { result ≡ curve_range (env_passed self).xs (env_passed self).ys (env_passed self).used.corners w.p }
+    {
+        let xs = self.xs;
+        let ys = self.ys;
+        let p = w.p as usize;
+        let control = p + 1;
+        let end = p + 2;
+        if self.bounds.corners <= end {
+            return false;
+        }
+        let met = self.corner_met(p) & (self.corner_met(control) & self.corner_met(end));
         let fits = curves::curve_fits(xs[p], ys[p], xs[control], ys[control], xs[end], ys[end]);
-        return (a & (b & c)) & fits;
+        met & fits
     }
-    false
-}
 
-// Whether the numbers of a line or a curve are in range.
-fn line_fits(xs: &[u32], ys: &[u32], used: usize, w: Words) -> bool
-    requires { (used ≤ length xs.now) × (used ≤ length ys.now) }
-    ensures answer { result ≡ line_fits xs.now ys.now used w }
-{
-    if is_curve(w.kind) {
-        return curve_range(xs, ys, used, w);
+    // Whether the numbers of a line or a curve are in range.
+    fn line_fits(self, w: Words) -> bool
+        requires ready { ContextReady self }
+        ensures answer { result ≡ line_fits (env_passed self).xs (env_passed self).ys (env_passed self).used.corners w }
+    {
+        if is_curve(w.kind) {
+            self.curve_range(w)
+        } else {
+            self.line_range(w)
+        }
     }
-    line_range(xs, ys, used, w)
-}
 
-// Whether a shortcut has the sign 1 or -1, and rows, all of them inside the cell.
-fn shortcut_range(low: u32, side: u32, w: Words) -> bool
-    ensures answer { result ≡ shortcut_range low side w.p w.q w.r }
-{
-    let beyond = (low as u64) + (side as u64);
-    ((w.p == PLUS_ONE) | (w.p == MINUS_ONE))
-        & ((low <= w.q) & ((w.q < w.r) & ((w.r as u64) <= beyond)))
-}
-
-// Whether the numbers of a line, a curve or a shortcut are in range; and 1 for a line or a curve, 0 for a shortcut.
-#[derive(Clone, Copy)]
-pub struct Fit {
-    pub fits: bool,
-    pub line: usize,
-}
-
-fn segment_fits(xs: &[u32], ys: &[u32], b: Bounds, w: Words) -> Fit
-    requires { (b.corners ≤ length xs.now) × (b.corners ≤ length ys.now) }
-    ensures fits { result.fits ≡ segment_fits xs.now ys.now b w }
-    ensures line { result.line ≡ cond (is_line w.kind) 1 0 }
-    ensures range { result.line ≤ 1 }
-{
-    if is_line(w.kind) {
-        let g = line_fits(xs, ys, b.corners, w);
-        return Fit { fits: g, line: 1 };
+    // Whether a shortcut has the sign 1 or -1, and rows, all of them inside the cell.
+    fn shortcut_range(self, w: Words) -> bool
+        ensures answer { result ≡ shortcut_range (env_passed self).used.low (env_passed self).used.side w.p w.q w.r }
+    {
+        let low = self.bounds.low;
+        let beyond = (low as u64) + (self.bounds.side as u64);
+        ((w.p == PLUS_ONE) | (w.p == MINUS_ONE))
+            & ((low <= w.q) & ((w.q < w.r) & ((w.r as u64) <= beyond)))
     }
-    let g = shortcut_range(b.low, b.side, w);
-    Fit { fits: g, line: 0 }
+
+    // Whether the numbers of a line, a curve or a shortcut are in range.
+    fn segment_fits(self, w: Words) -> bool
+        requires ready { ContextReady self }
+        ensures answer { result ≡ segment_fits (env_passed self).xs (env_passed self).ys (env_passed self).used w }
+    {
+        if is_line(w.kind) {
+            self.line_fits(w)
+        } else {
+            self.shortcut_range(w)
+        }
+    }
 }
 
 // ---- one entry more
-// An entry out of range, or one that does not fit.
-fn off() -> Scan
-    ensures answer { result ≡ off_n }
-{
-    Scan {
-        stack: OFF,
-        held: false,
-        areas: 0,
-        segments: 0,
+impl Scan {
+    // The same areas and lines, in other groups.
+    fn in_groups(self, stack: u32) -> Scan
+        ensures answer { result ≡ in_groups self stack }
+    {
+        Scan {
+            stack,
+            held: false,
+            ..self
+        }
     }
-}
 
-// The same areas and lines, in other groups.
-fn in_groups(s: Scan, n: u32) -> Scan
-    ensures answer { result ≡ in_groups s n }
-{
-    Scan {
-        stack: n,
-        held: false,
-        areas: s.areas,
-        segments: s.segments,
+    fn after_open(self) -> Option<Scan>
+        ensures answer { result ≡ after_open_n self }
+    {
+        if groups::has_room(self.stack) {
+            Some(self.in_groups(groups::opened(self.stack)))
+        } else {
+            None
+        }
     }
-}
 
-fn after_open(s: Scan) -> Scan
-    ensures answer { result ≡ after_open_n s }
-{
-    if groups::has_room(s.stack) {
-        let n = groups::opened(s.stack);
-        return in_groups(s, n);
+    fn after_bar(self) -> Option<Scan>
+        ensures answer { result ≡ after_bar_n self }
+    {
+        if groups::on_left(self.stack) {
+            Some(self.in_groups(groups::barred(self.stack)))
+        } else {
+            None
+        }
     }
-    off()
-}
 
-fn after_bar(s: Scan) -> Scan
-    ensures answer { result ≡ after_bar_n s }
-{
-    if groups::on_left(s.stack) {
-        let n = groups::barred(s.stack);
-        return in_groups(s, n);
+    fn after_close(self) -> Option<Scan>
+        ensures answer { result ≡ after_close_n self }
+    {
+        if groups::on_right(self.stack) {
+            Some(self.in_groups(groups::closed(self.stack)))
+        } else {
+            None
+        }
     }
-    off()
-}
 
-fn after_close(s: Scan) -> Scan
-    ensures answer { result ≡ after_close_n s }
-{
-    if groups::on_right(s.stack) {
-        let n = groups::closed(s.stack);
-        return in_groups(s, n);
+    fn after_passes(self) -> Option<Scan>
+        ensures answer { result ≡ after_passes_n self }
+    {
+        if groups::on_paint(self.stack) {
+            None
+        } else {
+            Some(self.in_groups(self.stack))
+        }
     }
-    off()
-}
 
-fn after_passes(s: Scan) -> Scan
-    ensures answer { result ≡ after_passes_n s }
-{
-    if groups::on_paint(s.stack) {
-        return off();
-    }
-    in_groups(s, s.stack)
-}
-
-// An area, if it may stand here: at most 64.
-fn with_area(s: Scan, ok: bool) -> Scan
-    ensures answer { result ≡ with_area_n s ok }
-{
-    if ok {
-        if s.areas < MOST_AREAS {
-            return Scan {
-                stack: s.stack,
+    // An area, if it may stand here: at most 64.
+    fn with_area(self, ok: bool) -> Option<Scan>
+        ensures answer { result ≡ with_area_n self ok }
+    {
+        if ok && self.areas < MOST_AREAS {
+            Some(Scan {
                 held: true,
-                areas: s.areas + 1,
-                segments: s.segments,
-            };
+                areas: self.areas + 1,
+                ..self
+            })
+        } else {
+            None
         }
-        return off();
     }
-    off()
-}
 
-// One entry more, where a line, a curve or a shortcut does not fit: `scan_run` takes those that do.
-fn step(areas: &[u32], used: usize, s: Scan, w: Words) -> Scan
-    requires { used * 8 ≤ length areas.now }
-    ensures answer { result ≡ other_n areas.now used s w }
-{
-    if s.stack == OFF {
-        return s;
-    }
-    let k = w.kind;
-    match k {
-        ENTRY_OPEN => after_open(s),
-        ENTRY_BAR => after_bar(s),
-        ENTRY_CLOSE => after_close(s),
-        ENTRY_AREA => {
-            let ok = area_fits(areas, used, s.stack, w);
-            with_area(s, ok)
+    // One entry more, where a line, a curve or a shortcut does not fit: `scan_run` takes those that do.
+    fn step(self, context: Context, w: Words) -> Option<Scan>
+        requires ready { ContextReady context }
+        ensures answer { result ≡ other_n (env_passed context).areas (env_passed context).used.areas self w }
+    {
+        match w.kind {
+            ENTRY_OPEN => self.after_open(),
+            ENTRY_BAR => self.after_bar(),
+            ENTRY_CLOSE => self.after_close(),
+            ENTRY_AREA => self.with_area(context.area_fits(self.stack, w)),
+            ENTRY_PASSES => self.after_passes(),
+            _ => None,
         }
-        ENTRY_PASSES => after_passes(s),
-        _ => off(),
     }
 }
 
 // ---- lines, curves and shortcuts in a row
-// Whether they are in range and at most 2,048; how many there are with those before; how many of them are lines or curves; and the entry behind them.
+// How many there are with those before, which is at most 2,048; how many of them are lines or curves; and the entry behind them.
 #[derive(Clone, Copy)]
 pub struct Run {
-    pub fits: bool,
     pub segments: usize,
     pub lines: usize,
     pub next: usize,
 }
 
 // A run from entry `from` up to entry `next`, with so many lines and curves in it and so many entries like it before.
-fn run_to(fits: bool, lines: usize, before: usize, from: usize, next: usize) -> Run
+fn run_to(lines: usize, before: usize, from: usize, next: usize) -> Option<Run>
     requires { (from ≤ next) × (next ≤ from + 4096) × (before < 4294967296) }
-    ensures answer { result ≡ run_to fits lines before from next }
+    ensures answer { result ≡ run_to lines before from next }
 {
-    let n = before + (next - from);
-    Run {
-        fits: fits & ((next == from) | (n <= records::MOST_CORNERS)),
-        segments: n,
-        lines: lines,
-        next: next,
+    let segments = before + (next - from);
+    if (next == from) | (segments <= records::MOST_CORNERS) {
+        Some(Run {
+            segments,
+            lines,
+            next,
+        })
+    } else {
+        None
     }
 }
 
-// The lines, curves and shortcuts from entry `from` on, where `before` stand before.
-fn scan_run(
-    entries: &[u32],
-    from: usize,
-    end: usize,
-    xs: &[u32],
-    ys: &[u32],
-    b: Bounds,
-    before: usize,
-) -> Run
-    requires from_le_end { (from ≤ end) × (end ≤ from + 4096) × (end * 4 ≤ length entries.now) }
-    requires corners_in_bounds { (b.corners ≤ length xs.now) × (b.corners ≤ length ys.now) }
+// The lines, curves and shortcuts from entry `from` on, where `before` stand before, if all are in range and few enough.
+fn scan_run(stream: Stream, from: usize, context: Context, before: usize) -> Option<Run>
+    requires from_le_end { (from ≤ stream.first + stream.count)
+        × (stream.first + stream.count ≤ from + 4096)
+        × ((stream.first + stream.count) * 4 ≤ length stream.entries.now) }
+    requires ready { ContextReady context }
     requires before_bound { before < 4294967296 }
-    ensures fits { result.fits ≡ run_fits xs.now ys.now b before (words_from entries.now from (end - from)) }
-    ensures segments { result.segments ≡ before + run_length (words_from entries.now from (end - from)) }
-    ensures next { result.next ≡ from + run_length (words_from entries.now from (end - from)) }
-    ensures behind { result.next < end → is_segment (words_at entries.now result.next).kind ≡ false }
-    ensures few { from + result.lines ≤ result.next }
-    ensures lines { result.lines + lines_in (words_from entries.now result.next (end - result.next))
-        ≡ lines_in (words_from entries.now from (end - from)) }
+    ensures answer { MatchOption result
+        (run_fits (env_passed context).xs (env_passed context).ys (env_passed context).used before
+        (words_from stream.entry.entries.now from (end_passed stream - from))
+        ≡ false)
+        (λ r. Ran (env_passed context) stream.entry.entries.now from (end_passed stream) before r) }
 {
-    let mut fits = true;
+    let end = stream.first + stream.count;
     let mut lines: usize = 0;
-    let mut i = from;
-    while i < end {
-        let w = read_entry(entries, i);
-        if is_segment(w.kind) {
-            let g = segment_fits(xs, ys, b, w);
-            fits = fits & g.fits;
-            lines = lines + g.line;
-            i += 1;
-        } else {
-            return run_to(fits, lines, before, from, i);
+    for i in from..end {
+        let w = read_entry(stream.entries, i);
+        if !is_segment(w.kind) {
+            return run_to(lines, before, from, i);
+        }
+        if !context.segment_fits(w) {
+            return None;
+        }
+        if is_line(w.kind) {
+            lines += 1;
         }
     }
-    run_to(fits, lines, before, from, i)
-}
-
-// After a run of lines, curves and shortcuts that stands straight after an area or another of them.
-fn after_run(s: Scan, r: Run) -> Scan
-    requires { r.fits ≡ true → r.segments < 4294967296 }
-    ensures answer { result ≡ after_run_n s r.fits r.segments }
-{
-    if r.fits {
-        return Scan {
-            stack: s.stack,
-            held: true,
-            areas: s.areas,
-            segments: r.segments as u32,
-        };
-    }
-    off()
+    run_to(lines, before, from, end)
 }
 
 // ---- a stream
@@ -460,99 +392,70 @@ pub struct Scanned {
     pub next: usize,
 }
 
-// What the check of a stream says: whether it passes; and where it does, how many lines and curves, and how many lines, curves and shortcuts, it holds.
+// What the check says of a stream that passes: how many lines and curves, and how many lines, curves and shortcuts, it holds.
 #[derive(Clone, Copy)]
 pub struct Checked {
-    pub fits: bool,
     pub lines: u32,
     pub segments: u32,
 }
 
 // Entry i, and the lines, curves and shortcuts that stand behind it.
-fn scan_next(
-    entries: &[u32],
-    i: usize,
-    end: usize,
-    areas: &[u32],
-    xs: &[u32],
-    ys: &[u32],
-    b: Bounds,
-    s: Scan,
-) -> Scanned
-    requires i_lt_end { (i < end) × (end ≤ i + 4096) × (end * 4 ≤ length entries.now) }
-    requires ready { Ready areas.now xs.now ys.now b }
-    requires apart { Apart entries.now i end s }
-    ensures onward { Onward (env areas.now xs.now ys.now b) entries.now i end s result }
+fn scan_next(stream: Stream, i: usize, context: Context, s: Scan) -> Option<Scanned>
+    requires i_lt_end { (i < stream.first + stream.count)
+        × (stream.first + stream.count ≤ i + 4096)
+        × ((stream.first + stream.count) * 4 ≤ length stream.entries.now) }
+    requires ready { ContextReady context }
+    requires apart { Apart stream.entries.now i (stream.first + stream.count) s }
+    ensures onward { MatchOption result
+        (scan_n (env_passed context) (Some s) (words_from stream.entry.entries.now i (end_passed stream - i)) ≡ None)
+        (λ r. Onward (env_passed context) stream.entry.entries.now i (end_passed stream) s r) }
 {
-    let w = read_entry(entries, i);
-    let n = step(areas, b.areas, s, w);
-    if n.stack == OFF {
-        return Scanned {
+    let w = read_entry(stream.entries, i);
+    let n = s.step(context, w)?;
+    if !n.held {
+        return Some(Scanned {
             scan: n,
             lines: 0,
             next: i + 1,
-        };
+        });
     }
-    if n.held {
-        let r = scan_run(entries, i + 1, end, xs, ys, b, n.segments as usize);
-        let m = after_run(n, r);
-        return Scanned {
-            scan: m,
-            lines: r.lines,
-            next: r.next,
-        };
-    }
-    Scanned {
-        scan: n,
-        lines: 0,
-        next: i + 1,
-    }
-}
-
-// A stream that does not pass.
-fn unfit_stream() -> Checked
-    ensures answer { result ≡ unfit }
-{
-    Checked {
-        fits: false,
-        lines: 0,
-        segments: 0,
-    }
+    let r = scan_run(stream, i + 1, context, n.segments as usize)?;
+    let scan = Scan {
+        segments: r.segments as u32,
+        ..n
+    };
+    Some(Scanned {
+        scan,
+        lines: r.lines,
+        next: r.next,
+    })
 }
 
 // What a reader says that has read all the entries of a stream.
-fn tell(s: Scan, lines: usize) -> Checked
+fn tell(s: Scan, lines: usize) -> Option<Checked>
     requires { lines ≤ 4096 }
     ensures answer { result ≡ told_at s lines }
 {
     if s.stack == groups::NONE_OPEN {
-        return Checked {
-            fits: true,
+        Some(Checked {
             lines: lines as u32,
             segments: s.segments,
-        };
+        })
+    } else {
+        None
     }
-    unfit_stream()
 }
 
 // All the entries of a stream.
-fn scan_all(
-    entries: &[u32],
-    first: usize,
-    count: usize,
-    areas: &[u32],
-    xs: &[u32],
-    ys: &[u32],
-    b: Bounds,
-) -> Checked
-    requires count_in_bounds { (first + count) * 4 ≤ length entries.now }
-    requires count_bound { count ≤ 4096 }
-    requires ready { Ready areas.now xs.now ys.now b }
+fn scan_all(stream: Stream, context: Context) -> Option<Checked>
+    requires count_in_bounds { (stream.first + stream.count) * 4 ≤ length stream.entries.now }
+    requires count_bound { stream.count ≤ 4096 }
+    requires ready { ContextReady context }
     ensures answer { result ≡
-        told (accepts (env areas.now xs.now ys.now b) (words_from entries.now first count))
-        (words_from entries.now first count) }
+        told (accepts (env_passed context) (words_from stream.entry.entries.now stream.entry.first stream.entry.count))
+        (words_from stream.entry.entries.now stream.entry.first stream.entry.count) }
 {
-    let end = first + count;
+    let end = stream.first + stream.count;
     let mut s = Scan {
         stack: groups::NONE_OPEN,
         held: false,
@@ -560,12 +463,12 @@ fn scan_all(
         segments: 0,
     };
     let mut lines: usize = 0;
-    let mut i = first;
+    let mut i = stream.first;
+    // a `while`: an iterator has no step that goes on behind a run
     while i < end {
-        let r = scan_next(entries, i, end, areas, xs, ys, b, s);
-        let n = r.scan;
-        s = n;
-        lines = lines + r.lines;
+        let r = scan_next(stream, i, context, s)?;
+        s = r.scan;
+        lines += r.lines;
         i = r.next;
     }
     tell(s, lines)
@@ -573,6 +476,7 @@ fn scan_all(
 
 // ---- the check
 // Whether the numbers in use are at most what tables of these lengths hold.
+#[tactic(auto, unfolding(crate::specs::Grammar::used_range))]
 pub fn used_range(
     entries: usize,
     used: usize,
@@ -588,32 +492,26 @@ pub fn used_range(
             & ((b.corners <= xs) & ((b.corners <= ys) & (b.corners <= records::MOST_CORNERS))))
 }
 
-// Whether the count entries from first on are a stream of the cell with this low row and this side, and how many lines and segments it holds.
+// Whether these entries are a stream of the cell with this low row and this side, where `used` are in use, and how many lines and segments it holds.
 // Any tables and numbers may be handed in.
-pub fn check_stream(
-    entries: &[u32],
-    first: usize,
-    count: usize,
-    used: usize,
-    areas: &[u32],
-    xs: &[u32],
-    ys: &[u32],
-    b: Bounds,
-) -> Checked
-    ensures answer { result ≡ checked entries.now first count used (env areas.now xs.now ys.now b) }
+pub fn check_stream(stream: Stream, used: usize, context: Context) -> Option<Checked>
+    ensures answer { result ≡
+        checked stream.entry.entries.now stream.entry.first stream.entry.count used (env_passed context) }
 {
-    let u = used_range(entries.len(), used, areas.len(), xs.len(), ys.len(), b);
-    if u {
-        if count <= used {
-            if first <= used - count {
-                if count <= MOST_IN_STREAM {
-                    return scan_all(entries, first, count, areas, xs, ys, b);
-                }
-                return unfit_stream();
-            }
-            return unfit_stream();
-        }
-        return unfit_stream();
+    let u = used_range(
+        stream.entries.len(),
+        used,
+        context.areas.len(),
+        context.xs.len(),
+        context.ys.len(),
+        context.bounds,
+    );
+    if u && stream.count <= used
+        && stream.first <= used - stream.count
+        && stream.count <= MOST_IN_STREAM
+    {
+        scan_all(stream, context)
+    } else {
+        None
     }
-    unfit_stream()
 }

@@ -1,55 +1,59 @@
-use mathlib.Core.Path.{refl, sym, ◌∙◌}
+use mathlib.Core.Path.{sym, ◌∙◌}
 use Prim.Native.Nat.{◌+◌, ◌-◌}
 use native.Mathlib.Omega.{arith}
-use Rattle.laws.proofs.Booleans.{clash}
-use Rattle.stream.specs.Grammar.{env}
-use Rattle.stream.proofs.Runs.{fits_few, one_onward, run_onward}
+use Rattle.std.proofs.lemmas.Bool.{not-true, not-false}
+use Rattle.stream.specs.Grammar.{env_of}
+use Rattle.stream.proofs.Runs.{fits_few, none_onward, one_onward, run_none, run_onward}
 use Rattle.stream.proofs.scan_next.Goals as goal
 
-pub read_entry-w-requires : goal.read_entry-w-requires
-read_entry-w-requires c = omega (arith, c.requires.i_lt_end.0, c.requires.i_lt_end.2)
-
-pub step-n-requires : goal.step-n-requires
-step-n-requires c = c.requires.ready.areas
-
-pub returns-then-n-eq-OFF : goal.returns-then-n-eq-OFF
-returns-then-n-eq-OFF c =
-    let a = c.args in record {
-      onward = one_onward (env a.areas.now a.xs.now a.ys.now a.b) a.entries.now a.i a.end a.s c.read_entry-w.result c.read_entry-w.ensures.answer
-          c.requires.i_lt_end.0 c.requires.apart _ c.step-n.ensures.answer refl refl (λ _ some _. absurd (some c.if-n-eq-OFF.true));
+pub returns-in_err-n : goal.returns-in_err-n
+returns-in_err-n c =
+    let a = c.args in
+    let w = c.read_entry-w in
+    record {
+      onward = rw c.from_residual.ensures
+          (none_onward (env_of a.context) a.stream.entries.now a.i (a.stream.first + a.stream.count) a.s w.result w.ensures.answer c.requires.i_lt_end.0
+          c.requires.apart (sym c.in_err-n.ensures.answer));
     }
 
-pub scan_run-r-requires : goal.scan_run-r-requires
-scan_run-r-requires c = record {
-  from_le_end = (omega (arith, c.requires.i_lt_end.0), omega (arith, c.requires.i_lt_end.1), c.requires.i_lt_end.2);
-  corners_in_bounds = (c.requires.ready.xs, c.requires.ready.ys);
-  before_bound = omega (arith, c.step-n.type_inv.1.1.1.1.1.0.1);
-}
-
-pub after_run-m-requires : goal.after_run-m-requires
-after_run-m-requires c =
+pub returns-then-not-n : goal.returns-then-not-n
+returns-then-not-n c =
     let a = c.args in
-    λ h.
-    omega (
-      arith,
-      c.scan_run-r.ensures.segments,
-      fits_few a.xs.now a.ys.now a.b a.entries.now (a.end - (a.i + 1)) (a.i + 1) c.step-n.result.segments
-          (sym c.scan_run-r.ensures.fits ∙ h) (omega (arith, c.step-n.type_inv.1.1.1.1.1.0.1)),
-    )
+    let w = c.read_entry-w in
+    record {
+      onward = one_onward (env_of a.context) a.stream.entries.now a.i (a.stream.first + a.stream.count) a.s w.result w.ensures.answer
+          c.requires.i_lt_end.0 c.requires.apart c.in_ok-n.n (sym c.in_ok-n.ensures.answer) (not-true _ c.if-not-n.true);
+    }
 
-pub returns-then-n : goal.returns-then-n
-returns-then-n c =
-    let a = c.args in record {
-      onward = run_onward (env a.areas.now a.xs.now a.ys.now a.b) a.entries.now a.i a.end a.s c.read_entry-w.result c.read_entry-w.ensures.answer
-          c.requires.i_lt_end.0 c.requires.apart c.step-n.result c.step-n.ensures.answer c.if-n-eq-OFF.false c.if-n.true _ c.scan_run-r.result.fits
-          c.scan_run-r.result.segments
-          c.scan_run-r.ensures.fits c.scan_run-r.ensures.segments c.after_run-m.ensures.answer c.scan_run-r.ensures.next c.scan_run-r.ensures.behind
-          c.scan_run-r.ensures.few c.scan_run-r.ensures.lines;
+pub returns-in_err-r : goal.returns-in_err-r
+returns-in_err-r c =
+    let a = c.args in
+    let w = c.read_entry-w in
+    record {
+      onward = rw c.from_residual-in_err-r.ensures
+          (run_none (env_of a.context) a.stream.entries.now a.i (a.stream.first + a.stream.count) a.s w.result w.ensures.answer c.requires.i_lt_end.0
+          c.requires.apart c.in_ok-n.n (sym c.in_ok-n.ensures.answer) (not-false _ c.if-not-n.false) c.in_err-r.ensures.answer);
+    }
+
+pub overflow_cast-scan : goal.overflow_cast-scan
+overflow_cast-scan c =
+    let a = c.args in
+    let v = env_of a.context in
+    let r = c.in_ok-r.ensures.answer in
+    record {
+      fits = omega (
+        arith,
+        r.segments,
+        fits_few v.xs v.ys v.used a.stream.entries.now (a.stream.first + a.stream.count - (a.i + 1)) (a.i + 1) c.in_ok-n.n.segments r.fits
+            (omega arith),
+      );
     }
 
 pub returns : goal.returns
 returns c =
-    let a = c.args in record {
-      onward = one_onward (env a.areas.now a.xs.now a.ys.now a.b) a.entries.now a.i a.end a.s c.read_entry-w.result c.read_entry-w.ensures.answer
-          c.requires.i_lt_end.0 c.requires.apart _ c.step-n.ensures.answer refl refl (λ _ _ h. clash (sym c.if-n.false ∙ h));
+    let a = c.args in
+    let w = c.read_entry-w in
+    record {
+      onward = run_onward (env_of a.context) a.stream.entries.now a.i (a.stream.first + a.stream.count) a.s w.result w.ensures.answer
+          c.requires.i_lt_end.0 c.requires.apart c.in_ok-n.n (sym c.in_ok-n.ensures.answer) (not-false _ c.if-not-n.false) c.in_ok-r.r c.in_ok-r.ensures.answer;
     }

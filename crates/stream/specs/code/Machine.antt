@@ -1,9 +1,11 @@
 -- The grammar of streams over the state that the code holds. `Rattle.stream.proofs.Meaning` says that it is the same.
-use Rattle.std.specs.Prelude.{ℕ, suc, ◌+◌, ◌-◌, ◌≤◌, ◌<◌, ◌≡◌, Bool, true, false, cond, ◌&&◌, ◌||◌, List, [], ◌∷◌, eqb, ltb, leb}
+use Rattle.std.specs.Prelude.{ℕ, suc, ◌+◌, ◌-◌, ◌≤◌, ◌<◌, ◌≡◌, Bool, true, false, cond, ◌&&◌, ◌||◌, List, [], ◌∷◌, eqb, ltb, leb, Option, None, Some}
+use denote.Triple.Both.{Both}
 use Rattle.groups.specs.code.Stack.{paint_n, left_n, right_n, room_n, open_n, bar_n, close_n}
 use Rattle.drawing.specs.Tables.{area_row}
 use Rattle.stream.specs.declared.Words.{Words}
 use Rattle.stream.specs.declared.Bounds.{Bounds}
+use Rattle.stream.specs.declared.Stream.{Stream}
 use Rattle.stream.specs.declared.Scan.{Scan}
 use Rattle.stream.specs.declared.Run.{Run}
 use Rattle.stream.specs.declared.Scanned.{Scanned}
@@ -14,32 +16,30 @@ use Rattle.stream.specs.Grammar.{Env, line_range, curve_range, shortcut_range, r
 abbrev pub mk : ℕ → Bool → ℕ → ℕ → Scan
 mk n h a l = record { stack = n; held = h; areas = a; segments = l }
 
--- a stack of 0 says that the stream is out of range or out of the grammar
-abbrev pub off_n : Scan
-off_n = mk 0 false 0 0
-
 abbrev pub start_n : Scan
 start_n = mk 1 false 0 0
+
+-- each step is `None` where an entry is out of range or does not fit
 
 -- only the open groups are other
 abbrev pub in_groups : Scan → ℕ → Scan
 in_groups s n = mk n false s.areas s.segments
 
-abbrev pub after_open_n : Scan → Scan
-after_open_n s = cond (room_n s.stack) (in_groups s (open_n s.stack)) off_n
+abbrev pub after_open_n : Scan → Option Scan
+after_open_n s = cond (room_n s.stack) (Some (in_groups s (open_n s.stack))) None
 
-abbrev pub after_bar_n : Scan → Scan
-after_bar_n s = cond (left_n s.stack) (in_groups s (bar_n s.stack)) off_n
+abbrev pub after_bar_n : Scan → Option Scan
+after_bar_n s = cond (left_n s.stack) (Some (in_groups s (bar_n s.stack))) None
 
-abbrev pub after_close_n : Scan → Scan
-after_close_n s = cond (right_n s.stack) (in_groups s (close_n s.stack)) off_n
+abbrev pub after_close_n : Scan → Option Scan
+after_close_n s = cond (right_n s.stack) (Some (in_groups s (close_n s.stack))) None
 
-abbrev pub after_passes_n : Scan → Scan
-after_passes_n s = cond (paint_n s.stack) off_n (in_groups s s.stack)
+abbrev pub after_passes_n : Scan → Option Scan
+after_passes_n s = cond (paint_n s.stack) None (Some (in_groups s s.stack))
 
 -- an area whose numbers are in range and whose role fits
-abbrev pub with_area_n : Scan → Bool → Scan
-with_area_n s ok = cond ok (cond (ltb s.areas 64) (mk s.stack true (s.areas + 1) s.segments) off_n) off_n
+abbrev pub with_area_n : Scan → Bool → Option Scan
+with_area_n s ok = cond ok (cond (ltb s.areas 64) (Some (mk s.stack true (s.areas + 1) s.segments)) None) None
 
 abbrev pub area_fits_n : List ℕ → ℕ → ℕ → Words → Bool
 area_fits_n areas used stack w = role_fits (area_row areas used w.p) (paint_n stack) && start_range w.q
@@ -52,32 +52,31 @@ abbrev pub segment_fits : (xs ys : List ℕ) → Bounds → Words → Bool
 segment_fits xs ys b w = cond (is_line w.kind) (line_fits xs ys b.corners w) (shortcut_range b.low b.side w.p w.q w.r)
 
 -- a line, a curve or a shortcut whose numbers are in range
-abbrev pub with_line_n : Scan → Bool → Scan
-with_line_n s ok = cond ok (cond s.held (cond (ltb s.segments 2048) (mk s.stack true s.areas (s.segments + 1)) off_n) off_n) off_n
+abbrev pub with_line_n : Scan → Bool → Option Scan
+with_line_n s ok = cond ok (cond s.held (cond (ltb s.segments 2048) (Some (mk s.stack true s.areas (s.segments + 1))) None) None) None
 
-abbrev pub step_n : Env → Scan → Words → Scan
+abbrev pub step_n : Env → Scan → Words → Option Scan
 step_n v s w =
-    cond (eqb s.stack 0) s
-    (cond (eqb w.kind 1) (after_open_n s)
+    cond (eqb w.kind 1) (after_open_n s)
     (cond (eqb w.kind 2) (after_bar_n s)
     (cond (eqb w.kind 3) (after_close_n s)
     (cond (eqb w.kind 4) (with_area_n s (area_fits_n v.areas v.used.areas s.stack w))
     (cond (is_segment w.kind) (with_line_n s (segment_fits v.xs v.ys v.used w))
-    (cond (eqb w.kind 7) (after_passes_n s) off_n))))))
+    (cond (eqb w.kind 7) (after_passes_n s) None)))))
 
 -- the same where a line, a curve or a shortcut does not fit
-abbrev pub other_n : (areas : List ℕ) → (used : ℕ) → Scan → Words → Scan
+abbrev pub other_n : (areas : List ℕ) → (used : ℕ) → Scan → Words → Option Scan
 other_n areas used s w =
-    cond (eqb s.stack 0) s
-    (cond (eqb w.kind 1) (after_open_n s)
+    cond (eqb w.kind 1) (after_open_n s)
     (cond (eqb w.kind 2) (after_bar_n s)
     (cond (eqb w.kind 3) (after_close_n s)
     (cond (eqb w.kind 4) (with_area_n s (area_fits_n areas used s.stack w))
-    (cond (eqb w.kind 7) (after_passes_n s) off_n)))))
+    (cond (eqb w.kind 7) (after_passes_n s) None))))
 
-unfoldable pub scan_n : Env → Scan → List Words → Scan
+unfoldable pub scan_n : Env → Option Scan → List Words → Option Scan
 scan_n v s [] = s
-scan_n v s (w ∷ ws) = scan_n v (step_n v s w) ws
+scan_n v None (w ∷ ws) = None
+scan_n v (Some s) (w ∷ ws) = scan_n v (step_n v s w) ws
 
 -- ---- lines, curves and shortcuts in a row
 
@@ -97,29 +96,33 @@ each_fits xs ys b [] = true
 each_fits xs ys b (w ∷ ws) = cond (is_segment w.kind) (segment_fits xs ys b w && each_fits xs ys b ws) true
 
 -- a run from entry `from` up to entry `next`: with those before it has at most 2,048, or it has none
-abbrev pub run_to : (fits : Bool) → (lines before from next : ℕ) → Run
-run_to fits lines before from next =
-    record {
-      fits = fits && (eqb next from || leb (before + (next - from)) 2048);
-      segments = before + (next - from);
-      lines = lines;
-      next = next;
-    }
+abbrev pub run_to : (lines before from next : ℕ) → Option Run
+run_to lines before from next =
+    cond (eqb next from || leb (before + (next - from)) 2048)
+    (Some (record { segments = before + (next - from); lines = lines; next = next })) None
 
-abbrev pub after_run_n : Scan → Bool → ℕ → Scan
-after_run_n s fits lines = cond fits (mk s.stack true s.areas lines) off_n
+abbrev pub end_passed : Both Stream Stream → ℕ
+end_passed s = s.entry.first + s.entry.count
+
+-- what the run from entry `from` on holds, where it fits
+pub record Ran (v : Env) (t : List ℕ) (from end before : ℕ) (r : Run) : Type 0 where
+  pub fits : run_fits v.xs v.ys v.used before (words_from t from (end - from)) ≡ true
+  pub segments : r.segments ≡ before + run_length (words_from t from (end - from))
+  pub next : r.next ≡ from + run_length (words_from t from (end - from))
+  pub behind : r.next < end → is_segment (words_at t r.next).kind ≡ false
+  pub few : from + r.lines ≤ r.next
+  pub lines : r.lines + lines_in (words_from t r.next (end - r.next)) ≡ lines_in (words_from t from (end - from))
 
 -- no line, curve or shortcut of entry i fits: none stands straight behind what holds it
 abbrev pub Apart : List ℕ → (i end : ℕ) → Scan → Type 0
-Apart t i end s = i < end → (s.stack ≡ 0 → ⊥) → s.held ≡ true → is_segment (words_at t i).kind ≡ false
+Apart t i end s = i < end → s.held ≡ true → is_segment (words_at t i).kind ≡ false
 
--- from entry i the scan s has come to another entry, behind a whole run: what is left gives the same, and while nothing has stopped the scan the lines
--- that were passed and those that are left are all its lines
+-- from entry i the scan s has come to another entry, behind a whole run: what is left gives the same, and the lines that were passed and those that
+-- are left are all its lines
 pub record Onward (v : Env) (t : List ℕ) (i end : ℕ) (s : Scan) (r : Scanned) : Type 0 where
   pub later : i < r.next
   pub inside : r.next ≤ end
   pub apart : Apart t r.next end r.scan
-  pub same : scan_n v r.scan (words_from t r.next (end - r.next)) ≡ scan_n v s (words_from t i (end - i))
+  pub same : scan_n v (Some r.scan) (words_from t r.next (end - r.next)) ≡ scan_n v (Some s) (words_from t i (end - i))
   pub few : i + r.lines ≤ r.next
-  pub before : (r.scan.stack ≡ 0 → ⊥) → s.stack ≡ 0 → ⊥
-  pub lines : (r.scan.stack ≡ 0 → ⊥) → r.lines + lines_in (words_from t r.next (end - r.next)) ≡ lines_in (words_from t i (end - i))
+  pub lines : r.lines + lines_in (words_from t r.next (end - r.next)) ≡ lines_in (words_from t i (end - i))
