@@ -7,6 +7,7 @@ use lib.ListN.{get_or}
 use borrow.Author.Tests.{ltb-true}
 use Rattle.laws.proofs.Booleans.{and_left, and_right}
 use Rattle.cells.specs.Cells.{at, OnGrid}
+use Rattle.std.proofs.Common.{None, Some}
 use Rattle.stream.specs.declared.Checked.{Checked}
 use Rattle.stream.specs.Grammar.{Env, env, Passed}
 use Rattle.stream.specs.code.Checks.{checked}
@@ -26,7 +27,7 @@ use Rattle.find_leaf.specs.declared.LeafRead.TheVariants as Reads
 use Rattle.find_leaf.specs.Leaf.{position_range, leaf_bounds, stream_found, leaf_in}
 use Rattle.find_leaf.specs.code.Numbers.{read_by, leaf_read}
 use Rattle.tables.proofs.Counts.{counts_fit}
-use Rattle.tables.proofs.Leaves.{leaf_told, leaf_stream_law}
+use Rattle.tables.proofs.Leaves.{leaf_told, leaf_none, leaf_stream_law}
 
 pub on_grid : (x y : ℕ) → position_range x y ≡ true → OnGrid (at x y)
 on_grid x y h =
@@ -121,23 +122,30 @@ module _ (t : Tree) where
       pub read_astray : f ≡ Broken → Reads.Broken ≡ leaf_read t x y
       read_astray e = ap (read_by t) (leaf_astray h (sym e ∙ way_is))
 
+      pub read_stopped : (l : Leaf) → f ≡ At l
+          → None ≡ checked t.entries l.first l.count free (env t.areas t.xs t.ys (leaf_bounds t l))
+          → Reads.Broken ≡ leaf_read t x y
+      read_stopped l e q =
+          ap (read_by t)
+          (leaf_unfit l h (sym e ∙ way_is)
+          (leaf_none t.entries l.first l.count l.lines (entries_used t.head) (env t.areas t.xs t.ys (leaf_bounds t l)) (rw ef at q)))
+
       module _ (l : Leaf) (c : Checked) (e : f ≡ At l)
-          (q : c ≡ checked t.entries l.first l.count free (env t.areas t.xs t.ys (leaf_bounds t l))) where
+          (q : Some c ≡ checked t.entries l.first l.count free (env t.areas t.xs t.ys (leaf_bounds t l))) where
         abbrev v : Env
         v = env t.areas t.xs t.ys (leaf_bounds t l)
 
-        checked_is : c ≡ checked t.entries l.first l.count (entries_used t.head) v
+        checked_is : Some c ≡ checked t.entries l.first l.count (entries_used t.head) v
         checked_is = rw ef at q
 
-        passes_is : (c.fits && eqb c.lines l.lines) ≡ passes_in l
+        passes_is : eqb c.lines l.lines ≡ passes_in l
         passes_is = leaf_told t.entries l.first l.count l.lines (entries_used t.head) v c checked_is
 
-        pub read_unfit : (c.fits && eqb c.lines l.lines) ≡ false → Reads.Broken ≡ leaf_read t x y
+        pub read_unfit : eqb c.lines l.lines ≡ false → Reads.Broken ≡ leaf_read t x y
         read_unfit g = ap (read_by t) (leaf_unfit l h (sym e ∙ way_is) (sym passes_is ∙ g))
 
-        pub read_met : (c.fits && eqb c.lines l.lines) ≡ true → Reads.At l c.lines (eqb c.segments 0) ≡ leaf_read t x y
+        pub read_met : eqb c.lines l.lines ≡ true → Reads.At l c.lines (eqb c.segments 0) ≡ leaf_read t x y
         read_met g =
-            let fits : c.fits ≡ true = and_left c.fits (eqb c.lines l.lines) g in
-            ap₂ (Reads.At l) (lines_is t.entries l.first l.count (entries_used t.head) v c checked_is fits)
-            (uniform_is t.entries l.first l.count (entries_used t.head) v c checked_is fits)
+            ap₂ (Reads.At l) (lines_is t.entries l.first l.count (entries_used t.head) v c checked_is)
+            (uniform_is t.entries l.first l.count (entries_used t.head) v c checked_is)
             ∙ ap (read_by t) (leaf_met l h (sym e ∙ way_is) (sym passes_is ∙ g))

@@ -11,7 +11,7 @@ ghost use Rattle.find_leaf.specs.code.Numbers.{leaf_read, report_n};
 
 use celltable::{Found, Leaf};
 use refusals::Refusal;
-use stream::Checked;
+use stream::{Checked, Context, Stream};
 
 // A leaf as it is reported: its number, low corner, side, depth, how many entries and lines it has, and whether it has no line, curve or shortcut.
 #[derive(Clone, Copy)]
@@ -50,17 +50,25 @@ fn check_leaf(
     entries: &[u32],
     free: usize,
     l: Leaf,
-) -> Checked
+) -> Option<Checked>
     requires { 3 ≤ length plan.now }
     ensures answer { result ≡
         checked entries.now l.first l.count free
         (env areas.now xs.now ys.now
         (bounds (get_or plan.now 1 0) (get_or plan.now 2 0) l.y l.side)) }
 {
-    let first = l.first as usize;
-    let count = l.count as usize;
-    let b = tables::bounds_in(plan, l.y, l.side);
-    stream::check_stream(entries, first, count, free, areas, xs, ys, b)
+    let stream = Stream {
+        entries,
+        first: l.first as usize,
+        count: l.count as usize,
+    };
+    let context = Context {
+        areas,
+        xs,
+        ys,
+        bounds: tables::bounds_in(plan, l.y, l.side),
+    };
+    stream::check_stream(stream, free, context)
 }
 
 // The leaf that holds (x, y), with what its stream holds. 12 over the numbers in use, the cells on the way, and the leaf's stream and line count.
@@ -83,8 +91,10 @@ pub fn read_leaf(
         let f = celltable::descend(cells, used, free, x, y);
         match f {
             Found::At(l) => {
-                let c = check_leaf(plan, areas, xs, ys, entries, free, l);
-                if c.fits & (c.lines == l.lines) {
+                let Some(c) = check_leaf(plan, areas, xs, ys, entries, free, l) else {
+                    return LeafRead::Broken;
+                };
+                if c.lines == l.lines {
                     return LeafRead::At(l, c.lines, c.segments == 0);
                 }
                 return LeafRead::Broken;

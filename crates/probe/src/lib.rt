@@ -12,7 +12,7 @@ ghost use Rattle.probe.specs.Answers.{number_in, tally_number, tally_answer};
 use celltable::CellWords;
 use four_children::Tally;
 use geometry::class::Square;
-use stream::Bounds;
+use stream::{Bounds, Context, Stream};
 
 // The last position, in x and in y.
 const LAST: u32 = celltable::GRID - 1;
@@ -30,8 +30,18 @@ fn stream_passes(
 ) -> bool
     ensures answer { result ≡ check_stream entries.now first count used (env areas.now xs.now ys.now b) }
 {
-    let c = stream::check_stream(entries, first, count, used, areas, xs, ys, b);
-    c.fits
+    let stream = Stream {
+        entries,
+        first,
+        count,
+    };
+    let context = Context {
+        areas,
+        xs,
+        ys,
+        bounds: b,
+    };
+    stream::check_stream(stream, used, context).is_some()
 }
 
 // 1 if the count entries from first on are a stream of the cell with this low row and this side, else 0.

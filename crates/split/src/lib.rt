@@ -21,7 +21,7 @@ ghost use Rattle.split.specs.code.Judged.{Told};
 use celltable::CellWords;
 use four_children::Tally;
 use refusals::Refusal;
-use stream::Bounds;
+use stream::{Bounds, Context, Stream};
 
 // A split's answer: the number of the first child, or why it was refused.
 #[derive(Clone, Copy)]
@@ -137,16 +137,27 @@ fn judge_leaf(
     ensures children { Told result (lent areas.now xs.now ys.now b) (cell_of w)
         (words_from entries.now w.first w.count) }
 {
-    let first = w.first as usize;
-    let count = w.count as usize;
-    let c = stream::check_stream(entries, first, count, free as usize, areas, xs, ys, b);
-    if c.fits & (c.lines == w.lines) {
-        if w.side == 1 {
-            return refused(Refusal::Smallest);
-        }
-        return judge_children(areas, xs, ys, entries, b, cells, used, free, w);
+    let stream = Stream {
+        entries,
+        first: w.first as usize,
+        count: w.count as usize,
+    };
+    let context = Context {
+        areas,
+        xs,
+        ys,
+        bounds: b,
+    };
+    let Some(c) = stream::check_stream(stream, free as usize, context) else {
+        return refused(Refusal::Broken);
+    };
+    if c.lines != w.lines {
+        return refused(Refusal::Broken);
     }
-    refused(Refusal::Broken)
+    if w.side == 1 {
+        return refused(Refusal::Smallest);
+    }
+    judge_children(areas, xs, ys, entries, b, cells, used, free, w)
 }
 
 // 12 over cell i, whose words are w, 9, and then the leaf.

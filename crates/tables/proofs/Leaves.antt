@@ -1,9 +1,10 @@
 -- 12 over a leaf: what the check of its stream answers, and what it says that a leaf passes.
-use mathlib.Core.Path.{◌≡◌, refl, sym, ap, ◌∙◌}
+use mathlib.Core.Path.{◌≡◌, sym, ap, ◌∙◌}
 use mathlib.Core.Bool.{Bool, true, false, ◌&&◌}
 use mathlib.Core.List.{List}
 use Prim.Native.Nat.{ℕ}
 use lib.Dec.{eqb}
+use Rattle.std.proofs.Common.{None, Some}
 use borrow.Author.Tests.{eq-eqb}
 use Rattle.laws.proofs.Booleans.{and_left, and_both}
 use Rattle.stream.specs.declared.Checked.{Checked}
@@ -11,7 +12,7 @@ use Rattle.stream.specs.Entry.{lines_in}
 use Rattle.stream.specs.Table.{words_from}
 use Rattle.stream.specs.Grammar.{Env, check_stream}
 use Rattle.stream.specs.code.Checks.{checked}
-use Rattle.stream.proofs.Uniform.{fits_is, lines_is}
+use Rattle.stream.proofs.Uniform.{fits_is, lines_is, unfit_is}
 use Rattle.tables.specs.Tables.{leaf_passes}
 
 module _ (t : List ℕ) (first count lines used : ℕ) (v : Env) where
@@ -22,15 +23,12 @@ module _ (t : List ℕ) (first count lines used : ℕ) (v : Env) where
   in_count = eqb (lines_in (words_from t first count)) lines
 
   -- the code's test
-  pub leaf_told : (r : Checked) → r ≡ checked t first count used v → (r.fits && eqb r.lines lines) ≡ leaf_passes t first count lines used v
-  leaf_told r e = go r.fits refl
-    where
-      fits : r.fits ≡ in_stream
-      fits = fits_is t first count used v r e
+  pub leaf_told : (r : Checked) → Some r ≡ checked t first count used v → eqb r.lines lines ≡ leaf_passes t first count lines used v
+  leaf_told r e =
+      ap (λ n. eqb n lines) (lines_is t first count used v r e) ∙ ap (λ b. b && in_count) (sym (fits_is t first count used v r e))
 
-      go : (b : Bool) → r.fits ≡ b → (r.fits && eqb r.lines lines) ≡ (in_stream && in_count)
-      go true h = λ d. fits d && eqb (lines_is t first count used v r e h d) lines
-      go false h = ap (λ (b : Bool). b && eqb r.lines lines) h ∙ sym (ap (λ (b : Bool). b && in_count) (sym fits ∙ h))
+  pub leaf_none : None ≡ checked t first count used v → leaf_passes t first count lines used v ≡ false
+  leaf_none e = ap (λ b. b && in_count) (unfit_is t first count used v e)
 
   pub leaf_stream_law : leaf_passes t first count lines used v ≡ true → check_stream t first count used v ≡ true
   leaf_stream_law h = and_left in_stream in_count h

@@ -1,8 +1,9 @@
 use mathlib.Core.Bool.{true, false}
 use native.Mathlib.Omega.{arith}
+use borrow.Author.Tests.{eq-eqb, ne_eqb}
 use Rattle.tables.specs.Tables.{tree, counts_in}
 use Rattle.tables.proofs.Counts.{counts_fit, counts_cells, told}
-use Rattle.find_leaf.proofs.Landing.{read_uncounted, read_astray, read_unfit, read_met}
+use Rattle.find_leaf.proofs.Landing.{read_uncounted, read_astray, read_stopped, read_unfit, read_met}
 use Rattle.find_leaf.proofs.read_leaf.Goals as goal
 
 pub bounds-head-0 : goal.bounds-head-0
@@ -26,8 +27,8 @@ descend-f-requires c =
     let h = told c.counts_fit.result (counts_in T) true c.counts_fit.ensures.answer c.if-counts_fit.true in
     counts_cells T c.wide-used.result h c.wide-used.ensures.answer
 
-pub check_leaf-c-requires : goal.check_leaf-c-requires
-check_leaf-c-requires c =
+pub check_leaf-requires : goal.check_leaf-requires
+check_leaf-requires c =
     let a = c.args in
     let T = tree a.plan.now a.areas.now a.xs.now a.ys.now a.head.now a.cells.now a.entries.now in
     let h = told c.counts_fit.result (counts_in T) true c.counts_fit.ensures.answer c.if-counts_fit.true in
@@ -39,8 +40,17 @@ returns-then-c-l c =
     let T = tree a.plan.now a.areas.now a.xs.now a.ys.now a.head.now a.cells.now a.entries.now in
     let h = told c.counts_fit.result (counts_in T) true c.counts_fit.ensures.answer c.if-counts_fit.true in record {
       answer = read_met T a.x a.y c.wide-used.result c.wide-free.result c.descend-f.result h
-          c.wide-used.ensures.answer c.wide-free.ensures.answer c.descend-f.ensures.answer _ c.check_leaf-c.result
-          c.in-At.is c.check_leaf-c.ensures.answer c.if-c-l.true;
+          c.wide-used.ensures.answer c.wide-free.ensures.answer c.descend-f.ensures.answer _ c.in-Some.c
+          c.in-At.is c.in-Some.ensures.answer (eq-eqb _ _ c.if-c-l.true);
+    }
+
+pub returns-in_default : goal.returns-in_default
+returns-in_default c =
+    let a = c.args in
+    let T = tree a.plan.now a.areas.now a.xs.now a.ys.now a.head.now a.cells.now a.entries.now in
+    let h = told c.counts_fit.result (counts_in T) true c.counts_fit.ensures.answer c.if-counts_fit.true in record {
+      answer = read_stopped T a.x a.y c.wide-used.result c.wide-free.result c.descend-f.result h
+          c.wide-used.ensures.answer c.wide-free.ensures.answer c.descend-f.ensures.answer _ c.in-At.is c.in_default.ensures.answer;
     }
 
 pub returns-in-At : goal.returns-in-At
@@ -49,8 +59,8 @@ returns-in-At c =
     let T = tree a.plan.now a.areas.now a.xs.now a.ys.now a.head.now a.cells.now a.entries.now in
     let h = told c.counts_fit.result (counts_in T) true c.counts_fit.ensures.answer c.if-counts_fit.true in record {
       answer = read_unfit T a.x a.y c.wide-used.result c.wide-free.result c.descend-f.result h
-          c.wide-used.ensures.answer c.wide-free.ensures.answer c.descend-f.ensures.answer _ c.check_leaf-c.result
-          c.in-At.is c.check_leaf-c.ensures.answer c.if-c-l.false;
+          c.wide-used.ensures.answer c.wide-free.ensures.answer c.descend-f.ensures.answer _ c.in-Some.c
+          c.in-At.is c.in-Some.ensures.answer (ne_eqb _ _ c.if-c-l.false);
     }
 
 pub returns-in-Broken : goal.returns-in-Broken

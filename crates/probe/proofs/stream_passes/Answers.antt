@@ -1,10 +1,14 @@
-use Rattle.stream.specs.Grammar.{env}
-use Rattle.stream.proofs.Uniform.{fits_is}
+use mathlib.Core.Path.{◌≡◌, refl, ap, ◌∙◌}
+use mathlib.Core.Bool.{Bool, true, false}
+use mathlib.Core.List.{List}
+use Rattle.std.specs.Option.{is_some}
+use Rattle.stream.specs.declared.Words.{Words}
+use Rattle.stream.specs.code.Checks.{told}
 use Rattle.probe.proofs.stream_passes.Goals as goal
 
+some_told : (b : Bool) (ws : List Words) → is_some (told b ws) ≡ b
+some_told true ws = refl
+some_told false ws = refl
+
 pub returns : goal.returns
-returns c =
-    let a = c.args in record {
-      answer = fits_is a.entries.now a.first a.count a.used (env a.areas.now a.xs.now a.ys.now a.b) c.check_stream-c.result
-          c.check_stream-c.ensures.answer;
-    }
+returns c = record { answer = c.is_some.ensures ∙ (ap is_some c.check_stream.ensures.answer ∙ some_told _ _) }
