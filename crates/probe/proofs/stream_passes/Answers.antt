@@ -3,6 +3,8 @@ use mathlib.Core.Bool.{Bool, true, false}
 use mathlib.Core.List.{List}
 use Rattle.std.specs.Option.{is_some}
 use Rattle.stream.specs.declared.Words.{Words}
+use Rattle.stream.specs.Table.{words_from}
+use Rattle.stream.specs.Grammar.{env, check_stream}
 use Rattle.stream.specs.code.Checks.{told}
 use Rattle.probe.proofs.stream_passes.Goals as goal
 
@@ -11,4 +13,10 @@ some_told true ws = refl
 some_told false ws = refl
 
 pub returns : goal.returns
-returns c = record { answer = c.is_some.ensures ∙ (ap is_some c.check_stream.ensures.answer ∙ some_told _ _) }
+returns c =
+    let a = c.args in
+    record {
+      answer = c.is_some.ensures
+          ∙ (ap is_some c.check_stream.ensures.answer
+          ∙ some_told (check_stream a.entries.now a.first a.count a.used (env a.areas.now a.xs.now a.ys.now a.b)) (words_from a.entries.now a.first a.count));
+    }
