@@ -1,9 +1,9 @@
 -- An answer as one number: the refusal's number times 2^32 and its place; the result where nothing is refused.
+use Rattle.std.specs.Prelude.{Ok}
 use Rattle.std.specs.Prelude.{Bool, cond, List, ℕ, ◌+◌, ◌*◌, leb, length, set}
 use Rattle.refusals.specs.declared.Refusal.TheVariants.{Room}
 use Rattle.refusals.specs.Refusals.{number_of}
-use Rattle.grammar.specs.declared.Verdict.{Verdict}
-use Rattle.grammar.specs.declared.Verdict.TheVariants.{Accepted, Refused}
+use Rattle.grammar.specs.Grammar.{Verdict}
 use Rattle.drawing.specs.declared.Written.{Written}
 use Rattle.drawing.specs.declared.Written.TheVariants.{Bytes, Not}
 use Rattle.open.specs.declared.Answer as newtree-answer
@@ -21,7 +21,7 @@ packed number low = number * 4294967296 + low
 
 -- reading: how many records; document 01 leaves this result free
 abbrev pub read_number : Verdict → ℕ
-read_number (Accepted k) = packed 0 k.records
+read_number (Ok k) = packed 0 k.records
 read_number (Refused r p) = packed (number_of r) p
 
 -- writing: how many bytes; document 01 leaves this result free; refusals from the state have place 0
@@ -76,7 +76,7 @@ leaf_written a out = out_found (find_room a (length out)) out
 
 -- the low halves
 abbrev pub read_low : Verdict → ℕ
-read_low (Accepted k) = k.records
+read_low (Ok k) = k.records
 read_low (Refused r p) = p
 
 abbrev pub write_low : Written → ℕ

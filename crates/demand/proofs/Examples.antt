@@ -1,5 +1,7 @@
 -- The claims are not empty: the file of the triangle's four records is read into tables with room for 9 cells and 40 entries, and opened; a list of calls
 -- follows, refused ones among them; and the words that a position then gives are computed.
+use Rattle.std.specs.Prelude.{Ok, Err}
+use Rattle.refusals.specs.Refusals.{at_place}
 use mathlib.Core.Path.{◌≡◌, refl, sym, ap, ◌∙◌}
 use mathlib.Core.Bool.{Bool, true}
 use mathlib.Core.List.{List, [], ◌∷◌, ◌++◌}
@@ -16,7 +18,6 @@ use Rattle.records.specs.declared.Record.{Record}
 use Rattle.records.specs.declared.Record.TheVariants.{Area, First, Next}
 use Rattle.records.specs.Record.{area_range, corner_of, delimiter_of}
 use Rattle.records.specs.Bytes.{decoded_raw, unnamed_zero, named, fields_of}
-use Rattle.grammar.specs.declared.Verdict.TheVariants.{Accepted}
 use Rattle.grammar.specs.Grammar as Grammar
 use Rattle.read.specs.Reading.{decoded_from, records_in, verdict_of, holds, read_answer}
 use Rattle.read.specs.Words.{joined}
@@ -125,7 +126,7 @@ file =
 abbrev blank : Tree
 blank = tree (zeros 7) (zeros 8) (zeros 3) (zeros 3) (zeros 2) (zeros 72) (zeros 160)
 
-file_read : read_answer file (zeros 7) (zeros 8) (zeros 3) (zeros 3) ≡ Accepted (Grammar.counts 4 1 3)
+file_read : read_answer file (zeros 7) (zeros 8) (zeros 3) (zeros 3) ≡ Ok (Grammar.counts 4 1 3)
 unfolding read_answer verdict_of holds decoded_from decoded_raw unnamed_zero named fields_of area_range corner_of delimiter_of Grammar.checked Grammar.course
 file_read = refl
 
@@ -160,10 +161,10 @@ calls = own (splits 0) ∷ other unequal (splits 0) ∷ other headless opens ∷
 no_room : open_answer headless ≡ Not Refusals.Room
 no_room = ap (drawing_answer headless) (holding_passes (drawing_tables example) triangle (Grammar.counts 4 1 3) accepted held)
 
-seven : Refused (splits 0) unequal
+seven : Err (at_place (splits 0) unequal)
 seven e = omega arith
 
-eleven : Refused opens headless
+eleven : Err (at_place opens headless)
 eleven e = let z : ◌≡◌ {A = ℕ} 11 0 = sym (ap (λ (a : Opening.Answer). refusal (opening a)) no_room) ∙ e in omega arith
 
 allowed : AllAllowed calls (file_tree file blank)

@@ -1,4 +1,5 @@
 -- From the file to the answer: the drawing of demand 3 is the file's, and what an accepted reading gives is what the records of the file show.
+use Rattle.std.specs.Prelude.{Ok}
 use mathlib.Core.Path.{◌≡◌, refl, sym, ap, ◌∙◌}
 use mathlib.Core.Bool.{Bool, true, false, cond, ◌&&◌}
 use mathlib.Core.List.{List, [], ◌∷◌, ◌++◌}
@@ -9,8 +10,7 @@ use lib.ListN.{length}
 use Rattle.laws.proofs.Booleans.{clash}
 use Rattle.refusals.specs.declared.Refusal.TheVariants as Refusals
 use Rattle.grammar.specs.declared.Counts.{Counts}
-use Rattle.grammar.specs.declared.Verdict.{Verdict}
-use Rattle.grammar.specs.declared.Verdict.TheVariants.{Accepted}
+use Rattle.grammar.specs.Grammar.{Verdict}
 use Rattle.read.specs.Reading.{records_in, read_answer}
 use Rattle.drawing.proofs.Theorems.{taken, file_accepts, read_leaves, drawn_records, after}
 use Rattle.cells.specs.Cells.{at}
@@ -58,11 +58,11 @@ use Rattle.demand.proofs.Demand.{demand_over}
 use Rattle.demand.proofs.Lists.{list_goes_on}
 
 -- ---- the drawing of an accepted file
-pub file_drawing : (b p a x y : List ℕ) (k : Counts) → read_answer b p a x y ≡ Accepted k → drawing_in (after (Accepted k) b p a x y)
+pub file_drawing : (b p a x y : List ℕ) (k : Counts) → read_answer b p a x y ≡ Ok k → drawing_in (after (Ok k) b p a x y)
     ≡ drawing_from (records_in b)
 file_drawing b p a x y k e =
     ap drawing_from
-    (drawn_records (after (Accepted k) b p a x y) (records_in b) (file_accepts b k (taken b p a x y k e).verdict).range
+    (drawn_records (after (Ok k) b p a x y) (records_in b) (file_accepts b k (taken b p a x y k e).verdict).range
     (read_leaves b p a x y k e))
 
 file_held : (file : List ℕ) (t : Tree) → FileOpened file t → drawing_of (read_tree file t) ≡ drawing_of_file file
@@ -80,8 +80,8 @@ number_is n = omega arith
 module _ (D : Drawing) where
   -- at a position
   spot_roomed : (b : Bool) (s : Spot)
-      → refusal (reading (cond b (Reads.At s) (Reads.Not Refusals.Room))) ≡ 0
-      → cond b (Reads.At s) (Reads.Not Refusals.Room) ≡ Reads.At s
+      → refusal (reading (cond b (Reads.Ok s) (Reads.Not Refusals.Room))) ≡ 0
+      → cond b (Reads.Ok s) (Reads.Not Refusals.Room) ≡ Reads.Ok s
   spot_roomed true s e = refl
   spot_roomed false s e = absurd (omega arith)
 
@@ -129,7 +129,7 @@ module _ (D : Drawing) where
           let w = q.inside e in
           let s = spot_there D H w.0 (at x y) in
           let a = spot_roomed (leb 10 (length out)) s (sym (ap (λ (g : Given). refusal g.answer) w.2) ∙ h) in
-          shows_accepted H (position x y out) t (position_given (Reads.At s) out) w.0 w.2 w.1 (ap spot_number a ∙ number_is s.material)
+          shows_accepted H (position x y out) t (position_given (Reads.Ok s) out) w.0 w.2 w.1 (ap spot_number a ∙ number_is s.material)
           (ap (λ (r : Reading.Answer). out_spot r out) a)
       go false e =
           let z : ◌≡◌ {A = ℕ} 7 0 = sym (ap (λ (g : Given). refusal g.answer) (q.outside e)) ∙ h in

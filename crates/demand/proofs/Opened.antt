@@ -1,4 +1,5 @@
 -- An accepted opening leaves tables that are sound, with the one cell of the history's begin.
+use Rattle.std.specs.Prelude.{Ok}
 use mathlib.Core.Path.{◌≡◌, refl, sym, ap, ◌∙◌, subst}
 use mathlib.Core.Bool.{true}
 use Prim.Native.Nat.{ℕ, zero, suc, ◌+◌, ◌*◌, ◌/◌, ◌≤◌, ◌<◌}
@@ -7,7 +8,6 @@ use lib.ListN.{length, get_or, set, length-set}
 use lib.Seq.{get_or-set_same, get_or-set_other}
 use borrow.Author.Tests.{le-leb}
 use Rattle.grammar.specs.declared.Counts.{Counts}
-use Rattle.grammar.specs.declared.Verdict.TheVariants.{Accepted}
 use Rattle.drawing.specs.Tables as Tables
 use Rattle.drawing.specs.Tables.{drawn_in}
 use Rattle.drawing.proofs.Rows as Rows
@@ -30,7 +30,7 @@ use Rattle.tables.proofs.Counts.{head_fits, counts_of}
 use Rattle.open.specs.declared.Answer.{Answer}
 use Rattle.open.specs.declared.Answer.TheVariants.{Opened}
 use Rattle.open.specs.Open.{root_words, drawing_tables, stream_opened, open_answer, open_tree}
-use Rattle.open.proofs.Accepted.{Accepts, open_accepts}
+use Rattle.open.proofs.Ok.{Accepts, open_accepts}
 use Rattle.demand.specs.History.{begun, cell_in, first_in, parent_in, Leaf}
 use Rattle.demand.specs.Stands.{drawing_of, words_of_cell}
 use Rattle.demand.specs.code.Opened.{opened_by}
@@ -38,7 +38,7 @@ use Rattle.demand.proofs.History.{begun_grown}
 use Rattle.demand.proofs.Sound.{Drawn, Sound}
 
 -- ---- a drawing that the check accepts
-pub accepted_drawn : (t : Tree) (k : Counts) → Tables.drawing_verdict (drawing_tables t) ≡ Accepted k → Drawn t
+pub accepted_drawn : (t : Tree) (k : Counts) → Tables.drawing_verdict (drawing_tables t) ≡ Ok k → Drawn t
 accepted_drawn t k e =
     let p = passes_holding (drawing_tables t) k e in
     let u : Tables.used_of t.plan ≡ k = sym (Rows.drawn (drawing_tables t) k e).used in

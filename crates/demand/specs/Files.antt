@@ -1,10 +1,10 @@
 -- From the file to the answer: a file of records is read, a tree is opened over what was read, and any list of calls follows. What an accepted reading then
 -- gives is what the records of the file show, worked out with no tree.
+use Rattle.std.specs.Prelude.{Ok}
 use Rattle.std.specs.Prelude.{◌≡◌, List, ℕ, ◌/◌, length}
 use Rattle.std.proofs.lemmas.List.Edits.{sets}
 use Rattle.grammar.specs.declared.Counts.{Counts}
-use Rattle.grammar.specs.declared.Verdict.{Verdict}
-use Rattle.grammar.specs.declared.Verdict.TheVariants.{Accepted}
+use Rattle.grammar.specs.Grammar.{Verdict}
 use Rattle.read.specs.Words.{plan_words, area_words, x_words, y_words}
 use Rattle.read.specs.Reading.{records_in, read_answer, left_by}
 use Rattle.cells.specs.Cells.{at}
@@ -34,7 +34,7 @@ read_tree file t = read_by (read_answer file t.plan t.areas t.xs t.ys) file t
 -- the file is accepted, and so is the opening of a tree over what was read
 pub record FileOpened (file : List ℕ) (t : Tree) : Type 0 where
   pub counts : Counts
-  pub read : read_answer file t.plan t.areas t.xs t.ys ≡ Accepted counts
+  pub read : read_answer file t.plan t.areas t.xs t.ys ≡ Ok counts
   pub entries : ℕ
   pub opened : open_answer (read_tree file t) ≡ Opened entries
 

@@ -1,4 +1,7 @@
 -- The loops over a drawing's tables, as plain laws.
+use Rattle.std.specs.Result.{is_err}
+use Rattle.std.specs.Prelude.{Ok, Err}
+use Rattle.refusals.specs.Refusals.{at_place}
 use Prim.Native.Nat.{ℕ, zero, suc, ◌+◌, ◌*◌, ◌-◌, ◌≤◌, ◌<◌}
 use mathlib.Core.Path.{◌≡◌, refl, sym, ap, ap₂, ◌∙◌, subst}
 use mathlib.Core.Bool.{Bool, true, false, cond}
@@ -15,21 +18,17 @@ use Rattle.refusals.specs.declared.Refusal.TheVariants.{Unfit, Short, Limit, Arg
 use Rattle.records.specs.declared.Record.{Record}
 use Rattle.records.specs.declared.Record.TheVariants.{Area, First, Next, Open, Bar, Close, Control}
 use Rattle.records.specs.Record.{Decoded}
-use Rattle.std.specs.Prelude.{Ok, Err}
 use Rattle.records.specs.Bytes.{raw_of, raw_bytes, put_raw, bytes_of}
 use Rattle.records.proofs.Laws.{put_is}
 use Rattle.grammar.specs.declared.Counts.{Counts}
 use Rattle.grammar.specs.declared.State.{State}
-use Rattle.grammar.specs.declared.Step.{Step}
-use Rattle.grammar.specs.declared.Step.TheVariants.{On, Off}
-use Rattle.grammar.specs.declared.Scan.{Scan}
-use Rattle.grammar.specs.declared.Scan.TheVariants.{At, Stopped}
-use Rattle.grammar.specs.declared.Verdict.{Verdict}
-use Rattle.grammar.specs.declared.Verdict.TheVariants.{Accepted, Refused}
+use Rattle.grammar.specs.code.Machine.{Step}
+use Rattle.grammar.specs.code.Machine.{Scan}
+use Rattle.grammar.specs.Grammar.{Verdict}
 use Rattle.grammar.specs.Grammar.{checked}
-use Rattle.grammar.specs.code.Machine.{breaks_n, fits_n, ends_short_n, in_limit_n, after_n, settled_n, advance_n, start_n, scan_n, is_stopped}
+use Rattle.grammar.specs.code.Machine.{breaks_n, fits_n, ends_short_n, in_limit_n, after_n, settled_n, advance_n, start_n, scan_n}
 use Rattle.grammar.specs.Lists.{good_records, area_one, corner_one}
-use Rattle.grammar.proofs.Laws.{sound, stopped_stays, refused_not}
+use Rattle.grammar.proofs.Laws.{sound, stopped_stays}
 use Rattle.drawing.specs.declared.Cursor.{Cursor}
 use Rattle.read.specs.Words.{joined, on_good, file_of}
 use Rattle.records.specs.Record.{is_good}
@@ -88,7 +87,7 @@ past_corner i c c' (Ok r) h e = rw e (omega (arith, corner_one_law r))
 past_corner i c c' (Err x) h e = rw e (omega arith)
 
 -- ---- the check: the cursor is told by the scan
-after_cursor : (s : State) (r : Record) → cursor_n (At (after_n s r)) ≡ past_record (cursor_n (At s)) r
+after_cursor : (s : State) (r : Record) → cursor_n (At (after_n s r)) ≡ past_record (cursor_n (Ok s)) r
 after_cursor s (Area f) = ap (cursor (s.areas + 1)) (sym (add-zero s.corners))
 after_cursor s (First x y) = ap (λ (a : ℕ). cursor a (s.corners + 1)) (sym (add-zero s.areas))
 after_cursor s (Next x y) = ap (λ (a : ℕ). cursor a (s.corners + 1)) (sym (add-zero s.areas))
@@ -97,15 +96,15 @@ after_cursor s Bar = ap₂ cursor (sym (add-zero s.areas)) (sym (add-zero s.corn
 after_cursor s Close = ap₂ cursor (sym (add-zero s.areas)) (sym (add-zero s.corners))
 after_cursor s (Control x y) = ap (λ (a : ℕ). cursor a (s.corners + 1)) (sym (add-zero s.areas))
 
-scan_cursor : (s : Scan) (d : Decoded) (i : ℕ) → is_stopped (advance_n s d i) ≡ false → cursor_n (advance_n s d i) ≡ past_of (cursor_n s) d
+scan_cursor : (s : Scan) (d : Decoded) (i : ℕ) → is_err (advance_n s d i) ≡ false → cursor_n (advance_n s d i) ≡ past_of (cursor_n s) d
 scan_cursor (Stopped x j) d i h = clash (sym h)
-scan_cursor (At s) (Err x) i h = clash (sym h)
-scan_cursor (At s) (Ok r) i h = go (breaks_n s r) (fits_n s r) (ends_short_n s r) (in_limit_n s r) h
+scan_cursor (Ok s) (Err x) i h = clash (sym h)
+scan_cursor (Ok s) (Ok r) i h = go (breaks_n s r) (fits_n s r) (ends_short_n s r) (in_limit_n s r) h
   where
     step : (w a b d : Bool) → Step
-    step w a b d = cond w (Off Curve) (cond a (cond b (Off Short) (cond d (On (after_n s r)) (Off Limit))) (Off Unfit))
+    step w a b d = cond w (Err Curve) (cond a (cond b (Err Short) (cond d (Ok (after_n s r)) (Err Limit))) (Err Unfit))
 
-    go : (w a b d : Bool) → is_stopped (settled_n (step w a b d) i) ≡ false → cursor_n (settled_n (step w a b d) i) ≡ past_record (cursor_n (At s)) r
+    go : (w a b d : Bool) → is_err (settled_n (step w a b d) i) ≡ false → cursor_n (settled_n (step w a b d) i) ≡ past_record (cursor_n (Ok s)) r
     go true a b d e = clash (sym e)
     go false false b d e = clash (sym e)
     go false true true d e = clash (sym e)
@@ -132,13 +131,13 @@ pub walk_turn : (t : Tables) (u : Counts) (i e : ℕ) (s s' whole : Scan) (d : D
     → c ≡ cursor_n s
     → d ≡ record_at t u i c
     → s' ≡ advance_n s d i
-    → b ≡ is_stopped s'
+    → b ≡ is_err s'
     → b ≡ false
     → scan_n s i (rebuilt t u i (cursor_n s) (e - i)) ≡ whole
     → scan_n s' (i + 1) (rebuilt t u (i + 1) (cursor_n s') (e - (i + 1))) ≡ whole
 walk_turn t u i e s s' whole d c b h k p q o v inv =
     let n : cursor_n s' ≡ past_of c d =
-    ap cursor_n q ∙ (scan_cursor s d i (sym (ap is_stopped q) ∙ (sym o ∙ v)) ∙ ap (λ (x : Cursor). past_of x d) (sym k)) in
+    ap cursor_n q ∙ (scan_cursor s d i (sym (ap is_err q) ∙ (sym o ∙ v)) ∙ ap (λ (x : Cursor). past_of x d) (sym k)) in
     ap (λ (x : Cursor). scan_n s' (i + 1) (rebuilt t u (i + 1) x (e - (i + 1)))) n ∙ walk t u i e s s' whole d c h p q k inv
 
 pub walk_stops : (t : Tables) (u : Counts) (i e : ℕ) (s s' whole : Scan) (d : Decoded) (c : Cursor) (b : Bool)
@@ -146,7 +145,7 @@ pub walk_stops : (t : Tables) (u : Counts) (i e : ℕ) (s s' whole : Scan) (d : 
     → c ≡ cursor_n s
     → d ≡ record_at t u i c
     → s' ≡ advance_n s d i
-    → b ≡ is_stopped s'
+    → b ≡ is_err s'
     → b ≡ true
     → scan_n s i (rebuilt t u i (cursor_n s) (e - i)) ≡ whole
     → s' ≡ whole
@@ -260,37 +259,37 @@ pub record Drawn (t : Tables) (k : Counts) : Type 0 where
   pub same : length t.xs ≡ length t.ys
   pub below : k.records ≤ 4096
   pub room : Holds (length t.plan) (length t.areas) (length t.xs) k
-  pub fold : checked (rebuilt_in t) ≡ Accepted k
+  pub fold : checked (rebuilt_in t) ≡ Ok k
 
 agreed_is : (v : Verdict) (u k : Counts) (ds : List Decoded)
     → checked ds ≡ v
     → length ds ≡ u.records
-    → agreed v u ≡ Accepted k
-    → (k ≡ u) × (checked ds ≡ Accepted k)
-agreed_is (Refused r i) u k ds e l h = refused_not Broken 0 k h
-agreed_is (Accepted j) u k ds e l h = go (eqb j.areas u.areas) (eqb j.corners u.corners) refl refl h
+    → agreed v u ≡ Ok k
+    → (k ≡ u) × (checked ds ≡ Ok k)
+agreed_is (Refused r i) u k ds e l h = absurd cc
+agreed_is (Ok j) u k ds e l h = go (eqb j.areas u.areas) (eqb j.corners u.corners) refl refl h
   where
     same : j.areas ≡ u.areas → j.corners ≡ u.corners → j ≡ u
     same p q = λ i. record { records = ((sound ds j e).records ∙ l) i; areas = p i; corners = q i }
 
-    is : Accepted j ≡ Accepted k → j ≡ k
+    is : Ok j ≡ Ok k → j ≡ k
     is x = cc
 
     go : (a b : Bool)
         → eqb j.areas u.areas ≡ a
         → eqb j.corners u.corners ≡ b
-        → cond a (cond b (Accepted j) (Refused Broken 0)) (Refused Broken 0) ≡ Accepted k
-        → (k ≡ u) × (checked ds ≡ Accepted k)
-    go false b p q x = refused_not Broken 0 k x
-    go true false p q x = refused_not Broken 0 k x
+        → cond a (cond b (Ok j) (Err (at_place Broken 0))) (Err (at_place Broken 0)) ≡ Ok k
+        → (k ≡ u) × (checked ds ≡ Ok k)
+    go false b p q x = absurd cc
+    go true false p q x = absurd cc
     go true true p q x = (sym (is x) ∙ same (eqb-true _ _ p) (eqb-true _ _ q), e ∙ x)
 
 counts_drawn : (t : Tables) (u k : Counts)
-    → counts_judged t u ≡ Accepted k
+    → counts_judged t u ≡ Ok k
     → (k ≡ u)
     × (u.records ≤ 4096)
     × Holds (length t.plan) (length t.areas) (length t.xs) u
-    × (checked (rebuilt t u 0 (cursor 0 0) u.records) ≡ Accepted k)
+    × (checked (rebuilt t u 0 (cursor 0 0) u.records) ≡ Ok k)
 unfolding counts_judged
 counts_drawn t u k h₀ = go (leb u.records 4096) (holds (length t.plan) (length t.areas) (length t.xs) u) refl refl h₀
   where
@@ -300,15 +299,15 @@ counts_drawn t u k h₀ = go (leb u.records 4096) (holds (length t.plan) (length
     go : (a b : Bool)
         → leb u.records 4096 ≡ a
         → holds (length t.plan) (length t.areas) (length t.xs) u ≡ b
-        → cond a (cond b (agreed (checked ds) u) (Refused Broken 0)) (Refused Broken 0) ≡ Accepted k
-        → (k ≡ u) × (u.records ≤ 4096) × Holds (length t.plan) (length t.areas) (length t.xs) u × (checked ds ≡ Accepted k)
-    go false b p q x = refused_not Broken 0 k x
-    go true false p q x = refused_not Broken 0 k x
+        → cond a (cond b (agreed (checked ds) u) (Err (at_place Broken 0))) (Err (at_place Broken 0)) ≡ Ok k
+        → (k ≡ u) × (u.records ≤ 4096) × Holds (length t.plan) (length t.areas) (length t.xs) u × (checked ds ≡ Ok k)
+    go false b p q x = absurd cc
+    go true false p q x = absurd cc
     go true true p q x =
         let g = agreed_is (checked ds) u k ds refl (re_length t u 0 (cursor 0 0) u.records) x in
         (g.0, leb-true _ _ p, held _ _ _ u q, g.1)
 
-pub drawn : (t : Tables) (k : Counts) → drawing_verdict t ≡ Accepted k → Drawn t k
+pub drawn : (t : Tables) (k : Counts) → drawing_verdict t ≡ Ok k → Drawn t k
 unfolding drawing_verdict
 drawn t k h₀ = go (eqb (length t.xs) (length t.ys)) (leb 3 (length t.plan)) refl refl h₀
   where
@@ -318,10 +317,10 @@ drawn t k h₀ = go (eqb (length t.xs) (length t.ys)) (leb 3 (length t.plan)) re
     go : (a b : Bool)
         → eqb (length t.xs) (length t.ys) ≡ a
         → leb 3 (length t.plan) ≡ b
-        → cond a (cond b (counts_judged t (used_of t.plan)) (Refused Broken 0)) (Refused Argument 0) ≡ Accepted k
+        → cond a (cond b (counts_judged t (used_of t.plan)) (Err (at_place Broken 0))) (Err (at_place Argument 0)) ≡ Ok k
         → Drawn t k
-    go false b p q x = refused_not Argument 0 k x
-    go true false p q x = refused_not Broken 0 k x
+    go false b p q x = absurd cc
+    go true false p q x = absurd cc
     go true true p q x =
         let g = counts_drawn t (used_of t.plan) k x in
         record { used = g.0; same = eqb-true _ _ p; below = rw g.0 g.1; room = rw g.0 g.2; fold = g.3 }
@@ -341,7 +340,7 @@ drawn_good t k d =
     ∙ all_good_law (rebuilt_in t) (sound (rebuilt_in t) k d.fold).good
 
 pub drawn_left : (t : Tables) (k : Counts)
-    → drawing_verdict t ≡ Accepted k
+    → drawing_verdict t ≡ Ok k
     → (o o' : List ℕ)
     → o' ≡ sets o 0 (file_of (good_records (rebuilt t k 0 (cursor 0 0) k.records)))
     → o' ≡ sets o 0 (file_of (good_records (rebuilt_in t)))

@@ -1,4 +1,6 @@
 -- Reading and writing undo each other; lent tables pass exactly where they are what reading an accepted file leaves.
+use Rattle.std.specs.Prelude.{Ok, Err}
+use Rattle.refusals.specs.Refusals.{at_place}
 use Prim.Native.Nat.{ℕ, zero, suc, ◌+◌, ◌-◌, ◌/◌, ◌%◌, ◌≤◌, ◌<◌}
 use mathlib.Core.Path.{◌≡◌, refl, sym, ap, ◌∙◌, subst}
 use mathlib.Core.Bool.{Bool, true, false, cond}
@@ -13,13 +15,11 @@ use Rattle.records.specs.declared.Fields.{Fields}
 use Rattle.records.specs.declared.Record.{Record}
 use Rattle.records.specs.declared.Record.TheVariants.{Area, First, Next, Open, Bar, Close, Control}
 use Rattle.records.specs.Bytes.{raw_bytes, raw_area, raw_corner, raw_delimiter, bytes_of}
-use Rattle.std.specs.Prelude.{Ok}
 use Rattle.grammar.specs.declared.Counts.{Counts}
-use Rattle.grammar.specs.declared.Verdict.{Verdict}
-use Rattle.grammar.specs.declared.Verdict.TheVariants.{Accepted, Refused}
+use Rattle.grammar.specs.Grammar.{Verdict}
 use Rattle.grammar.specs.Grammar.{checked, counts}
 use Rattle.grammar.specs.Lists.{good_records, areas_in, corners_in}
-use Rattle.grammar.proofs.Laws.{sound, refused_not}
+use Rattle.grammar.proofs.Laws.{sound}
 use Rattle.read.specs.Words.{joined, plan_words, area_words, x_words, y_words, file_of, Has, all_range}
 use Rattle.read.specs.Reading.{decoded_from, decoded_in, records_in, verdict_of, holds, if_room, read_answer, left_by}
 use Rattle.drawing.specs.Tables.{Tables, tables, cursor, rebuilt, used_of, rebuilt_in, drawn_in, agreed, counts_judged, drawing_verdict, written_of}
@@ -31,7 +31,7 @@ use Rattle.drawing.proofs.Has.{has_sets, has_same, has_first, has_rest, has_cons
 use Rattle.drawing.proofs.Lists.{goods_map, file_read, file_told, file_range, From, tables_read, Wide, tables_told}
 
 -- ---- files
-pub file_accepts : (b : List ℕ) (k : Counts) → verdict_of b ≡ Accepted k → Acceptable (records_in b) k
+pub file_accepts : (b : List ℕ) (k : Counts) → verdict_of b ≡ Ok k → Acceptable (records_in b) k
 file_accepts b k e =
     let s = sound (decoded_in b) k (filed_checked b k e) in
     let f = filed b k e in
@@ -42,7 +42,7 @@ file_accepts b k e =
     }
 
 -- the records of an accepted file, written as bytes, are the file
-pub file_back : (b : List ℕ) (k : Counts) → ((i : ℕ) → get_or b i 0 < 256) → verdict_of b ≡ Accepted k → file_of (records_in b) ≡ b
+pub file_back : (b : List ℕ) (k : Counts) → ((i : ℕ) → get_or b i 0 < 256) → verdict_of b ≡ Ok k → file_of (records_in b) ≡ b
 file_back b k small e =
     let s = sound (decoded_in b) k (filed_checked b k e) in
     let f = filed b k e in
@@ -64,7 +64,7 @@ again_decoded : (rs : List Record) → all_range rs ≡ true → decoded_in (fil
 again_decoded rs g = ap (decoded_from (file_of rs) 0) (whole_file rs) ∙ file_read (file_of rs) 0 rs g (has_self (file_of rs))
 
 -- acceptable records, written as bytes, are read as they were
-pub file_again : (rs : List Record) (k : Counts) → Acceptable rs k → verdict_of (file_of rs) ≡ Accepted k
+pub file_again : (rs : List Record) (k : Counts) → Acceptable rs k → verdict_of (file_of rs) ≡ Ok k
 unfolding verdict_of
 file_again rs k a =
     rw (
@@ -117,19 +117,19 @@ room_for : (p a d : ℕ) (k : Counts) → 3 ≤ p → k.records ≤ p - 3 → k.
 unfolding holds
 room_for p a d k h r s t = rw (le-leb _ _ h, le-leb _ _ r, le-leb _ _ s, le-leb _ _ t)
 
-agreed_same : (k : Counts) → agreed (Accepted k) k ≡ Accepted k
+agreed_same : (k : Counts) → agreed (Ok k) k ≡ Ok k
 agreed_same k = rw (eq-eqb k.areas k.areas refl, eq-eqb k.corners k.corners refl)
 
 counts_pass : (t : Tables) (k : Counts)
     → k.records ≤ 4096
     → holds (length t.plan) (length t.areas) (length t.xs) k ≡ true
-    → checked (rebuilt t k 0 (cursor 0 0) k.records) ≡ Accepted k
-    → counts_judged t k ≡ Accepted k
+    → checked (rebuilt t k 0 (cursor 0 0) k.records) ≡ Ok k
+    → counts_judged t k ≡ Ok k
 unfolding counts_judged
 counts_pass t k b r f = rw (le-leb k.records 4096 b, r, f) (agreed_same k)
 
 -- tables that hold acceptable records pass
-pub holding_passes : (t : Tables) (rs : List Record) (k : Counts) → Acceptable rs k → Holding t rs → drawing_verdict t ≡ Accepted k
+pub holding_passes : (t : Tables) (rs : List Record) (k : Counts) → Acceptable rs k → Holding t rs → drawing_verdict t ≡ Ok k
 unfolding drawing_verdict
 holding_passes t rs k a h =
     let c : k ≡ counts (length rs) (areas_in rs) (corners_in rs) = counted rs k a in
@@ -137,7 +137,7 @@ holding_passes t rs k a h =
     let m : k.areas ≡ areas_in rs = ap (λ (x : Counts). x.areas) c in
     let o : k.corners ≡ corners_in rs = ap (λ (x : Counts). x.corners) c in
     let u : used_of t.plan ≡ k = used_is t rs h ∙ sym c in
-    let f : checked (rebuilt t k 0 (cursor 0 0) k.records) ≡ Accepted k =
+    let f : checked (rebuilt t k 0 (cursor 0 0) k.records) ≡ Ok k =
     ap checked (ap (λ (v : Counts). rebuilt t v 0 (cursor 0 0) v.records) (sym u) ∙ decoded_encoded t rs a.range h) ∙ a.fold in
     let l : 3 ≤ length t.plan = omega (arith, h.plan.room) in
     let r : holds (length t.plan) (length t.areas) (length t.xs) k ≡ true = room_for (length t.plan) (length t.areas)
@@ -146,7 +146,7 @@ holding_passes t rs k a h =
     rw (eq-eqb _ _ h.pair, le-leb _ _ l) (ap (counts_judged t) u ∙ counts_pass t k (omega (arith, a.below)) r f)
 
 -- tables that pass hold acceptable records
-pub passes_holding : (t : Tables) (k : Counts) → drawing_verdict t ≡ Accepted k → Acceptable (drawn_in t) k × Holding t (drawn_in t)
+pub passes_holding : (t : Tables) (k : Counts) → drawing_verdict t ≡ Ok k → Acceptable (drawn_in t) k × Holding t (drawn_in t)
 passes_holding t k e =
     let d = drawn t k e in
     let s = sound (rebuilt_in t) k d.fold in
@@ -176,29 +176,29 @@ passes_holding t k e =
 -- ---- reading, then writing
 pub record Taken (b p a x y : List ℕ) (k : Counts) : Type 0 where
   pub pair : length x ≡ length y
-  pub verdict : verdict_of b ≡ Accepted k
+  pub verdict : verdict_of b ≡ Ok k
   pub room : Holds (length p) (length a) (length x) k
 
-room_told : (v : Verdict) (p a d : ℕ) (k : Counts) → if_room v p a d ≡ Accepted k → (v ≡ Accepted k) × Holds p a d k
-room_told (Refused r i) p a d k e = refused_not r i k e
-room_told (Accepted j) p a d k e₀ = go (holds p a d j) refl e₀
+room_told : (v : Verdict) (p a d : ℕ) (k : Counts) → if_room v p a d ≡ Ok k → (v ≡ Ok k) × Holds p a d k
+room_told (Refused r i) p a d k e = absurd cc
+room_told (Ok j) p a d k e₀ = go (holds p a d j) refl e₀
   where
-    is : Accepted j ≡ Accepted k → j ≡ k
+    is : Ok j ≡ Ok k → j ≡ k
     is x = cc
 
-    go : (t : Bool) → holds p a d j ≡ t → cond t (Accepted j) (Refused Room 0) ≡ Accepted k → (Accepted j ≡ Accepted k) × Holds p a d k
-    go false q e = refused_not Room 0 k e
+    go : (t : Bool) → holds p a d j ≡ t → cond t (Ok j) (Err (at_place Room 0)) ≡ Ok k → (Ok j ≡ Ok k) × Holds p a d k
+    go false q e = absurd cc
     go true q e = (e, rw (← is e) (held p a d j q))
 
-pub taken : (b p a x y : List ℕ) (k : Counts) → read_answer b p a x y ≡ Accepted k → Taken b p a x y k
+pub taken : (b p a x y : List ℕ) (k : Counts) → read_answer b p a x y ≡ Ok k → Taken b p a x y k
 unfolding read_answer
 taken b p a x y k e₀ = go (eqb (length x) (length y)) refl e₀
   where
     go : (t : Bool)
         → eqb (length x) (length y) ≡ t
-        → cond t (if_room (verdict_of b) (length p) (length a) (length x)) (Refused Argument 0) ≡ Accepted k
+        → cond t (if_room (verdict_of b) (length p) (length a) (length x)) (Err (at_place Argument 0)) ≡ Ok k
         → Taken b p a x y k
-    go false q e = refused_not Argument 0 k e
+    go false q e = absurd cc
     go true q e =
         let s = room_told (verdict_of b) (length p) (length a) (length x) k e in
         record { pair = eqb-true _ _ q; verdict = s.0; room = s.1 }
@@ -210,7 +210,7 @@ after v b p a x y =
     (left_by v y (y_words (records_in b)))
 
 -- what an accepted reading leaves holds the file's records
-pub read_leaves : (b p a x y : List ℕ) (k : Counts) → read_answer b p a x y ≡ Accepted k → Holding (after (Accepted k) b p a x y) (records_in b)
+pub read_leaves : (b p a x y : List ℕ) (k : Counts) → read_answer b p a x y ≡ Ok k → Holding (after (Ok k) b p a x y) (records_in b)
 read_leaves b p a x y k e =
     let t = taken b p a x y k e in
     let f = filed b k t.verdict in
@@ -224,44 +224,44 @@ read_leaves b p a x y k e =
     }
 
 pub record Written-back (b : List ℕ) (t : Tables) (k : Counts) : Type 0 where
-  pub passes : drawing_verdict t ≡ Accepted k
+  pub passes : drawing_verdict t ≡ Ok k
   pub bytes : file_of (drawn_in t) ≡ b
-  pub answer : (out : List ℕ) → write_answer t out ≡ written_of (Accepted k) (length out)
+  pub answer : (out : List ℕ) → write_answer t out ≡ written_of (Ok k) (length out)
 
 -- an accepted file, read into any tables and written out, gives the same bytes
 pub read_write : (b p a x y : List ℕ) (k : Counts)
     → ((i : ℕ) → get_or b i 0 < 256)
-    → read_answer b p a x y ≡ Accepted k
-    → Written-back b (after (Accepted k) b p a x y) k
+    → read_answer b p a x y ≡ Ok k
+    → Written-back b (after (Ok k) b p a x y) k
 unfolding write_answer
 read_write b p a x y k small e =
     let t = taken b p a x y k e in
     let c = file_accepts b k t.verdict in
     let h = read_leaves b p a x y k e in
-    let q = holding_passes (after (Accepted k) b p a x y) (records_in b) k c h in
+    let q = holding_passes (after (Ok k) b p a x y) (records_in b) k c h in
     record {
       passes = q;
-      bytes = ap file_of (drawn_records (after (Accepted k) b p a x y) (records_in b) c.range h) ∙ file_back b k small t.verdict;
+      bytes = ap file_of (drawn_records (after (Ok k) b p a x y) (records_in b) c.range h) ∙ file_back b k small t.verdict;
       answer = λ out. ap (λ (v : Verdict). written_of v (length out)) q;
     }
 
 -- ---- writing, then reading
 pub record Read-back (t : Tables) (k : Counts) : Type 0 where
-  pub verdict : verdict_of (file_of (drawn_in t)) ≡ Accepted k
+  pub verdict : verdict_of (file_of (drawn_in t)) ≡ Ok k
   pub records : records_in (file_of (drawn_in t)) ≡ drawn_in t
   -- the words in use are those that reading leaves, in any tables
   pub words : Holding t (records_in (file_of (drawn_in t)))
   -- and read into the same tables, everything is as it was
-  pub answer : read_answer (file_of (drawn_in t)) t.plan t.areas t.xs t.ys ≡ Accepted k
-  pub same : after (Accepted k) (file_of (drawn_in t)) t.plan t.areas t.xs t.ys ≡ t
+  pub answer : read_answer (file_of (drawn_in t)) t.plan t.areas t.xs t.ys ≡ Ok k
+  pub same : after (Ok k) (file_of (drawn_in t)) t.plan t.areas t.xs t.ys ≡ t
 
 -- a lent drawing that passes, written out and read
-pub write_read : (t : Tables) (k : Counts) → drawing_verdict t ≡ Accepted k → Read-back t k
+pub write_read : (t : Tables) (k : Counts) → drawing_verdict t ≡ Ok k → Read-back t k
 unfolding read_answer holds
 write_read t k e =
     let d = drawn t k e in
     let q = passes_holding t k e in
-    let v : verdict_of (file_of (drawn_in t)) ≡ Accepted k = file_again (drawn_in t) k q.0 in
+    let v : verdict_of (file_of (drawn_in t)) ≡ Ok k = file_again (drawn_in t) k q.0 in
     let r : records_in (file_of (drawn_in t)) ≡ drawn_in t = file_records (drawn_in t) k q.0 in
     let h : Holding t (records_in (file_of (drawn_in t))) = subst (λ (rs : List Record). Holding t rs) (sym r) q.1 in
     let l : holds (length t.plan) (length t.areas) (length t.xs) k ≡ true = room_for (length t.plan) (length t.areas)
@@ -362,15 +362,15 @@ pub record Left (t : Tables) (k : Counts) : Type 0 where
   pub bytes : (i : ℕ) → get_or file i 0 < 256
   -- what the tables held before
   pub before : Tables
-  pub accepted : read_answer file before.plan before.areas before.xs before.ys ≡ Accepted k
-  pub is : after (Accepted k) file before.plan before.areas before.xs before.ys ≡ t
+  pub accepted : read_answer file before.plan before.areas before.xs before.ys ≡ Ok k
+  pub is : after (Ok k) file before.plan before.areas before.xs before.ys ≡ t
 
-pub passes_left : (t : Tables) (k : Counts) → drawing_verdict t ≡ Accepted k → Left t k
+pub passes_left : (t : Tables) (k : Counts) → drawing_verdict t ≡ Ok k → Left t k
 passes_left t k e =
     let r = write_read t k e in
     record { file = file_of (drawn_in t); bytes = bytes_at (file_of (drawn_in t)) (file_bytes (drawn_in t)); before = t; accepted = r.answer; is = r.same }
 
-pub left_passes : (t : Tables) (k : Counts) → Left t k → drawing_verdict t ≡ Accepted k
+pub left_passes : (t : Tables) (k : Counts) → Left t k → drawing_verdict t ≡ Ok k
 left_passes t k l =
-    subst (λ (x : Tables). drawing_verdict x ≡ Accepted k) l.is
+    subst (λ (x : Tables). drawing_verdict x ≡ Ok k) l.is
     (read_write l.file l.before.plan l.before.areas l.before.xs l.before.ys k l.bytes l.accepted).passes

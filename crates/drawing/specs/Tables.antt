@@ -1,4 +1,6 @@
 -- A drawing in its tables (docs/TABLES.md), when lent tables hold one, and what writing them out answers and leaves.
+use Rattle.std.specs.Prelude.{Ok, Err}
+use Rattle.refusals.specs.Refusals.{at_place}
 use Rattle.std.specs.Prelude.{ℕ, zero, suc, ◌+◌, ◌*◌, ◌/◌, ◌≤◌, cond, List, [], ◌∷◌, length, get_or, eqb, ltb, leb}
 use Rattle.std.proofs.lemmas.List.Edits.{sets}
 use denote.Triple.Both.{Both}
@@ -8,11 +10,9 @@ use Rattle.refusals.specs.declared.Refusal.TheVariants.{Kind, Field, Argument, R
 use Rattle.records.specs.declared.Record.{Record}
 use Rattle.records.specs.declared.Record.TheVariants.{Area}
 use Rattle.records.specs.Record.{Decoded}
-use Rattle.std.specs.Prelude.{Ok, Err}
 use Rattle.records.specs.Record.{ranged, is_corner, corner_of, delimiter_of}
 use Rattle.grammar.specs.declared.Counts.{Counts}
-use Rattle.grammar.specs.declared.Verdict.{Verdict}
-use Rattle.grammar.specs.declared.Verdict.TheVariants.{Accepted, Refused}
+use Rattle.grammar.specs.Grammar.{Verdict}
 use Rattle.grammar.specs.Grammar.{checked, counts}
 use Rattle.grammar.specs.Lists.{good_records, area_one, corner_one}
 use Rattle.drawing.specs.declared.Cursor.{Cursor}
@@ -107,25 +107,25 @@ drawn_in t = good_records (rebuilt_in t)
 -- 12, "a number met in the tables used ... is outside its range, or that drawing ... breaks the grammar": all that is wrong with the records of lent
 -- tables is 12; so is a number of areas or of corners that is not that of the kinds
 abbrev pub agreed : Verdict → Counts → Verdict
-agreed (Accepted k) u = cond (eqb k.areas u.areas) (cond (eqb k.corners u.corners) (Accepted k) (Refused Broken 0)) (Refused Broken 0)
-agreed (Refused r i) u = Refused Broken 0
+agreed (Ok k) u = cond (eqb k.areas u.areas) (cond (eqb k.corners u.corners) (Ok k) (Err (at_place Broken 0))) (Err (at_place Broken 0))
+agreed (Refused r i) u = Err (at_place Broken 0)
 
 unfoldable pub counts_judged : Tables → Counts → Verdict
 counts_judged t u =
     cond (leb u.records 4096)
     (cond (holds (length t.plan) (length t.areas) (length t.xs) u) (agreed (checked (rebuilt t u 0 (cursor 0 0) u.records)) u)
-    (Refused Broken 0))
-    (Refused Broken 0)
+    (Err (at_place Broken 0)))
+    (Err (at_place Broken 0))
 
 -- 7, then 12: "the drawing when opening or writing out"
 unfoldable pub drawing_verdict : Tables → Verdict
 drawing_verdict t =
-    cond (eqb (length t.xs) (length t.ys)) (cond (leb 3 (length t.plan)) (counts_judged t (used_of t.plan)) (Refused Broken 0))
-    (Refused Argument 0)
+    cond (eqb (length t.xs) (length t.ys)) (cond (leb 3 (length t.plan)) (counts_judged t (used_of t.plan)) (Err (at_place Broken 0)))
+    (Err (at_place Argument 0))
 
 -- then 11, the output too short for 16 bytes a record
 abbrev pub written_of : Verdict → ℕ → Written
-written_of (Accepted k) n = cond (leb k.records (n / 16)) (Bytes (k.records * 16)) (Not Room)
+written_of (Ok k) n = cond (leb k.records (n / 16)) (Bytes (k.records * 16)) (Not Room)
 written_of (Refused r i) n = Not r
 
 unfoldable pub write_answer : Tables → List ℕ → Written

@@ -1,4 +1,7 @@
 -- What an accepted list of records has; and a scan that stopped stays so.
+use Rattle.std.specs.Result.{is_err}
+use Rattle.std.specs.Prelude.{Ok, Err}
+use Rattle.refusals.specs.Refusals.{at_place}
 use Prim.Native.Nat.{ℕ, ◌+◌, ◌≤◌, max}
 use mathlib.Core.Path.{◌≡◌, refl, sym, ap, ◌∙◌}
 use mathlib.Core.Bool.{Bool, true, false, cond}
@@ -13,9 +16,7 @@ use Rattle.groups.specs.Sides.{is_empty}
 use Rattle.records.specs.declared.Record.{Record}
 use Rattle.records.specs.declared.Record.TheVariants.{Area, First, Next, Open, Bar, Close, Control}
 use Rattle.records.specs.Record.{Decoded}
-use Rattle.std.specs.Prelude.{Ok, Err}
 use Rattle.grammar.specs.declared.Counts.{Counts}
-use Rattle.grammar.specs.declared.Verdict.TheVariants.{Accepted, Refused}
 use Rattle.grammar.specs.Grammar.{
   Progress,
   progress,
@@ -37,9 +38,8 @@ use Rattle.grammar.specs.Grammar.{
   met,
   Verdict·place,
 }
-use Rattle.grammar.specs.declared.Scan.{Scan}
-use Rattle.grammar.specs.declared.Scan.TheVariants.{At, Stopped}
-use Rattle.grammar.specs.code.Machine.{scan_n, is_stopped}
+use Rattle.grammar.specs.code.Machine.{Scan}
+use Rattle.grammar.specs.code.Machine.{scan_n}
 use Rattle.grammar.specs.Lists.{good_records, area_one, corner_one, areas_in, corners_in}
 
 pub record Ran (p q : Progress) (ds : List Decoded) : Type 0 where
@@ -48,9 +48,6 @@ pub record Ran (p q : Progress) (ds : List Decoded) : Type 0 where
   pub corners : q.corners ≡ p.corners + corners_in (good_records ds)
   pub few : p.areas ≤ 64 → q.areas ≤ 64
   pub many : p.corners ≤ 2048 → q.corners ≤ 2048
-
-halted : {A : Type 0} (x : Refusal) (i : ℕ) (q : Progress) → stopped x i ≡ at q → A
-halted x i q e = absurd (let z : ◌≡◌ {A = ℕ} 0 1 = cc in omega arith)
 
 pub stays : (x : Refusal) (j i : ℕ) (ds : List Decoded) → course (stopped x j) i ds ≡ stopped x j
 unfolding course
@@ -83,10 +80,10 @@ went p p' r i = go (breaks p r) (fits p r) (ends_short p r) (in_limit p r) refl
         → in_limit p r ≡ d
         → cond w (stopped Curve i) (cond a (cond b (stopped Short i) (cond d (at (after p r)) (stopped Limit i))) (stopped Unfit i)) ≡ at p'
         → Moved p p' r
-    go true a b d h e = halted Curve i p' e
-    go false false b d h e = halted Unfit i p' e
-    go false true true d h e = halted Short i p' e
-    go false true false false h e = halted Limit i p' e
+    go true a b d h e = absurd cc
+    go false false b d h e = absurd cc
+    go false true true d h e = absurd cc
+    go false true false false h e = absurd cc
     go false true false true h e = rw (← same_progress (after p r) p' e) (moved p r h)
 
 more : (p p' q : Progress) (r : Record) (ds : List Decoded) → Moved p p' r → Ran p' q ds → Ran p q (Ok r ∷ ds)
@@ -105,13 +102,13 @@ by_course : (p q : Progress) (r : Record) (i : ℕ) (ds : List Decoded) (c : Cou
     → course c (i + 1) ds ≡ at q
     → Ran p q (Ok r ∷ ds)
 by_course p q r i ds (at p') h rest e = more p p' q r ds (went p p' r i h) (rest p' e)
-by_course p q r i ds (stopped x j) h rest e = halted x j q (sym (stays x j (i + 1) ds) ∙ e)
+by_course p q r i ds (stopped x j) h rest e = absurd (cc (sym (stays x j (i + 1) ds) ∙ e))
 
 pub ran : (p q : Progress) (i : ℕ) (ds : List Decoded) → course (at p) i ds ≡ at q → Ran p q ds
 unfolding course
 ran p q i [] e = rw (same_progress p q e) (record { good = refl; areas = omega arith; corners = omega arith; few = λ l. l; many = λ l. l })
 ran p q i (Ok r ∷ ds) e = by_course p q r i ds (next p r i) refl (λ p'. ran p' q (i + 1) ds) e
-ran p q i (Err x ∷ ds) e = halted x i q (sym (stays x i (i + 1) ds) ∙ e)
+ran p q i (Err x ∷ ds) e = absurd (cc (sym (stays x i (i + 1) ds) ∙ e))
 
 pub record Sound (ds : List Decoded) (k : Counts) : Type 0 where
   pub good : ds ≡ map Ok (good_records ds)
@@ -121,28 +118,23 @@ pub record Sound (ds : List Decoded) (k : Counts) : Type 0 where
   pub few : k.areas ≤ 64
   pub many : k.corners ≤ 2048
 
-pub refused_not : {A : Type 0} (x : Refusal) (i : ℕ) (k : Counts) → Refused x i ≡ Accepted k → A
-refused_not x i k e = absurd (let z : ◌≡◌ {A = ℕ} 0 1 = cc in omega arith)
-
-same_counts : (j k : Counts) → Accepted j ≡ Accepted k → j ≡ k
-same_counts j k e = cc
-
-ended : (c : Course) (ds : List Decoded) (k : Counts) → course begin 0 ds ≡ c → final c (length ds) ≡ Accepted k → Sound ds k
-ended (stopped x i) ds k h e = refused_not x i k e
+ended : (c : Course) (ds : List Decoded) (k : Counts) → course begin 0 ds ≡ c → final c (length ds) ≡ Ok k → Sound ds k
+ended (stopped x i) ds k h e = absurd cc
 ended (at q) ds k h f = go q.bends (is_empty q.groups) (is_short q.run) f
   where
     n : ℕ
     n = length ds
 
     go : (w a b : Bool)
-        → cond w (Refused Unfit n) (cond a (cond b (Refused Short n) (Accepted (counts n q.areas q.corners))) (Refused Unfit n)) ≡ Accepted k
+        → cond w (Err (at_place Unfit n)) (cond a (cond b (Err (at_place Short n)) (Ok (counts n q.areas q.corners))) (Err (at_place Unfit n))) ≡ Ok k
         → Sound ds k
-    go true a b e = refused_not Unfit n k e
-    go false false b e = refused_not Unfit n k e
-    go false true true e = refused_not Short n k e
+    go true a b e = absurd cc
+    go false false b e = absurd cc
+    go false true true e = absurd cc
     go false true false e =
         let m = ran (progress [] false 0 0) q 0 ds h in
-        rw (← same_counts (counts n q.areas q.corners) k e)
+        let same : counts n q.areas q.corners ≡ k = cc in
+        rw (← same)
         (record {
           good = m.good;
           records = refl;
@@ -152,17 +144,17 @@ ended (at q) ds k h f = go q.bends (is_empty q.groups) (is_short q.run) f
           many = m.many (omega arith);
         })
 
-pub sound : (ds : List Decoded) (k : Counts) → checked ds ≡ Accepted k → Sound ds k
+pub sound : (ds : List Decoded) (k : Counts) → checked ds ≡ Ok k → Sound ds k
 unfolding checked
 sound ds k e = ended (course begin 0 ds) ds k refl e
 
 -- ---- a scan that stopped
 
-pub stopped_stays : (c : Scan) (i : ℕ) (ds : List Decoded) → is_stopped c ≡ true → scan_n c i ds ≡ c
+pub stopped_stays : (c : Scan) (i : ℕ) (ds : List Decoded) → is_err c ≡ true → scan_n c i ds ≡ c
 unfolding scan_n
 stopped_stays c i [] h = refl
-stopped_stays (At s) i (d ∷ ds) h = clash h
-stopped_stays (Stopped r p) i (d ∷ ds) h = stopped_stays (Stopped r p) (i + 1) ds refl
+stopped_stays (Ok s) i (d ∷ ds) h = clash h
+stopped_stays (Err e) i (d ∷ ds) h = stopped_stays (Err e) (i + 1) ds refl
 
 -- ---- the place of a refusal is a record's number, or that of the end
 
@@ -195,7 +187,7 @@ final_place : (c : Course) (n : ℕ) → Verdict·place (final c n) ≤ max (pla
 final_place (at p) n = go p.bends (is_empty p.groups) (is_short p.run)
   where
     go : (w a b : Bool)
-        → Verdict·place (cond w (Refused Unfit n) (cond a (cond b (Refused Short n) (Accepted (counts n p.areas p.corners))) (Refused Unfit n)))
+        → Verdict·place (cond w (Err (at_place Unfit n)) (cond a (cond b (Err (at_place Short n)) (Ok (counts n p.areas p.corners))) (Err (at_place Unfit n))))
         ≤ max 0 n
     go true a b = omega arith
     go false false b = omega arith

@@ -1,7 +1,10 @@
 -- The number that the code holds says what the grammar says.
+use Rattle.std.specs.Prelude.{Some, None, Ok, Err}
+use Rattle.refusals.specs.Refusals.{at_place}
 use Prim.Native.Nat.{ℕ, ◌+◌}
 use mathlib.Core.Path.{◌≡◌, refl, ap}
-use mathlib.Core.Bool.{Bool, true, false, cond}
+use mathlib.Core.Bool.{Bool, true, false, not, cond, ◌&&◌}
+use Rattle.curves.specs.Curves.{curve_fits}
 use mathlib.Core.List.{List, [], ◌∷◌}
 use lib.ListN.{length}
 use Rattle.refusals.specs.declared.Refusal.TheVariants.{Unfit, Short, Limit, Curve}
@@ -12,11 +15,8 @@ use Rattle.groups.proofs.Stack.{paint_is, left_is, right_is, room_is, bar_is, cl
 use Rattle.records.specs.declared.Record.{Record}
 use Rattle.records.specs.declared.Record.TheVariants.{Area, First, Next, Open, Bar, Close, Control}
 use Rattle.records.specs.Record.{Decoded}
-use Rattle.std.specs.Prelude.{Ok, Err}
 use Rattle.grammar.specs.declared.State.{State}
-use Rattle.grammar.specs.declared.Step.TheVariants.{On, Off}
-use Rattle.grammar.specs.declared.Scan.{Scan}
-use Rattle.grammar.specs.declared.Scan.TheVariants.{At, Stopped}
+use Rattle.grammar.specs.code.Machine.{Scan}
 use Rattle.grammar.specs.Grammar.{
   Progress,
   breaks,
@@ -36,32 +36,38 @@ use Rattle.grammar.specs.Grammar.{
   final,
   checked,
 }
-use Rattle.grammar.specs.code.Machine.{breaks_n, stands_n, fits_n, ends_short_n, in_limit_n, after_n, step_n, settled_n, advance_n, start_n, ended_n, scan_n}
+use Rattle.grammar.specs.code.Machine.{curve_breaks, bends_n, breaks_n, stands_n, fits_n, ends_short_n, in_limit_n, after_n, step_n, settled_n, advance_n, start_n, ended_n, scan_n}
 
 abbrev enc : Progress → State
 enc p =
     record {
       stack = num p.groups;
       held = p.held;
-      bends = p.bends;
+      control = cond p.bends (Some (p.x1, p.y1)) None;
       run = p.run;
       areas = p.areas;
       corners = p.corners;
       x0 = p.x0;
       y0 = p.y0;
-      x1 = p.x1;
-      y1 = p.y1;
     }
 
 abbrev enc_c : Course → Scan
-enc_c (at p) = At (enc p)
-enc_c (stopped x i) = Stopped x i
+enc_c (at p) = Ok (enc p)
+enc_c (stopped x i) = Err (at_place x i)
 
 -- ---- one record
+bends_is : (b : Bool) (x y : ℕ) → bends_n (cond b (Some (x, y)) None) ≡ b
+bends_is true x y = refl
+bends_is false x y = refl
+
+curve_is : (b : Bool) (x0 y0 x1 y1 x y : ℕ) → curve_breaks x0 y0 (cond b (Some (x1, y1)) None) x y ≡ b && not (curve_fits x0 y0 x1 y1 x y)
+curve_is true x0 y0 x1 y1 x y = refl
+curve_is false x0 y0 x1 y1 x y = refl
+
 breaks_is : (p : Progress) (r : Record) → breaks_n (enc p) r ≡ breaks p r
 breaks_is p (Area f) = refl
 breaks_is p (First x y) = refl
-breaks_is p (Next x y) = refl
+breaks_is p (Next x y) = curve_is p.bends p.x0 p.y0 p.x1 p.y1 x y
 breaks_is p Open = refl
 breaks_is p Bar = refl
 breaks_is p Close = refl
@@ -77,7 +83,7 @@ stands_is p Close = right_is p.groups
 stands_is p (Control x y) = refl
 
 fits_is : (p : Progress) (r : Record) → fits_n (enc p) r ≡ fits p r
-fits_is p r = ap (cond p.bends (is_next r)) (stands_is p r)
+fits_is p r = rw (bends_is p.bends p.x1 p.y1, stands_is p r)
 
 ends_is : (p : Progress) (r : Record) → ends_short_n (enc p) r ≡ ends_short p r
 ends_is p (Area f) = refl
@@ -114,13 +120,13 @@ next_is : (p : Progress) (r : Record) (i : ℕ) → settled_n (step_n (enc p) r)
 next_is p r i = rw (breaks_is p r, fits_is p r, ends_is p r, limit_is p r) (go (breaks p r) (fits p r) (ends_short p r) (in_limit p r) refl)
   where
     go : (w a b d : Bool) → fits p r ≡ a
-        → settled_n (cond w (Off Curve) (cond a (cond b (Off Short) (cond d (On (after_n (enc p) r)) (Off Limit))) (Off Unfit))) i
+        → settled_n (cond w (Err Curve) (cond a (cond b (Err Short) (cond d (Ok (after_n (enc p) r)) (Err Limit))) (Err Unfit))) i
         ≡ enc_c (cond w (stopped Curve i) (cond a (cond b (stopped Short i) (cond d (at (after p r)) (stopped Limit i))) (stopped Unfit i)))
     go true a b d h = refl
     go false false b d h = refl
     go false true true d h = refl
     go false true false false h = refl
-    go false true false true h = ap At (after_is p r h)
+    go false true false true h = ap Ok (after_is p r h)
 
 met_is : (c : Course) (d : Decoded) (i : ℕ) → advance_n (enc_c c) d i ≡ enc_c (met c d i)
 met_is (at p) (Ok r) i = next_is p r i
@@ -133,7 +139,7 @@ course_is c i [] = refl
 course_is c i (d ∷ ds) = rw (met_is c d i) (course_is (met c d i) (i + 1) ds)
 
 final_is : (c : Course) (n : ℕ) → ended_n (enc_c c) n ≡ final c n
-final_is (at p) n = rw (empty_is p.groups)
+final_is (at p) n = rw (bends_is p.bends p.x1 p.y1, empty_is p.groups)
 final_is (stopped x i) n = refl
 
 -- the code's fold ends as the grammar's

@@ -1,16 +1,19 @@
 -- Document 01, "Drawing" and "From the input", and document 02, Item 2: which records may follow each other, and the first refusal of a list of records.
-use Rattle.std.specs.Prelude.{ℕ, ◌+◌, Bool, true, false, not, cond, ◌&&◌, List, [], ◌∷◌, length, eqb, ltb}
+use Rattle.std.specs.Prelude.{ℕ, ◌+◌, Bool, true, false, not, cond, ◌&&◌, List, [], ◌∷◌, Result, Ok, Err, length, eqb, ltb}
 use Rattle.curves.specs.Curves.{curve_fits}
 use Rattle.groups.specs.Sides.{Frame, is_paint, on_left, on_right, opening, to_right, to_outer, is_empty}
 use Rattle.refusals.specs.declared.Refusal.{Refusal}
 use Rattle.refusals.specs.declared.Refusal.TheVariants.{Unfit, Short, Limit, Curve}
+use Rattle.refusals.specs.declared.Refused.{Refused}
+use Rattle.refusals.specs.Refusals.{at_place}
 use Rattle.records.specs.declared.Record.{Record}
 use Rattle.records.specs.declared.Record.TheVariants.{Area, First, Next, Open, Bar, Close, Control}
 use Rattle.records.specs.Record.{Decoded}
-use Rattle.std.specs.Prelude.{Ok, Err}
 use Rattle.grammar.specs.declared.Counts.{Counts}
-use Rattle.grammar.specs.declared.Verdict.{Verdict}
-use Rattle.grammar.specs.declared.Verdict.TheVariants.{Accepted, Refused}
+
+-- how many records, areas and corners a list of records has, or its first refusal and the place
+abbrev pub Verdict : Type 0
+Verdict = Result Counts Refused
 
 -- where a reader stands: the open groups, the innermost first; whether an area or a corner stands straight before, and whether a control corner
 -- does; the corners of the contour in progress, control corners left out (3 for more); how many areas and corners so far; the contour's last corner
@@ -148,9 +151,9 @@ counts n a c = record { records = n; areas = a; corners = c }
 -- "the end counts as one more, tried 4, then 5"; 4: a control corner that no kind 3 follows, or "a group open at the end"
 abbrev pub final : Course → ℕ → Verdict
 final (at p) n =
-    cond p.bends (Refused Unfit n)
-    (cond (is_empty p.groups) (cond (is_short p.run) (Refused Short n) (Accepted (counts n p.areas p.corners))) (Refused Unfit n))
-final (stopped x i) n = Refused x i
+    cond p.bends (Err (at_place Unfit n))
+    (cond (is_empty p.groups) (cond (is_short p.run) (Err (at_place Short n)) (Ok (counts n p.areas p.corners))) (Err (at_place Unfit n)))
+final (stopped x i) n = Err (at_place x i)
 
 -- the first refusal of a list of records and its place, or how many records, areas and corners there are
 unfoldable pub checked : List Decoded → Verdict
@@ -158,5 +161,5 @@ checked ds = final (course begin 0 ds) (length ds)
 
 -- document 01's place
 abbrev pub Verdict·place : Verdict → ℕ
-Verdict·place (Accepted k) = 0
-Verdict·place (Refused r p) = p
+Verdict·place (Ok k) = 0
+Verdict·place (Err e) = e.place

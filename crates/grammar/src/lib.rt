@@ -2,431 +2,260 @@
 
 #![tactic(auto)]
 
-ghost use Rattle.std.specs.Prelude.{◌≡◌, true, not, ◌&&◌, ◌+◌, ◌<◌};
-ghost use Rattle.curves.specs.Curves.{curve_fits};
-ghost use Rattle.groups.specs.code.Stack.{room_n};
-ghost use Rattle.grammar.specs.Grammar.{is_next, is_short, one_more};
-ghost use Rattle.grammar.specs.code.Machine.{role_n, breaks_n, stands_n, fits_n, ends_short_n, in_limit_n, area_n, first_n, next_n, control_n, after_open_n};
-ghost use Rattle.grammar.specs.code.Machine.{after_bar_n, after_close_n, after_n, step_n, settled_n};
-ghost use Rattle.grammar.specs.code.Machine.{advance_at_n, advance_n, start_n, end_state_n, ended_n, is_stopped};
+ghost use Rattle.std.specs.Prelude.{◌≡◌, true, ◌<◌};
+ghost use Rattle.grammar.specs.Grammar.{is_short, one_more};
+ghost use Rattle.grammar.specs.code.Machine.{role_n, breaks_n, stands_n, fits_n, ends_short_n, in_limit_n, no_contour_n, after_n, step_n};
+ghost use Rattle.grammar.specs.code.Machine.{advance_n, start_n, end_state_n, ended_n};
 
 use records::Record;
-use refusals::Refusal;
+use refusals::{Refusal, Refused};
 
 // The corners that a contour has at least.
 const LEAST_CORNERS: u32 = 3;
 
-// Where a reader stands. `stack`: the open groups (crate `groups`). `held`: an area or a corner stands straight before; `bends`: a control corner
-// does. `run`: the corners of the contour in progress but for control corners, 3 for more than 3. In a contour, (x0, y0) is its last corner that is
-// no control corner, and where `bends`, (x1, y1) is the control corner.
+// Where a reader stands. `stack`: the open groups (crate `groups`). `held`: an area or a corner stands straight before. `control`: the control
+// corner that does. `run`: the corners of the contour in progress but for control corners, 3 for more than 3. In a contour, (x0, y0) is its last
+// corner that is no control corner.
 #[derive(Clone, Copy)]
 pub struct State {
     pub stack: u32,
     pub held: bool,
-    pub bends: bool,
+    pub control: Option<(u32, u32)>,
     pub run: u32,
     pub areas: usize,
     pub corners: usize,
     pub x0: u32,
     pub y0: u32,
-    pub x1: u32,
-    pub y1: u32,
 }
 
-#[derive(Clone, Copy)]
-pub enum Step {
-    On(State),
-    Off(Refusal),
-}
-
-#[derive(Clone, Copy)]
-pub enum Scan {
-    At(State),
-    Stopped(Refusal, usize),
-}
-
-#[derive(Clone, Copy)]
+#[derive(Clone, Copy, Debug, PartialEq, Eq)]
 pub struct Counts {
     pub records: usize,
     pub areas: usize,
     pub corners: usize,
 }
 
-#[derive(Clone, Copy)]
-pub enum Verdict {
-    Accepted(Counts),
-    Refused(Refusal, usize),
-}
-
 // A contour of under 3 corners.
 fn is_short(run: u32) -> bool
     ensures answer { result ≡ is_short run }
 {
-    (0 < run) & (run < LEAST_CORNERS)
+    0 < run && run < LEAST_CORNERS
 }
 
-// The role that fits the side.
-fn role_here(stack: u32) -> u32
-    ensures answer { result ≡ role_n stack }
-{
-    if groups::on_paint(stack) {
-        records::PAINT
-    } else {
-        records::CLIP
-    }
-}
-
-fn is_next(r: Record) -> bool
-    ensures answer { result ≡ is_next r }
-{
-    match r {
-        Record::Area(_) => false,
-        Record::First(_, _) => false,
-        Record::Next(_, _) => true,
-        Record::Open => false,
-        Record::Bar => false,
-        Record::Close => false,
-        Record::Control(_, _) => false,
-    }
-}
-
-// A curve that ends at (x, y) and breaks the order or span.
-fn bends_wrong(s: State, x: u32, y: u32) -> bool
-    ensures answer { result ≡ (s.bends && not (curve_fits s.x0 s.y0 s.x1 s.y1 x y)) }
-{
-    if s.bends {
-        let f = curves::curve_fits(s.x0, s.y0, s.x1, s.y1, x, y);
-        return !f;
-    }
-    false
-}
-
-fn breaks(s: State, r: Record) -> bool
-    ensures answer { result ≡ breaks_n s r }
-{
-    match r {
-        Record::Area(_) => false,
-        Record::First(_, _) => false,
-        Record::Next(x, y) => bends_wrong(s, x, y),
-        Record::Open => false,
-        Record::Bar => false,
-        Record::Close => false,
-        Record::Control(_, _) => false,
-    }
-}
-
-fn stands(s: State, r: Record) -> bool
-    ensures answer { result ≡ stands_n s r }
-{
-    match r {
-        Record::Area(f) => {
-            let here = role_here(s.stack);
-            f.role == here
-        }
-        Record::First(_, _) => s.held,
-        Record::Next(_, _) => 0 < s.run,
-        Record::Open => true,
-        Record::Bar => groups::on_left(s.stack),
-        Record::Close => groups::on_right(s.stack),
-        Record::Control(_, _) => 0 < s.run,
-    }
-}
-
-fn fits(s: State, r: Record) -> bool
-    ensures answer { result ≡ fits_n s r }
-{
-    if s.bends {
-        return is_next(r);
-    }
-    stands(s, r)
-}
-
-fn ends_short(s: State, r: Record) -> bool
-    ensures answer { result ≡ ends_short_n s r }
-{
-    match r {
-        Record::Area(_) => is_short(s.run),
-        Record::First(_, _) => is_short(s.run),
-        Record::Next(_, _) => false,
-        Record::Open => is_short(s.run),
-        Record::Bar => is_short(s.run),
-        Record::Close => is_short(s.run),
-        Record::Control(_, _) => false,
-    }
-}
-
-fn in_limit(s: State, r: Record) -> bool
-    ensures answer { result ≡ in_limit_n s r }
-{
-    match r {
-        Record::Area(_) => s.areas < records::MOST_AREAS,
-        Record::First(_, _) => s.corners < records::MOST_CORNERS,
-        Record::Next(_, _) => s.corners < records::MOST_CORNERS,
-        Record::Open => groups::has_room(s.stack),
-        Record::Bar => true,
-        Record::Close => true,
-        Record::Control(_, _) => s.corners < records::MOST_CORNERS,
-    }
-}
-
-fn after_area(s: State) -> State
-    requires { s.areas < 64 }
-    ensures answer { result ≡ area_n s }
-{
-    State {
-        stack: s.stack,
-        held: true,
-        bends: false,
-        run: 0,
-        areas: s.areas + 1,
-        corners: s.corners,
-        x0: 0,
-        y0: 0,
-        x1: 0,
-        y1: 0,
-    }
-}
-
-fn after_first(s: State, x: u32, y: u32) -> State
-    requires { s.corners < 2048 }
-    ensures answer { result ≡ first_n s x y }
-{
-    State {
-        stack: s.stack,
-        held: true,
-        bends: false,
-        run: 1,
-        areas: s.areas,
-        corners: s.corners + 1,
-        x0: x,
-        y0: y,
-        x1: 0,
-        y1: 0,
-    }
-}
-
+// One corner more, counted up to 3.
 fn more(run: u32) -> u32
     ensures answer { result ≡ one_more run }
 {
     if run < LEAST_CORNERS { run + 1 } else { run }
 }
 
-fn after_next(s: State, x: u32, y: u32) -> State
-    requires { s.corners < 2048 }
-    ensures answer { result ≡ next_n s x y }
-{
-    let m = more(s.run);
-    State {
-        stack: s.stack,
-        held: true,
-        bends: false,
-        run: m,
-        areas: s.areas,
-        corners: s.corners + 1,
-        x0: x,
-        y0: y,
-        x1: 0,
-        y1: 0,
-    }
-}
-
-fn after_control(s: State, x: u32, y: u32) -> State
-    requires { s.corners < 2048 }
-    ensures answer { result ≡ control_n s x y }
-{
-    State {
-        stack: s.stack,
-        held: true,
-        bends: true,
-        run: s.run,
-        areas: s.areas,
-        corners: s.corners + 1,
-        x0: s.x0,
-        y0: s.y0,
-        x1: x,
-        y1: y,
-    }
-}
-
-fn after_open(s: State) -> State
-    requires { room_n s.stack ≡ true }
-    ensures answer { result ≡ after_open_n s }
-{
-    let n = groups::opened(s.stack);
-    State {
-        stack: n,
-        held: false,
-        bends: false,
-        run: 0,
-        areas: s.areas,
-        corners: s.corners,
-        x0: 0,
-        y0: 0,
-        x1: 0,
-        y1: 0,
-    }
-}
-
-fn after_bar(s: State) -> State
-    ensures answer { result ≡ after_bar_n s }
-{
-    let n = groups::barred(s.stack);
-    State {
-        stack: n,
-        held: false,
-        bends: false,
-        run: 0,
-        areas: s.areas,
-        corners: s.corners,
-        x0: 0,
-        y0: 0,
-        x1: 0,
-        y1: 0,
-    }
-}
-
-fn after_close(s: State) -> State
-    ensures answer { result ≡ after_close_n s }
-{
-    let n = groups::closed(s.stack);
-    State {
-        stack: n,
-        held: false,
-        bends: false,
-        run: 0,
-        areas: s.areas,
-        corners: s.corners,
-        x0: 0,
-        y0: 0,
-        x1: 0,
-        y1: 0,
-    }
-}
-
-fn after(s: State, r: Record) -> State
-    requires { in_limit_n s r ≡ true }
-    ensures answer { result ≡ after_n s r }
-{
-    match r {
-        Record::Area(_) => after_area(s),
-        Record::First(x, y) => after_first(s, x, y),
-        Record::Next(x, y) => after_next(s, x, y),
-        Record::Open => after_open(s),
-        Record::Bar => after_bar(s),
-        Record::Close => after_close(s),
-        Record::Control(x, y) => after_control(s, x, y),
-    }
-}
-
-// One record more: 13, 4, 5, 6, or on.
-fn stepped(s: State, r: Record) -> Step
-    ensures answer { result ≡ step_n s r }
-{
-    let b = breaks(s, r);
-    if b {
-        return Step::Off(Refusal::Curve);
-    }
-    let f = fits(s, r);
-    if f {
-        let e = ends_short(s, r);
-        if e {
-            return Step::Off(Refusal::Short);
+impl State {
+    // The role that fits the side.
+    fn role_here(self) -> u32
+        ensures answer { result ≡ role_n self.stack }
+    {
+        if groups::on_paint(self.stack) {
+            records::PAINT
+        } else {
+            records::CLIP
         }
-        let l = in_limit(s, r);
-        if l {
-            let t = after(s, r);
-            return Step::On(t);
-        }
-        return Step::Off(Refusal::Limit);
     }
-    Step::Off(Refusal::Unfit)
-}
 
-fn settled(t: Step, i: usize) -> Scan
-    ensures answer { result ≡ settled_n t i }
-{
-    match t {
-        Step::On(s) => Scan::At(s),
-        Step::Off(r) => Scan::Stopped(r, i),
-    }
-}
-
-fn advance_at(s: State, d: Result<Record, Refusal>, i: usize) -> Scan
-    ensures answer { result ≡ advance_at_n s d i }
-{
-    match d {
-        Ok(r) => {
-            let t = stepped(s, r);
-            settled(t, i)
+    // A curve that the record ends, and that breaks the order or span.
+    fn breaks(self, r: Record) -> bool
+        ensures answer { result ≡ breaks_n self r }
+    {
+        match (self.control, r) {
+            (Some((x1, y1)), Record::Next(x, y)) => {
+                !curves::curve_fits(self.x0, self.y0, x1, y1, x, y)
+            }
+            _ => false,
         }
-        Err(x) => Scan::Stopped(x, i),
+    }
+
+    fn stands(self, r: Record) -> bool
+        ensures answer { result ≡ stands_n self r }
+    {
+        match r {
+            Record::Area(f) => f.role == self.role_here(),
+            Record::First(..) => self.held,
+            Record::Next(..) => 0 < self.run,
+            Record::Open => true,
+            Record::Bar => groups::on_left(self.stack),
+            Record::Close => groups::on_right(self.stack),
+            Record::Control(..) => 0 < self.run,
+        }
+    }
+
+    fn fits(self, r: Record) -> bool
+        ensures answer { result ≡ fits_n self r }
+    {
+        match self.control {
+            Some(_) => matches!(r, Record::Next(..)),
+            None => self.stands(r),
+        }
+    }
+
+    fn ends_short(self, r: Record) -> bool
+        ensures answer { result ≡ ends_short_n self r }
+    {
+        match r {
+            Record::Next(..) => false,
+            Record::Control(..) => false,
+            _ => is_short(self.run),
+        }
+    }
+
+    fn in_limit(self, r: Record) -> bool
+        ensures answer { result ≡ in_limit_n self r }
+    {
+        match r {
+            Record::Area(_) => self.areas < records::MOST_AREAS,
+            Record::Open => groups::has_room(self.stack),
+            Record::Bar => true,
+            Record::Close => true,
+            _ => self.corners < records::MOST_CORNERS,
+        }
+    }
+
+    // The same groups and counts, and no contour in progress.
+    fn no_contour(self) -> State
+        ensures answer { result ≡ no_contour_n self }
+    {
+        State {
+            held: false,
+            control: None,
+            run: 0,
+            x0: 0,
+            y0: 0,
+            ..self
+        }
+    }
+
+    fn after(self, r: Record) -> State
+        requires { in_limit_n self r ≡ true }
+        ensures answer { result ≡ after_n self r }
+    {
+        match r {
+            Record::Area(_) => State {
+                held: true,
+                areas: self.areas + 1,
+                ..self.no_contour()
+            },
+            Record::First(x, y) => State {
+                held: true,
+                control: None,
+                run: 1,
+                corners: self.corners + 1,
+                x0: x,
+                y0: y,
+                ..self
+            },
+            Record::Next(x, y) => State {
+                held: true,
+                control: None,
+                run: more(self.run),
+                corners: self.corners + 1,
+                x0: x,
+                y0: y,
+                ..self
+            },
+            Record::Open => State {
+                stack: groups::opened(self.stack),
+                ..self.no_contour()
+            },
+            Record::Bar => State {
+                stack: groups::barred(self.stack),
+                ..self.no_contour()
+            },
+            Record::Close => State {
+                stack: groups::closed(self.stack),
+                ..self.no_contour()
+            },
+            Record::Control(x, y) => State {
+                held: true,
+                control: Some((x, y)),
+                corners: self.corners + 1,
+                ..self
+            },
+        }
+    }
+
+    // One record more: 13, 4, 5, 6, or on.
+    fn stepped(self, r: Record) -> Result<State, Refusal>
+        ensures answer { result ≡ step_n self r }
+    {
+        if self.breaks(r) {
+            return Err(Refusal::Curve);
+        }
+        if !self.fits(r) {
+            return Err(Refusal::Unfit);
+        }
+        if self.ends_short(r) {
+            return Err(Refusal::Short);
+        }
+        if !self.in_limit(r) {
+            return Err(Refusal::Limit);
+        }
+        Ok(self.after(r))
+    }
+
+    fn end(self, n: usize) -> Result<Counts, Refused>
+        ensures answer { result ≡ end_state_n self n }
+    {
+        if self.control.is_some() || self.stack != groups::NONE_OPEN {
+            return Err(Refused {
+                refusal: Refusal::Unfit,
+                place: n,
+            });
+        }
+        if is_short(self.run) {
+            return Err(Refused {
+                refusal: Refusal::Short,
+                place: n,
+            });
+        }
+        Ok(Counts {
+            records: n,
+            areas: self.areas,
+            corners: self.corners,
+        })
     }
 }
 
 // What was decoded as record i, 2 and 3 among it.
-pub fn advance(c: Scan, d: Result<Record, Refusal>, i: usize) -> Scan
-    ensures answer { result ≡ advance_n c d i }
+pub fn advance(
+    scan: Result<State, Refused>,
+    decoded: Result<Record, Refusal>,
+    i: usize,
+) -> Result<State, Refused>
+    ensures answer { result ≡ advance_n scan decoded i }
 {
-    match c {
-        Scan::At(s) => advance_at(s, d, i),
-        Scan::Stopped(r, p) => Scan::Stopped(r, p),
-    }
-}
-
-// Whether a record was refused.
-pub fn is_stopped(c: Scan) -> bool
-    ensures answer { result ≡ is_stopped c }
-{
-    match c {
-        Scan::At(_) => false,
-        Scan::Stopped(_, _) => true,
-    }
+    let state = scan?;
+    decoded
+        .and_then(|r| state.stepped(r))
+        .map_err(|refusal| Refused { refusal, place: i })
 }
 
 // Before the first record.
-pub fn start() -> Scan
+pub fn start() -> Result<State, Refused>
     ensures answer { result ≡ start_n }
 {
-    Scan::At(State {
+    Ok(State {
         stack: groups::NONE_OPEN,
         held: false,
-        bends: false,
+        control: None,
         run: 0,
         areas: 0,
         corners: 0,
         x0: 0,
         y0: 0,
-        x1: 0,
-        y1: 0,
     })
 }
 
-fn end_state(s: State, n: usize) -> Verdict
-    ensures answer { result ≡ end_state_n s n }
-{
-    if s.bends {
-        return Verdict::Refused(Refusal::Unfit, n);
-    }
-    if s.stack == groups::NONE_OPEN {
-        let e = is_short(s.run);
-        if e {
-            return Verdict::Refused(Refusal::Short, n);
-        }
-        return Verdict::Accepted(Counts {
-            records: n,
-            areas: s.areas,
-            corners: s.corners,
-        });
-    }
-    Verdict::Refused(Refusal::Unfit, n)
-}
-
 // The end, after n records: 4, then 5.
-pub fn ended(c: Scan, n: usize) -> Verdict
-    ensures answer { result ≡ ended_n c n }
+pub fn ended(scan: Result<State, Refused>, n: usize) -> Result<Counts, Refused>
+    ensures answer { result ≡ ended_n scan n }
 {
-    match c {
-        Scan::At(s) => end_state(s, n),
-        Scan::Stopped(r, p) => Verdict::Refused(r, p),
-    }
+    scan?.end(n)
 }

@@ -1,5 +1,7 @@
 -- The lister's tables hold every drawing that passes, so reading into them gives the file's own verdict; and one byte more than a file may have is enough
 -- to refuse it.
+use Rattle.std.specs.Prelude.{Ok, Err}
+use Rattle.refusals.specs.Refusals.{at_place}
 use Rattle.std.specs.Prelude.{Option}
 use Rattle.std.specs.Io.KnownBytes.{Appends}
 use Rattle.std.proofs.Common.{Some, None, IfSome, ◌≡◌, ℕ, ◌/◌, ◌%◌, ◌≤◌, ◌<◌, Bool, true, false, cond, List, length, take, refl, sym, ap, ◌∙◌, subst, arith}
@@ -9,8 +11,7 @@ use borrow.Author.Tests.{eq-eqb, le-leb, eqb-true, leb-true, leb-false}
 use Rattle.laws.proofs.Booleans.{and_both}
 use Rattle.std.proofs.lemmas.List.Edits.{sets}
 use Rattle.grammar.specs.declared.Counts.{Counts}
-use Rattle.grammar.specs.declared.Verdict.{Verdict}
-use Rattle.grammar.specs.declared.Verdict.TheVariants.{Accepted, Refused}
+use Rattle.grammar.specs.Grammar.{Verdict}
 use Rattle.refusals.specs.declared.Refusal.{Refusal}
 use Rattle.refusals.specs.declared.Refusal.TheVariants.{Length, Argument, Room}
 use Rattle.read.specs.Words.{plan_words, area_words, x_words, y_words}
@@ -29,14 +30,14 @@ room_for_all k r a c =
 
 room_of_verdict : (b : List ℕ) (v : Verdict) → verdict_of b ≡ v → if_room v 4099 512 2048 ≡ v
 room_of_verdict b (Refused r i) e = refl
-room_of_verdict b (Accepted k) e =
+room_of_verdict b (Ok k) e =
     let f = filed b k e in
-    ap (λ h. cond h (Accepted k) (Refused Room 0)) (room_for_all k f.below f.few f.many)
+    ap (λ h. cond h (Ok k) (Err (at_place Room 0))) (room_for_all k f.below f.few f.many)
 
 verdict_zeros : (b : List ℕ) → read_answer b (zeros 4099) (zeros 512) (zeros 2048) (zeros 2048) ≡ verdict_of b
 unfolding read_answer
 verdict_zeros b =
-    ap (λ h. cond h (if_room (verdict_of b) (length (zeros 4099)) (length (zeros 512)) (length (zeros 2048))) (Refused Argument 0))
+    ap (λ h. cond h (if_room (verdict_of b) (length (zeros 4099)) (length (zeros 512)) (length (zeros 2048))) (Err (at_place Argument 0)))
     (eq-eqb (length (zeros 2048)) (length (zeros 2048)) refl)
     ∙ ap (λ n. if_room (verdict_of b) n (length (zeros 512)) (length (zeros 2048))) (length-zeros 4099)
     ∙ ap (λ n. if_room (verdict_of b) 4099 n (length (zeros 2048))) (length-zeros 512)
@@ -52,10 +53,10 @@ verdict_read b plan areas xs ys p a x y =
     ∙ ap (λ t. read_answer b (zeros 4099) (zeros 512) (zeros 2048) t) y
     ∙ verdict_zeros b
 
-pub refused_said : (b : List ℕ) (r : Refusal) (p : ℕ) → Refused r p ≡ verdict_of b → refused_text r p ≡ file_text b
+pub refused_said : (b : List ℕ) (r : Refusal) (p : ℕ) → Err (at_place r p) ≡ verdict_of b → refused_text r p ≡ file_text b
 refused_said b r p e = ap (verdict_text b) e
 
-pub accepted_said : (b plan areas xs ys plan' areas' xs' ys' : List ℕ) (k : Counts) → Accepted k ≡ verdict_of b
+pub accepted_said : (b plan areas xs ys plan' areas' xs' ys' : List ℕ) (k : Counts) → Ok k ≡ verdict_of b
     → plan ≡ zeros 4099 → areas ≡ zeros 512 → xs ≡ zeros 2048 → ys ≡ zeros 2048
     → plan' ≡ sets plan 0 (plan_words (records_in b)) → areas' ≡ sets areas 0 (area_words (records_in b))
     → xs' ≡ sets xs 0 (x_words (records_in b)) → ys' ≡ sets ys 0 (y_words (records_in b))
@@ -73,15 +74,15 @@ accepted_said b plan areas xs ys plan' areas' xs' ys' k e p a x y p' a' x' y' =
     ∙ ap (verdict_text b) e
 
 -- ---- a file that is too long
-long_law : (m : ℕ) (v : Verdict) → 65536 < m → cond (eqb (m % 16) 0) (cond (leb (m / 16) 4096) v (Refused Length 0)) (Refused Length 0) ≡ Refused Length 0
+long_law : (m : ℕ) (v : Verdict) → 65536 < m → cond (eqb (m % 16) 0) (cond (leb (m / 16) 4096) v (Err (at_place Length 0))) (Err (at_place Length 0)) ≡ Err (at_place Length 0)
 long_law m v h = go (eqb (m % 16) 0) (leb (m / 16) 4096) refl refl
   where
-    go : (s t : Bool) → eqb (m % 16) 0 ≡ s → leb (m / 16) 4096 ≡ t → cond s (cond t v (Refused Length 0)) (Refused Length 0) ≡ Refused Length 0
+    go : (s t : Bool) → eqb (m % 16) 0 ≡ s → leb (m / 16) 4096 ≡ t → cond s (cond t v (Err (at_place Length 0))) (Err (at_place Length 0)) ≡ Err (at_place Length 0)
     go false t p q = refl
     go true false p q = refl
     go true true p q = absurd (omega (arith, eqb-true (m % 16) 0 p, leb-true (m / 16) 4096 q))
 
-too_long : (b : List ℕ) → 65536 < length b → verdict_of b ≡ Refused Length 0
+too_long : (b : List ℕ) → 65536 < length b → verdict_of b ≡ Err (at_place Length 0)
 unfolding verdict_of
 too_long b h = long_law (length b) _ h
 

@@ -1,8 +1,8 @@
 -- Document 01, "Spots to try": that the lister prints each leaf.
+use Rattle.std.specs.Prelude.{Ok}
 use Rattle.std.specs.Prelude.{◌≡◌, List, [], ◌∷◌, ◌++◌, ℕ, ◌≤◌, length}
 use Rattle.refusals.specs.declared.Refusal.{Refusal}
 use Rattle.grammar.specs.declared.Counts.{Counts}
-use Rattle.grammar.specs.declared.Verdict.TheVariants.{Accepted}
 use Rattle.read.specs.Reading.{verdict_of}
 use Rattle.tables.specs.Tables.{Tree}
 use Rattle.open.specs.declared.Answer.TheVariants.{Opened}
@@ -44,4 +44,4 @@ pub record PrintsLeaves (file : List ℕ) : Type 0 where
 
 -- the same sentence, of the bytes that are printed: of any file that is accepted, and whose tree opens
 abbrev pub FilePrintsEachLeaf : Type 0
-FilePrintsEachLeaf = (file : List ℕ) (k : Counts) (n : ℕ) → verdict_of file ≡ Accepted k → open_answer (file_tree file) ≡ Opened n → PrintsLeaves file
+FilePrintsEachLeaf = (file : List ℕ) (k : Counts) (n : ℕ) → verdict_of file ≡ Ok k → open_answer (file_tree file) ≡ Opened n → PrintsLeaves file

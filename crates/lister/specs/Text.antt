@@ -1,11 +1,11 @@
 -- Document 01, "Spots to try": what the leaf lister prints, byte by byte. A space is 32, a line ends with 10.
+use Rattle.std.specs.Prelude.{Ok}
 use Rattle.std.specs.Prelude.{List, [], ◌∷◌, ◌++◌, ℕ, codes, replicate}
 use Rattle.std.proofs.lemmas.List.Edits.{sets}
 use Rattle.std.specs.Fmt.{decimal}
 use Rattle.refusals.specs.declared.Refusal.{Refusal}
 use Rattle.refusals.specs.Refusals.{number_of}
-use Rattle.grammar.specs.declared.Verdict.{Verdict}
-use Rattle.grammar.specs.declared.Verdict.TheVariants.{Accepted, Refused}
+use Rattle.grammar.specs.Grammar.{Verdict}
 use Rattle.read.specs.Words.{plan_words, area_words, x_words, y_words}
 use Rattle.read.specs.Reading.{records_in, verdict_of}
 use Rattle.tables.specs.Tables.{Tree, tree}
@@ -59,7 +59,7 @@ file_tree b =
 
 -- of a file: of its drawing, or of its refusal
 abbrev pub verdict_text : (file : List ℕ) → Verdict → List ℕ
-verdict_text b (Accepted k) = tree_text (file_tree b)
+verdict_text b (Ok k) = tree_text (file_tree b)
 verdict_text b (Refused r p) = refused_text r p
 
 abbrev pub file_text : (file : List ℕ) → List ℕ

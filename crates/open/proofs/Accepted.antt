@@ -1,4 +1,5 @@
 -- What an accepted opening says of the tables: the drawing passes, there is room, and what the tree's tables are then.
+use Rattle.std.specs.Prelude.{Ok}
 use mathlib.Core.Path.{◌≡◌, refl, sym, ap, ◌∙◌}
 use mathlib.Core.Bool.{Bool, true, false, cond}
 use Prim.Native.Nat.{ℕ, ◌*◌, ◌≤◌}
@@ -8,8 +9,7 @@ use lib.ListN.{length}
 use borrow.Author.Tests.{eqb-true}
 use Rattle.refusals.specs.declared.Refusal.TheVariants.{Argument, Room, Broken}
 use Rattle.grammar.specs.declared.Counts.{Counts}
-use Rattle.grammar.specs.declared.Verdict.{Verdict}
-use Rattle.grammar.specs.declared.Verdict.TheVariants.{Accepted, Refused}
+use Rattle.grammar.specs.Grammar.{Verdict}
 use Rattle.drawing.specs.Tables.{drawing_verdict}
 use Rattle.cells.specs.Cells.{root}
 use Rattle.four_children.specs.Children.{words_with}
@@ -26,7 +26,7 @@ root_words_law n lines = refl
 module _ (t : Tree) where
   pub record Accepts (n : ℕ) : Type 0 where
     pub counts : Counts
-    pub drawing : drawing_verdict (drawing_tables t) ≡ Accepted counts
+    pub drawing : drawing_verdict (drawing_tables t) ≡ Ok counts
     pub pair : length t.xs ≡ length t.ys
     pub entries : n ≡ length (stream_opened t)
     pub few : n ≤ 4096
@@ -44,7 +44,7 @@ module _ (t : Tree) where
 
       taken : (k : Counts)
           → length t.xs ≡ length t.ys
-          → drawing_verdict (drawing_tables t) ≡ Accepted k
+          → drawing_verdict (drawing_tables t) ≡ Ok k
           → room_for (length t.head) (length t.cells) (length t.entries) (length (stream_opened t)) ≡ true
           → length (stream_opened t) ≡ n
           → Accepts n
@@ -69,7 +69,7 @@ module _ (t : Tree) where
           → Accepts n
       go false v b p d q x = not_opened Argument n x
       go true (Refused r i) b p d q x = not_opened Broken n x
-      go true (Accepted k) false p d q x = not_opened Room n (ap (λ (y : Bool). cond y (Opened (length (stream_opened t))) (Not Room)) (sym q) ∙ x)
-      go true (Accepted k) true p d q x =
+      go true (Ok k) false p d q x = not_opened Room n (ap (λ (y : Bool). cond y (Opened (length (stream_opened t))) (Not Room)) (sym q) ∙ x)
+      go true (Ok k) true p d q x =
           taken k (eqb-true (length t.xs) (length t.ys) p) d q
           (is (length (stream_opened t)) (ap (λ (y : Bool). cond y (Opened (length (stream_opened t))) (Not Room)) (sym q) ∙ x))

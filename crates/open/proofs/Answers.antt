@@ -1,4 +1,6 @@
 -- The answers of an opening, check by check.
+use Rattle.std.specs.Prelude.{Ok, Err}
+use Rattle.refusals.specs.Refusals.{at_place}
 use mathlib.Core.Path.{◌≡◌, sym, ap, ◌∙◌}
 use Prim.Native.Nat.{ℕ}
 use native.Mathlib.Omega.{arith}
@@ -7,7 +9,6 @@ use borrow.Author.Tests.{eq-eqb, ne_eqb}
 use Rattle.refusals.specs.declared.Refusal.{Refusal}
 use Rattle.refusals.specs.declared.Refusal.TheVariants.{Argument, Broken}
 use Rattle.grammar.specs.declared.Counts.{Counts}
-use Rattle.grammar.specs.declared.Verdict.TheVariants.{Accepted, Refused}
 use Rattle.drawing.specs.Tables.{drawing_verdict}
 use Rattle.tables.specs.Tables.{Tree}
 use Rattle.open.specs.declared.Answer.TheVariants.{Opened, Not}
@@ -22,10 +23,10 @@ module _ (t : Tree) where
   pub unequal : (length t.xs ≡ length t.ys → ⊥) → Not Argument ≡ open_answer t
   unequal h = rw (ne_eqb (length t.xs) (length t.ys) h)
 
-  pub broken : (r : Refusal) (i : ℕ) → length t.xs ≡ length t.ys → drawing_verdict (drawing_tables t) ≡ Refused r i → Not Broken ≡ open_answer t
+  pub broken : (r : Refusal) (i : ℕ) → length t.xs ≡ length t.ys → drawing_verdict (drawing_tables t) ≡ Err (at_place r i) → Not Broken ≡ open_answer t
   broken r i h e = rw (eq-eqb (length t.xs) (length t.ys) h) (sym (ap (drawing_answer t) e))
 
-  pub passed : (k : Counts) → length t.xs ≡ length t.ys → drawing_verdict (drawing_tables t) ≡ Accepted k → room_answer t ≡ open_answer t
+  pub passed : (k : Counts) → length t.xs ≡ length t.ys → drawing_verdict (drawing_tables t) ≡ Ok k → room_answer t ≡ open_answer t
   passed k h e = rw (eq-eqb (length t.xs) (length t.ys) h) (sym (ap (drawing_answer t) e))
 
   -- a refusal tells nothing of a new tree

@@ -1,4 +1,5 @@
 -- The room that an opening asks for, and what the counting of cell 0's stream tells.
+use Rattle.std.specs.Prelude.{Ok}
 use mathlib.Core.Path.{◌≡◌, sym, subst, ◌∙◌}
 use mathlib.Core.Bool.{true, false, ◌&&◌}
 use Prim.Native.Nat.{ℕ, ◌*◌, ◌/◌, ◌%◌, ◌≤◌}
@@ -8,7 +9,6 @@ use lib.ListN.{length, length-map}
 use borrow.Author.Tests.{leb-true}
 use Rattle.refusals.specs.declared.Refusal.TheVariants.{Room}
 use Rattle.grammar.specs.declared.Counts.{Counts}
-use Rattle.grammar.specs.declared.Verdict.TheVariants.{Accepted}
 use Rattle.drawing.specs.Tables.{Tables, drawing_verdict}
 use Rattle.stream.specs.declared.Bounds.{Bounds}
 use Rattle.stream.specs.declared.Words.{Words}
@@ -41,7 +41,7 @@ pub elements_words : (t : Tables) → length (words_opened t) ≡ length (elemen
 unfolding words_opened
 elements_words t = length-map {B = Words} (elements_opened t) words_of
 
-module _ (t : Tables) (k : Counts) (e : drawing_verdict t ≡ Accepted k) where
+module _ (t : Tables) (k : Counts) (e : drawing_verdict t ≡ Ok k) where
   abbrev known : Opened t k.records (bounds k.areas k.corners 0 65536)
   known = accepted_opened t k e
 

@@ -1,8 +1,8 @@
 -- Document 01, "Cells" and "From the state", and document 02, Item 5: opening a tree over a lent drawing: the answer, and every table afterwards.
+use Rattle.std.specs.Prelude.{Ok}
 use Rattle.std.specs.Prelude.{Bool, cond, ◌&&◌, List, ℕ, eqb, leb, length, set}
 use Rattle.refusals.specs.declared.Refusal.TheVariants.{Argument, Room, Broken}
-use Rattle.grammar.specs.declared.Verdict.{Verdict}
-use Rattle.grammar.specs.declared.Verdict.TheVariants.{Accepted, Refused}
+use Rattle.grammar.specs.Grammar.{Verdict}
 use Rattle.drawing.specs.Tables.{Tables, tables, drawing_verdict}
 use Rattle.stream.specs.declared.Words.{Words}
 use Rattle.stream.specs.Entry.{lines_in}
@@ -40,7 +40,7 @@ module _ (t : Tree) where
 
   -- 12: "a number met in the tables used (the drawing when opening ...) is outside its range, or that drawing ... breaks the grammar"
   abbrev pub drawing_answer : Verdict → Answer
-  drawing_answer (Accepted k) = room_answer
+  drawing_answer (Ok k) = room_answer
   drawing_answer (Refused r i) = Not Broken
 
   -- 7: "a lent pair of x and y tables of unequal length"; then 12, then 11

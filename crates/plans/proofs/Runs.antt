@@ -1,5 +1,7 @@
 -- An accepted list of records: each record fits where it stands, ends no curve out of order or span and no short contour, and is
 -- within the limits.
+use Rattle.std.specs.Prelude.{Ok, Err}
+use Rattle.refusals.specs.Refusals.{at_place}
 use Prim.Native.Nat.{ℕ, ◌+◌, ◌≤◌}
 use mathlib.Core.Path.{◌≡◌, refl, sym, ap, ◌∙◌}
 use mathlib.Core.Bool.{Bool, true, false, cond}
@@ -12,13 +14,11 @@ use Rattle.refusals.specs.declared.Refusal.TheVariants.{Unfit, Short, Limit, Cur
 use Rattle.groups.specs.Sides.{is_empty}
 use Rattle.records.specs.declared.Record.{Record}
 use Rattle.records.specs.Record.{Decoded}
-use Rattle.std.specs.Prelude.{Ok}
 use Rattle.grammar.specs.declared.Counts.{Counts}
-use Rattle.grammar.specs.declared.Verdict.TheVariants.{Accepted, Refused}
 use Rattle.grammar.specs.Grammar.{Progress, progress, breaks, stands, is_next, fits, is_short, ends_short, in_limit, after}
 use Rattle.grammar.specs.Grammar.{Course, at, stopped, course, counts, final, checked}
 use Rattle.grammar.specs.Lists.{areas_in, corners_in}
-use Rattle.grammar.proofs.Laws.{sound, refused_not, stays}
+use Rattle.grammar.proofs.Laws.{sound, stays}
 use Rattle.drawing.specs.code.Held.{Acceptable}
 use Rattle.drawing.proofs.Lists.{goods_map}
 
@@ -34,20 +34,20 @@ abbrev pub Runs : Progress → List Record → Type 0
 Runs p [] = (p.bends ≡ false) × (is_empty p.groups ≡ true)
 Runs p (r ∷ rs) = Accepts p r × Runs (after p r) rs
 
-stopped_not : {A : Type 0} (x : Refusal) (j i n : ℕ) (ds : List Decoded) (k : Counts) → final (course (stopped x j) i ds) n ≡ Accepted k → A
-stopped_not x j i n ds k e = refused_not x j k (sym (ap (λ (c : Course). final c n) (stays x j i ds)) ∙ e)
+stopped_not : {A : Type 0} (x : Refusal) (j i n : ℕ) (ds : List Decoded) (k : Counts) → final (course (stopped x j) i ds) n ≡ Ok k → A
+stopped_not x j i n ds k e = absurd (cc (sym (ap (λ (c : Course). final c n) (stays x j i ds)) ∙ e))
 
-ended : (p : Progress) (n : ℕ) (k : Counts) → final (at p) n ≡ Accepted k → Runs p []
+ended : (p : Progress) (n : ℕ) (k : Counts) → final (at p) n ≡ Ok k → Runs p []
 ended p n k = go p.bends (is_empty p.groups) (is_short p.run)
   where
     go : (t a b : Bool)
-        → cond t (Refused Unfit n) (cond a (cond b (Refused Short n) (Accepted (counts n p.areas p.corners))) (Refused Unfit n)) ≡ Accepted k
+        → cond t (Err (at_place Unfit n)) (cond a (cond b (Err (at_place Short n)) (Ok (counts n p.areas p.corners))) (Err (at_place Unfit n))) ≡ Ok k
         → (t ≡ false) × (a ≡ true)
-    go true a b e = refused_not Unfit n k e
-    go false false b e = refused_not Unfit n k e
+    go true a b e = absurd cc
+    go false false b e = absurd cc
     go false true b e = (refl, refl)
 
-runs_on : (rs : List Record) (p : Progress) (i n : ℕ) (k : Counts) → final (course (at p) i (map Ok rs)) n ≡ Accepted k → Runs p rs
+runs_on : (rs : List Record) (p : Progress) (i n : ℕ) (k : Counts) → final (course (at p) i (map Ok rs)) n ≡ Ok k → Runs p rs
 unfolding course
 runs_on [] p i n k h = ended p n k h
 runs_on (r ∷ rs) p i n k h = go (breaks p r) (fits p r) (ends_short p r) (in_limit p r) refl refl refl refl (runs_on rs (after p r) (i + 1) n k) h
@@ -57,12 +57,12 @@ runs_on (r ∷ rs) p i n k h = go (breaks p r) (fits p r) (ends_short p r) (in_l
         → fits p r ≡ a
         → ends_short p r ≡ b
         → in_limit p r ≡ d
-        → (final (course (at (after p r)) (i + 1) (map Ok rs)) n ≡ Accepted k → Runs (after p r) rs)
+        → (final (course (at (after p r)) (i + 1) (map Ok rs)) n ≡ Ok k → Runs (after p r) rs)
         → final
         (course (cond t (stopped Curve i) (cond a (cond b (stopped Short i) (cond d (at (after p r)) (stopped Limit i))) (stopped Unfit i))) (i + 1)
         (map Ok rs))
         n
-        ≡ Accepted k
+        ≡ Ok k
         → Runs p (r ∷ rs)
     go true a b d et ea eb ed rest e = stopped_not Curve i (i + 1) n (map Ok rs) k e
     go false false b d et ea eb ed rest e = stopped_not Unfit i (i + 1) n (map Ok rs) k e
@@ -73,7 +73,7 @@ runs_on (r ∷ rs) p i n k h = go (breaks p r) (fits p r) (ends_short p r) (in_l
 abbrev pub start : Progress
 start = progress [] false 0 0
 
-pub runs : (rs : List Record) (k : Counts) → checked (map Ok rs) ≡ Accepted k → Runs start rs
+pub runs : (rs : List Record) (k : Counts) → checked (map Ok rs) ≡ Ok k → Runs start rs
 unfolding checked
 runs rs k e = runs_on rs start 0 (length (map Ok rs)) k e
 

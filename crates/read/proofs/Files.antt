@@ -1,4 +1,6 @@
 -- What is known of an accepted file, and how many words its tables want.
+use Rattle.std.specs.Prelude.{Ok, Err}
+use Rattle.refusals.specs.Refusals.{at_place}
 use Prim.Native.Nat.{ℕ, zero, suc, ◌+◌, ◌*◌, ◌-◌, ◌/◌, ◌%◌, ◌≤◌}
 use mathlib.Core.Path.{◌≡◌, refl, sym, ap, ◌∙◌}
 use mathlib.Core.Bool.{Bool, true, false, cond, ◌&&◌}
@@ -12,14 +14,12 @@ use Rattle.refusals.specs.declared.Refusal.TheVariants.{Length}
 use Rattle.records.specs.declared.Record.{Record}
 use Rattle.records.specs.declared.Record.TheVariants.{Area, First, Next, Open, Bar, Close, Control}
 use Rattle.records.specs.Record.{Decoded}
-use Rattle.std.specs.Prelude.{Ok}
 use Rattle.records.specs.Bytes.{bytes_of}
 use Rattle.laws.proofs.Booleans.{and_left, and_right, clash}
 use Rattle.grammar.specs.declared.Counts.{Counts}
-use Rattle.grammar.specs.declared.Verdict.TheVariants.{Accepted, Refused}
 use Rattle.grammar.specs.Grammar.{checked}
 use Rattle.grammar.specs.Lists.{good_records, areas_in, corners_in}
-use Rattle.grammar.proofs.Laws.{sound, refused_not}
+use Rattle.grammar.proofs.Laws.{sound}
 use Rattle.read.specs.Words.{words_of_kind, words_of_area, words_of_x, words_of_y, words_of, joined, plan_words}
 use Rattle.read.specs.Reading.{decoded_from, decoded_in, records_in, verdict_of, holds, all_good, Filed}
 
@@ -38,26 +38,26 @@ good_map (r ∷ rs) = good_map rs
 pub all_good_law : (ds : List Decoded) → ds ≡ map Ok (good_records ds) → all_good ds ≡ true
 all_good_law ds e = ap all_good e ∙ good_map (good_records ds)
 
-pub filed_checked : (b : List ℕ) (k : Counts) → verdict_of b ≡ Accepted k → checked (decoded_in b) ≡ Accepted k
+pub filed_checked : (b : List ℕ) (k : Counts) → verdict_of b ≡ Ok k → checked (decoded_in b) ≡ Ok k
 unfolding verdict_of
 filed_checked b k = go (eqb (length b % 16) 0) (leb (length b / 16) 4096)
   where
-    go : (a d : Bool) → cond a (cond d (checked (decoded_in b)) (Refused Length 0)) (Refused Length 0) ≡ Accepted k → checked (decoded_in b) ≡ Accepted k
-    go false d e = refused_not Length 0 k e
-    go true false e = refused_not Length 0 k e
+    go : (a d : Bool) → cond a (cond d (checked (decoded_in b)) (Err (at_place Length 0))) (Err (at_place Length 0)) ≡ Ok k → checked (decoded_in b) ≡ Ok k
+    go false d e = absurd cc
+    go true false e = absurd cc
     go true true e = e
 
-pub filed : (b : List ℕ) (k : Counts) → verdict_of b ≡ Accepted k → Filed b k
+pub filed : (b : List ℕ) (k : Counts) → verdict_of b ≡ Ok k → Filed b k
 unfolding verdict_of
 filed b k = go (eqb (length b % 16) 0) (leb (length b / 16) 4096) refl refl
   where
     go : (a d : Bool)
         → eqb (length b % 16) 0 ≡ a
         → leb (length b / 16) 4096 ≡ d
-        → cond a (cond d (checked (decoded_in b)) (Refused Length 0)) (Refused Length 0) ≡ Accepted k
+        → cond a (cond d (checked (decoded_in b)) (Err (at_place Length 0))) (Err (at_place Length 0)) ≡ Ok k
         → Filed b k
-    go false d p q e = refused_not Length 0 k e
-    go true false p q e = refused_not Length 0 k e
+    go false d p q e = absurd cc
+    go true false p q e = absurd cc
     go true true p q e =
         let s = sound (decoded_in b) k e in
         let n : k.records ≡ length b / 16 = s.records ∙ length_from b 0 (length b / 16) in

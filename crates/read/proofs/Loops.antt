@@ -1,4 +1,6 @@
 -- The loops over a file, as plain laws: where a loop begins, a turn, where it ends.
+use Rattle.std.specs.Result.{is_err}
+use Rattle.std.specs.Prelude.{Ok, Err}
 use Prim.Native.Nat.{ℕ, zero, suc, ◌+◌, ◌-◌, ◌≤◌, ◌<◌}
 use mathlib.Core.Path.{◌≡◌, refl, sym, ap, ◌∙◌, subst}
 use mathlib.Core.Bool.{Bool, true}
@@ -10,11 +12,10 @@ use Rattle.laws.proofs.Booleans.{clash, and_left, and_right}
 use Rattle.records.specs.declared.Raw.{Raw}
 use Rattle.records.specs.declared.Record.{Record}
 use Rattle.records.specs.Record.{Decoded}
-use Rattle.std.specs.Prelude.{Ok, Err}
 use Rattle.records.specs.Bytes.{raw_at, named, decoded_raw}
 use Rattle.records.proofs.Laws.{told}
-use Rattle.grammar.specs.declared.Scan.{Scan}
-use Rattle.grammar.specs.code.Machine.{advance_n, start_n, scan_n, is_stopped}
+use Rattle.grammar.specs.code.Machine.{Scan}
+use Rattle.grammar.specs.code.Machine.{advance_n, start_n, scan_n}
 use Rattle.grammar.proofs.Laws.{stopped_stays}
 use Rattle.grammar.specs.Lists.{good_records}
 use Rattle.read.specs.Words.{joined, on_good}
@@ -51,7 +52,7 @@ pub scan_stops : (b : List ℕ) (i e : ℕ) (s s' whole : Scan) (d : Decoded) (t
     → i < e
     → d ≡ decoded_raw (raw_at b i)
     → s' ≡ advance_n s d i
-    → t ≡ is_stopped s'
+    → t ≡ is_err s'
     → t ≡ true
     → scan_n s i (decoded_from b i (e - i)) ≡ whole
     → s' ≡ whole

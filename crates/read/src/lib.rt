@@ -4,17 +4,16 @@
 
 ghost use Rattle.std.specs.Prelude.{◌≡◌, true, ◌+◌, ◌*◌, ◌≤◌, length, set};
 ghost use Rattle.std.proofs.lemmas.List.Edits.{sets};
-ghost use Rattle.grammar.specs.declared.Verdict.TheVariants.{Accepted};
 ghost use Rattle.grammar.specs.code.Machine.{scan_n, start_n};
 ghost use Rattle.grammar.specs.Lists.{good_records};
 ghost use Rattle.records.specs.Record.{kind_of, is_good};
 ghost use Rattle.records.specs.Bytes.{raw_at, decoded_raw};
 ghost use Rattle.read.specs.Words.{words_of_kind, words_of_area, words_of_x, words_of_y, words_of, joined, plan_words, area_words, x_words, y_words, on_good};
-ghost use Rattle.read.specs.Reading.{decoded_from, all_good, records_lent, verdict_of, holds, if_room, read_lent, left_by, Filed};
+ghost use Rattle.read.specs.Reading.{decoded_from, all_good, records_lent, verdict_of, holds, read_lent, left_by, Filed};
 
-use grammar::{Counts, Scan, Verdict};
+use grammar::{Counts, State};
 use records::{AREA_WORDS, Fields, RECORD_BYTES, Record};
-use refusals::Refusal;
+use refusals::{Refusal, Refused};
 
 // The plan: its first words, the counts in use; the kinds of the records follow.
 pub const RECORDS: usize = 0;
@@ -54,36 +53,29 @@ fn read_accepted(records: &[u8], i: usize) -> Result<Record, Refusal>
     Ok(t)
 }
 
-fn scan_records(records: &[u8], n: usize) -> Scan
+fn scan_records(records: &[u8], n: usize) -> Result<State, Refused>
     requires { n * 16 ≤ length records.now }
     ensures answer { result ≡ scan_n start_n 0 (decoded_from records.now 0 n) }
 {
     let mut s = grammar::start();
-    let mut i = 0;
-    while i < n {
-        let d = read_record(records, i);
-        s = grammar::advance(s, d, i);
-        if grammar::is_stopped(s) {
+    for i in 0..n {
+        s = grammar::advance(s, read_record(records, i), i);
+        if s.is_err() {
             return s;
         }
-        i += 1;
     }
     s
 }
 
 // The first refusal of a file and its place, or what it holds.
-pub fn check_records(records: &[u8]) -> Verdict
+pub fn check_records(records: &[u8]) -> Result<Counts, Refused>
     ensures answer { result ≡ verdict_of records.now }
 {
-    if records.len() % RECORD_BYTES == 0 {
-        let n = records.len() / RECORD_BYTES;
-        if n <= records::MOST_RECORDS {
-            let s = scan_records(records, n);
-            return grammar::ended(s, n);
-        }
-        return Verdict::Refused(Refusal::Length, 0);
+    let n = records.len() / RECORD_BYTES;
+    if records.len() % RECORD_BYTES != 0 || n > records::MOST_RECORDS {
+        return Err(Refusal::Length.into());
     }
-    Verdict::Refused(Refusal::Length, 0)
+    grammar::ended(scan_records(records, n), n)
 }
 
 // ---- a record into a table
@@ -237,26 +229,22 @@ fn fill(
     let mut area = 0;
     let mut x = 0;
     let mut y = 0;
-    let mut i = 0;
-    while i < n {
+    for i in 0..n {
         let d = read_accepted(records, i);
         kind = put_decoded(plan, kind, TO_PLAN, d);
         area = put_decoded(areas, area, TO_AREAS, d);
         x = put_decoded(xs, x, TO_XS, d);
         y = put_decoded(ys, y, TO_YS, d);
-        i += 1;
     }
 }
 
 // ---- reading
 // Tables of these lengths hold a drawing of this size.
+#[tactic(auto, unfolding(crate::specs::Reading::holds))]
 pub fn tables_hold(p: usize, a: usize, d: usize, k: Counts) -> bool
     ensures answer { result ≡ holds p a d k }
 {
-    if PLAN_COUNTS <= p {
-        return (k.records <= p - PLAN_COUNTS) & ((k.areas <= a / AREA_WORDS) & (k.corners <= d));
-    }
-    false
+    PLAN_COUNTS <= p && k.records <= p - PLAN_COUNTS && k.areas <= a / AREA_WORDS && k.corners <= d
 }
 
 fn put_header(plan: &mut [u32], k: Counts)
@@ -284,55 +272,8 @@ fn fill_all(
     ensures xs { xs.new ≡ sets xs.old 0 (x_words (records_lent records)) }
     ensures ys { ys.new ≡ sets ys.old 0 (y_words (records_lent records)) }
 {
-    let n = k.records;
     put_header(plan, k);
-    fill(records, n, plan, areas, xs, ys);
-}
-
-fn fill_if_room(
-    records: &[u8],
-    plan: &mut [u32],
-    areas: &mut [u32],
-    xs: &mut [u32],
-    ys: &mut [u32],
-    k: Counts,
-) -> Verdict
-    requires filed { Filed records.now k }
-    requires xs_len { length xs.old ≡ length ys.old }
-    ensures answer { result ≡ if_room (Accepted k) (length plan.old) (length areas.old) (length xs.old) }
-    ensures plan { plan.new ≡ left_by result plan.old (plan_words (records_lent records)) }
-    ensures areas { areas.new ≡ left_by result areas.old (area_words (records_lent records)) }
-    ensures xs { xs.new ≡ left_by result xs.old (x_words (records_lent records)) }
-    ensures ys { ys.new ≡ left_by result ys.old (y_words (records_lent records)) }
-{
-    let h = tables_hold(plan.len(), areas.len(), xs.len(), k);
-    if h {
-        fill_all(records, plan, areas, xs, ys, k);
-        return Verdict::Accepted(k);
-    }
-    Verdict::Refused(Refusal::Room, 0)
-}
-
-fn read_checked(
-    records: &[u8],
-    plan: &mut [u32],
-    areas: &mut [u32],
-    xs: &mut [u32],
-    ys: &mut [u32],
-    v: Verdict,
-) -> Verdict
-    requires v_value { v ≡ verdict_of records.now }
-    requires xs_len { length xs.old ≡ length ys.old }
-    ensures answer { result ≡ if_room v (length plan.old) (length areas.old) (length xs.old) }
-    ensures plan { plan.new ≡ left_by result plan.old (plan_words (records_lent records)) }
-    ensures areas { areas.new ≡ left_by result areas.old (area_words (records_lent records)) }
-    ensures xs { xs.new ≡ left_by result xs.old (x_words (records_lent records)) }
-    ensures ys { ys.new ≡ left_by result ys.old (y_words (records_lent records)) }
-{
-    match v {
-        Verdict::Accepted(k) => fill_if_room(records, plan, areas, xs, ys, k),
-        Verdict::Refused(r, p) => Verdict::Refused(r, p),
-    }
+    fill(records, k.records, plan, areas, xs, ys);
 }
 
 // Reads a file into four tables. Any tables may be handed in.
@@ -342,16 +283,20 @@ pub fn read(
     areas: &mut [u32],
     xs: &mut [u32],
     ys: &mut [u32],
-) -> Verdict
+) -> Result<Counts, Refused>
     ensures answer { result ≡ read_lent records plan areas xs ys }
     ensures plan { plan.new ≡ left_by result plan.old (plan_words (records_lent records)) }
     ensures areas { areas.new ≡ left_by result areas.old (area_words (records_lent records)) }
     ensures xs { xs.new ≡ left_by result xs.old (x_words (records_lent records)) }
     ensures ys { ys.new ≡ left_by result ys.old (y_words (records_lent records)) }
 {
-    if xs.len() == ys.len() {
-        let v = check_records(records);
-        return read_checked(records, plan, areas, xs, ys, v);
+    if xs.len() != ys.len() {
+        return Err(Refusal::Argument.into());
     }
-    Verdict::Refused(Refusal::Argument, 0)
+    let counts = check_records(records)?;
+    if !tables_hold(plan.len(), areas.len(), xs.len(), counts) {
+        return Err(Refusal::Room.into());
+    }
+    fill_all(records, plan, areas, xs, ys, counts);
+    Ok(counts)
 }

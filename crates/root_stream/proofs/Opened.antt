@@ -1,5 +1,6 @@
 -- What a caller has where a lent drawing is accepted: the entries of the plan are the elements of the records, and what is written passes as the stream
 -- of cell 0.
+use Rattle.std.specs.Prelude.{Ok}
 use mathlib.Core.Path.{◌≡◌, refl, ap, subst, ◌∙◌}
 use mathlib.Core.Bool.{true}
 use mathlib.Core.List.{List, map}
@@ -7,7 +8,6 @@ use Prim.Native.Nat.{ℕ, ◌*◌, ◌%◌, ◌≤◌}
 use native.Mathlib.Omega.{arith}
 use lib.ListN.{length, length-map}
 use Rattle.grammar.specs.declared.Counts.{Counts}
-use Rattle.grammar.specs.declared.Verdict.TheVariants.{Accepted}
 use Rattle.drawing.specs.Tables.{Tables, drawn_in, drawing_verdict}
 use Rattle.drawing.proofs.Theorems.{passes_holding}
 use Rattle.pruning.specs.code.Weights.{total}
@@ -29,7 +29,7 @@ use Rattle.root_stream.proofs.Ahead.{entries_ahead}
 use Rattle.root_stream.proofs.Base.{base, valid, held}
 
 -- a lent drawing that the check accepts
-pub accepted_opened : (t : Tables) (k : Counts) → drawing_verdict t ≡ Accepted k → Opened t k.records (bounds k.areas k.corners 0 65536)
+pub accepted_opened : (t : Tables) (k : Counts) → drawing_verdict t ≡ Ok k → Opened t k.records (bounds k.areas k.corners 0 65536)
 accepted_opened t k e = let p = passes_holding t k e in record { used = k; accepted = p.0; holding = p.1; records_used = refl; bounds_used = refl }
 
 module _ (t : Tables) (records : ℕ) (b : Bounds) (o : Opened t records b) where

@@ -1,4 +1,6 @@
 -- Places and results fit the low half of an answer.
+use Rattle.std.specs.Prelude.{Ok, Err}
+use Rattle.refusals.specs.Refusals.{at_place}
 use mathlib.Core.Path.{◌≡◌, refl}
 use mathlib.Core.Bool.{Bool, true, false, cond}
 use mathlib.Core.List.{List}
@@ -8,8 +10,7 @@ use lib.ListN.{length}
 use lib.Dec.{eqb, leb}
 use borrow.Author.Tests.{leb-true}
 use Rattle.refusals.specs.declared.Refusal.TheVariants.{Length, Argument, Room}
-use Rattle.grammar.specs.declared.Verdict.{Verdict}
-use Rattle.grammar.specs.declared.Verdict.TheVariants.{Accepted, Refused}
+use Rattle.grammar.specs.Grammar.{Verdict}
 use Rattle.grammar.specs.Grammar.{checked, Verdict·place}
 use Rattle.grammar.proofs.Laws.{place_below}
 use Rattle.read.specs.Reading.{decoded_in, verdict_of, holds, if_room, read_answer}
@@ -44,7 +45,7 @@ verdict_place : (b : List ℕ) → Verdict·place (verdict_of b) ≤ 4096
 unfolding verdict_of
 verdict_place b = go (eqb (length b % 16) 0) (leb (length b / 16) 4096) refl
   where
-    go : (a d : Bool) → leb (length b / 16) 4096 ≡ d → Verdict·place (cond a (cond d (checked (decoded_in b)) (Refused Length 0)) (Refused Length 0)) ≤ 4096
+    go : (a d : Bool) → leb (length b / 16) 4096 ≡ d → Verdict·place (cond a (cond d (checked (decoded_in b)) (Err (at_place Length 0))) (Err (at_place Length 0))) ≤ 4096
     go false d e = omega arith
     go true false e = omega arith
     go true true e = omega (arith, place_below (decoded_in b), length_from b 0 (length b / 16), leb-true (length b / 16) 4096 e)
@@ -53,13 +54,13 @@ verdict_low : (b : List ℕ) → read_low (verdict_of b) ≤ 4096
 verdict_low b = go (verdict_of b) refl
   where
     go : (v : Verdict) → verdict_of b ≡ v → read_low v ≤ 4096
-    go (Accepted k) e = (filed b k e).below
+    go (Ok k) e = (filed b k e).below
     go (Refused r p) e = rw e at (verdict_place b)
 
 room_low : (v : Verdict) (p a c : ℕ) → read_low v ≤ 4096 → read_low (if_room v p a c) ≤ 4096
-room_low (Accepted k) p a c h = go (holds p a c k)
+room_low (Ok k) p a c h = go (holds p a c k)
   where
-    go : (t : Bool) → read_low (cond t (Accepted k) (Refused Room 0)) ≤ 4096
+    go : (t : Bool) → read_low (cond t (Ok k) (Err (at_place Room 0))) ≤ 4096
     go true = h
     go false = omega arith
 room_low (Refused r i) p a c h = h
@@ -68,7 +69,7 @@ pub read_low_law : (b p a x y : List ℕ) → read_low (read_answer b p a x y) �
 unfolding read_answer
 read_low_law b p a x y = go (eqb (length x) (length y))
   where
-    go : (t : Bool) → read_low (cond t (if_room (verdict_of b) (length p) (length a) (length x)) (Refused Argument 0)) ≤ 4096
+    go : (t : Bool) → read_low (cond t (if_room (verdict_of b) (length p) (length a) (length x)) (Err (at_place Argument 0))) ≤ 4096
     go true = room_low (verdict_of b) (length p) (length a) (length x) (verdict_low b)
     go false = omega arith
 
@@ -81,7 +82,7 @@ write_low_law t out = go (drawing_verdict t) refl
     room false n h = omega arith
 
     go : (v : Verdict) → drawing_verdict t ≡ v → write_low (written_of v (length out)) ≤ 65536
-    go (Accepted k) e = room (leb k.records (length out / 16)) k.records (drawn t k e).below
+    go (Ok k) e = room (leb k.records (length out / 16)) k.records (drawn t k e).below
     go (Refused r i) e = omega arith
 
 -- no more splits than rounds

@@ -1,5 +1,5 @@
 use Rattle.drawing.specs.Tables.{counts_judged, agreed}
-use Rattle.grammar.specs.declared.Verdict.{Verdict}
+use Rattle.grammar.specs.Grammar.{Verdict}
 use Rattle.grammar.proofs.Meaning.{checked_is}
 use Rattle.drawing.proofs.Rows.{holds_ready, re_length}
 use mathlib.Core.Path.{ap, sym, ◌∙◌}

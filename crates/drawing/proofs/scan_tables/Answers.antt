@@ -1,4 +1,5 @@
 -- `drawing::scan_tables` meets its contract: what is left to scan gives what the whole gives.
+use Rattle.std.specs.Result.{is_err}
 use borrow.Author.Rules.{rules}
 use Rattle.drawing.proofs.Rows.{walk_begin, walk_turn, walk_stops, walk_done}
 use Rattle.drawing.proofs.scan_tables.Goals as goal
@@ -6,14 +7,14 @@ use Rattle.drawing.proofs.scan_tables.Goals as goal
 pub loop-i-init : goal.loop-i-init
 loop-i-init c = (search rules, search walk_begin)
 
-pub returns-then-is_stopped : goal.returns-then-is_stopped
-returns-then-is_stopped c = record { answer = search walk_stops }
+pub returns-then-is_err : goal.returns-then-is_err
+returns-then-is_err c = record { answer = search walk_stops }
 
 pub loop-i-preserved : goal.loop-i-preserved
 loop-i-preserved c = (
   search rules,
   walk_turn _ _ _ _ _ _ _ _ _ _ c.loop-i-test.true c.cursor_of-c.ensures.answer c.row-d.ensures.answer
-      c.advance-s.ensures.answer c.is_stopped.ensures.answer c.if-is_stopped.false c.loop-i.invariant.1,
+      c.advance-s.ensures.answer c.is_err.ensures.answer c.if-is_err.false c.loop-i.invariant.1,
 )
 
 pub returns : goal.returns

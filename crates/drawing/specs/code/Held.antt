@@ -1,9 +1,8 @@
 -- Records that a file may hold, and tables that begin with their words: what reading an accepted file leaves.
+use Rattle.std.specs.Prelude.{Ok}
 use Rattle.std.specs.Prelude.{◌≤◌, ◌≡◌, true, List, map, length}
 use Rattle.records.specs.declared.Record.{Record}
-use Rattle.std.specs.Prelude.{Ok}
 use Rattle.grammar.specs.declared.Counts.{Counts}
-use Rattle.grammar.specs.declared.Verdict.TheVariants.{Accepted}
 use Rattle.grammar.specs.Grammar.{checked}
 use Rattle.read.specs.Words.{Has, all_range, plan_words, area_words, x_words, y_words}
 use Rattle.drawing.specs.Tables.{Tables}
@@ -12,7 +11,7 @@ use Rattle.drawing.specs.Tables.{Tables}
 pub record Acceptable (rs : List Record) (k : Counts) : Type 0 where
   pub range : all_range rs ≡ true
   pub below : length rs ≤ 4096
-  pub fold : checked (map Ok rs) ≡ Accepted k
+  pub fold : checked (map Ok rs) ≡ Ok k
 
 -- the four tables begin with the words of these records
 pub record Holding (t : Tables) (rs : List Record) : Type 0 where

@@ -4,19 +4,22 @@ use Rattle.read.proofs.Files.{length_from}
 use mathlib.Core.Path.{sym}
 use borrow.Author.Tests.{le-leb, lt-leb, eq-eqb, ne_eqb}
 use Rattle.read.proofs.check_records.Goals as goal
+use Rattle.read.proofs.check_records.Goals.{then-records-ne0-via-then-records-ne0, then-records-ne0-via-else-records-ne0+then-n-gt-MOST_RECORDS}
 
-pub returns-then-n-le-MOST_RECORDS : goal.returns-then-n-le-MOST_RECORDS
+pub returns-then-records-ne0 : goal.returns-then-records-ne0
 unfolding verdict_of
-returns-then-n-le-MOST_RECORDS c =
+returns-then-records-ne0 c =
     record {
-      answer = rw (eq-eqb _ _ c.if-records-eq0.true, le-leb _ _ c.if-n-le-MOST_RECORDS.true, c.ended.ensures.answer, c.scan_records-s.ensures.answer)
-          (checked_is _ _ (sym (length_from _ _ _)));
+      answer = elim c.then-records-ne0.branch [
+        | then-records-ne0-via-then-records-ne0 w ↦ rw (c.into.ensures, ne_eqb _ _ w.if-records-ne0.true)
+        | then-records-ne0-via-else-records-ne0+then-n-gt-MOST_RECORDS w ↦ rw (c.into.ensures, eq-eqb _ _ w.if-records-ne0.false, lt-leb _ _ w.if-n-gt-MOST_RECORDS.true)
+      ];
     }
-
-pub returns-then-records-eq0 : goal.returns-then-records-eq0
-unfolding verdict_of
-returns-then-records-eq0 c = record { answer = rw (eq-eqb _ _ c.if-records-eq0.true, lt-leb _ _ c.if-n-le-MOST_RECORDS.false) }
 
 pub returns : goal.returns
 unfolding verdict_of
-returns c = record { answer = rw (ne_eqb _ _ c.if-records-eq0.false) }
+returns c =
+    record {
+      answer = rw (eq-eqb _ _ c.if-records-ne0.false, le-leb _ _ c.if-n-gt-MOST_RECORDS.false, c.ended.ensures.answer, c.scan_records.ensures.answer)
+          (checked_is _ _ (sym (length_from _ _ _)));
+    }

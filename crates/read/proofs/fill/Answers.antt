@@ -4,7 +4,7 @@ use Rattle.read.proofs.Loops.{fill_good, fill_begin, fill_room, fill_turn, fill_
 use Rattle.read.proofs.fill.Goals as goal
 
 pub loop-i-init : goal.loop-i-init
-loop-i-init c = (search rules, search fill_begin, search fill_begin, search fill_begin, search fill_begin)
+loop-i-init c = (search fill_begin, search fill_begin, search fill_begin, search fill_begin)
 
 pub read_accepted-d-requires : goal.read_accepted-d-requires
 read_accepted-d-requires c = record { i_in_bounds = search rules; i_value = search fill_good }
@@ -22,17 +22,7 @@ pub put_decoded-y-requires : goal.put_decoded-y-requires
 put_decoded-y-requires c = search fill_room
 
 pub loop-i-preserved : goal.loop-i-preserved
-loop-i-preserved c = (
-  search rules,
-  fill_turn _ _ _ _ _ _ _ _ _ _ _ c.loop-i-test.true c.read_accepted-d.ensures.answer
-      c.put_decoded-kind.ensures.answer c.put_decoded-kind.ensures.table c.loop-i.invariant.1,
-  fill_turn _ _ _ _ _ _ _ _ _ _ _ c.loop-i-test.true c.read_accepted-d.ensures.answer
-      c.put_decoded-area.ensures.answer c.put_decoded-area.ensures.table c.loop-i.invariant.2,
-  fill_turn _ _ _ _ _ _ _ _ _ _ _ c.loop-i-test.true c.read_accepted-d.ensures.answer
-      c.put_decoded-x.ensures.answer c.put_decoded-x.ensures.table c.loop-i.invariant.3,
-  fill_turn _ _ _ _ _ _ _ _ _ _ _ c.loop-i-test.true c.read_accepted-d.ensures.answer
-      c.put_decoded-y.ensures.answer c.put_decoded-y.ensures.table c.loop-i.invariant.4,
-)
+loop-i-preserved c = (search fill_turn, search fill_turn, search fill_turn, search fill_turn)
 
 pub returns : goal.returns
 returns c = record { plan = search fill_done; areas = search fill_done; xs = search fill_done; ys = search fill_done }
