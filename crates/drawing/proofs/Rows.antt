@@ -87,7 +87,7 @@ past_corner i c c' (Ok r) h e = rw e (omega (arith, corner_one_law r))
 past_corner i c c' (Err x) h e = rw e (omega arith)
 
 -- ---- the check: the cursor is told by the scan
-after_cursor : (s : State) (r : Record) → cursor_n (At (after_n s r)) ≡ past_record (cursor_n (Ok s)) r
+after_cursor : (s : State) (r : Record) → cursor_n (Ok (after_n s r)) ≡ past_record (cursor_n (Ok s)) r
 after_cursor s (Area f) = ap (cursor (s.areas + 1)) (sym (add-zero s.corners))
 after_cursor s (First x y) = ap (λ (a : ℕ). cursor a (s.corners + 1)) (sym (add-zero s.areas))
 after_cursor s (Next x y) = ap (λ (a : ℕ). cursor a (s.corners + 1)) (sym (add-zero s.areas))
@@ -97,7 +97,7 @@ after_cursor s Close = ap₂ cursor (sym (add-zero s.areas)) (sym (add-zero s.co
 after_cursor s (Control x y) = ap (λ (a : ℕ). cursor a (s.corners + 1)) (sym (add-zero s.areas))
 
 scan_cursor : (s : Scan) (d : Decoded) (i : ℕ) → is_err (advance_n s d i) ≡ false → cursor_n (advance_n s d i) ≡ past_of (cursor_n s) d
-scan_cursor (Stopped x j) d i h = clash (sym h)
+scan_cursor (Err e) d i h = clash (sym h)
 scan_cursor (Ok s) (Err x) i h = clash (sym h)
 scan_cursor (Ok s) (Ok r) i h = go (breaks_n s r) (fits_n s r) (ends_short_n s r) (in_limit_n s r) h
   where
@@ -266,13 +266,13 @@ agreed_is : (v : Verdict) (u k : Counts) (ds : List Decoded)
     → length ds ≡ u.records
     → agreed v u ≡ Ok k
     → (k ≡ u) × (checked ds ≡ Ok k)
-agreed_is (Refused r i) u k ds e l h = absurd cc
+agreed_is (Err x) u k ds e l h = absurd cc
 agreed_is (Ok j) u k ds e l h = go (eqb j.areas u.areas) (eqb j.corners u.corners) refl refl h
   where
     same : j.areas ≡ u.areas → j.corners ≡ u.corners → j ≡ u
     same p q = λ i. record { records = ((sound ds j e).records ∙ l) i; areas = p i; corners = q i }
 
-    is : Ok j ≡ Ok k → j ≡ k
+    is : ◌≡◌ {A = Verdict} (Ok j) (Ok k) → j ≡ k
     is x = cc
 
     go : (a b : Bool)

@@ -180,13 +180,13 @@ pub record Taken (b p a x y : List ℕ) (k : Counts) : Type 0 where
   pub room : Holds (length p) (length a) (length x) k
 
 room_told : (v : Verdict) (p a d : ℕ) (k : Counts) → if_room v p a d ≡ Ok k → (v ≡ Ok k) × Holds p a d k
-room_told (Refused r i) p a d k e = absurd cc
+room_told (Err x) p a d k e = absurd cc
 room_told (Ok j) p a d k e₀ = go (holds p a d j) refl e₀
   where
-    is : Ok j ≡ Ok k → j ≡ k
+    is : ◌≡◌ {A = Verdict} (Ok j) (Ok k) → j ≡ k
     is x = cc
 
-    go : (t : Bool) → holds p a d j ≡ t → cond t (Ok j) (Err (at_place Room 0)) ≡ Ok k → (Ok j ≡ Ok k) × Holds p a d k
+    go : (t : Bool) → holds p a d j ≡ t → cond t (Ok j) (Err (at_place Room 0)) ≡ Ok k → (◌≡◌ {A = Verdict} (Ok j) (Ok k)) × Holds p a d k
     go false q e = absurd cc
     go true q e = (e, rw (← is e) (held p a d j q))
 

@@ -1,11 +1,11 @@
 -- A drawing in its tables (docs/TABLES.md), when lent tables hold one, and what writing them out answers and leaves.
-use Rattle.std.specs.Prelude.{Ok, Err}
 use Rattle.refusals.specs.Refusals.{at_place}
-use Rattle.std.specs.Prelude.{ℕ, zero, suc, ◌+◌, ◌*◌, ◌/◌, ◌≤◌, cond, List, [], ◌∷◌, length, get_or, eqb, ltb, leb}
+use Rattle.std.specs.Prelude.{ℕ, zero, suc, ◌+◌, ◌*◌, ◌/◌, ◌≤◌, cond, List, [], ◌∷◌, length, get_or, Result, Ok, Err, eqb, ltb, leb}
 use Rattle.std.proofs.lemmas.List.Edits.{sets}
 use denote.Triple.Both.{Both}
 use Rattle.std.specs.Borrow.{Bor}
 use Rattle.records.specs.declared.Fields.{Fields}
+use Rattle.refusals.specs.declared.Refusal.{Refusal}
 use Rattle.refusals.specs.declared.Refusal.TheVariants.{Kind, Field, Argument, Room, Broken}
 use Rattle.records.specs.declared.Record.{Record}
 use Rattle.records.specs.declared.Record.TheVariants.{Area}
@@ -17,8 +17,6 @@ use Rattle.grammar.specs.Grammar.{checked, counts}
 use Rattle.grammar.specs.Lists.{good_records, area_one, corner_one}
 use Rattle.drawing.specs.declared.Cursor.{Cursor}
 use Rattle.drawing.specs.declared.Drawing.{Drawing}
-use Rattle.drawing.specs.declared.Written.{Written}
-use Rattle.drawing.specs.declared.Written.TheVariants.{Bytes, Not}
 use Rattle.read.specs.Words.{file_of}
 use Rattle.read.specs.Reading.{holds}
 
@@ -108,7 +106,7 @@ drawn_in t = good_records (rebuilt_in t)
 -- tables is 12; so is a number of areas or of corners that is not that of the kinds
 abbrev pub agreed : Verdict → Counts → Verdict
 agreed (Ok k) u = cond (eqb k.areas u.areas) (cond (eqb k.corners u.corners) (Ok k) (Err (at_place Broken 0))) (Err (at_place Broken 0))
-agreed (Refused r i) u = Err (at_place Broken 0)
+agreed (Err e) u = Err (at_place Broken 0)
 
 unfoldable pub counts_judged : Tables → Counts → Verdict
 counts_judged t u =
@@ -124,16 +122,20 @@ drawing_verdict t =
     (Err (at_place Argument 0))
 
 -- then 11, the output too short for 16 bytes a record
+-- how many bytes were written, or why none were
+abbrev pub Written : Type 0
+Written = Result ℕ Refusal
+
 abbrev pub written_of : Verdict → ℕ → Written
-written_of (Ok k) n = cond (leb k.records (n / 16)) (Bytes (k.records * 16)) (Not Room)
-written_of (Refused r i) n = Not r
+written_of (Ok k) n = cond (leb k.records (n / 16)) (Ok (k.records * 16)) (Err Room)
+written_of (Err e) n = Err e.refusal
 
 unfoldable pub write_answer : Tables → List ℕ → Written
 write_answer t out = written_of (drawing_verdict t) (length out)
 
 abbrev pub out_after : Written → List ℕ → List ℕ → List ℕ
-out_after (Bytes n) out bs = sets out 0 bs
-out_after (Not r) out bs = out
+out_after (Ok n) out bs = sets out 0 bs
+out_after (Err r) out bs = out
 
 -- the output after the call: the file of the drawing in the tables
 abbrev pub out_written : Tables → List ℕ → List ℕ

@@ -1,0 +1,25 @@
+use mathlib.Core.Path.{refl}
+use Rattle.std.specs.Prelude.{Ok}
+use borrow.Author.Rules.{rules}
+use Rattle.drawing.proofs.Rows.{copy_begin, copy_good, copy_room, copy_turn, copy_done, past_area, past_corner, bytes_table}
+use Rattle.drawing.proofs.Drawing.write_all.Goals as goal
+
+pub loop-i-init : goal.loop-i-init
+loop-i-init c = (search rules, search rules, search copy_begin)
+
+pub row_accepted-r-requires-clause-c_value : goal.row_accepted-r-requires-clause-c_value
+row_accepted-r-requires-clause-c_value c = search copy_good
+
+pub put_raw-requires : goal.put_raw-requires
+put_raw-requires c = copy_room _ _ _ _ _ _ _ _ _ c.loop-i-test.true c.row_accepted-r.ensures.answer c.loop-i.invariant.2
+
+pub loop-i-preserved : goal.loop-i-preserved
+loop-i-preserved c = (
+  past_area _ _ _ (Ok c.row_accepted-r.result) c.loop-i.invariant.0 c.past-c.ensures.answer,
+  past_corner _ _ _ (Ok c.row_accepted-r.result) c.loop-i.invariant.1 c.past-c.ensures.answer,
+  copy_turn _ _ _ _ _ _ _ _ _ _ _ _ c.loop-i-test.true c.row_accepted-r.ensures.answer refl
+      (bytes_table _ _ _ _ _ _ refl c.raw_of.ensures.answer c.put_raw.ensures.out) c.past-c.ensures.answer c.loop-i.invariant.2,
+)
+
+pub returns : goal.returns
+returns c = record { out = search copy_done }
