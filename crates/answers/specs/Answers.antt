@@ -1,11 +1,10 @@
 -- An answer as one number: the refusal's number times 2^32 and its place; the result where nothing is refused.
-use Rattle.std.specs.Prelude.{Ok}
+use Rattle.std.specs.Prelude.{Ok, Err}
 use Rattle.std.specs.Prelude.{Bool, cond, List, ℕ, ◌+◌, ◌*◌, leb, length, set}
 use Rattle.refusals.specs.declared.Refusal.TheVariants.{Room}
 use Rattle.refusals.specs.Refusals.{number_of}
 use Rattle.grammar.specs.Grammar.{Verdict}
-use Rattle.drawing.specs.declared.Written.{Written}
-use Rattle.drawing.specs.declared.Written.TheVariants.{Bytes, Not}
+use Rattle.drawing.specs.Tables.{Written}
 use Rattle.open.specs.declared.Answer as newtree-answer
 use Rattle.open.specs.declared.Answer.TheVariants as newtree
 use Rattle.split.specs.declared.Answer as tree-answer
@@ -22,12 +21,12 @@ packed number low = number * 4294967296 + low
 -- reading: how many records; document 01 leaves this result free
 abbrev pub read_number : Verdict → ℕ
 read_number (Ok k) = packed 0 k.records
-read_number (Refused r p) = packed (number_of r) p
+read_number (Err e) = packed (number_of e.refusal) e.place
 
 -- writing: how many bytes; document 01 leaves this result free; refusals from the state have place 0
 abbrev pub write_number : Written → ℕ
-write_number (Bytes n) = packed 0 n
-write_number (Not r) = packed (number_of r) 0
+write_number (Ok n) = packed 0 n
+write_number (Err r) = packed (number_of r) 0
 
 -- opening: how many entries; document 01 leaves this result free
 abbrev pub open_number : newtree-answer.Answer → ℕ
@@ -77,11 +76,11 @@ leaf_written a out = out_found (find_room a (length out)) out
 -- the low halves
 abbrev pub read_low : Verdict → ℕ
 read_low (Ok k) = k.records
-read_low (Refused r p) = p
+read_low (Err e) = e.place
 
 abbrev pub write_low : Written → ℕ
-write_low (Bytes n) = n
-write_low (Not r) = 0
+write_low (Ok n) = n
+write_low (Err r) = 0
 
 -- the splits made
 abbrev pub grow_splits : growth-answer.Answer → ℕ

@@ -11,12 +11,11 @@ ghost use Rattle.answers.specs.Answers.{packed, read_number, write_number, read_
 ghost use Rattle.answers.specs.Answers.{word_of, leaf_put, find_room, find_number, leaf_written};
 ghost use Rattle.answers.specs.Readings.{spot_put, spot_room, spot_number, spot_written, low_half, log_number, row_place, row_number};
 
-use drawing::Written;
 use find_leaf::FoundLeaf;
-use grammar::Verdict;
+use grammar::Counts;
 use pixel_row::RowAnswer;
 use position::Spot;
-use refusals::Refusal;
+use refusals::{Refusal, Refused};
 use zone_log::LogAnswer;
 
 // The words of a leaf that is found.
@@ -41,26 +40,23 @@ fn refused(r: Refusal) -> u64
     pack(n, 0)
 }
 
-pub fn pack_read(v: Verdict) -> u64
+pub fn pack_read(v: Result<Counts, Refused>) -> u64
     requires { read_low v ≤ 4096 }
     ensures answer { result ≡ read_number v }
 {
     match v {
-        Verdict::Accepted(k) => pack(0, k.records),
-        Verdict::Refused(r, p) => {
-            let n = u32::from(r);
-            pack(n, p)
-        }
+        Ok(k) => pack(0, k.records),
+        Err(e) => pack(e.refusal.into(), e.place),
     }
 }
 
-pub fn pack_written(w: Written) -> u64
+pub fn pack_written(w: Result<usize, Refusal>) -> u64
     requires { write_low w ≤ 65536 }
     ensures answer { result ≡ write_number w }
 {
     match w {
-        Written::Bytes(n) => pack(0, n),
-        Written::Not(r) => refused(r),
+        Ok(n) => pack(0, n),
+        Err(r) => refused(r),
     }
 }
 

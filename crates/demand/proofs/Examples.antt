@@ -1,7 +1,6 @@
 -- The claims are not empty: the file of the triangle's four records is read into tables with room for 9 cells and 40 entries, and opened; a list of calls
 -- follows, refused ones among them; and the words that a position then gives are computed.
-use Rattle.std.specs.Prelude.{Ok, Err}
-use Rattle.refusals.specs.Refusals.{at_place}
+use Rattle.std.specs.Prelude.{Ok}
 use mathlib.Core.Path.{◌≡◌, refl, sym, ap, ◌∙◌}
 use mathlib.Core.Bool.{Bool, true}
 use mathlib.Core.List.{List, [], ◌∷◌, ◌++◌}
@@ -161,10 +160,10 @@ calls = own (splits 0) ∷ other unequal (splits 0) ∷ other headless opens ∷
 no_room : open_answer headless ≡ Not Refusals.Room
 no_room = ap (drawing_answer headless) (holding_passes (drawing_tables example) triangle (Grammar.counts 4 1 3) accepted held)
 
-seven : Err (at_place (splits 0) unequal)
+seven : Refused (splits 0) unequal
 seven e = omega arith
 
-eleven : Err (at_place opens headless)
+eleven : Refused opens headless
 eleven e = let z : ◌≡◌ {A = ℕ} 11 0 = sym (ap (λ (a : Opening.Answer). refusal (opening a)) no_room) ∙ e in omega arith
 
 allowed : AllAllowed calls (file_tree file blank)

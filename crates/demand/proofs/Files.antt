@@ -80,8 +80,8 @@ number_is n = omega arith
 module _ (D : Drawing) where
   -- at a position
   spot_roomed : (b : Bool) (s : Spot)
-      → refusal (reading (cond b (Reads.Ok s) (Reads.Not Refusals.Room))) ≡ 0
-      → cond b (Reads.Ok s) (Reads.Not Refusals.Room) ≡ Reads.Ok s
+      → refusal (reading (cond b (Reads.At s) (Reads.Not Refusals.Room))) ≡ 0
+      → cond b (Reads.At s) (Reads.Not Refusals.Room) ≡ Reads.At s
   spot_roomed true s e = refl
   spot_roomed false s e = absurd (omega arith)
 
@@ -129,7 +129,7 @@ module _ (D : Drawing) where
           let w = q.inside e in
           let s = spot_there D H w.0 (at x y) in
           let a = spot_roomed (leb 10 (length out)) s (sym (ap (λ (g : Given). refusal g.answer) w.2) ∙ h) in
-          shows_accepted H (position x y out) t (position_given (Reads.Ok s) out) w.0 w.2 w.1 (ap spot_number a ∙ number_is s.material)
+          shows_accepted H (position x y out) t (position_given (Reads.At s) out) w.0 w.2 w.1 (ap spot_number a ∙ number_is s.material)
           (ap (λ (r : Reading.Answer). out_spot r out) a)
       go false e =
           let z : ◌≡◌ {A = ℕ} 7 0 = sym (ap (λ (g : Given). refusal g.answer) (q.outside e)) ∙ h in

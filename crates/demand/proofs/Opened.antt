@@ -30,7 +30,7 @@ use Rattle.tables.proofs.Counts.{head_fits, counts_of}
 use Rattle.open.specs.declared.Answer.{Answer}
 use Rattle.open.specs.declared.Answer.TheVariants.{Opened}
 use Rattle.open.specs.Open.{root_words, drawing_tables, stream_opened, open_answer, open_tree}
-use Rattle.open.proofs.Ok.{Accepts, open_accepts}
+use Rattle.open.proofs.Accepted.{Accepts, open_accepts}
 use Rattle.demand.specs.History.{begun, cell_in, first_in, parent_in, Leaf}
 use Rattle.demand.specs.Stands.{drawing_of, words_of_cell}
 use Rattle.demand.specs.code.Opened.{opened_by}

@@ -12,7 +12,7 @@ use Rattle.laws.proofs.Booleans.{and_both}
 use Rattle.std.proofs.lemmas.List.Edits.{sets}
 use Rattle.grammar.specs.declared.Counts.{Counts}
 use Rattle.grammar.specs.Grammar.{Verdict}
-use Rattle.refusals.specs.declared.Refusal.{Refusal}
+use Rattle.refusals.specs.declared.Refused.{Refused}
 use Rattle.refusals.specs.declared.Refusal.TheVariants.{Length, Argument, Room}
 use Rattle.read.specs.Words.{plan_words, area_words, x_words, y_words}
 use Rattle.read.specs.Reading.{records_in, verdict_of, holds, if_room, read_answer}
@@ -29,7 +29,7 @@ room_for_all k r a c =
     and_both (leb k.records 4096) _ (le-leb k.records 4096 r) (and_both (leb k.areas 64) _ (le-leb k.areas 64 a) (le-leb k.corners 2048 c))
 
 room_of_verdict : (b : List ℕ) (v : Verdict) → verdict_of b ≡ v → if_room v 4099 512 2048 ≡ v
-room_of_verdict b (Refused r i) e = refl
+room_of_verdict b (Err x) e = refl
 room_of_verdict b (Ok k) e =
     let f = filed b k e in
     ap (λ h. cond h (Ok k) (Err (at_place Room 0))) (room_for_all k f.below f.few f.many)
@@ -53,8 +53,8 @@ verdict_read b plan areas xs ys p a x y =
     ∙ ap (λ t. read_answer b (zeros 4099) (zeros 512) (zeros 2048) t) y
     ∙ verdict_zeros b
 
-pub refused_said : (b : List ℕ) (r : Refusal) (p : ℕ) → Err (at_place r p) ≡ verdict_of b → refused_text r p ≡ file_text b
-refused_said b r p e = ap (verdict_text b) e
+pub refused_said : (b : List ℕ) (e : Refused) → Err e ≡ verdict_of b → refused_text e.refusal e.place ≡ file_text b
+refused_said b r e = ap (verdict_text b) e
 
 pub accepted_said : (b plan areas xs ys plan' areas' xs' ys' : List ℕ) (k : Counts) → Ok k ≡ verdict_of b
     → plan ≡ zeros 4099 → areas ≡ zeros 512 → xs ≡ zeros 2048 → ys ≡ zeros 2048

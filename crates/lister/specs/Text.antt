@@ -1,5 +1,5 @@
 -- Document 01, "Spots to try": what the leaf lister prints, byte by byte. A space is 32, a line ends with 10.
-use Rattle.std.specs.Prelude.{Ok}
+use Rattle.std.specs.Prelude.{Ok, Err}
 use Rattle.std.specs.Prelude.{List, [], ◌∷◌, ◌++◌, ℕ, codes, replicate}
 use Rattle.std.proofs.lemmas.List.Edits.{sets}
 use Rattle.std.specs.Fmt.{decimal}
@@ -60,7 +60,7 @@ file_tree b =
 -- of a file: of its drawing, or of its refusal
 abbrev pub verdict_text : (file : List ℕ) → Verdict → List ℕ
 verdict_text b (Ok k) = tree_text (file_tree b)
-verdict_text b (Refused r p) = refused_text r p
+verdict_text b (Err e) = refused_text e.refusal e.place
 
 abbrev pub file_text : (file : List ℕ) → List ℕ
 file_text b = verdict_text b (verdict_of b)

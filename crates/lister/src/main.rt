@@ -11,7 +11,6 @@ ghost use Rattle.lister.specs.Printed.{lines_of, outcome_of, outcome_grown, rows
 ghost use Rattle.lister.specs.Leaves.{PrintsEachLeaf, FilePrintsEachLeaf};
 ghost use Rattle.lister.specs.Text.{line_text, lines_text, refused_text, outcome_text, drawing_text, file_text};
 
-use grammar::Verdict;
 use listing::Line;
 use refusals::Refusal;
 use std::io;
@@ -199,8 +198,8 @@ fn print_file<W: Write>(out: &mut W, records: &[u8]) -> io::Result<()>
     let mut ys = [0u32; records::MOST_CORNERS];
     let v = read::read(records, &mut plan, &mut areas, &mut xs, &mut ys);
     match v {
-        Verdict::Accepted(_) => print_drawing(out, &plan, &areas, &xs, &ys),
-        Verdict::Refused(r, p) => print_refused(out, r, p),
+        Ok(_) => print_drawing(out, &plan, &areas, &xs, &ys),
+        Err(e) => print_refused(out, e.refusal, e.place),
     }
 }
 

@@ -1,5 +1,5 @@
 -- What an accepted opening says of the tables: the drawing passes, there is room, and what the tree's tables are then.
-use Rattle.std.specs.Prelude.{Ok}
+use Rattle.std.specs.Prelude.{Ok, Err}
 use mathlib.Core.Path.{◌≡◌, refl, sym, ap, ◌∙◌}
 use mathlib.Core.Bool.{Bool, true, false, cond}
 use Prim.Native.Nat.{ℕ, ◌*◌, ◌≤◌}
@@ -68,7 +68,7 @@ module _ (t : Tree) where
           → cond a (drawing_answer t v) (Not Argument) ≡ Opened n
           → Accepts n
       go false v b p d q x = not_opened Argument n x
-      go true (Refused r i) b p d q x = not_opened Broken n x
+      go true (Err r) b p d q x = not_opened Broken n x
       go true (Ok k) false p d q x = not_opened Room n (ap (λ (y : Bool). cond y (Opened (length (stream_opened t))) (Not Room)) (sym q) ∙ x)
       go true (Ok k) true p d q x =
           taken k (eqb-true (length t.xs) (length t.ys) p) d q

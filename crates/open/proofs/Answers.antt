@@ -1,6 +1,6 @@
 -- The answers of an opening, check by check.
 use Rattle.std.specs.Prelude.{Ok, Err}
-use Rattle.refusals.specs.Refusals.{at_place}
+use Rattle.refusals.specs.declared.Refused.{Refused}
 use mathlib.Core.Path.{◌≡◌, sym, ap, ◌∙◌}
 use Prim.Native.Nat.{ℕ}
 use native.Mathlib.Omega.{arith}
@@ -23,8 +23,8 @@ module _ (t : Tree) where
   pub unequal : (length t.xs ≡ length t.ys → ⊥) → Not Argument ≡ open_answer t
   unequal h = rw (ne_eqb (length t.xs) (length t.ys) h)
 
-  pub broken : (r : Refusal) (i : ℕ) → length t.xs ≡ length t.ys → drawing_verdict (drawing_tables t) ≡ Err (at_place r i) → Not Broken ≡ open_answer t
-  broken r i h e = rw (eq-eqb (length t.xs) (length t.ys) h) (sym (ap (drawing_answer t) e))
+  pub broken : (e : Refused) → length t.xs ≡ length t.ys → drawing_verdict (drawing_tables t) ≡ Err e → Not Broken ≡ open_answer t
+  broken r h e = rw (eq-eqb (length t.xs) (length t.ys) h) (sym (ap (drawing_answer t) e))
 
   pub passed : (k : Counts) → length t.xs ≡ length t.ys → drawing_verdict (drawing_tables t) ≡ Ok k → room_answer t ≡ open_answer t
   passed k h e = rw (eq-eqb (length t.xs) (length t.ys) h) (sym (ap (drawing_answer t) e))

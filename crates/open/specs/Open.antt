@@ -1,5 +1,5 @@
 -- Document 01, "Cells" and "From the state", and document 02, Item 5: opening a tree over a lent drawing: the answer, and every table afterwards.
-use Rattle.std.specs.Prelude.{Ok}
+use Rattle.std.specs.Prelude.{Ok, Err}
 use Rattle.std.specs.Prelude.{Bool, cond, ◌&&◌, List, ℕ, eqb, leb, length, set}
 use Rattle.refusals.specs.declared.Refusal.TheVariants.{Argument, Room, Broken}
 use Rattle.grammar.specs.Grammar.{Verdict}
@@ -41,7 +41,7 @@ module _ (t : Tree) where
   -- 12: "a number met in the tables used (the drawing when opening ...) is outside its range, or that drawing ... breaks the grammar"
   abbrev pub drawing_answer : Verdict → Answer
   drawing_answer (Ok k) = room_answer
-  drawing_answer (Refused r i) = Not Broken
+  drawing_answer (Err e) = Not Broken
 
   -- 7: "a lent pair of x and y tables of unequal length"; then 12, then 11
   abbrev pub open_answer : Answer

@@ -3,7 +3,6 @@
 #![tactic(auto)]
 
 ghost use Rattle.std.specs.Prelude.{◌≡◌, ◌/◌, ◌%◌, ◌≤◌, length};
-ghost use Rattle.grammar.specs.declared.Verdict.TheVariants.{Accepted};
 ghost use Rattle.drawing.specs.Tables.{tables, drawing_verdict};
 ghost use Rattle.stream.specs.Entry.{lines_in};
 ghost use Rattle.stream.specs.Grammar.{bounds};
@@ -15,7 +14,8 @@ ghost use Rattle.open.specs.Open.{root_words, room_for, room_answer, open_answer
 ghost use Rattle.open.specs.code.Judged.{Told};
 
 use celltable::CellWords;
-use grammar::{Counts, Verdict};
+use drawing::Drawing;
+use grammar::Counts;
 use refusals::Refusal;
 use stream::Bounds;
 
@@ -96,7 +96,7 @@ fn judge_room(
     entries: &[u32],
     k: Counts,
 ) -> Judged
-    requires { drawing_verdict (tables plan.now areas.now xs.now ys.now) ≡ Accepted k }
+    requires { drawing_verdict (tables plan.now areas.now xs.now ys.now) ≡ Ok k }
     ensures answer { result.answer ≡ room_answer (tree_lent plan areas xs ys head cells entries) }
     ensures told { Told (tree_lent plan areas xs ys head cells entries) result }
 {
@@ -129,12 +129,18 @@ fn judge(
     ensures told { Told (tree_lent plan areas xs ys head cells entries) result }
 {
     if xs.len() == ys.len() {
-        let v = drawing::check_drawing(plan, areas, xs, ys);
+        let drawing = Drawing {
+            plan,
+            areas,
+            xs,
+            ys,
+        };
+        let v = drawing.check();
         match v {
-            Verdict::Accepted(k) => {
+            Ok(k) => {
                 return judge_room(plan, areas, xs, ys, head, cells, entries, k);
             }
-            Verdict::Refused(_, _) => {
+            Err(_) => {
                 return refused(Refusal::Broken);
             }
         }
@@ -175,7 +181,7 @@ fn put_opened(
     lines: u32,
 )
     requires entries_value { open_answer (tree plan.now areas.now xs.now ys.now head.old cells.old entries.old) ≡ Opened n }
-    requires ys_value { drawing_verdict (tables plan.now areas.now xs.now ys.now) ≡ Accepted k }
+    requires ys_value { drawing_verdict (tables plan.now areas.now xs.now ys.now) ≡ Ok k }
     requires lines_value { lines ≡ lines_in (words_opened (tables plan.now areas.now xs.now ys.now)) }
     ensures head { head.new ≡ head_opened (tree_lent_mut plan areas xs ys head cells entries) (Opened n) }
     ensures cells { cells.new ≡ cells_opened (tree_lent_mut plan areas xs ys head cells entries) (Opened n) }

@@ -15,7 +15,6 @@ use Rattle.grammar.specs.Grammar.{checked, Verdict·place}
 use Rattle.grammar.proofs.Laws.{place_below}
 use Rattle.read.specs.Reading.{decoded_in, verdict_of, holds, if_room, read_answer}
 use Rattle.read.proofs.Files.{filed, length_from}
-use Rattle.drawing.specs.declared.Written.TheVariants.{Bytes, Not}
 use Rattle.drawing.specs.Tables.{Tables, drawing_verdict, written_of, write_answer}
 use Rattle.drawing.proofs.Rows.{drawn}
 use Rattle.tables.specs.Tables.{Tree}
@@ -55,7 +54,7 @@ verdict_low b = go (verdict_of b) refl
   where
     go : (v : Verdict) → verdict_of b ≡ v → read_low v ≤ 4096
     go (Ok k) e = (filed b k e).below
-    go (Refused r p) e = rw e at (verdict_place b)
+    go (Err x) e = rw e at (verdict_place b)
 
 room_low : (v : Verdict) (p a c : ℕ) → read_low v ≤ 4096 → read_low (if_room v p a c) ≤ 4096
 room_low (Ok k) p a c h = go (holds p a c k)
@@ -63,7 +62,7 @@ room_low (Ok k) p a c h = go (holds p a c k)
     go : (t : Bool) → read_low (cond t (Ok k) (Err (at_place Room 0))) ≤ 4096
     go true = h
     go false = omega arith
-room_low (Refused r i) p a c h = h
+room_low (Err x) p a c h = h
 
 pub read_low_law : (b p a x y : List ℕ) → read_low (read_answer b p a x y) ≤ 4096
 unfolding read_answer
@@ -77,13 +76,13 @@ pub write_low_law : (t : Tables) (out : List ℕ) → write_low (write_answer t 
 unfolding write_answer
 write_low_law t out = go (drawing_verdict t) refl
   where
-    room : (b : Bool) (n : ℕ) → n ≤ 4096 → write_low (cond b (Bytes (n * 16)) (Not Room)) ≤ 65536
+    room : (b : Bool) (n : ℕ) → n ≤ 4096 → write_low (cond b (Ok (n * 16)) (Err Room)) ≤ 65536
     room true n h = omega arith
     room false n h = omega arith
 
     go : (v : Verdict) → drawing_verdict t ≡ v → write_low (written_of v (length out)) ≤ 65536
     go (Ok k) e = room (leb k.records (length out / 16)) k.records (drawn t k e).below
-    go (Refused r i) e = omega arith
+    go (Err x) e = omega arith
 
 -- no more splits than rounds
 made_by_law : (k n l : ℕ) (t : Tree) → ((u : Tree) → length (growing k n l u).cells ≤ k) → (r : Round) → length (go_on r t (growing k n l)).cells ≤ suc k

@@ -23,6 +23,8 @@ ghost use Rattle.find_leaf.specs.Leaf.{find_answer};
 ghost use Rattle.grow.specs.Grow.{grow_answer, grow_tree};
 ghost use Rattle.answers.specs.Answers.{read_number, write_number, open_number, split_number, grow_number, find_room, find_number, leaf_written};
 
+use drawing::Drawing;
+
 // Reads a file of records into the four tables of a drawing. The result is the number of records.
 // Refusals, in this order: 7 (tables of x and y of unequal length), 1, each record by 2 to 6, the end by 4 and 5, 11.
 #[unsafe(no_mangle)]
@@ -56,7 +58,13 @@ pub extern "C" fn zones_write(
     ensures answer { result ≡ write_number (write_answer (drawing_lent plan areas xs ys) out.old) }
     ensures out { out.new ≡ out_written (drawing_lent plan areas xs ys) out.old }
 {
-    let w = drawing::write(plan, areas, xs, ys, out);
+    let drawing = Drawing {
+        plan,
+        areas,
+        xs,
+        ys,
+    };
+    let w = drawing.write(out);
     answers::pack_written(w)
 }
 

@@ -5,23 +5,23 @@ use Rattle.open.proofs.Answers.{unequal, broken, passed, told_refused}
 use Rattle.open.proofs.judge.Goals as goal
 
 pub judge_room-requires : goal.judge_room-requires
-judge_room-requires c = sym c.check_drawing-v.ensures.answer ∙ c.in-Accepted.is
+judge_room-requires c = sym c.check-v.ensures.answer ∙ c.in-Ok.is
 
-pub returns-in-Accepted : goal.returns-in-Accepted
-returns-in-Accepted c =
+pub returns-in-Ok : goal.returns-in-Ok
+returns-in-Ok c =
     let a = c.args in
     let T = tree a.plan.now a.areas.now a.xs.now a.ys.now a.head.now a.cells.now a.entries.now in
     record {
-      answer = c.judge_room.ensures.answer ∙ passed T _ c.if-xs-ys.true (sym c.check_drawing-v.ensures.answer ∙ c.in-Accepted.is);
+      answer = c.judge_room.ensures.answer ∙ passed T _ c.if-xs-ys.true (sym c.check-v.ensures.answer ∙ c.in-Ok.is);
       told = c.judge_room.ensures.told;
     }
 
-pub returns-in-Refused : goal.returns-in-Refused
-returns-in-Refused c =
+pub returns-in-Err : goal.returns-in-Err
+returns-in-Err c =
     let a = c.args in
     let T = tree a.plan.now a.areas.now a.xs.now a.ys.now a.head.now a.cells.now a.entries.now in
     record {
-      answer = c.refused.ensures.answer ∙ broken T _ _ c.if-xs-ys.true (sym c.check_drawing-v.ensures.answer ∙ c.in-Refused.is);
+      answer = c.refused.ensures.answer ∙ broken T _ c.if-xs-ys.true (sym c.check-v.ensures.answer ∙ c.in-Err.is);
       told = told_refused T c.refused.result Broken c.refused.ensures.answer;
     }
 
