@@ -1,6 +1,5 @@
 -- An answer as one number: the refusal's number times 2^32 and its place; the result where nothing is refused.
-use Rattle.std.specs.Prelude.{Ok, Err}
-use Rattle.std.specs.Prelude.{Bool, cond, List, ℕ, ◌+◌, ◌*◌, leb, length, set}
+use Rattle.std.specs.Prelude.{Bool, cond, List, ℕ, ◌+◌, ◌*◌, leb, length, set, Ok, Err}
 use Rattle.refusals.specs.declared.Refusal.TheVariants.{Room}
 use Rattle.refusals.specs.Refusals.{number_of}
 use Rattle.grammar.specs.Grammar.{Verdict}

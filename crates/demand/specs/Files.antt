@@ -1,7 +1,6 @@
 -- From the file to the answer: a file of records is read, a tree is opened over what was read, and any list of calls follows. What an accepted reading then
 -- gives is what the records of the file show, worked out with no tree.
-use Rattle.std.specs.Prelude.{Ok}
-use Rattle.std.specs.Prelude.{◌≡◌, List, ℕ, ◌/◌, length}
+use Rattle.std.specs.Prelude.{◌≡◌, List, ℕ, ◌/◌, length, Ok}
 use Rattle.std.proofs.lemmas.List.Edits.{sets}
 use Rattle.grammar.specs.declared.Counts.{Counts}
 use Rattle.grammar.specs.Grammar.{Verdict}

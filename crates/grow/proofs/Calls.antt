@@ -5,10 +5,10 @@ use Prim.Native.Nat.{ℕ, ◌≤◌, ◌<◌}
 use lib.Dec.{eqb, leb}
 use lib.ListN.{length}
 use borrow.Author.Tests.{eq-eqb, ne_eqb, le-leb, lt-leb}
+use Rattle.std.specs.Prelude.{Err}
 use Rattle.refusals.specs.declared.Refusal.TheVariants.{Argument, Broken}
 use Rattle.tables.specs.Tables.{Tree, cells_used, counts_in}
 use Rattle.laws.proofs.Choices.{pick_true, pick_false}
-use Rattle.grow.specs.declared.Answer.TheVariants.{Not}
 use Rattle.grow.specs.Grow.{lowest_from, Round, broken, round_by, round, not_passed, Grown, ended, go_on, grown, answer_of, grow_answer, grow_tree}
 use Rattle.grow.proofs.Fuel.{grown_step}
 
@@ -20,17 +20,17 @@ module _ (t : Tree) (n l : ℕ) where
   shallow = leb l 16
 
   -- 7
-  pub call_uneven : (length t.xs ≡ length t.ys → ⊥) → Not Argument ≡ grow_answer t n l
-  call_uneven f = pick_false even (cond shallow (answer_of (grown n l t)) (Not Argument)) (Not Argument) (ne_eqb (length t.xs) (length t.ys) f)
+  pub call_uneven : (length t.xs ≡ length t.ys → ⊥) → Err Argument ≡ grow_answer t n l
+  call_uneven f = pick_false even (cond shallow (answer_of (grown n l t)) (Err Argument)) (Err Argument) (ne_eqb (length t.xs) (length t.ys) f)
 
   pub tree_uneven : (length t.xs ≡ length t.ys → ⊥) → t ≡ grow_tree t n l
   tree_uneven f = pick_false even (cond shallow (grown n l t).after t) t (ne_eqb (length t.xs) (length t.ys) f)
 
   module _ (p : length t.xs ≡ length t.ys) where
-    pub call_deep : 16 < l → Not Argument ≡ grow_answer t n l
+    pub call_deep : 16 < l → Err Argument ≡ grow_answer t n l
     call_deep h =
-        pick_false shallow (answer_of (grown n l t)) (Not Argument) (lt-leb l 16 h)
-        ∙ pick_true even (cond shallow (answer_of (grown n l t)) (Not Argument)) (Not Argument) (eq-eqb (length t.xs) (length t.ys) p)
+        pick_false shallow (answer_of (grown n l t)) (Err Argument) (lt-leb l 16 h)
+        ∙ pick_true even (cond shallow (answer_of (grown n l t)) (Err Argument)) (Err Argument) (eq-eqb (length t.xs) (length t.ys) p)
 
     pub tree_deep : 16 < l → t ≡ grow_tree t n l
     tree_deep h =
@@ -40,8 +40,8 @@ module _ (t : Tree) (n l : ℕ) where
     module _ (h : l ≤ 16) where
       pub call_grown : answer_of (grown n l t) ≡ grow_answer t n l
       call_grown =
-          pick_true shallow (answer_of (grown n l t)) (Not Argument) (le-leb l 16 h)
-          ∙ pick_true even (cond shallow (answer_of (grown n l t)) (Not Argument)) (Not Argument) (eq-eqb (length t.xs) (length t.ys) p)
+          pick_true shallow (answer_of (grown n l t)) (Err Argument) (le-leb l 16 h)
+          ∙ pick_true even (cond shallow (answer_of (grown n l t)) (Err Argument)) (Err Argument) (eq-eqb (length t.xs) (length t.ys) p)
 
       pub tree_grown : (grown n l t).after ≡ grow_tree t n l
       tree_grown =
@@ -56,7 +56,7 @@ module _ (t : Tree) (n l : ℕ) where
   ends : counts_in t ≡ false → grown n l t ≡ ended t not_passed
   ends c = grown_step n l t ∙ ap (λ (r : Round). go_on r t (grown n l)) (stops c)
 
-  pub answer_uncounted : counts_in t ≡ false → Not Broken ≡ answer_of (grown n l t)
+  pub answer_uncounted : counts_in t ≡ false → Err Broken ≡ answer_of (grown n l t)
   answer_uncounted c = sym (ap answer_of (ends c))
 
   pub tree_uncounted : counts_in t ≡ false → t ≡ (grown n l t).after

@@ -7,6 +7,7 @@ use native.Mathlib.Decide.{ℕ_discrete}
 use lib.Dec.{eqb}
 use lib.ListN.{length}
 use borrow.Author.Tests.{eqb-true}
+use Rattle.std.specs.Prelude.{Result, Ok, Err}
 use Rattle.laws.proofs.Booleans.{clash}
 use Rattle.refusals.specs.Refusals.{number_of}
 use Rattle.refusals.specs.declared.Refusal.{Refusal}
@@ -25,8 +26,6 @@ use Rattle.refusals.specs.declared.Refusal.TheVariants.{
   Broken,
   Curve,
 }
-use Rattle.split.specs.declared.Answer as Splitting
-use Rattle.split.specs.declared.Answer.TheVariants.{Split, Not}
 use Rattle.tables.specs.Tables.{Tree, cells_used, counts_in}
 use Rattle.split.specs.Split.{split_answer}
 use Rattle.split_laws.specs.After.{split_tree}
@@ -63,7 +62,7 @@ use Rattle.grow.proofs.Fuel.{round_split}
 
 -- ---- what each accepted split keeps
 module _ (n l : ℕ) where
-  module _ (P : Tree → Type 0) (keeps : (u : Tree) (i k : ℕ) → split_answer u i ≡ Split k → P u → P (split_tree u i)) where
+  module _ (P : Tree → Type 0) (keeps : (u : Tree) (i k : ℕ) → split_answer u i ≡ Ok k → P u → P (split_tree u i)) where
     round_keeps : (f : Tree → Grown) → ((u : Tree) → P u → P (f u).after) → (t : Tree) (r : Round) → round n l t ≡ r → P t → P (go_on r t f).after
     round_keeps f g t (splits i) e p = g (split_tree t i) (keeps t i (cells_used t.head) (round_split n l t i e) p)
     round_keeps f g t done e p = p
@@ -169,9 +168,9 @@ module _ (n l : ℕ) (t : Tree) where
       go (yes q) f = rw q first.0
       go (no q) f = f (omega arith)
 
-  not_done : (i : ℕ) (x : Splitting.Answer) → round_at i x ≡ done → ⊥
-  not_done i (Split k) e = clash (ap is_done e)
-  not_done i (Not r) e = by (eqb (number_of r) 11) e
+  not_done : (i : ℕ) (x : Result ℕ Refusal) → round_at i x ≡ done → ⊥
+  not_done i (Ok k) e = clash (ap is_done e)
+  not_done i (Err r) e = by (eqb (number_of r) 11) e
     where
       by : (b : Bool) → cond b full broken ≡ done → ⊥
       by true q = clash (ap is_done q)
@@ -199,7 +198,7 @@ pub record NoRoomAt (n l : ℕ) (t : Tree) : Type 0 where
   pub in_use : cell < cells_used t.head
   pub wanted : tried t n l cell ≡ Wanted
   pub lowest : (j : ℕ) → j < cell → tried t n l j ≡ Past
-  pub refused : split_answer t cell ≡ Not Room
+  pub refused : split_answer t cell ≡ Err Room
 
 eleven : (r : Refusal) → number_of r ≡ 11 → r ≡ Room
 eleven Length e = absurd (omega arith)
@@ -256,9 +255,9 @@ module _ (n l : ℕ) (t : Tree) where
           let z : i ≡ k = ap number_in q in
           record { from = omega arith; to = omega arith; wanted = subst (λ (j : ℕ). tried t n l j ≡ Wanted) z a; lower = λ j h d. absurd (omega arith) }
 
-  full_answer : (i : ℕ) (x : Splitting.Answer) → round_at i x ≡ full → x ≡ Not Room
-  full_answer i (Split k) e = clash (ap is_full e)
-  full_answer i (Not r) e = ap Not (eleven r (eqb-true (number_of r) 11 (by (eqb (number_of r) 11) e)))
+  full_answer : (i : ℕ) (x : Result ℕ Refusal) → round_at i x ≡ full → x ≡ Err Room
+  full_answer i (Ok k) e = clash (ap is_full e)
+  full_answer i (Err r) e = ap Err (eleven r (eqb-true (number_of r) 11 (by (eqb (number_of r) 11) e)))
     where
       by : (b : Bool) → cond b full broken ≡ full → b ≡ true
       by true q = refl

@@ -4,11 +4,10 @@ use mathlib.Core.Bool.{Bool, true, false, cond}
 use Prim.Native.Nat.{ℕ, zero, suc, ◌+◌, ◌*◌, ◌-◌, ◌/◌, ◌≤◌, ◌<◌}
 use native.Mathlib.Omega.{arith}
 use lib.Dec.{eqb}
+use Rattle.std.specs.Prelude.{Result, Ok, Err}
 use Rattle.laws.proofs.Booleans.{clash}
 use Rattle.refusals.specs.Refusals.{number_of}
 use Rattle.refusals.specs.declared.Refusal.{Refusal}
-use Rattle.split.specs.declared.Answer as Splitting
-use Rattle.split.specs.declared.Answer.TheVariants.{Split, Not}
 use Rattle.tables.specs.Tables.{Tree, cells_used, counts_in}
 use Rattle.split.specs.Split.{split_answer}
 use Rattle.split_laws.specs.After.{split_tree}
@@ -52,20 +51,20 @@ module _ (n l : ℕ) (t : Tree) (i : ℕ) where
   refused r true e = clash (ap is_splits e)
   refused r false e = clash (ap is_splits e)
 
-  by_answer_law : (j : ℕ) (x : Splitting.Answer) → split_answer t j ≡ x → round_at j x ≡ splits i → split_answer t i ≡ Split (cells_used t.head)
-  by_answer_law j (Split k) a e = subst (λ (m : ℕ). split_answer t m ≡ Split (cells_used t.head)) (ap cell_in e) (a ∙ ap Split (split_number_law t j k a))
-  by_answer_law j (Not r) a e = absurd (refused r (eqb (number_of r) 11) e)
+  by_answer_law : (j : ℕ) (x : Result ℕ Refusal) → split_answer t j ≡ x → round_at j x ≡ splits i → split_answer t i ≡ Ok (cells_used t.head)
+  by_answer_law j (Ok k) a e = subst (λ (m : ℕ). split_answer t m ≡ Ok (cells_used t.head)) (ap cell_in e) (a ∙ ap Ok (split_number_law t j k a))
+  by_answer_law j (Err r) a e = absurd (refused r (eqb (number_of r) 11) e)
 
-  by_lowest : (x : Lowest) → round_by t x ≡ splits i → split_answer t i ≡ Split (cells_used t.head)
+  by_lowest : (x : Lowest) → round_by t x ≡ splits i → split_answer t i ≡ Ok (cells_used t.head)
   by_lowest none e = clash (ap is_splits e)
   by_lowest bad e = clash (ap is_splits e)
   by_lowest (at j) e = by_answer_law j (split_answer t j) refl e
 
-  by_counts : (b : Bool) → cond b (round_by t (lowest_from t n l 0 (cells_used t.head))) broken ≡ splits i → split_answer t i ≡ Split (cells_used t.head)
+  by_counts : (b : Bool) → cond b (round_by t (lowest_from t n l 0 (cells_used t.head))) broken ≡ splits i → split_answer t i ≡ Ok (cells_used t.head)
   by_counts true e = by_lowest (lowest_from t n l 0 (cells_used t.head)) e
   by_counts false e = clash (ap is_splits e)
 
-  pub round_split : round n l t ≡ splits i → split_answer t i ≡ Split (cells_used t.head)
+  pub round_split : round n l t ≡ splits i → split_answer t i ≡ Ok (cells_used t.head)
   unfolding round
   round_split e = by_counts (counts_in t) e
 

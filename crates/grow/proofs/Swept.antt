@@ -6,27 +6,23 @@ use native.Mathlib.Omega.{arith}
 use native.Mathlib.Decide.{ℕ_discrete}
 use lib.Dec.{eqb}
 use lib.ListN.{length, get_or}
-use Rattle.laws.proofs.Booleans.{clash}
+use Rattle.std.specs.Prelude.{Result, Ok, Err, None, Some}
 use Rattle.refusals.specs.Refusals.{number_of}
 use Rattle.refusals.specs.declared.Refusal.{Refusal}
 use Rattle.refusals.specs.declared.Refusal.TheVariants.{Broken}
-use Rattle.split.specs.declared.Answer as Splitting
-use Rattle.split.specs.declared.Answer.TheVariants as split
 use Rattle.tables.specs.Tables.{Tree, cells_used, entries_used, counts_in}
 use Rattle.split.specs.Split.{split_answer}
 use Rattle.tables.proofs.Heads.{used_is}
 use Rattle.split_laws.specs.After.{split_tree}
 use Rattle.tables.proofs.Counts.{counts_long}
 use Rattle.split_laws.proofs.Trees.{tree_refused, tree_used, tree_length_head, tree_length_cells, tree_length_entries, tree_counts}
-use Rattle.grow.specs.declared.Answer.TheVariants.{Done, Full, Not}
+use Rattle.grow.specs.declared.Growth.TheVariants.{Done, Full}
 use Rattle.grow.specs.declared.Tried.{Tried}
 use Rattle.grow.specs.declared.Tried.TheVariants.{Bad, Past, Wanted}
 use Rattle.grow.specs.declared.Sweep.{Sweep}
-use Rattle.grow.specs.declared.Turn.{Turn}
-use Rattle.grow.specs.declared.Turn.TheVariants.{Further, NoRoom, Stopped}
 use Rattle.grow.specs.Grow.{tried, Round, done, full, broken, round_at, round, Ending, none_left}
 use Rattle.grow.specs.Grow.{no_room, not_passed, Grown, ended, also_split, go_on, grown, answer_by, answer_of}
-use Rattle.grow.specs.code.Numbers.{past_n, split_n, by_answer, turn_by, tree_by}
+use Rattle.grow.specs.code.Numbers.{past_n, split_n, stop_if, by_answer, turn_by, tree_by}
 use Rattle.grow.proofs.Tries.{past_keeps, past_split}
 use Rattle.grow.proofs.Fuel.{grown_step}
 use Rattle.grow.proofs.Rounds.{round_wanted, round_bad, round_done}
@@ -106,7 +102,7 @@ module _ (n l : ℕ) (t₀ t : Tree) (s : Sweep) (S : Sweeping n l t₀ t s) whe
       rounded : round n l t ≡ round_at i (split_answer t i)
       rounded = round_wanted n l t i S.past S.counts in_use e
 
-      module _ (k : ℕ) (a : split_answer t s.cell ≡ split.Split k) where
+      module _ (k : ℕ) (a : split_answer t s.cell ≡ Ok k) where
         grown_split : grown n l t ≡ also_split i (grown n l (split_tree t i))
         grown_split = grown_step n l t ∙ ap (λ (r : Round). go_on r t (grown n l)) (rounded ∙ ap (round_at i) a)
 
@@ -141,111 +137,105 @@ module _ (n l : ℕ) (t₀ t : Tree) (s : Sweep) (S : Sweeping n l t₀ t s) whe
       → (answer_by x s.splits ≡ answer_of (grown n l t₀)) × (t ≡ (grown n l t₀).after)
   by_round r x e f = closes x (grown_step n l t ∙ (ap (λ (q : Round). go_on q t (grown n l)) e ∙ f))
 
-  pub sweep_done : s.used ≤ s.cell → (Done s.splits ≡ answer_of (grown n l t₀)) × (t ≡ (grown n l t₀).after)
+  pub sweep_done : s.used ≤ s.cell → (Ok (Done s.splits) ≡ answer_of (grown n l t₀)) × (t ≡ (grown n l t₀).after)
   sweep_done h = by_round done none_left (round_done n l t i S.past S.counts (omega (arith, S.used)) (omega (arith, S.used, S.low))) refl
 
   module _ (h : s.cell < s.used) where
     -- a split that is refused ends it, with 11 or with 12
-    refused_round : (r : Refusal) → split_answer t i ≡ split.Not r → tried t n l i ≡ Wanted → round n l t ≡ cond (eqb (number_of r) 11) full broken
+    refused_round : (r : Refusal) → split_answer t i ≡ Err r → tried t n l i ≡ Wanted → round n l t ≡ cond (eqb (number_of r) 11) full broken
     refused_round r a e = rounded h e ∙ ap (round_at i) a
 
-    sweep_full : (r : Refusal) → tried t n l i ≡ Wanted → split_answer t i ≡ split.Not r → eqb (number_of r) 11 ≡ true
-        → (Full s.splits ≡ answer_of (grown n l t₀)) × (t ≡ (grown n l t₀).after)
+    sweep_full : (r : Refusal) → tried t n l i ≡ Wanted → split_answer t i ≡ Err r → eqb (number_of r) 11 ≡ true
+        → (Ok (Full s.splits) ≡ answer_of (grown n l t₀)) × (t ≡ (grown n l t₀).after)
     sweep_full r e a k = by_round full no_room (refused_round r a e ∙ ap (λ (b : Bool). cond b full broken) k) refl
 
-    sweep_broken : (r : Refusal) → tried t n l i ≡ Wanted → split_answer t i ≡ split.Not r → eqb (number_of r) 11 ≡ false
-        → (Not Broken ≡ answer_of (grown n l t₀)) × (t ≡ (grown n l t₀).after)
+    sweep_broken : (r : Refusal) → tried t n l i ≡ Wanted → split_answer t i ≡ Err r → eqb (number_of r) 11 ≡ false
+        → (Err Broken ≡ answer_of (grown n l t₀)) × (t ≡ (grown n l t₀).after)
     sweep_broken r e a k = by_round broken not_passed (refused_round r a e ∙ ap (λ (b : Bool). cond b full broken) k) refl
 
-    sweep_bad : tried t n l s.cell ≡ Bad → (Not Broken ≡ answer_of (grown n l t₀)) × (t ≡ (grown n l t₀).after)
+    sweep_bad : tried t n l s.cell ≡ Bad → (Err Broken ≡ answer_of (grown n l t₀)) × (t ≡ (grown n l t₀).after)
     sweep_bad e = by_round broken not_passed (round_bad n l t i S.past S.counts (in_use h) e) refl
 
     -- ---- a turn, by what the code gives
-    abbrev is_further : Turn → Bool
-    is_further (Further q) = true
-    is_further NoRoom = false
-    is_further Stopped = false
-
-    abbrev is_no_room : Turn → Bool
-    is_no_room (Further q) = false
-    is_no_room NoRoom = true
-    is_no_room Stopped = false
-
-    abbrev is_stopped : Turn → Bool
-    is_stopped (Further q) = false
-    is_stopped NoRoom = false
-    is_stopped Stopped = true
-
-    abbrev sweep_in : Turn → Sweep
-    sweep_in (Further q) = q
-    sweep_in NoRoom = s
-    sweep_in Stopped = s
-
     -- a refused split is no turn that goes on
-    not_further : (b : Bool) (s' : Sweep) → cond b NoRoom Stopped ≡ Further s' → ⊥
-    not_further true s' f = clash (ap is_further f)
-    not_further false s' f = clash (ap is_further f)
+    not_further : (b : Bool) (s' : Sweep) → stop_if b ≡ Ok (Some s') → ⊥
+    not_further true s' f = absurd cc
+    not_further false s' f = absurd cc
 
-    by_split : (x : Splitting.Answer) (s' : Sweep)
+    by_split : (x : Result ℕ Refusal) (s' : Sweep)
         → tried t n l i ≡ Wanted
         → split_answer t i ≡ x
-        → by_answer x s (split_tree t i).head ≡ Further s'
+        → by_answer x s (split_tree t i).head ≡ Ok (Some s')
         → Sweeping n l t₀ (split_tree t i) s'
-    by_split (split.Split k) s' e a f = subst (Sweeping n l t₀ (split_tree t i)) (ap sweep_in f) (sweeping_split h e k a)
-    by_split (split.Not r) s' e a f = absurd (not_further (eqb (number_of r) 11) s' f)
+    by_split (Ok k) s' e a f = let z : split_n s (entries_used (split_tree t i).head) ≡ s' = cc in subst (Sweeping n l t₀ (split_tree t i)) z (sweeping_split h e k a)
+    by_split (Err r) s' e a f = absurd (not_further (eqb (number_of r) 11) s' f)
 
-    pub turn_further : (x : Tried) (s' : Sweep) → tried t n l s.cell ≡ x → turn_by x t s ≡ Further s' → Sweeping n l t₀ (tree_by x t s.cell) s'
-    turn_further Bad s' e f = clash (ap is_further f)
-    turn_further Past s' e f = subst (Sweeping n l t₀ t) (ap sweep_in f) (sweeping_past h e)
+    pub turn_further : (x : Tried) (s' : Sweep) → tried t n l s.cell ≡ x → turn_by x t s ≡ Ok (Some s') → Sweeping n l t₀ (tree_by x t s.cell) s'
+    turn_further Bad s' e f = absurd cc
+    turn_further Past s' e f = let z : past_n s ≡ s' = cc in subst (Sweeping n l t₀ t) z (sweeping_past h e)
     turn_further Wanted s' e f = by_split (split_answer t i) s' e refl f
 
     -- which of the two ends
-    is_full_law : (b : Bool) → cond b NoRoom Stopped ≡ NoRoom → b ≡ true
+    is_full_law : (b : Bool) → stop_if b ≡ Ok None → b ≡ true
     is_full_law true f = refl
-    is_full_law false f = clash (ap is_no_room f)
+    is_full_law false f = absurd cc
 
-    is_stopped_law : (b : Bool) → cond b NoRoom Stopped ≡ Stopped → b ≡ false
-    is_stopped_law true f = clash (ap is_stopped f)
+    is_stopped_law : (b : Bool) → stop_if b ≡ Err Broken → b ≡ false
+    is_stopped_law true f = absurd cc
     is_stopped_law false f = refl
 
-    full_by : (x : Splitting.Answer)
+    full_by : (x : Result ℕ Refusal)
         → tried t n l i ≡ Wanted
         → split_answer t i ≡ x
-        → by_answer x s (split_tree t i).head ≡ NoRoom
-        → (Full s.splits ≡ answer_of (grown n l t₀)) × (split_tree t i ≡ (grown n l t₀).after)
-    full_by (split.Split k) e a f = clash (ap is_no_room f)
-    full_by (split.Not r) e a f = let p = sweep_full r e a (is_full_law (eqb (number_of r) 11) f) in (p.0, tree_refused t i r a ∙ p.1)
+        → by_answer x s (split_tree t i).head ≡ Ok None
+        → (Ok (Full s.splits) ≡ answer_of (grown n l t₀)) × (split_tree t i ≡ (grown n l t₀).after)
+    full_by (Ok k) e a f = absurd cc
+    full_by (Err r) e a f = let p = sweep_full r e a (is_full_law (eqb (number_of r) 11) f) in (p.0, tree_refused t i r a ∙ p.1)
 
-    stopped_by : (x : Splitting.Answer)
+    stopped_by : (x : Result ℕ Refusal)
         → tried t n l i ≡ Wanted
         → split_answer t i ≡ x
-        → by_answer x s (split_tree t i).head ≡ Stopped
-        → (Not Broken ≡ answer_of (grown n l t₀)) × (split_tree t i ≡ (grown n l t₀).after)
-    stopped_by (split.Split k) e a f = clash (ap is_stopped f)
-    stopped_by (split.Not r) e a f = let p = sweep_broken r e a (is_stopped_law (eqb (number_of r) 11) f) in (p.0, tree_refused t i r a ∙ p.1)
+        → by_answer x s (split_tree t i).head ≡ Err Broken
+        → (Err Broken ≡ answer_of (grown n l t₀)) × (split_tree t i ≡ (grown n l t₀).after)
+    stopped_by (Ok k) e a f = absurd cc
+    stopped_by (Err r) e a f = let p = sweep_broken r e a (is_stopped_law (eqb (number_of r) 11) f) in (p.0, tree_refused t i r a ∙ p.1)
 
     pub turn_full : (x : Tried)
         → tried t n l s.cell ≡ x
-        → turn_by x t s ≡ NoRoom
-        → (Full s.splits ≡ answer_of (grown n l t₀)) × (tree_by x t s.cell ≡ (grown n l t₀).after)
-    turn_full Bad e f = clash (sym (ap is_stopped f))
-    turn_full Past e f = clash (ap is_no_room f)
+        → turn_by x t s ≡ Ok None
+        → (Ok (Full s.splits) ≡ answer_of (grown n l t₀)) × (tree_by x t s.cell ≡ (grown n l t₀).after)
+    turn_full Bad e f = absurd cc
+    turn_full Past e f = absurd cc
     turn_full Wanted e f = full_by (split_answer t i) e refl f
 
     pub turn_stopped : (x : Tried)
         → tried t n l s.cell ≡ x
-        → turn_by x t s ≡ Stopped
-        → (Not Broken ≡ answer_of (grown n l t₀)) × (tree_by x t s.cell ≡ (grown n l t₀).after)
+        → turn_by x t s ≡ Err Broken
+        → (Err Broken ≡ answer_of (grown n l t₀)) × (tree_by x t s.cell ≡ (grown n l t₀).after)
     turn_stopped Bad e f = sweep_bad e
-    turn_stopped Past e f = clash (ap is_stopped f)
+    turn_stopped Past e f = absurd cc
     turn_stopped Wanted e f = stopped_by (split_answer t i) e refl f
 
-    moves_by : (x : Splitting.Answer) (s' : Sweep) → by_answer x s (split_tree t i).head ≡ Further s' → s'.cell ≡ s.cell + 1
-    moves_by (split.Split k) s' f = sym (ap (λ (q : Sweep). q.cell) (ap sweep_in f))
-    moves_by (split.Not r) s' f = absurd (not_further (eqb (number_of r) 11) s' f)
+    moves_by : (x : Result ℕ Refusal) (s' : Sweep) → by_answer x s (split_tree t i).head ≡ Ok (Some s') → s'.cell ≡ s.cell + 1
+    moves_by (Ok k) s' f = let z : split_n s (entries_used (split_tree t i).head) ≡ s' = cc in sym (ap (λ (q : Sweep). q.cell) z)
+    moves_by (Err r) s' f = absurd (not_further (eqb (number_of r) 11) s' f)
 
     -- the next turn is at the next cell
-    pub turn_moves : (x : Tried) (s' : Sweep) → turn_by x t s ≡ Further s' → s'.cell ≡ s.cell + 1
-    turn_moves Bad s' f = clash (ap is_further f)
-    turn_moves Past s' f = sym (ap (λ (q : Sweep). q.cell) (ap sweep_in f))
+    pub turn_moves : (x : Tried) (s' : Sweep) → turn_by x t s ≡ Ok (Some s') → s'.cell ≡ s.cell + 1
+    turn_moves Bad s' f = absurd cc
+    turn_moves Past s' f = let z : past_n s ≡ s' = cc in sym (ap (λ (q : Sweep). q.cell) z)
     turn_moves Wanted s' f = moves_by (split_answer t i) s' f
+
+    -- a sweep that stops is refused with 12
+    broken_by : (x : Result ℕ Refusal) (r : Refusal) → by_answer x s (split_tree t i).head ≡ Err r → r ≡ Broken
+    broken_by (Ok k) r f = absurd cc
+    broken_by (Err q) r f = at_room (eqb (number_of q) 11) f
+      where
+        at_room : (b : Bool) → stop_if b ≡ Err r → r ≡ Broken
+        at_room true g = absurd cc
+        at_room false g = cc
+
+    pub turn_broken : (x : Tried) (r : Refusal) → turn_by x t s ≡ Err r → r ≡ Broken
+    turn_broken Bad r f = cc
+    turn_broken Past r f = absurd cc
+    turn_broken Wanted r f = broken_by (split_answer t i) r f

@@ -7,13 +7,13 @@ use native.Mathlib.Nat.{pow-le-pow_right}
 use lib.Dec.{eqb, ltb}
 use lib.ListN.{length}
 use borrow.Author.Tests.{eqb-true, ltb-true, eq-eqb, ne_eqb, lt-ltb}
+use Rattle.std.specs.Prelude.{Result, Ok, Err}
 use Rattle.laws.proofs.Booleans.{clash, and_right}
+use Rattle.refusals.specs.declared.Refusal.{Refusal}
 use Rattle.refusals.specs.declared.Refusal.TheVariants.{Argument, NoCell, AlreadySplit, Room, Broken}
 use Rattle.celltable.specs.declared.CellWords.{CellWords}
 use Rattle.celltable.specs.Ranges.{cell_range, cells_held, entries_held, level_of}
 use Rattle.celltable.proofs.Ranges.{passes_range, square_fits_law}
-use Rattle.split.specs.declared.Answer as Splitting
-use Rattle.split.specs.declared.Answer.TheVariants.{Split, Not}
 use Rattle.tables.specs.Tables.{Tree, cells_used, entries_used, bounds_of, counts_in, leaf_passes}
 use Rattle.split.specs.Split.{words, against, made, size_answer, cell_split, counts_split, split_answer}
 use Rattle.split_laws.specs.After.{split_tree}
@@ -54,7 +54,7 @@ wanted_all true false w e = clash (ap is_leaf e)
 wanted_all false f w e = clash (ap is_leaf e)
 
 -- ---- after an accepted split
-module _ (n l : ℕ) (t : Tree) (i k : ℕ) (e : split_answer t i ≡ Split k) where
+module _ (n l : ℕ) (t : Tree) (i k : ℕ) (e : split_answer t i ≡ Ok k) where
   abbrev t' : Tree
   t' = split_tree t i
 
@@ -97,12 +97,12 @@ module _ (n l : ℕ) (t : Tree) (i k : ℕ) (e : split_answer t i ≡ Split k) w
       child_some z = omega (arith, child_is, z, used_some t (split_able t i k e).counts)
 
 -- ---- a leaf that is wanted: its split is accepted, or refused with 11, or with 12 over its stream
-pub data Wants (t : Tree) : Splitting.Answer → Type 0 where
-  accepted : Wants t (Split (cells_used t.head))
-  full : Wants t (Not Room)
-  broken : Wants t (Not Broken)
+pub data Wants (t : Tree) : Result ℕ Refusal → Type 0 where
+  accepted : Wants t (Ok (cells_used t.head))
+  full : Wants t (Err Room)
+  broken : Wants t (Err Broken)
 
-room_two : (t : Tree) (a b : Bool) → Wants t (cond a (cond b (Split (cells_used t.head)) (Not Room)) (Not Room))
+room_two : (t : Tree) (a b : Bool) → Wants t (cond a (cond b (Ok (cells_used t.head)) (Err Room)) (Err Room))
 room_two t true true = accepted
 room_two t true false = full
 room_two t false b = full
@@ -130,20 +130,20 @@ module _ (n l : ℕ) (few : l ≤ 16) (t : Tree) (i : ℕ) (pair : length t.xs �
       let p : 2 ≤ 2 ^ level_of (words t i).side = pow-le-pow_right {n = 2} (omega arith) {i = 1} {j = level_of (words t i).side} q in
       omega (arith, p, (square_fits_law (words t i) (passes_range t.cells i (cells_used t.head) (entries_used t.head) all.0)).power)
 
-  abbrev sized : Splitting.Answer
+  abbrev sized : Result ℕ Refusal
   sized =
       size_answer t.areas t.xs t.ys (bounds_of t.plan (words t i)) (words t i) t.entries (length t.cells)
       (cells_used t.head) (entries_used t.head)
 
   -- all before the stream is settled
-  to_stream : split_answer t i ≡ cond in_leaf_law sized (Not Broken)
+  to_stream : split_answer t i ≡ cond in_leaf_law sized (Err Broken)
   to_stream =
-      chosen (eqb (length t.xs) (length t.ys)) (cond (ltb i (cells_used t.head)) (counts_split t i) (Not NoCell)) (Not Argument)
+      chosen (eqb (length t.xs) (length t.ys)) (cond (ltb i (cells_used t.head)) (counts_split t i) (Err NoCell)) (Err Argument)
       (eq-eqb (length t.xs) (length t.ys) pair)
-      ∙ (chosen (ltb i (cells_used t.head)) (counts_split t i) (Not NoCell) (lt-ltb i (cells_used t.head) h)
-      ∙ (chosen (counts_in t) (cell_split t i) (Not Broken) counts
-      ∙ (chosen in_cell (cond (eqb (words t i).child 0) (cond in_leaf_law sized (Not Broken)) (Not AlreadySplit)) (Not Broken) all.0
-      ∙ chosen (eqb (words t i).child 0) (cond in_leaf_law sized (Not Broken)) (Not AlreadySplit) all.1)))
+      ∙ (chosen (ltb i (cells_used t.head)) (counts_split t i) (Err NoCell) (lt-ltb i (cells_used t.head) h)
+      ∙ (chosen (counts_in t) (cell_split t i) (Err Broken) counts
+      ∙ (chosen in_cell (cond (eqb (words t i).child 0) (cond in_leaf_law sized (Err Broken)) (Err AlreadySplit)) (Err Broken) all.0
+      ∙ chosen (eqb (words t i).child 0) (cond in_leaf_law sized (Err Broken)) (Err AlreadySplit) all.1)))
 
   pub wanted_answer : Wants t (split_answer t i)
   wanted_answer = go in_leaf_law refl
@@ -164,4 +164,4 @@ module _ (n l : ℕ) (few : l ≤ 16) (t : Tree) (i : ℕ) (pair : length t.xs �
           })))
           (room_two t (cells_held (cells_used t.head + 4) (length t.cells))
           (entries_held (entries_used t.head + length (made t i)) (length t.entries)))
-      go false q = subst (Wants t) (sym (to_stream ∙ ap (λ (b : Bool). cond b sized (Not Broken)) q)) broken
+      go false q = subst (Wants t) (sym (to_stream ∙ ap (λ (b : Bool). cond b sized (Err Broken)) q)) broken

@@ -4,26 +4,23 @@ use mathlib.Core.Bool.{Bool, true, false, cond, ◌&&◌}
 use mathlib.Core.List.{List}
 use Prim.Native.Nat.{ℕ}
 use lib.Dec.{eqb}
+use Rattle.std.specs.Prelude.{Result, Ok, Err, Option, Some}
 use Rattle.laws.proofs.Booleans.{cond_left}
 use Rattle.refusals.specs.Refusals.{number_of}
 use Rattle.refusals.specs.declared.Refusal.{Refusal}
 use Rattle.celltable.specs.declared.CellWords.{CellWords}
 use Rattle.celltable.specs.Ranges.{side_range, grid_range, square_range}
-use Rattle.split.specs.declared.Answer as Splitting
-use Rattle.split.specs.declared.Answer.TheVariants as split
 use Rattle.tables.specs.Tables.{Tree, tree, cells_used, entries_used}
 use Rattle.split.specs.Split.{words, split_answer, head_after, cells_after, entries_after}
 use Rattle.split_laws.specs.After.{split_tree}
 use Rattle.grow.specs.declared.Tried.{Tried}
 use Rattle.grow.specs.declared.Tried.TheVariants.{Bad, Past, Wanted}
 use Rattle.grow.specs.declared.Sweep.{Sweep}
-use Rattle.grow.specs.declared.Turn.{Turn}
-use Rattle.grow.specs.declared.Turn.TheVariants.{Further, NoRoom, Stopped}
 use Rattle.grow.specs.Grow.{tried_cell, tried}
-use Rattle.grow.specs.code.Numbers.{split_n, by_answer, turn_by, tree_by}
+use Rattle.grow.specs.code.Numbers.{split_n, stop_if, by_answer, turn_by, tree_by}
 
 -- ---- a leaf that is split, by the answer of the split and the head afterwards
-module _ (t : Tree) (s : Sweep) (x : Splitting.Answer) (e : x ≡ split_answer t s.cell) where
+module _ (t : Tree) (s : Sweep) (x : Result ℕ Refusal) (e : x ≡ split_answer t s.cell) where
   abbrev i : ℕ
   i = s.cell
 
@@ -39,15 +36,15 @@ module _ (t : Tree) (s : Sweep) (x : Splitting.Answer) (e : x ≡ split_answer t
   unfolding split_tree
   entries_is e' q = q ∙ ap (entries_after t i) e
 
-  pub turn_split : (k : ℕ) (next : Sweep) (h' : List ℕ) → x ≡ split.Split k → next ≡ split_n s (entries_used h') → h' ≡ head_after t s.cell x
-      → Further next ≡ turn_by Wanted t s
+  pub turn_split : (k : ℕ) (next : Sweep) (h' : List ℕ) → x ≡ Ok k → next ≡ split_n s (entries_used h') → h' ≡ head_after t s.cell x
+      → Ok (Some next) ≡ turn_by Wanted t s
   turn_split k next h' f g q =
-      ap (λ (n : Sweep). Further n) g
-      ∙ (ap (λ (y : List ℕ). Further (split_n s (entries_used y))) (head_is h' q)
-      ∙ ap (λ (y : Splitting.Answer). by_answer y s (split_tree t i).head) (sym f ∙ e))
+      ap (λ (n : Sweep). Ok (Some n)) g
+      ∙ (ap (λ (y : List ℕ). Ok (Some (split_n s (entries_used y)))) (head_is h' q)
+      ∙ ap (λ (y : Result ℕ Refusal). by_answer y s (split_tree t i).head) (sym f ∙ e))
 
-  pub turn_refused : (r : Refusal) (u : Turn) → x ≡ split.Not r → u ≡ cond (eqb (number_of r) 11) NoRoom Stopped → u ≡ turn_by Wanted t s
-  turn_refused r u f g = g ∙ ap (λ (y : Splitting.Answer). by_answer y s (split_tree t i).head) (sym f ∙ e)
+  pub turn_refused : (r : Refusal) (u : Result (Option Sweep) Refusal) → x ≡ Err r → u ≡ stop_if (eqb (number_of r) 11) → u ≡ turn_by Wanted t s
+  turn_refused r u f g = g ∙ ap (λ (y : Result ℕ Refusal). by_answer y s (split_tree t i).head) (sym f ∙ e)
 
 -- ---- what is met at the cell, test by test
 pub side_passes : (w : CellWords) → square_range w ≡ true → side_range w.side ≡ true

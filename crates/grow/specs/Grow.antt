@@ -1,16 +1,15 @@
 -- Document 01, "Cells" and "From the state", and document 02, Item 5: growing a tree in lent tables: the answer, and every table afterwards.
-use Rattle.std.specs.Prelude.{Bool, cond, ◌&&◌, List, [], ◌∷◌, ℕ, zero, suc, ◌+◌, ◌-◌, eqb, ltb, leb, length}
+use Rattle.std.specs.Prelude.{Bool, cond, ◌&&◌, List, [], ◌∷◌, ℕ, zero, suc, ◌+◌, ◌-◌, eqb, ltb, leb, length, Result, Ok, Err}
 use Rattle.refusals.specs.Refusals.{number_of}
+use Rattle.refusals.specs.declared.Refusal.{Refusal}
 use Rattle.refusals.specs.declared.Refusal.TheVariants.{Argument, Broken}
 use Rattle.celltable.specs.declared.CellWords.{CellWords}
 use Rattle.celltable.specs.Ranges.{cell_range, level_of}
-use Rattle.split.specs.declared.Answer as Splitting
-use Rattle.split.specs.declared.Answer.TheVariants as split
 use Rattle.tables.specs.Tables.{Tree, cells_used, entries_used, counts_in}
 use Rattle.split.specs.Split.{words, split_answer}
 use Rattle.split_laws.specs.After.{split_tree}
-use Rattle.grow.specs.declared.Answer.{Answer}
-use Rattle.grow.specs.declared.Answer.TheVariants.{Done, Full, Not}
+use Rattle.grow.specs.declared.Growth.{Growth}
+use Rattle.grow.specs.declared.Growth.TheVariants.{Done, Full}
 use Rattle.grow.specs.declared.Tried.{Tried}
 use Rattle.grow.specs.declared.Tried.TheVariants.{Bad, Past, Wanted}
 
@@ -58,9 +57,9 @@ pub data Round : Type 0 where
   full : Round
   broken : Round
 
-abbrev pub round_at : ℕ → Splitting.Answer → Round
-round_at i (split.Split n) = splits i
-round_at i (split.Not r) = cond (eqb (number_of r) 11) full broken
+abbrev pub round_at : ℕ → Result ℕ Refusal → Round
+round_at i (Ok n) = splits i
+round_at i (Err r) = cond (eqb (number_of r) 11) full broken
 
 abbrev pub round_by : Tree → Lowest → Round
 round_by t none = done
@@ -104,17 +103,17 @@ unfoldable pub grown : (n l : ℕ) → Tree → Grown
 grown n l t = growing 4096 n l t
 
 -- ---- the call: "it passes on 7 and 12 only, and cells split before a 12 remain"
-abbrev pub answer_by : Ending → ℕ → Answer
-answer_by none_left k = Done k
-answer_by no_room k = Full k
-answer_by not_passed k = Not Broken
+abbrev pub answer_by : Ending → ℕ → Result Growth Refusal
+answer_by none_left k = Ok (Done k)
+answer_by no_room k = Ok (Full k)
+answer_by not_passed k = Err Broken
 
-abbrev pub answer_of : Grown → Answer
+abbrev pub answer_of : Grown → Result Growth Refusal
 answer_of g = answer_by g.ending (length g.cells)
 
 -- 7: "a lent pair of x and y tables of unequal length"; "depth limit out of range": "a depth limit 0 to 16"
-abbrev pub grow_answer : Tree → (n l : ℕ) → Answer
-grow_answer t n l = cond (eqb (length t.xs) (length t.ys)) (cond (leb l 16) (answer_of (grown n l t)) (Not Argument)) (Not Argument)
+abbrev pub grow_answer : Tree → (n l : ℕ) → Result Growth Refusal
+grow_answer t n l = cond (eqb (length t.xs) (length t.ys)) (cond (leb l 16) (answer_of (grown n l t)) (Err Argument)) (Err Argument)
 
 -- the tables afterwards
 abbrev pub grow_tree : Tree → (n l : ℕ) → Tree

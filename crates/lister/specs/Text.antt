@@ -1,6 +1,5 @@
 -- Document 01, "Spots to try": what the leaf lister prints, byte by byte. A space is 32, a line ends with 10.
-use Rattle.std.specs.Prelude.{Ok, Err}
-use Rattle.std.specs.Prelude.{List, [], ◌∷◌, ◌++◌, ℕ, codes, replicate}
+use Rattle.std.specs.Prelude.{List, [], ◌∷◌, ◌++◌, ℕ, codes, replicate, Ok, Err}
 use Rattle.std.proofs.lemmas.List.Edits.{sets}
 use Rattle.std.specs.Fmt.{decimal}
 use Rattle.refusals.specs.declared.Refusal.{Refusal}

@@ -7,6 +7,7 @@ use native.Mathlib.Omega.{arith}
 use lib.ListN.{length, get_or, set, length-set}
 use lib.Seq.{get_or-set_same, get_or-set_other}
 use borrow.Author.Tests.{le-leb}
+use Rattle.std.specs.Prelude.{Ok}
 use Rattle.grammar.specs.declared.Counts.{Counts}
 use Rattle.drawing.proofs.Rows.{drawn}
 use Rattle.stream.specs.declared.Bounds.{Bounds}
@@ -21,20 +22,19 @@ use Rattle.celltable.proofs.Table.{length_put_cell, put_cell_same}
 use Rattle.root_stream.specs.Opened.{elements_opened}
 use Rattle.root_stream.proofs.Opened.{accepted_opened, opened_passed}
 use Rattle.tables.specs.Tables.{Tree, cells_used, entries_used, bounds_of}
-use Rattle.open.specs.declared.Answer.TheVariants.{Opened}
 use Rattle.open.specs.Open.{root_words, drawing_tables, stream_opened, head_opened, cells_opened, entries_opened}
 use Rattle.open.proofs.Rooms.{elements_words}
 use Rattle.open.proofs.Accepted.{Accepts}
 
 module _ (t : Tree) (n : ℕ) (a : Accepts t n) where
   abbrev head' : List ℕ
-  head' = head_opened t (Opened n)
+  head' = head_opened t (Ok n)
 
   abbrev cells' : List ℕ
-  cells' = cells_opened t (Opened n)
+  cells' = cells_opened t (Ok n)
 
   abbrev entries' : List ℕ
-  entries' = entries_opened t (Opened n)
+  entries' = entries_opened t (Ok n)
 
   -- the words of cell 0
   abbrev root' : CellWords

@@ -1,6 +1,5 @@
 -- Laws of opening a tree.
 pub mod Rooms
-pub mod Answers
 pub mod Accepted
 pub mod After
 mod Examples

@@ -1,5 +1,4 @@
 -- The room that an opening asks for, and what the counting of cell 0's stream tells.
-use Rattle.std.specs.Prelude.{Ok}
 use mathlib.Core.Path.{◌≡◌, sym, subst, ◌∙◌}
 use mathlib.Core.Bool.{true, false, ◌&&◌}
 use Prim.Native.Nat.{ℕ, ◌*◌, ◌/◌, ◌%◌, ◌≤◌}
@@ -7,6 +6,7 @@ use native.Mathlib.Omega.{arith}
 use lib.Dec.{leb}
 use lib.ListN.{length, length-map}
 use borrow.Author.Tests.{leb-true}
+use Rattle.std.specs.Prelude.{Ok, Err}
 use Rattle.refusals.specs.declared.Refusal.TheVariants.{Room}
 use Rattle.grammar.specs.declared.Counts.{Counts}
 use Rattle.drawing.specs.Tables.{Tables, drawing_verdict}
@@ -26,7 +26,6 @@ use Rattle.tables.proofs.Rooms.{cells_room, entries_room}
 use Rattle.root_stream.specs.code.Numbers.{Opened}
 use Rattle.root_stream.specs.Opened.{elements_opened, words_opened}
 use Rattle.root_stream.proofs.Opened.{accepted_opened, opened_short, opened_count}
-use Rattle.open.specs.declared.Answer.TheVariants as Answers
 use Rattle.open.specs.Open.{room_for, stream_opened, room_answer}
 
 -- ---- what the test says
@@ -67,8 +66,8 @@ module _ (t : Tables) (k : Counts) (e : drawing_verdict t ≡ Ok k) where
 
 -- ---- the answer
 module _ (t : Tree) (n : ℕ) (e : n ≡ length (stream_opened t)) where
-  pub has_room : room_for (length t.head) (length t.cells) (length t.entries) n ≡ true → Answers.Opened n ≡ room_answer t
+  pub has_room : room_for (length t.head) (length t.cells) (length t.entries) n ≡ true → room_answer t ≡ Ok n
   has_room h = let h' : room_for (length t.head) (length t.cells) (length t.entries) (length (stream_opened t)) ≡ true = rw e at h in rw (h', e)
 
-  pub no_room : room_for (length t.head) (length t.cells) (length t.entries) n ≡ false → Answers.Not Room ≡ room_answer t
+  pub no_room : room_for (length t.head) (length t.cells) (length t.entries) n ≡ false → room_answer t ≡ Err Room
   no_room h = let h' : room_for (length t.head) (length t.cells) (length t.entries) (length (stream_opened t)) ≡ false = rw e at h in rw h'

@@ -1,6 +1,6 @@
 -- Document 01, "Cells" and "From the state", and document 02, Item 5: opening a tree over a lent drawing: the answer, and every table afterwards.
-use Rattle.std.specs.Prelude.{Ok, Err}
-use Rattle.std.specs.Prelude.{Bool, cond, ◌&&◌, List, ℕ, eqb, leb, length, set}
+use Rattle.std.specs.Prelude.{Bool, cond, ◌&&◌, List, ℕ, eqb, leb, length, set, Result, Ok, Err}
+use Rattle.refusals.specs.declared.Refusal.{Refusal}
 use Rattle.refusals.specs.declared.Refusal.TheVariants.{Argument, Room, Broken}
 use Rattle.grammar.specs.Grammar.{Verdict}
 use Rattle.drawing.specs.Tables.{Tables, tables, drawing_verdict}
@@ -12,8 +12,6 @@ use Rattle.celltable.specs.Table.{put_cell_at}
 use Rattle.celltable.specs.Ranges.{cells_held, entries_held}
 use Rattle.root_stream.specs.Opened.{words_opened}
 use Rattle.tables.specs.Tables.{Tree, tree}
-use Rattle.open.specs.declared.Answer.{Answer}
-use Rattle.open.specs.declared.Answer.TheVariants.{Opened, Not}
 
 -- "Cell 0 is the square of side 65,536 at (0, 0)": a leaf, whose n entries are the first; its first number where it has none, which document 01 leaves free,
 -- is 0; document 02, Item 5: "Each cell carries its parent's number (its own for cell 0) and its line count, curves included. Opening and splitting set
@@ -35,32 +33,32 @@ module _ (t : Tree) where
   abbrev pub stream_opened : List Words
   stream_opened = words_opened drawing_tables
 
-  abbrev pub room_answer : Answer
-  room_answer = cond (room_for (length t.head) (length t.cells) (length t.entries) (length stream_opened)) (Opened (length stream_opened)) (Not Room)
+  abbrev pub room_answer : Result ℕ Refusal
+  room_answer = cond (room_for (length t.head) (length t.cells) (length t.entries) (length stream_opened)) (Ok (length stream_opened)) (Err Room)
 
   -- 12: "a number met in the tables used (the drawing when opening ...) is outside its range, or that drawing ... breaks the grammar"
-  abbrev pub drawing_answer : Verdict → Answer
+  abbrev pub drawing_answer : Verdict → Result ℕ Refusal
   drawing_answer (Ok k) = room_answer
-  drawing_answer (Err e) = Not Broken
+  drawing_answer (Err e) = Err Broken
 
   -- 7: "a lent pair of x and y tables of unequal length"; then 12, then 11
-  abbrev pub open_answer : Answer
-  open_answer = cond (eqb (length t.xs) (length t.ys)) (drawing_answer (drawing_verdict drawing_tables)) (Not Argument)
+  abbrev pub open_answer : Result ℕ Refusal
+  open_answer = cond (eqb (length t.xs) (length t.ys)) (drawing_answer (drawing_verdict drawing_tables)) (Err Argument)
 
   -- ---- the tables afterwards: "nothing lent changed" on a refusal; "An accepted call leaves the rest of a longer output untouched."
 
   -- the cells and the entries in use
-  abbrev pub head_opened : Answer → List ℕ
-  head_opened (Opened n) = set (set t.head 0 1) 1 n
-  head_opened (Not r) = t.head
+  abbrev pub head_opened : Result ℕ Refusal → List ℕ
+  head_opened (Ok n) = set (set t.head 0 1) 1 n
+  head_opened (Err r) = t.head
 
-  abbrev pub cells_opened : Answer → List ℕ
-  cells_opened (Opened n) = put_cell_at t.cells 0 (root_words n (lines_in stream_opened))
-  cells_opened (Not r) = t.cells
+  abbrev pub cells_opened : Result ℕ Refusal → List ℕ
+  cells_opened (Ok n) = put_cell_at t.cells 0 (root_words n (lines_in stream_opened))
+  cells_opened (Err r) = t.cells
 
-  abbrev pub entries_opened : Answer → List ℕ
-  entries_opened (Opened n) = written t.entries 0 stream_opened
-  entries_opened (Not r) = t.entries
+  abbrev pub entries_opened : Result ℕ Refusal → List ℕ
+  entries_opened (Ok n) = written t.entries 0 stream_opened
+  entries_opened (Err r) = t.entries
 
   -- the seven tables after the call
   abbrev pub open_tree : Tree

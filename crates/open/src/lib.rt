@@ -2,37 +2,27 @@
 
 #![tactic(auto)]
 
-ghost use Rattle.std.specs.Prelude.{◌≡◌, ◌/◌, ◌%◌, ◌≤◌, length};
-ghost use Rattle.drawing.specs.Tables.{tables, drawing_verdict};
-ghost use Rattle.stream.specs.Entry.{lines_in};
+ghost use Rattle.std.specs.Prelude.{◌≡◌, ◌≤◌, length};
+ghost use Rattle.drawing.specs.Tables.{tables_of, drawing_verdict};
 ghost use Rattle.stream.specs.Grammar.{bounds};
 ghost use Rattle.celltable.specs.Table.{put_cell_at};
-ghost use Rattle.root_stream.specs.Opened.{words_opened};
-ghost use Rattle.tables.specs.Tables.{tree, tree_lent, tree_lent_mut};
-ghost use Rattle.open.specs.declared.Answer.TheVariants.{Opened, Not};
+ghost use Rattle.tables.specs.Tables.{tree, tree_passed, tree_passed_mut};
 ghost use Rattle.open.specs.Open.{root_words, room_for, room_answer, open_answer, head_opened, cells_opened, entries_opened};
-ghost use Rattle.open.specs.code.Judged.{Told};
+ghost use Rattle.open.specs.code.Judged.{Plans};
 
 use celltable::CellWords;
 use drawing::Drawing;
 use grammar::Counts;
 use refusals::Refusal;
 use stream::Bounds;
+use tables::Tree;
 
-// An opening's answer: the entries of cell 0's stream, or why it was refused.
+// An opening that no check refuses: the entries of cell 0's stream, the lines and curves among them, and the counts of the drawing.
 #[derive(Clone, Copy)]
-pub enum Answer {
-    Opened(u32),
-    Not(Refusal),
-}
-
-// What an opening is to do, before anything is written: its answer and, where that is Opened, the counts of the drawing and the lines and curves of cell
-// 0's stream.
-#[derive(Clone, Copy)]
-pub struct Judged {
-    pub answer: Answer,
-    pub counts: Counts,
+pub struct Planned {
+    pub entries: u32,
     pub lines: u32,
+    pub counts: Counts,
 }
 
 // Whether a head, a table of cells and a table of entries of these lengths hold a new tree with n entries.
@@ -42,20 +32,6 @@ fn has_room(head: usize, cells: usize, entries: usize, n: usize) -> bool
     let c = tables::cells_held(1, cells);
     let e = tables::entries_held(n, entries);
     (celltable::HEAD_WORDS <= head) & (c & e)
-}
-
-// The number of entries in what the counting answers.
-fn entries_in(size: u64) -> usize
-    ensures answer { result ≡ size % 65536 }
-{
-    (size % 65536) as usize
-}
-
-// The number of lines and curves in it.
-fn lines_in(size: u64) -> u32
-    ensures answer { result ≡ size / 65536 % 65536 }
-{
-    (size / 65536 % 65536) as u32
 }
 
 // The areas and corners in use, and the rows of cell 0.
@@ -70,82 +46,45 @@ fn root_bounds(k: Counts) -> Bounds
     }
 }
 
-// Nothing is to be written.
-fn refused(r: Refusal) -> Judged
-    ensures answer { result.answer ≡ Not r }
+// 11. The drawing has passed, with these counts.
+fn judge_room(tree: Tree, counts: Counts) -> Result<Planned, Refusal>
+    requires { drawing_verdict (tables_of tree.drawing) ≡ Ok counts }
+    ensures answer { let t = tree_passed tree in Plans t (room_answer t) result }
 {
-    Judged {
-        answer: Answer::Not(r),
-        counts: Counts {
-            records: 0,
-            areas: 0,
-            corners: 0,
-        },
-        lines: 0,
+    let drawing = tree.drawing;
+    let bounds = root_bounds(counts);
+    // The counting answers the number of entries and, above it, the number of lines and curves.
+    let size = root_stream::count_open(
+        drawing.plan,
+        drawing.areas,
+        drawing.xs,
+        drawing.ys,
+        counts.records,
+        bounds,
+    );
+    let n = (size % 65536) as usize;
+    if !has_room(tree.head.len(), tree.cells.len(), tree.entries.len(), n) {
+        return Err(Refusal::Room);
     }
-}
-
-// 11. The drawing has passed, with counts k.
-fn judge_room(
-    plan: &[u32],
-    areas: &[u32],
-    xs: &[u32],
-    ys: &[u32],
-    head: &[u32],
-    cells: &[u32],
-    entries: &[u32],
-    k: Counts,
-) -> Judged
-    requires { drawing_verdict (tables plan.now areas.now xs.now ys.now) ≡ Ok k }
-    ensures answer { result.answer ≡ room_answer (tree_lent plan areas xs ys head cells entries) }
-    ensures told { Told (tree_lent plan areas xs ys head cells entries) result }
-{
-    let b = root_bounds(k);
-    let size = root_stream::count_open(plan, areas, xs, ys, k.records, b);
-    let n = entries_in(size);
-    if has_room(head.len(), cells.len(), entries.len(), n) {
-        let m = n as u32;
-        let lines = lines_in(size);
-        return Judged {
-            answer: Answer::Opened(m),
-            counts: k,
-            lines: lines,
-        };
-    }
-    refused(Refusal::Room)
+    Ok(Planned {
+        entries: n as u32,
+        lines: (size / 65536 % 65536) as u32,
+        counts,
+    })
 }
 
 // All checks, in their order: 7, 12, 11.
-fn judge(
-    plan: &[u32],
-    areas: &[u32],
-    xs: &[u32],
-    ys: &[u32],
-    head: &[u32],
-    cells: &[u32],
-    entries: &[u32],
-) -> Judged
-    ensures answer { result.answer ≡ open_answer (tree_lent plan areas xs ys head cells entries) }
-    ensures told { Told (tree_lent plan areas xs ys head cells entries) result }
+fn judge(tree: Tree) -> Result<Planned, Refusal>
+    ensures answer { let t = tree_passed tree in Plans t (open_answer t) result }
 {
-    if xs.len() == ys.len() {
-        let drawing = Drawing {
-            plan,
-            areas,
-            xs,
-            ys,
-        };
-        let v = drawing.check();
-        match v {
-            Ok(k) => {
-                return judge_room(plan, areas, xs, ys, head, cells, entries, k);
-            }
-            Err(_) => {
-                return refused(Refusal::Broken);
-            }
-        }
+    let drawing = tree.drawing;
+    if drawing.xs.len() != drawing.ys.len() {
+        return Err(Refusal::Argument);
     }
-    refused(Refusal::Argument)
+    match drawing.check() {
+        Ok(counts) => judge_room(tree, counts),
+        Err(_) => Err(Refusal::Broken),
+    }
 }
 
 // Cell 0, a leaf of n entries, so many of them lines or curves.
@@ -153,72 +92,69 @@ fn put_root(cells: &mut [u32], n: u32, lines: u32)
     requires { 8 ≤ length cells.old }
     ensures cells { cells.new ≡ put_cell_at cells.old 0 (root_words n lines) }
 {
-    let side = celltable::GRID;
     let w = CellWords {
         x: 0,
         y: 0,
-        side: side,
+        side: celltable::GRID,
         child: 0,
         first: 0,
         count: n,
-        lines: lines,
+        lines,
         parent: 0,
     };
     celltable::put_cell(cells, 0, w);
 }
 
-// Writes the new tree, as it was judged: n entries, the counts of the drawing, the lines and curves.
+// Writes the new tree as it was planned.
 fn put_opened(
-    plan: &[u32],
-    areas: &[u32],
-    xs: &[u32],
-    ys: &[u32],
+    drawing: Drawing,
     head: &mut [u32],
     cells: &mut [u32],
     entries: &mut [u32],
-    n: u32,
-    k: Counts,
-    lines: u32,
+    plan: Planned,
 )
-    requires entries_value { open_answer (tree plan.now areas.now xs.now ys.now head.old cells.old entries.old) ≡ Opened n }
-    requires ys_value { drawing_verdict (tables plan.now areas.now xs.now ys.now) ≡ Ok k }
-    requires lines_value { lines ≡ lines_in (words_opened (tables plan.now areas.now xs.now ys.now)) }
-    ensures head { head.new ≡ head_opened (tree_lent_mut plan areas xs ys head cells entries) (Opened n) }
-    ensures cells { cells.new ≡ cells_opened (tree_lent_mut plan areas xs ys head cells entries) (Opened n) }
-    ensures entries { entries.new ≡ entries_opened (tree_lent_mut plan areas xs ys head cells entries) (Opened n) }
+    requires { let t = tree drawing.plan.now drawing.areas.now drawing.xs.now drawing.ys.now head.old cells.old entries.old in
+        Plans t (open_answer t) (Ok plan) }
+    ensures head { head.new ≡ head_opened (tree_passed_mut drawing head cells entries) (Ok plan.entries) }
+    ensures cells { cells.new ≡ cells_opened (tree_passed_mut drawing head cells entries) (Ok plan.entries) }
+    ensures entries { entries.new ≡ entries_opened (tree_passed_mut drawing head cells entries) (Ok plan.entries) }
 {
-    let b = root_bounds(k);
-    root_stream::write_open(entries, n as usize, plan, areas, xs, ys, k.records, b);
-    put_root(cells, n, lines);
+    let n = plan.entries;
+    let counts = plan.counts;
+    let bounds = root_bounds(counts);
+    root_stream::write_open(
+        entries,
+        n as usize,
+        drawing.plan,
+        drawing.areas,
+        drawing.xs,
+        drawing.ys,
+        counts.records,
+        bounds,
+    );
+    put_root(cells, n, plan.lines);
     tables::put_head(head, 1, n);
 }
 
-// Opens a tree: cell 0 alone, with the stream that document 01 defines. Any tables may be handed in. What the tree's tables held is not looked at.
-// Refusals, in this order: 7, 12, 11. Nothing is changed on a refusal.
+// Opens a tree: cell 0 alone, with the stream that document 01 defines; answers its entries. Any tables may be handed in. What the tree's tables
+// held is not looked at. Refusals, in this order: 7, 12, 11. Nothing is changed on a refusal.
 pub fn open(
-    plan: &[u32],
-    areas: &[u32],
-    xs: &[u32],
-    ys: &[u32],
+    drawing: Drawing,
     head: &mut [u32],
     cells: &mut [u32],
     entries: &mut [u32],
-) -> Answer
-    ensures answer { result ≡ open_answer (tree_lent_mut plan areas xs ys head cells entries) }
-    ensures head { head.new ≡ head_opened (tree_lent_mut plan areas xs ys head cells entries) result }
-    ensures cells { cells.new ≡ cells_opened (tree_lent_mut plan areas xs ys head cells entries) result }
-    ensures entries { entries.new ≡ entries_opened (tree_lent_mut plan areas xs ys head cells entries) result }
+) -> Result<u32, Refusal>
+    ensures answer { result ≡ open_answer (tree_passed_mut drawing head cells entries) }
+    ensures head { head.new ≡ head_opened (tree_passed_mut drawing head cells entries) result }
+    ensures cells { cells.new ≡ cells_opened (tree_passed_mut drawing head cells entries) result }
+    ensures entries { entries.new ≡ entries_opened (tree_passed_mut drawing head cells entries) result }
 {
-    let j = judge(plan, areas, xs, ys, head, cells, entries);
-    let a = j.answer;
-    match a {
-        Answer::Opened(n) => {
-            let k = j.counts;
-            put_opened(plan, areas, xs, ys, head, cells, entries, n, k, j.lines);
-            return Answer::Opened(n);
-        }
-        Answer::Not(r) => {
-            return Answer::Not(r);
-        }
-    }
+    let plan = judge(Tree {
+        drawing,
+        head,
+        cells,
+        entries,
+    })?;
+    put_opened(drawing, head, cells, entries, plan);
+    Ok(plan.entries)
 }

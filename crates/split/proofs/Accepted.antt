@@ -1,49 +1,35 @@
 -- When a split is accepted.
-use mathlib.Core.Path.{◌≡◌, refl, sym, ap, ◌∙◌}
+use mathlib.Core.Path.{◌≡◌, refl, ap, ◌∙◌}
 use mathlib.Core.Bool.{Bool, true, false, cond}
 use Prim.Native.Nat.{ℕ, ◌+◌, ◌≤◌}
 use native.Mathlib.Omega.{arith}
 use lib.Dec.{eqb, ltb}
 use lib.ListN.{length}
 use borrow.Author.Tests.{eqb-true, eqb-false, ltb-true, eq-eqb, ne_eqb, lt-ltb}
-use Rattle.laws.proofs.Booleans.{clash}
 use Rattle.refusals.specs.declared.Refusal.{Refusal}
 use Rattle.refusals.specs.declared.Refusal.TheVariants.{Argument, NoCell, AlreadySplit, Smallest, Room, Broken}
 use Rattle.stream.specs.Grammar.{Passed}
 use Rattle.stream.proofs.Passed.{passed}
 use Rattle.celltable.specs.Ranges.{square_range, cell_range, cells_held, entries_held}
 use Rattle.celltable.proofs.Ranges.{passes_range, passes_entries, square_fits_law}
-use Rattle.split.specs.declared.Answer.{Answer}
-use Rattle.split.specs.declared.Answer.TheVariants.{Split, Not}
+use Rattle.std.specs.Prelude.{Result, Ok, Err}
 use Rattle.tables.specs.Tables.{Tree, cells_used, entries_used, counts_in, leaf_passes}
 use Rattle.split.specs.Split.{words, against, made, room_answer, cell_split, counts_split, split_answer}
 use Rattle.tables.proofs.Rooms.{cells_room, entries_room}
 use Rattle.split.specs.code.Accepted.{Splittable, Accepted}
 use Rattle.tables.proofs.Leaves.{leaf_stream_law}
 
-abbrev is_split : Answer → Bool
-is_split (Split n) = true
-is_split (Not r) = false
-
--- a refusal is no number
-pub not_split : {A : Type 0} (n : ℕ) (r : Refusal) → Not r ≡ Split n → A
-not_split n r e = clash (ap is_split e)
-
 -- one test of the call
-taken : (b : Bool) (x : Answer) (r : Refusal) (n : ℕ) → cond b x (Not r) ≡ Split n → (b ≡ true) × (x ≡ Split n)
+taken : (b : Bool) (x : Result ℕ Refusal) (r : Refusal) (n : ℕ) → cond b x (Err r) ≡ Ok n → (b ≡ true) × (x ≡ Ok n)
 taken true x r n e = (refl, e)
-taken false x r n e = not_split n r e
+taken false x r n e = absurd cc
 
-passed_by : (b : Bool) (x : Answer) (r : Refusal) (n : ℕ) → cond b (Not r) x ≡ Split n → (b ≡ false) × (x ≡ Split n)
-passed_by true x r n e = not_split n r e
+passed_by : (b : Bool) (x : Result ℕ Refusal) (r : Refusal) (n : ℕ) → cond b (Err r) x ≡ Ok n → (b ≡ false) × (x ≡ Ok n)
+passed_by true x r n e = absurd cc
 passed_by false x r n e = (refl, e)
 
-pub chosen : (b : Bool) (x y : Answer) → b ≡ true → cond b x y ≡ x
+pub chosen : (b : Bool) (x y : Result ℕ Refusal) → b ≡ true → cond b x y ≡ x
 chosen b x y e = ap (λ (c : Bool). cond c x y) e
-
-abbrev number_in : Answer → ℕ
-number_in (Split n) = n
-number_in (Not r) = 0
 
 module _ (t : Tree) (i : ℕ) where
   abbrev used : ℕ
@@ -52,30 +38,30 @@ module _ (t : Tree) (i : ℕ) where
   abbrev free : ℕ
   free = entries_used t.head
 
-  abbrev roomed : Answer
+  abbrev roomed : Result ℕ Refusal
   roomed = room_answer (length t.cells) (length t.entries) used free (length (made t i))
 
   abbrev streamed : Bool
   streamed = leaf_passes t.entries (words t i).first (words t i).count (words t i).lines free (against t i)
 
-  abbrev sized : Answer
-  sized = cond (eqb (words t i).side 1) (Not Smallest) roomed
+  abbrev sized : Result ℕ Refusal
+  sized = cond (eqb (words t i).side 1) (Err Smallest) roomed
 
-  abbrev leafed : Answer
-  leafed = cond streamed sized (Not Broken)
+  abbrev leafed : Result ℕ Refusal
+  leafed = cond streamed sized (Err Broken)
 
   -- all but 11 is settled
   pub able_answer : Splittable t i
       → split_answer t i ≡ room_answer (length t.cells) (length t.entries) (cells_used t.head) (entries_used t.head) (length (made t i))
   able_answer s =
-      chosen (eqb (length t.xs) (length t.ys)) (cond (ltb i used) (counts_split t i) (Not NoCell)) (Not Argument)
+      chosen (eqb (length t.xs) (length t.ys)) (cond (ltb i used) (counts_split t i) (Err NoCell)) (Err Argument)
       (eq-eqb (length t.xs) (length t.ys) s.pair)
-      ∙ (chosen (ltb i used) (counts_split t i) (Not NoCell) (lt-ltb i used s.in_use)
-      ∙ (chosen (counts_in t) (cell_split t i) (Not Broken) s.counts
-      ∙ (chosen (cell_range t.cells i used free) (cond (eqb (words t i).child 0) leafed (Not AlreadySplit)) (Not Broken) s.cell
-      ∙ (chosen (eqb (words t i).child 0) leafed (Not AlreadySplit) (eq-eqb (words t i).child 0 s.leaf)
-      ∙ (chosen streamed sized (Not Broken) s.passes
-      ∙ ap (λ (b : Bool). cond b (Not Smallest) roomed) (ne_eqb (words t i).side 1 (λ e. omega (arith, e, s.halves))))))))
+      ∙ (chosen (ltb i used) (counts_split t i) (Err NoCell) (lt-ltb i used s.in_use)
+      ∙ (chosen (counts_in t) (cell_split t i) (Err Broken) s.counts
+      ∙ (chosen (cell_range t.cells i used free) (cond (eqb (words t i).child 0) leafed (Err AlreadySplit)) (Err Broken) s.cell
+      ∙ (chosen (eqb (words t i).child 0) leafed (Err AlreadySplit) (eq-eqb (words t i).child 0 s.leaf)
+      ∙ (chosen streamed sized (Err Broken) s.passes
+      ∙ ap (λ (b : Bool). cond b (Err Smallest) roomed) (ne_eqb (words t i).side 1 (λ e. omega (arith, e, s.halves))))))))
 
   -- the numbers of a leaf that may be split
   module _ (s : Splittable t i) where
@@ -90,26 +76,26 @@ module _ (t : Tree) (i : ℕ) where
         passed t.entries (words t i).first (words t i).count free (against t i)
         (leaf_stream_law t.entries (words t i).first (words t i).count (words t i).lines free (against t i) s.passes)
 
-  module _ (n : ℕ) (e : split_answer t i ≡ Split n) where
-    e1 : (eqb (length t.xs) (length t.ys) ≡ true) × (cond (ltb i used) (counts_split t i) (Not NoCell) ≡ Split n)
-    e1 = taken (eqb (length t.xs) (length t.ys)) (cond (ltb i used) (counts_split t i) (Not NoCell)) Argument n e
+  module _ (n : ℕ) (e : split_answer t i ≡ Ok n) where
+    e1 : (eqb (length t.xs) (length t.ys) ≡ true) × (cond (ltb i used) (counts_split t i) (Err NoCell) ≡ Ok n)
+    e1 = taken (eqb (length t.xs) (length t.ys)) (cond (ltb i used) (counts_split t i) (Err NoCell)) Argument n e
 
-    e2 : (ltb i used ≡ true) × (counts_split t i ≡ Split n)
+    e2 : (ltb i used ≡ true) × (counts_split t i ≡ Ok n)
     e2 = taken (ltb i used) (counts_split t i) NoCell n e1.1
 
-    e3 : (counts_in t ≡ true) × (cell_split t i ≡ Split n)
+    e3 : (counts_in t ≡ true) × (cell_split t i ≡ Ok n)
     e3 = taken (counts_in t) (cell_split t i) Broken n e2.1
 
-    e4 : (cell_range t.cells i used free ≡ true) × (cond (eqb (words t i).child 0) leafed (Not AlreadySplit) ≡ Split n)
-    e4 = taken (cell_range t.cells i used free) (cond (eqb (words t i).child 0) leafed (Not AlreadySplit)) Broken n e3.1
+    e4 : (cell_range t.cells i used free ≡ true) × (cond (eqb (words t i).child 0) leafed (Err AlreadySplit) ≡ Ok n)
+    e4 = taken (cell_range t.cells i used free) (cond (eqb (words t i).child 0) leafed (Err AlreadySplit)) Broken n e3.1
 
-    e5 : (eqb (words t i).child 0 ≡ true) × (leafed ≡ Split n)
+    e5 : (eqb (words t i).child 0 ≡ true) × (leafed ≡ Ok n)
     e5 = taken (eqb (words t i).child 0) leafed AlreadySplit n e4.1
 
-    e6 : (streamed ≡ true) × (sized ≡ Split n)
+    e6 : (streamed ≡ true) × (sized ≡ Ok n)
     e6 = taken streamed sized Broken n e5.1
 
-    e7 : (eqb (words t i).side 1 ≡ false) × (roomed ≡ Split n)
+    e7 : (eqb (words t i).side 1 ≡ false) × (roomed ≡ Ok n)
     e7 = passed_by (eqb (words t i).side 1) roomed Smallest n e6.1
 
     abbrev room1 : Bool
@@ -118,11 +104,11 @@ module _ (t : Tree) (i : ℕ) where
     abbrev room2 : Bool
     room2 = entries_held (free + length (made t i)) (length t.entries)
 
-    f1 : (room1 ≡ true) × (cond room2 (Split used) (Not Room) ≡ Split n)
-    f1 = taken room1 (cond room2 (Split used) (Not Room)) Room n e7.1
+    f1 : (room1 ≡ true) × (cond room2 (Ok used) (Err Room) ≡ Ok n)
+    f1 = taken room1 (cond room2 (Ok used) (Err Room)) Room n e7.1
 
-    f2 : (room2 ≡ true) × (Split used ≡ Split n)
-    f2 = taken room2 (Split used) Room n f1.1
+    f2 : (room2 ≡ true) × ◌≡◌ {A = Result ℕ Refusal} (Ok used) (Ok n)
+    f2 = taken room2 (Ok used) Room n f1.1
 
     pub split_able : Splittable t i
     split_able =
@@ -145,4 +131,4 @@ module _ (t : Tree) (i : ℕ) where
 
     -- the number that it gives is that of the first child: the cells in use before
     pub split_number_law : n ≡ cells_used t.head
-    split_number_law = sym (ap number_in f2.1)
+    split_number_law = let e = f2.1 in cc

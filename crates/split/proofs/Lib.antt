@@ -1,5 +1,5 @@
--- The room that a split asks for; when it is accepted; its checks; what is written then.
+-- The room that a split asks for; when it is accepted; what is planned then; what is written then.
 pub mod Rooms
 pub mod Accepted
-pub mod Judging
+pub mod Plans
 pub mod Made

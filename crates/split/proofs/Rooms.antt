@@ -1,6 +1,5 @@
 -- The room that a split asks for.
 use mathlib.Core.Path.{◌≡◌}
-use mathlib.Core.Bool.{true, false}
 use mathlib.Core.List.{List}
 use Prim.Native.Nat.{ℕ, ◌+◌}
 use native.Mathlib.Omega.{arith}
@@ -12,10 +11,6 @@ use Rattle.stream.specs.declared.Words.{Words}
 use Rattle.stream.specs.Table.{words_from}
 use Rattle.stream.specs.Grammar.{env, Passed}
 use Rattle.ranges.specs.Held.{lent}
-use Rattle.celltable.specs.Ranges.{cells_held, entries_held}
-use Rattle.refusals.specs.declared.Refusal.TheVariants.{Room}
-use Rattle.split.specs.declared.Answer.TheVariants.{Split, Not}
-use Rattle.split.specs.Split.{room_answer}
 use Rattle.four_children.specs.declared.Tally.{Tally}
 use Rattle.four_children.specs.Children.{cell_of_child, words_of_child, entries_of_child, streams_to}
 use Rattle.four_children.specs.code.Numbers.{no_tally, worked_to, FewEach}
@@ -72,13 +67,3 @@ sum_is D c ws ts n e h =
       entries_at D c ws ts 2 (omega arith) e,
       entries_at D c ws ts 3 (omega arith) e,
     )
-
--- ---- the answer
-pub has_room : (C E used free made : ℕ) → cells_held (used + 4) C ≡ true → entries_held (free + made) E ≡ true → Split used ≡ room_answer C E used free made
-has_room C E used free made a b = rw (a, b)
-
-pub no_entries : (C E used free made : ℕ) → cells_held (used + 4) C ≡ true → entries_held (free + made) E ≡ false → Not Room ≡ room_answer C E used free made
-no_entries C E used free made a b = rw (a, b)
-
-pub no_cells : (C E used free made : ℕ) → cells_held (used + 4) C ≡ false → Not Room ≡ room_answer C E used free made
-no_cells C E used free made a = rw a

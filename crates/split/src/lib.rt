@@ -10,30 +10,23 @@ ghost use Rattle.celltable.specs.Ranges.{square_range, cell_of};
 ghost use Rattle.ranges.specs.Held.{lent};
 ghost use Rattle.four_children.specs.Children.{streams_to};
 ghost use Rattle.four_children.specs.code.Numbers.{no_tally, worked_to, cells_by, FewEach};
-ghost use Rattle.refusals.specs.declared.Refusal.{Refusal};
-ghost use Rattle.tables.specs.Tables.{tree, tree_lent, tree_lent_mut};
-ghost use Rattle.split.specs.declared.Answer.TheVariants.{Split, Not};
-ghost use Rattle.split.specs.Split.{words, drawing, stream, made_by, room_answer, leaf_answer, cell_answer};
+ghost use Rattle.tables.specs.Tables.{tree, tree_of, tree_passed, tree_passed_mut};
+ghost use Rattle.split.specs.Split.{words, drawing as drawing_of, stream, made_by, room_answer, leaf_answer, cell_answer};
 ghost use Rattle.split.specs.Split.{split_answer, head_after, cells_after, entries_after};
 ghost use Rattle.split.specs.code.Accepted.{Accepted};
-ghost use Rattle.split.specs.code.Judged.{Told};
+ghost use Rattle.split.specs.code.Judged.{planned};
 
 use celltable::CellWords;
+use drawing::Drawing;
 use four_children::Tally;
 use refusals::Refusal;
 use stream::{Bounds, Context, Stream};
+use tables::Tree;
 
-// A split's answer: the number of the first child, or why it was refused.
+// A split that no check refuses: the number of the first child, and the tallies of the four children.
 #[derive(Clone, Copy)]
-pub enum Answer {
-    Split(u32),
-    Not(Refusal),
-}
-
-// What a split would be: its answer and, where it is to be made, the tallies of the four children.
-#[derive(Clone, Copy)]
-pub struct Judged {
-    pub answer: Answer,
+pub struct Planned {
+    pub child: u32,
     pub children: [Tally; 4],
 }
 
@@ -43,183 +36,155 @@ fn entries_of(ts: [Tally; 4]) -> usize
     ensures answer { result ≡ (get_or ts 0 no_tally).entries + (get_or ts 1 no_tally).entries + (get_or ts 2 no_tally).entries
         + (get_or ts 3 no_tally).entries }
 {
-    let a = ts[0];
-    let b = ts[1];
-    let c = ts[2];
-    let d = ts[3];
-    a.entries + b.entries + c.entries + d.entries
+    ts[0].entries + ts[1].entries + ts[2].entries + ts[3].entries
 }
 
 // ---- all checks, in their order
-// A split that is refused.
-fn refused(r: Refusal) -> Judged
-    ensures answer { result.answer ≡ Not r }
-{
-    let none = four_children::no_tallies();
-    Judged {
-        answer: Answer::Not(r),
-        children: none,
-    }
-}
-
 // 11, where the four streams have `made` entries. `cells` and `entries` are the lengths of the tables.
-fn judge_room(cells: usize, entries: usize, used: u32, free: u32, made: usize) -> Answer
+fn judge_room(
+    cells: usize,
+    entries: usize,
+    used: u32,
+    free: u32,
+    made: usize,
+) -> Result<u32, Refusal>
     requires { (used ≤ 4096) × (free ≤ 65536) × (made ≤ 65536) }
     ensures answer { result ≡ room_answer cells entries used free made }
 {
-    if tables::cells_held(used + celltable::CHILDREN, cells) {
-        if tables::entries_held((free as usize) + made, entries) {
-            return Answer::Split(used);
-        }
-        return Answer::Not(Refusal::Room);
+    if !tables::cells_held(used + celltable::CHILDREN, cells) {
+        return Err(Refusal::Room);
     }
-    Answer::Not(Refusal::Room)
+    if !tables::entries_held((free as usize) + made, entries) {
+        return Err(Refusal::Room);
+    }
+    Ok(used)
 }
 
-// The children of a leaf are worked out, then 11. `cells` is the length of the table of cells.
+// The children of a leaf, whose words are w, are worked out, then 11.
 fn judge_children(
-    areas: &[u32],
-    xs: &[u32],
-    ys: &[u32],
-    entries: &[u32],
-    b: Bounds,
-    cells: usize,
+    tree: Tree,
+    bounds: Bounds,
     used: u32,
     free: u32,
     w: CellWords,
-) -> Judged
-    requires passed { Passed entries.now w.first w.count (env areas.now xs.now ys.now b) }
+) -> Result<Planned, Refusal>
+    requires passed { let t = tree_of tree in Passed t.entries w.first w.count (env t.areas t.xs t.ys bounds) }
     requires w_value { square_range w ≡ true }
     requires lt_side { 1 < w.side }
     requires used_bound { (used ≤ 4096) × (free ≤ 65536) }
-    ensures answer { result.answer ≡ room_answer cells (length entries.now) used free
-        (length (made_by areas.now xs.now ys.now b w entries.now)) }
-    ensures children { result.children ≡ worked_to (lent areas.now xs.now ys.now b) (cell_of w)
-        (words_from entries.now w.first w.count) 4 }
+    ensures answer { let t = tree_passed tree in result ≡ planned
+        (room_answer (length t.cells) (length t.entries) used free (length (made_by t.areas t.xs t.ys bounds w t.entries)))
+        (worked_to (lent t.areas t.xs t.ys bounds) (cell_of w) (words_from t.entries w.first w.count) 4) }
 {
-    let first = w.first as usize;
-    let count = w.count as usize;
-    let ts = four_children::count_to(
-        entries,
-        first,
-        count,
-        areas,
-        xs,
-        ys,
-        b,
+    let drawing = tree.drawing;
+    let children = four_children::count_to(
+        tree.entries,
+        w.first as usize,
+        w.count as usize,
+        drawing.areas,
+        drawing.xs,
+        drawing.ys,
+        bounds,
         w,
         celltable::CHILDREN,
     );
-    let n = entries_of(ts);
-    let a = judge_room(cells, entries.len(), used, free, n);
-    Judged {
-        answer: a,
-        children: ts,
-    }
+    let made = entries_of(children);
+    let child = judge_room(tree.cells.len(), tree.entries.len(), used, free, made)?;
+    Ok(Planned { child, children })
 }
 
 // 12 over the stream of a leaf and its line count, 10, 11.
 fn judge_leaf(
-    areas: &[u32],
-    xs: &[u32],
-    ys: &[u32],
-    entries: &[u32],
-    b: Bounds,
-    cells: usize,
+    tree: Tree,
+    bounds: Bounds,
     used: u32,
     free: u32,
     w: CellWords,
-) -> Judged
+) -> Result<Planned, Refusal>
     requires w_value { square_range w ≡ true }
     requires used_bound { (used ≤ 4096) × (free ≤ 65536) }
-    ensures answer { result.answer ≡
-        leaf_answer areas.now xs.now ys.now b w entries.now cells used free }
-    ensures children { Told result (lent areas.now xs.now ys.now b) (cell_of w)
-        (words_from entries.now w.first w.count) }
+    ensures answer { let t = tree_passed tree in result ≡ planned
+        (leaf_answer t.areas t.xs t.ys bounds w t.entries (length t.cells) used free)
+        (worked_to (lent t.areas t.xs t.ys bounds) (cell_of w) (words_from t.entries w.first w.count) 4) }
 {
+    let drawing = tree.drawing;
     let stream = Stream {
-        entries,
+        entries: tree.entries,
         first: w.first as usize,
         count: w.count as usize,
     };
     let context = Context {
-        areas,
-        xs,
-        ys,
-        bounds: b,
+        areas: drawing.areas,
+        xs: drawing.xs,
+        ys: drawing.ys,
+        bounds,
     };
     let Some(c) = stream::check_stream(stream, free as usize, context) else {
-        return refused(Refusal::Broken);
+        return Err(Refusal::Broken);
     };
     if c.lines != w.lines {
-        return refused(Refusal::Broken);
+        return Err(Refusal::Broken);
     }
     if w.side == 1 {
-        return refused(Refusal::Smallest);
+        return Err(Refusal::Smallest);
     }
-    judge_children(areas, xs, ys, entries, b, cells, used, free, w)
+    judge_children(tree, bounds, used, free, w)
 }
 
 // 12 over cell i, whose words are w, 9, and then the leaf.
 fn judge_cell(
-    areas: &[u32],
-    xs: &[u32],
-    ys: &[u32],
-    cells: &[u32],
-    entries: &[u32],
-    b: Bounds,
+    tree: Tree,
+    bounds: Bounds,
     i: usize,
     used: u32,
     free: u32,
     w: CellWords,
-) -> Judged
+) -> Result<Planned, Refusal>
     requires used_bound { (used ≤ 4096) × (free ≤ 65536) }
-    requires i_lt_used { (i < used) × (used * 8 ≤ length cells.now) }
-    requires w_value { w ≡ cell_at cells.now i }
-    ensures answer { result.answer ≡
-        cell_answer areas.now xs.now ys.now b w entries.now cells.now i used free }
-    ensures children { Told result (lent areas.now xs.now ys.now b) (cell_of w)
-        (words_from entries.now w.first w.count) }
+    requires i_lt_used { (i < used) × (used * 8 ≤ length tree.cells.now) }
+    requires w_value { w ≡ cell_at tree.cells.now i }
+    ensures answer { let t = tree_passed tree in result ≡ planned
+        (cell_answer t.areas t.xs t.ys bounds w t.entries t.cells i used free)
+        (worked_to (lent t.areas t.xs t.ys bounds) (cell_of w) (words_from t.entries w.first w.count) 4) }
 {
-    if celltable::cell_fits(cells, i, used as usize, free as usize) {
-        if w.child == 0 {
-            return judge_leaf(areas, xs, ys, entries, b, cells.len(), used, free, w);
-        }
-        return refused(Refusal::AlreadySplit);
+    if !celltable::cell_fits(tree.cells, i, used as usize, free as usize) {
+        return Err(Refusal::Broken);
     }
-    refused(Refusal::Broken)
+    if w.child != 0 {
+        return Err(Refusal::AlreadySplit);
+    }
+    judge_leaf(tree, bounds, used, free, w)
 }
 
 // All checks of a split of cell i, in this order: 7, 8, 12, 9, 10, 11.
-pub fn judge(
-    plan: &[u32],
-    areas: &[u32],
-    xs: &[u32],
-    ys: &[u32],
-    head: &[u32],
-    cells: &[u32],
-    entries: &[u32],
-    i: u32,
-) -> Judged
-    ensures answer { result.answer ≡ split_answer (tree_lent plan areas xs ys head cells entries) i }
-    ensures children { Told result (drawing (tree_lent plan areas xs ys head cells entries) i)
-        (cell_of (words (tree_lent plan areas xs ys head cells entries) i)) (stream (tree_lent plan areas xs ys head cells entries) i) }
+pub fn judge(tree: Tree, i: u32) -> Result<Planned, Refusal>
+    ensures answer { let t = tree_passed tree in result ≡ planned (split_answer t i)
+        (worked_to (drawing_of t i) (cell_of (words t i)) (stream t i) 4) }
 {
-    if xs.len() == ys.len() {
-        let used = tables::cells_used(head);
-        if i < used {
-            if tables::counts_fit(plan, areas, xs, ys, head, cells, entries) {
-                let free = head[celltable::ENTRIES];
-                let n = i as usize;
-                let w = celltable::read_cell(cells, n);
-                let b = tables::bounds_in(plan, w.y, w.side);
-                return judge_cell(areas, xs, ys, cells, entries, b, n, used, free, w);
-            }
-            return refused(Refusal::Broken);
-        }
-        return refused(Refusal::NoCell);
+    let drawing = tree.drawing;
+    if drawing.xs.len() != drawing.ys.len() {
+        return Err(Refusal::Argument);
     }
-    refused(Refusal::Argument)
+    let used = tables::cells_used(tree.head);
+    if used <= i {
+        return Err(Refusal::NoCell);
+    }
+    if !tables::counts_fit(
+        drawing.plan,
+        drawing.areas,
+        drawing.xs,
+        drawing.ys,
+        tree.head,
+        tree.cells,
+        tree.entries,
+    ) {
+        return Err(Refusal::Broken);
+    }
+    let free = tree.head[celltable::ENTRIES];
+    let n = i as usize;
+    let w = celltable::read_cell(tree.cells, n);
+    let bounds = tables::bounds_in(drawing.plan, w.y, w.side);
+    judge_cell(tree, bounds, n, used, free, w)
 }
 
 // ---- what is written
@@ -239,26 +204,25 @@ fn put_cells(cells: &mut [u32], i: u32, used: u32, free: u32, w: CellWords, ts: 
 
 // Writes a split of cell i, whose words are w: there is room for it.
 fn put_split(
+    drawing: Drawing,
     head: &mut [u32],
     cells: &mut [u32],
     entries: &mut [u32],
-    areas: &[u32],
-    xs: &[u32],
-    ys: &[u32],
-    b: Bounds,
+    bounds: Bounds,
     i: u32,
     used: u32,
     free: u32,
     w: CellWords,
     ts: [Tally; 4],
 )
-    requires passed { Passed entries.old w.first w.count (env areas.now xs.now ys.now b) }
+    requires passed { Passed entries.old w.first w.count (env drawing.areas.now drawing.xs.now drawing.ys.now bounds) }
     requires w_value { square_range w ≡ true }
     requires lt_side { 1 < w.side }
     requires count_bound { w.first + w.count ≤ free }
-    requires ts_value { ts ≡ worked_to (lent areas.now xs.now ys.now b) (cell_of w) (words_from entries.old w.first w.count) 4 }
-    requires count_in_bounds { (free + length (streams_to (lent areas.now xs.now ys.now b) (cell_of w) (words_from entries.old w.first w.count) 4)) * 4
-        ≤ length entries.old }
+    requires ts_value { ts ≡ worked_to (lent drawing.areas.now drawing.xs.now drawing.ys.now bounds) (cell_of w)
+        (words_from entries.old w.first w.count) 4 }
+    requires count_in_bounds { (free + length (streams_to (lent drawing.areas.now drawing.xs.now drawing.ys.now bounds) (cell_of w)
+        (words_from entries.old w.first w.count) 4)) * 4 ≤ length entries.old }
     requires few_each { FewEach ts }
     requires used_in_bounds { (used + 4) * 8 ≤ length cells.old }
     requires used_bound { (used ≤ 4096) × (free ≤ 65536) }
@@ -266,20 +230,18 @@ fn put_split(
     ensures head { head.new ≡ set (set head.old 0 (used + 4)) 1 (free + ((get_or ts 0 no_tally).entries
         + (get_or ts 1 no_tally).entries + (get_or ts 2 no_tally).entries + (get_or ts 3 no_tally).entries)) }
     ensures cells { cells.new ≡ put_child_at (cells_by (cell_of w) ts cells.old i used free 4) i used }
-    ensures entries { entries.new ≡ written entries.old free (streams_to
-        (lent areas.now xs.now ys.now b) (cell_of w) (words_from entries.old w.first w.count) 4) }
+    ensures entries { let d = drawing.entry in entries.new ≡ written entries.old free
+        (streams_to (lent d.areas.now d.xs.now d.ys.now bounds) (cell_of w) (words_from entries.old w.first w.count) 4) }
 {
-    let first = w.first as usize;
-    let count = w.count as usize;
     four_children::write_four(
         entries,
-        first,
-        count,
+        w.first as usize,
+        w.count as usize,
         free as usize,
-        areas,
-        xs,
-        ys,
-        b,
+        drawing.areas,
+        drawing.xs,
+        drawing.ys,
+        bounds,
         w,
         ts,
     );
@@ -290,58 +252,50 @@ fn put_split(
 
 // Writes a split of cell i that no check refuses, with the tallies of its four children.
 fn make_split(
-    plan: &[u32],
-    areas: &[u32],
-    xs: &[u32],
-    ys: &[u32],
+    drawing: Drawing,
     head: &mut [u32],
     cells: &mut [u32],
     entries: &mut [u32],
     i: u32,
     ts: [Tally; 4],
 )
-    requires accepted { Accepted (tree plan.now areas.now xs.now ys.now head.old cells.old entries.old) i }
-    requires ts_value { ts ≡ worked_to (drawing (tree plan.now areas.now xs.now ys.now head.old cells.old entries.old) i)
-        (cell_of (words (tree plan.now areas.now xs.now ys.now head.old cells.old entries.old) i))
-        (stream (tree plan.now areas.now xs.now ys.now head.old cells.old entries.old) i) 4 }
-    ensures head { head.new ≡ head_after (tree_lent_mut plan areas xs ys head cells entries) i (Split 0) }
-    ensures cells { cells.new ≡ cells_after (tree_lent_mut plan areas xs ys head cells entries) i (Split 0) }
-    ensures entries { entries.new ≡ entries_after (tree_lent_mut plan areas xs ys head cells entries) i (Split 0) }
+    requires accepted { Accepted (tree drawing.plan.now drawing.areas.now drawing.xs.now drawing.ys.now head.old cells.old entries.old) i }
+    requires ts_value { let t = tree drawing.plan.now drawing.areas.now drawing.xs.now drawing.ys.now head.old cells.old entries.old in
+        ts ≡ worked_to (drawing_of t i) (cell_of (words t i)) (stream t i) 4 }
+    ensures head { head.new ≡ head_after (tree_passed_mut drawing head cells entries) i (Ok 0) }
+    ensures cells { cells.new ≡ cells_after (tree_passed_mut drawing head cells entries) i (Ok 0) }
+    ensures entries { entries.new ≡ entries_after (tree_passed_mut drawing head cells entries) i (Ok 0) }
 {
     let used = head[celltable::CELLS];
     let free = head[celltable::ENTRIES];
     let w = celltable::read_cell(cells, i as usize);
-    let b = tables::bounds_in(plan, w.y, w.side);
-    put_split(head, cells, entries, areas, xs, ys, b, i, used, free, w, ts);
+    let bounds = tables::bounds_in(drawing.plan, w.y, w.side);
+    put_split(drawing, head, cells, entries, bounds, i, used, free, w, ts);
 }
 
-// Splits cell i: four cells of half its side, each with the stream that document 01 defines. Any tables may be handed in.
-// Refusals, in this order: 7, 8, 12, 9, 10, 11. Nothing is changed on a refusal.
+// Splits cell i: four cells of half its side, each with the stream that document 01 defines; answers the number of the first. Any tables may be
+// handed in. Refusals, in this order: 7, 8, 12, 9, 10, 11. Nothing is changed on a refusal.
 pub fn split(
-    plan: &[u32],
-    areas: &[u32],
-    xs: &[u32],
-    ys: &[u32],
+    drawing: Drawing,
     head: &mut [u32],
     cells: &mut [u32],
     entries: &mut [u32],
     i: u32,
-) -> Answer
-    ensures answer { result ≡ split_answer (tree_lent_mut plan areas xs ys head cells entries) i }
-    ensures head { head.new ≡ head_after (tree_lent_mut plan areas xs ys head cells entries) i result }
-    ensures cells { cells.new ≡ cells_after (tree_lent_mut plan areas xs ys head cells entries) i result }
-    ensures entries { entries.new ≡ entries_after (tree_lent_mut plan areas xs ys head cells entries) i result }
+) -> Result<u32, Refusal>
+    ensures answer { result ≡ split_answer (tree_passed_mut drawing head cells entries) i }
+    ensures head { head.new ≡ head_after (tree_passed_mut drawing head cells entries) i result }
+    ensures cells { cells.new ≡ cells_after (tree_passed_mut drawing head cells entries) i result }
+    ensures entries { entries.new ≡ entries_after (tree_passed_mut drawing head cells entries) i result }
 {
-    let j = judge(plan, areas, xs, ys, head, cells, entries, i);
-    let a = j.answer;
-    match a {
-        Answer::Split(n) => {
-            let ts = j.children;
-            make_split(plan, areas, xs, ys, head, cells, entries, i, ts);
-            return Answer::Split(n);
-        }
-        Answer::Not(r) => {
-            return Answer::Not(r);
-        }
-    }
+    let plan = judge(
+        Tree {
+            drawing,
+            head,
+            cells,
+            entries,
+        },
+        i,
+    )?;
+    make_split(drawing, head, cells, entries, i, plan.children);
+    Ok(plan.child)
 }

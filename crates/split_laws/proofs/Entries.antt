@@ -3,12 +3,12 @@ use mathlib.Core.Path.{◌≡◌, ap, ◌∙◌}
 use Prim.Native.Nat.{ℕ, suc, ◌+◌, ◌≤◌, ◌<◌}
 use native.Mathlib.Omega.{arith}
 use lib.ListN.{length}
+use Rattle.std.specs.Prelude.{Ok}
 use Rattle.celltable.specs.declared.CellWords.{CellWords}
 use Rattle.celltable.specs.Ranges.{cell_of}
 use Rattle.stream.specs.Table.{words_from}
 use Rattle.four_children.specs.Children.{streams_to}
 use Rattle.four_children.proofs.Filled.{streams_more}
-use Rattle.split.specs.declared.Answer.TheVariants.{Split}
 use Rattle.tables.specs.Tables.{Tree, entries_used}
 use Rattle.split.specs.Split.{words, drawing, stream, split_answer}
 use Rattle.split_laws.specs.After.{split_tree}
@@ -17,7 +17,7 @@ use Rattle.split.proofs.Accepted.{split_able, able_entries}
 use Rattle.split_laws.proofs.Rows.{streams_up}
 use Rattle.split_laws.proofs.Trees.{tree_free, tree_cell, tree_child, tree_stream}
 
-module _ (t : Tree) (i n : ℕ) (e : split_answer t i ≡ Split n) where
+module _ (t : Tree) (i n : ℕ) (e : split_answer t i ≡ Ok n) where
   -- the entries of the first q children
   abbrev entries_to : ℕ → ℕ
   entries_to q = length (streams_to (drawing t i) (cell_of (words t i)) (stream t i) q)
@@ -54,7 +54,7 @@ module _ (t : Tree) (i n : ℕ) (e : split_answer t i ≡ Split n) where
       }
 
 -- an accepted split of a cell j that comes after leaves the entries of cell i's stream as they were, and no stream of its children has one of them
-pub not_used_later : (t : Tree) (i n j m : ℕ) → split_answer t i ≡ Split n → split_answer (split_tree t i) j ≡ Split m
+pub not_used_later : (t : Tree) (i n j m : ℕ) → split_answer t i ≡ Ok n → split_answer (split_tree t i) j ≡ Ok m
     → (words_from (split_tree (split_tree t i) j).entries (words t i).first (words t i).count ≡ stream t i)
     × ((q : ℕ) → q < 4 → (words t i).first + (words t i).count ≤ (child_after (split_tree t i) j q).first)
 not_used_later t i n j m e f =

@@ -5,11 +5,11 @@ use Prim.Native.Nat.{ℕ, ◌+◌, ◌<◌}
 use native.Mathlib.Omega.{arith}
 use lib.Dec.{eqb, ltb}
 use borrow.Author.Tests.{lt-ltb}
+use Rattle.std.specs.Prelude.{Ok}
 use Rattle.laws.proofs.Booleans.{or_right}
 use Rattle.celltable.specs.Ranges.{cell_range}
 use Rattle.celltable.proofs.Ranges.{child_more, passes_children}
 use Rattle.celltable.proofs.Parents.{range_more}
-use Rattle.split.specs.declared.Answer.TheVariants.{Split}
 use Rattle.tables.specs.Tables.{Tree, cells_used, entries_used}
 use Rattle.split.specs.Split.{words, split_answer}
 use Rattle.split_laws.specs.After.{split_tree}
@@ -17,7 +17,7 @@ use Rattle.split.specs.code.Accepted.{Accepted}
 use Rattle.split.proofs.Accepted.{split_accepted}
 use Rattle.split_laws.proofs.Trees.{tree_used, tree_free, tree_keeps_cell, tree_cell}
 
-module _ (t : Tree) (i n : ℕ) (e : split_answer t i ≡ Split n) where
+module _ (t : Tree) (i n : ℕ) (e : split_answer t i ≡ Ok n) where
   A : Accepted t i
   A = split_accepted t i n e
 

@@ -6,6 +6,7 @@ use Prim.Native.Nat.{ℕ, ◌+◌, ◌≤◌, ◌<◌}
 use native.Mathlib.Omega.{arith}
 use lib.Dec.{leb}
 use lib.ListN.{length, get_or}
+use Rattle.std.specs.Prelude.{Ok, Err}
 use Rattle.refusals.specs.declared.Refusal.{Refusal}
 use Rattle.cells.specs.Cells.{child}
 use Rattle.stream.specs.Table.{words_from}
@@ -14,7 +15,6 @@ use Rattle.celltable.specs.Table.{cell_at, with_child}
 use Rattle.celltable.specs.Ranges.{head_range, cell_of}
 use Rattle.celltable.specs.Descent.{quarter_at}
 use Rattle.four_children.specs.Children.{words_with, words_of_child, entries_of_child, lines_of_child, streams_to}
-use Rattle.split.specs.declared.Answer.TheVariants.{Split, Not}
 use Rattle.tables.specs.Tables.{Tree, tree, cells_used, entries_used, bounds_of, counts_in}
 use Rattle.split.specs.Split.{words, drawing, stream, made, split_answer, head_after, cells_after, entries_after}
 use Rattle.tables.proofs.Heads.{used_is}
@@ -36,7 +36,7 @@ use Rattle.split_laws.proofs.Kept.{
 }
 
 -- a refused split changes nothing
-pub tree_refused : (t : Tree) (i : ℕ) (r : Refusal) → split_answer t i ≡ Not r → split_tree t i ≡ t
+pub tree_refused : (t : Tree) (i : ℕ) (r : Refusal) → split_answer t i ≡ Err r → split_tree t i ≡ t
 unfolding split_tree
 tree_refused t i r e =
     λ d.
@@ -47,16 +47,16 @@ pub tree_plan : (t : Tree) (i : ℕ) → (split_tree t i).plan ≡ t.plan
 unfolding split_tree
 tree_plan t i = refl
 
-module _ (t : Tree) (i n : ℕ) (e : split_answer t i ≡ Split n) where
-  pub tree_head : (split_tree t i).head ≡ head_after t i (Split n)
+module _ (t : Tree) (i n : ℕ) (e : split_answer t i ≡ Ok n) where
+  pub tree_head : (split_tree t i).head ≡ head_after t i (Ok n)
   unfolding split_tree
   tree_head = ap (head_after t i) e
 
-  pub tree_cells : (split_tree t i).cells ≡ cells_after t i (Split n)
+  pub tree_cells : (split_tree t i).cells ≡ cells_after t i (Ok n)
   unfolding split_tree
   tree_cells = ap (cells_after t i) e
 
-  pub tree_entries : (split_tree t i).entries ≡ entries_after t i (Split n)
+  pub tree_entries : (split_tree t i).entries ≡ entries_after t i (Ok n)
   unfolding split_tree
   tree_entries = ap (entries_after t i) e
 

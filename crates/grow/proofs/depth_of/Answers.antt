@@ -1,15 +1,10 @@
 use native.Mathlib.Omega.{arith}
-use Rattle.grow.proofs.Depths.{doubled_begin, doubled_more, doubled_turn, doubled_end}
+use Rattle.celltable.proofs.Powers.{level_most}
+use Rattle.grow.proofs.Depths.{zeros_level}
 use Rattle.grow.proofs.depth_of.Goals as goal
 
-pub loop-s-init : goal.loop-s-init
-loop-s-init c = search doubled_begin
-
-pub loop-s-smaller : goal.loop-s-smaller
-loop-s-smaller c = omega (arith, doubled_more c.args.side c.loop-s.s c.loop-s.d c.loop-s.invariant c.loop-s-test.true)
-
-pub loop-s-preserved : goal.loop-s-preserved
-loop-s-preserved c = search doubled_turn
+pub overflow_sub-result : goal.overflow_sub-result
+overflow_sub-result c = omega (arith, zeros_level c.args.side c.requires, level_most 16 c.args.side)
 
 pub returns : goal.returns
-returns c = record { answer = search doubled_end }
+returns c = record { answer = rw (zeros_level c.args.side c.requires) }

@@ -1,55 +1,26 @@
-use mathlib.Core.Path.{sym, ap, ◌∙◌}
-use Rattle.tables.specs.Tables.{Tree, tree}
-use Rattle.grow.proofs.Calls.{call_uneven, tree_uneven, call_deep, tree_deep, call_grown, tree_grown, answer_uncounted, tree_uncounted}
+use mathlib.Core.Path.{◌≡◌, ap, ◌∙◌}
+use mathlib.Core.Bool.{false}
+use Prim.Native.Nat.{◌≤◌}
+use native.Mathlib.Omega.{arith}
+use Rattle.std.proofs.Common.{rules}
+use lib.ListN.{length}
+use Rattle.tables.specs.Tables.{Tree, tree, counts_in}
+use Rattle.grow.proofs.Calls.{call_grown, tree_grown, answer_uncounted, tree_uncounted}
 use Rattle.grow.proofs.grow.Goals as goal
 
-pub sweep_up-requires : goal.sweep_up-requires
-sweep_up-requires c = sym c.counts_fit.ensures.answer ∙ c.if-counts_fit.true
-
-pub returns-then-counts_fit : goal.returns-then-counts_fit
-returns-then-counts_fit c =
+pub returns-then-not-counts_fit : goal.returns-then-not-counts_fit
+returns-then-not-counts_fit c =
     let a = c.args in
-    let T = tree a.plan.now a.areas.now a.xs.now a.ys.now a.head.now a.cells.now a.entries.now in
-    let Q = tree_grown T a.threshold a.limit c.if-xs-ys.true c.if-limit-le-DEEPEST.true in
+    let d = a.drawing in
+    let T = tree d.plan.now d.areas.now d.xs.now d.ys.now a.head.now a.cells.now a.entries.now in
+    let n = a.limits.threshold in
+    let l = a.limits.depth in
+    let f : counts_in T ≡ false = cc in
+    let even : length d.xs.now ≡ length d.ys.now = search rules in
+    let few : l ≤ 16 = omega arith in
+    let Q = tree_uncounted T n l f ∙ tree_grown T n l even few in
     record {
-      answer = c.sweep_up.ensures.answer ∙ call_grown T a.threshold a.limit c.if-xs-ys.true c.if-limit-le-DEEPEST.true;
-      head = c.sweep_up.ensures.head ∙ ap (λ (u : Tree). u.head) Q;
-      cells = c.sweep_up.ensures.cells ∙ ap (λ (u : Tree). u.cells) Q;
-      entries = c.sweep_up.ensures.entries ∙ ap (λ (u : Tree). u.entries) Q;
-    }
-
-pub returns-then-limit-le-DEEPEST : goal.returns-then-limit-le-DEEPEST
-returns-then-limit-le-DEEPEST c =
-    let a = c.args in
-    let T = tree a.plan.now a.areas.now a.xs.now a.ys.now a.head.now a.cells.now a.entries.now in
-    let f = sym c.counts_fit.ensures.answer ∙ c.if-counts_fit.false in
-    let Q = tree_uncounted T a.threshold a.limit f ∙ tree_grown T a.threshold a.limit c.if-xs-ys.true c.if-limit-le-DEEPEST.true in
-    record {
-      answer = answer_uncounted T a.threshold a.limit f ∙ call_grown T a.threshold a.limit c.if-xs-ys.true c.if-limit-le-DEEPEST.true;
-      head = ap (λ (u : Tree). u.head) Q;
-      cells = ap (λ (u : Tree). u.cells) Q;
-      entries = ap (λ (u : Tree). u.entries) Q;
-    }
-
-pub returns-then-xs-ys : goal.returns-then-xs-ys
-returns-then-xs-ys c =
-    let a = c.args in
-    let T = tree a.plan.now a.areas.now a.xs.now a.ys.now a.head.now a.cells.now a.entries.now in
-    let Q = tree_deep T a.threshold a.limit c.if-xs-ys.true c.if-limit-le-DEEPEST.false in
-    record {
-      answer = call_deep T a.threshold a.limit c.if-xs-ys.true c.if-limit-le-DEEPEST.false;
-      head = ap (λ (u : Tree). u.head) Q;
-      cells = ap (λ (u : Tree). u.cells) Q;
-      entries = ap (λ (u : Tree). u.entries) Q;
-    }
-
-pub returns : goal.returns
-returns c =
-    let a = c.args in
-    let T = tree a.plan.now a.areas.now a.xs.now a.ys.now a.head.now a.cells.now a.entries.now in
-    let Q = tree_uneven T a.threshold a.limit c.if-xs-ys.false in
-    record {
-      answer = call_uneven T a.threshold a.limit c.if-xs-ys.false;
+      answer = answer_uncounted T n l f ∙ call_grown T n l even few;
       head = ap (λ (u : Tree). u.head) Q;
       cells = ap (λ (u : Tree). u.cells) Q;
       entries = ap (λ (u : Tree). u.entries) Q;

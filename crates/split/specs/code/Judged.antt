@@ -1,12 +1,10 @@
--- What is known of a split before anything is written.
-use Rattle.std.specs.Prelude.{◌≡◌, List, ℕ}
-use Rattle.cells.specs.Cells.{Cell}
-use Rattle.cells.specs.Drawings.{Drawing}
-use Rattle.stream.specs.declared.Words.{Words}
-use Rattle.four_children.specs.code.Numbers.{worked_to}
-use Rattle.split.specs.declared.Answer.TheVariants.{Split}
-use Rattle.split.specs.declared.Judged.{Judged}
+-- What a split is to be, before anything is written.
+use Rattle.std.specs.Prelude.{List, ℕ, Result, Ok, Err}
+use Rattle.refusals.specs.declared.Refusal.{Refusal}
+use Rattle.four_children.specs.declared.Tally.{Tally}
+use Rattle.split.specs.declared.Planned.{Planned}
 
--- where it is to be made, the tallies are those of the four children of cell c with the stream that ws say
-abbrev pub Told : Judged → Drawing → Cell → List Words → Type 0
-Told j D c ws = (n : ℕ) → j.answer ≡ Split n → j.children ≡ worked_to D c ws 4
+-- a split's answer and, where it is to be made, the tallies of the four children
+abbrev pub planned : Result ℕ Refusal → List Tally → Result Planned Refusal
+planned (Ok n) ts = Ok (record { child = n; children = ts })
+planned (Err r) ts = Err r
