@@ -1,15 +1,12 @@
 -- An answer as one number: the refusal's number times 2^32 and its place; the result where nothing is refused.
-use Rattle.std.specs.Prelude.{Bool, cond, List, ℕ, ◌+◌, ◌*◌, leb, length, set, Ok, Err}
+use Rattle.std.specs.Prelude.{Bool, cond, List, ℕ, ◌+◌, ◌*◌, leb, length, set, Result, Ok, Err}
+use Rattle.refusals.specs.declared.Refusal.{Refusal}
 use Rattle.refusals.specs.declared.Refusal.TheVariants.{Room}
 use Rattle.refusals.specs.Refusals.{number_of}
 use Rattle.grammar.specs.Grammar.{Verdict}
 use Rattle.drawing.specs.Tables.{Written}
-use Rattle.open.specs.declared.Answer as newtree-answer
-use Rattle.open.specs.declared.Answer.TheVariants as newtree
-use Rattle.split.specs.declared.Answer as tree-answer
-use Rattle.split.specs.declared.Answer.TheVariants as tree
-use Rattle.grow.specs.declared.Answer as growth-answer
-use Rattle.grow.specs.declared.Answer.TheVariants as growth
+use Rattle.grow.specs.declared.Growth.{Growth}
+use Rattle.grow.specs.declared.Growth.TheVariants as Growths
 use Rattle.find_leaf.specs.declared.FoundLeaf.{FoundLeaf}
 use Rattle.find_leaf.specs.declared.Answer as leaf-answer
 use Rattle.find_leaf.specs.declared.Answer.TheVariants as leaf
@@ -28,20 +25,20 @@ write_number (Ok n) = packed 0 n
 write_number (Err r) = packed (number_of r) 0
 
 -- opening: how many entries; document 01 leaves this result free
-abbrev pub open_number : newtree-answer.Answer → ℕ
-open_number (newtree.Opened entries) = packed 0 entries
-open_number (newtree.Not r) = packed (number_of r) 0
+abbrev pub open_number : Result ℕ Refusal → ℕ
+open_number (Ok entries) = packed 0 entries
+open_number (Err r) = packed (number_of r) 0
 
 -- splitting: the number of the first child; document 01 leaves this result free
-abbrev pub split_number : tree-answer.Answer → ℕ
-split_number (tree.Split child) = packed 0 child
-split_number (tree.Not r) = packed (number_of r) 0
+abbrev pub split_number : Result ℕ Refusal → ℕ
+split_number (Ok child) = packed 0 child
+split_number (Err r) = packed (number_of r) 0
 
 -- growing: "it says "done" when there is none, "full" when that split would be refused with 11, and gives the splits made": 2^31 more for "full"
-abbrev pub grow_number : growth-answer.Answer → ℕ
-grow_number (growth.Done splits) = packed 0 splits
-grow_number (growth.Full splits) = packed 0 (2147483648 + splits)
-grow_number (growth.Not r) = packed (number_of r) 0
+abbrev pub grow_number : Result Growth Refusal → ℕ
+grow_number (Ok (Growths.Done splits)) = packed 0 splits
+grow_number (Ok (Growths.Full splits)) = packed 0 (2147483648 + splits)
+grow_number (Err r) = packed (number_of r) 0
 
 -- finding a leaf: 11, "another output table too short for the whole result", which is eight words; out is how many words the table has
 abbrev pub find_room : leaf-answer.Answer → (out : ℕ) → leaf-answer.Answer
@@ -82,7 +79,7 @@ write_low (Ok n) = n
 write_low (Err r) = 0
 
 -- the splits made
-abbrev pub grow_splits : growth-answer.Answer → ℕ
-grow_splits (growth.Done splits) = splits
-grow_splits (growth.Full splits) = splits
-grow_splits (growth.Not r) = 0
+abbrev pub grow_splits : Result Growth Refusal → ℕ
+grow_splits (Ok (Growths.Done splits)) = splits
+grow_splits (Ok (Growths.Full splits)) = splits
+grow_splits (Err r) = 0

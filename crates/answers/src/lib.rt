@@ -13,6 +13,7 @@ ghost use Rattle.answers.specs.Readings.{spot_put, spot_room, spot_number, spot_
 
 use find_leaf::FoundLeaf;
 use grammar::Counts;
+use grow::Growth;
 use pixel_row::RowAnswer;
 use position::Spot;
 use refusals::{Refusal, Refused};
@@ -60,33 +61,33 @@ pub fn pack_written(w: Result<usize, Refusal>) -> u64
     }
 }
 
-pub fn pack_open(a: open::Answer) -> u64
+pub fn pack_open(a: Result<u32, Refusal>) -> u64
     ensures answer { result ≡ open_number a }
 {
     match a {
-        open::Answer::Opened(entries) => pack(0, entries as usize),
-        open::Answer::Not(r) => refused(r),
+        Ok(entries) => pack(0, entries as usize),
+        Err(r) => refused(r),
     }
 }
 
-pub fn pack_split(a: split::Answer) -> u64
+pub fn pack_split(a: Result<u32, Refusal>) -> u64
     ensures answer { result ≡ split_number a }
 {
     match a {
-        split::Answer::Split(child) => pack(0, child as usize),
-        split::Answer::Not(r) => refused(r),
+        Ok(child) => pack(0, child as usize),
+        Err(r) => refused(r),
     }
 }
 
 // "full" has 2^31 more than "done".
-pub fn pack_grow(a: grow::Answer) -> u64
+pub fn pack_grow(a: Result<Growth, Refusal>) -> u64
     requires { grow_splits a ≤ 4096 }
     ensures answer { result ≡ grow_number a }
 {
     match a {
-        grow::Answer::Done(splits) => pack(0, splits as usize),
-        grow::Answer::Full(splits) => pack(0, 2147483648 + (splits as usize)),
-        grow::Answer::Not(r) => refused(r),
+        Ok(Growth::Done(splits)) => pack(0, splits as usize),
+        Ok(Growth::Full(splits)) => pack(0, 2147483648 + (splits as usize)),
+        Err(r) => refused(r),
     }
 }
 

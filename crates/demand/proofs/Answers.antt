@@ -7,6 +7,7 @@ use native.Mathlib.Omega.{arith}
 use lib.Dec.{eqb, ltb, leb}
 use lib.ListN.{length}
 use borrow.Author.Tests.{eq-eqb, leb-true}
+use Rattle.std.specs.Prelude.{Result, Err}
 use Rattle.refusals.specs.declared.Refusal.{Refusal}
 use Rattle.refusals.specs.declared.Refusal.TheVariants as Refusals
 use Rattle.refusals.specs.Refusals.{number_of}
@@ -18,13 +19,11 @@ use Rattle.cells.specs.Drawings.{Drawing}
 use Rattle.stream.specs.Entry.{lines_in, is_uniform}
 use Rattle.ranges.proofs.Streams.{words_length}
 use Rattle.celltable.specs.Descent.{leaf_of}
-use Rattle.split.specs.declared.Answer as Splitting
 use Rattle.tables.specs.Tables.{Tree}
 use Rattle.split.specs.Split.{words, split_answer}
 use Rattle.split_laws.specs.After.{split_tree}
 use Rattle.split_laws.proofs.Trees.{tree_refused}
-use Rattle.grow.specs.declared.Answer as Growing
-use Rattle.grow.specs.declared.Answer.TheVariants as Grows
+use Rattle.grow.specs.declared.Growth.{Growth}
 use Rattle.grow.specs.Grow.{Ending, none_left, no_room, not_passed, grown, answer_by, answer_of, grow_answer, grow_tree}
 use Rattle.find_leaf.specs.declared.FoundLeaf.{FoundLeaf}
 use Rattle.find_leaf.specs.declared.Answer as Finding
@@ -56,7 +55,7 @@ use Rattle.demand.proofs.Finding.{lands}
 use Rattle.demand.proofs.Readings.{shown_alike, position_inside, position_outside}
 
 -- ---- a split
-pub record SplitDone (t : Tree) (H : List Node) (i : ℕ) (a : Splitting.Answer) : Type 0 where
+pub record SplitDone (t : Tree) (H : List Node) (i : ℕ) (a : Result ℕ Refusal) : Type 0 where
   pub sound : Sound (split_tree t i) (after_split H i a)
   pub right : SplitRight H i a
   pub unmet : refusal (splitting a) ≡ 12 → ⊥
@@ -76,7 +75,7 @@ broken_number Refusals.Room f e = omega arith
 broken_number Refusals.Broken f e = f refl
 broken_number Refusals.Curve f e = omega arith
 
-split_by : (t : Tree) (H : List Node) (i : ℕ) → Sound t H → {a : Splitting.Answer} → split_answer t i ≡ a → Outcome t H i a → SplitDone t H i a
+split_by : (t : Tree) (H : List Node) (i : ℕ) → Sound t H → {a : Result ℕ Refusal} → split_answer t i ≡ a → Outcome t H i a → SplitDone t H i a
 split_by t H i s e (accepted n m l k o) = record { sound = o; right = (m, l); unmet = λ z. omega arith }
 split_by t H i s e (refused r f) = record { sound = subst (λ (u : Tree). Sound u H) (sym (tree_refused t i r e)) s; right = tt; unmet = broken_number r f }
 
@@ -84,7 +83,7 @@ pub split_done : (t : Tree) (H : List Node) (i : ℕ) → Sound t H → SplitDon
 split_done t H i s = split_by t H i s refl (split_outcome t H i s)
 
 -- ---- growing
-pub record GrowDone (D : Drawing) (n l : ℕ) (H K : List Node) (u : Tree) (a : Growing.Answer) : Type 0 where
+pub record GrowDone (D : Drawing) (n l : ℕ) (H K : List Node) (u : Tree) (a : Result Growth Refusal) : Type 0 where
   pub sound : Sound u K
   pub right : GrowRight D n l H K u a
   pub unmet : refusal (growing a) ≡ 12 → ⊥
@@ -101,7 +100,7 @@ module _ (t : Tree) (H : List Node) (n l : ℕ) (s : Sound t H) where
   limited : (b : Bool)
       → leb l 16 ≡ b
       → GrowDone (drawing_of t) n l H (after_splits H (cond b (grown n l t).cells [])) (cond b (grown n l t).after t)
-      (cond b (answer_of (grown n l t)) (Grows.Not Refusals.Argument))
+      (cond b (answer_of (grown n l t)) (Err Refusals.Argument))
   limited true e =
       let few : l ≤ 16 = leb-true l 16 e in
       let g = grown_sound (drawing_of t) n l few t H s refl in
@@ -114,7 +113,7 @@ module _ (t : Tree) (H : List Node) (n l : ℕ) (s : Sound t H) where
       (λ (b : Bool).
       GrowDone (drawing_of t) n l H (after_splits H (cond b (cond (leb l 16) (grown n l t).cells []) []))
       (cond b (cond (leb l 16) (grown n l t).after t) t)
-      (cond b (cond (leb l 16) (answer_of (grown n l t)) (Grows.Not Refusals.Argument)) (Grows.Not Refusals.Argument)))
+      (cond b (cond (leb l 16) (answer_of (grown n l t)) (Err Refusals.Argument)) (Err Refusals.Argument)))
       (sym (eq-eqb (length t.xs) (length t.ys) s.drawn.pair)) (limited (leb l 16) refl)
 
 -- ---- finding

@@ -3,10 +3,10 @@ use mathlib.Core.Path.{◌≡◌, refl, sym, ap, ◌∙◌, subst}
 use mathlib.Core.List.{List, [], ◌∷◌}
 use Prim.Native.Nat.{ℕ}
 use lib.ListN.{length}
+use Rattle.std.specs.Prelude.{Ok}
 use Rattle.laws.proofs.Booleans.{clash}
 use Rattle.cells.specs.Drawings.{Drawing}
 use Rattle.tables.specs.Tables.{Tree}
-use Rattle.open.specs.declared.Answer.TheVariants as Opens
 use Rattle.open.specs.Open.{drawing_tables, open_answer, open_tree}
 use Rattle.root_stream.specs.Opened.{drawing_in}
 use Rattle.pixel_row.specs.Rows.{Filled, row_filled}
@@ -81,7 +81,7 @@ module _ (D : Drawing) where
       )
 
 -- over any drawing that the tables of the opening hold
-pub demand_over : (D : Drawing) (t : Tree) (n : ℕ) → drawing_of t ≡ D → open_answer t ≡ Opens.Opened n → (cs : List Listed)
+pub demand_over : (D : Drawing) (t : Tree) (n : ℕ) → drawing_of t ≡ D → open_answer t ≡ Ok n → (cs : List Listed)
     → Throughout D cs (open_tree t) begun
 demand_over D t n d e cs = claimed D cs (open_tree t) begun (open_sound t n e) d
 

@@ -8,10 +8,12 @@ use Prim.Native.Nat.{ℕ, zero, suc, ◌≤◌}
 use native.Mathlib.Omega.{arith}
 use lib.ListN.{length, get_or, take}
 use borrow.Author.Tests.{le-leb}
+use Rattle.std.specs.Prelude.{Result, Ok, Err}
 use Rattle.laws.proofs.Booleans.{clash}
 use Rattle.curves.specs.Lines.{product, line_counts}
 use Rattle.geometry.specs.Edges.{counts, sign}
 use Rattle.geometry.specs.Windings.{adds, sum_of}
+use Rattle.refusals.specs.declared.Refusal.{Refusal}
 use Rattle.refusals.specs.declared.Refusal.TheVariants as Refusals
 use Rattle.records.specs.declared.Record.{Record}
 use Rattle.records.specs.declared.Record.TheVariants.{Area, First, Next}
@@ -34,11 +36,8 @@ use Rattle.ranges.proofs.Weights.{elements_length, made_elements_law}
 use Rattle.plans.specs.Plans.{drawing_from}
 use Rattle.root_stream.specs.Opened.{elements_opened}
 use Rattle.tables.specs.Tables.{Tree, tree}
-use Rattle.open.specs.declared.Answer as Opening
-use Rattle.open.specs.declared.Answer.TheVariants.{Opened, Not}
 use Rattle.open.specs.Open.{drawing_tables, stream_opened, room_for, drawing_answer, open_answer}
 use Rattle.open.proofs.Rooms.{elements_words, has_room}
-use Rattle.open.proofs.Answers.{passed}
 use Rattle.stream.specs.Entry.{is_uniform}
 use Rattle.find_leaf.specs.Leaf.{position_range}
 use Rattle.demand.specs.History.{Node, begun, cell_in}
@@ -98,10 +97,10 @@ few = omega (arith, elements_words (drawing_tables example), few_elements)
 room : (n : ℕ) → n ≤ 4 → room_for 2 72 160 n ≡ true
 room n h = rw (le-leb n 40 (omega arith), le-leb n 65536 (omega arith))
 
-pub example_opened : open_answer example ≡ Opened (length (stream_opened example))
+pub example_opened : open_answer example ≡ Ok (length (stream_opened example))
 example_opened =
-    sym (has_room example (length (stream_opened example)) refl (room (length (stream_opened example)) few)
-    ∙ passed example (Grammar.counts 4 1 3) refl (holding_passes (drawing_tables example) triangle (Grammar.counts 4 1 3) accepted held))
+    ap (drawing_answer example) (holding_passes (drawing_tables example) triangle (Grammar.counts 4 1 3) accepted held)
+    ∙ has_room example (length (stream_opened example)) refl (room (length (stream_opened example)) few)
 
 -- ---- "winding 1 at (5,5)", "0 at (4,5)": what shows there, with no tree: the six words of set, material and colour
 spot : (D : Drawing) (c : Cell) (u : Bool) → D ≡ drawing_from triangle
@@ -157,14 +156,14 @@ headless = tree example.plan example.areas example.xs example.ys (zeros 1) (zero
 abbrev calls : List Listed
 calls = own (splits 0) ∷ other unequal (splits 0) ∷ other headless opens ∷ []
 
-no_room : open_answer headless ≡ Not Refusals.Room
+no_room : open_answer headless ≡ Err Refusals.Room
 no_room = ap (drawing_answer headless) (holding_passes (drawing_tables example) triangle (Grammar.counts 4 1 3) accepted held)
 
 seven : Refused (splits 0) unequal
 seven e = omega arith
 
 eleven : Refused opens headless
-eleven e = let z : ◌≡◌ {A = ℕ} 11 0 = sym (ap (λ (a : Opening.Answer). refusal (opening a)) no_room) ∙ e in omega arith
+eleven e = let z : ◌≡◌ {A = ℕ} 11 0 = sym (ap (λ (a : Result ℕ Refusal). refusal (opening a)) no_room) ∙ e in omega arith
 
 allowed : AllAllowed calls (file_tree file blank)
 allowed = (λ e. clash e, ((seven, refused_same (splits 0) unequal refl seven), ((eleven, refused_same opens headless refl eleven), tt)))

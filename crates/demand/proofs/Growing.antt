@@ -9,11 +9,12 @@ use native.Mathlib.Decide.{ℕ_discrete}
 use lib.Dec.{eqb, ltb, leb}
 use lib.ListN.{length}
 use borrow.Author.Tests.{eqb-true, eqb-false, ltb-true, lt-ltb}
+use Rattle.std.specs.Prelude.{Result}
+use Rattle.refusals.specs.declared.Refusal.{Refusal}
 use Rattle.laws.proofs.Booleans.{and_left, and_right, and_both, clash}
 use Rattle.cells.specs.Cells.{level}
 use Rattle.cells.specs.Drawings.{Drawing}
 use Rattle.stream.specs.Entry.{lines_in}
-use Rattle.split.specs.declared.Answer as Splitting
 use Rattle.tables.specs.Tables.{Tree, cells_used}
 use Rattle.split.specs.Split.{words, split_answer}
 use Rattle.split_laws.specs.After.{split_tree}
@@ -162,7 +163,7 @@ module _ (D : Drawing) (n l : ℕ) (few : l ≤ 16) where
   round_at_law : (t : Tree) (H : List Node) (i : ℕ)
       → Wants H i
       → ((j : ℕ) → j < i → Wants H j → ⊥)
-      → {r : Splitting.Answer}
+      → {r : Result ℕ Refusal}
       → split_answer t i ≡ r
       → Roomed t H i r
       → Turns t H (round_at i r)

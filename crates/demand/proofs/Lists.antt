@@ -3,15 +3,13 @@ use mathlib.Core.Path.{◌≡◌, refl, sym}
 use mathlib.Core.Bool.{false}
 use mathlib.Core.List.{List, [], ◌∷◌, ◌++◌}
 use Prim.Native.Nat.{ℕ}
+use Rattle.std.specs.Prelude.{Result, Ok, Err}
+use Rattle.refusals.specs.declared.Refusal.{Refusal}
 use Rattle.laws.proofs.Booleans.{clash}
 use Rattle.cells.specs.Drawings.{Drawing}
 use Rattle.tables.specs.Tables.{Tree}
-use Rattle.split.specs.declared.Answer as Splitting
-use Rattle.split.specs.declared.Answer.TheVariants as Splits
 use Rattle.split.specs.Split.{split_answer}
 use Rattle.split_laws.proofs.Trees.{tree_refused}
-use Rattle.open.specs.declared.Answer as Opening
-use Rattle.open.specs.declared.Answer.TheVariants as Opens
 use Rattle.open.specs.Open.{open_answer}
 use Rattle.demand.specs.History.{Node}
 use Rattle.demand.specs.Stands.{Stands}
@@ -33,13 +31,13 @@ module _ (D : Drawing) where
   stands_after (c ∷ cs) t H s a = stands_after cs (tables_after c t) (nodes_after c t H) (s a.0).1 a.1
 
 -- a refused opening leaves all
-pub opening_same : (t : Tree) (a : Opening.Answer) → (refusal (opening a) ≡ 0 → ⊥) → opened_by t a ≡ t
-opening_same t (Opens.Opened n) f = absurd (f refl)
-opening_same t (Opens.Not r) f = refl
+pub opening_same : (t : Tree) (a : Result ℕ Refusal) → (refusal (opening a) ≡ 0 → ⊥) → opened_by t a ≡ t
+opening_same t (Ok n) f = absurd (f refl)
+opening_same t (Err r) f = refl
 
-splitting_same : (t : Tree) (i : ℕ) (a : Splitting.Answer) → split_answer t i ≡ a → (refusal (splitting a) ≡ 0 → ⊥) → tree_after (splits i) t ≡ t
-splitting_same t i (Splits.Split n) e f = absurd (f refl)
-splitting_same t i (Splits.Not r) e f = tree_refused t i r e
+splitting_same : (t : Tree) (i : ℕ) (a : Result ℕ Refusal) → split_answer t i ≡ a → (refusal (splitting a) ≡ 0 → ⊥) → tree_after (splits i) t ≡ t
+splitting_same t i (Ok n) e f = absurd (f refl)
+splitting_same t i (Err r) e f = tree_refused t i r e
 
 -- so does every other refused call, but for growing: "cells split before a 12 remain"
 pub refused_same : (c : Call) (t : Tree) → is_growing c ≡ false → Refused c t → tree_after c t ≡ t

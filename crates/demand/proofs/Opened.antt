@@ -7,6 +7,8 @@ use native.Mathlib.Omega.{arith}
 use lib.ListN.{length, get_or, set, length-set}
 use lib.Seq.{get_or-set_same, get_or-set_other}
 use borrow.Author.Tests.{le-leb}
+use Rattle.std.specs.Prelude.{Result, Ok}
+use Rattle.refusals.specs.declared.Refusal.{Refusal}
 use Rattle.grammar.specs.declared.Counts.{Counts}
 use Rattle.drawing.specs.Tables as Tables
 use Rattle.drawing.specs.Tables.{drawn_in}
@@ -27,8 +29,6 @@ use Rattle.tables.specs.Tables.{Tree, cells_used, entries_used, counts_in}
 use Rattle.split.specs.Split.{words, stream}
 use Rattle.tables.proofs.Heads.{used_is}
 use Rattle.tables.proofs.Counts.{head_fits, counts_of}
-use Rattle.open.specs.declared.Answer.{Answer}
-use Rattle.open.specs.declared.Answer.TheVariants.{Opened}
 use Rattle.open.specs.Open.{root_words, drawing_tables, stream_opened, open_answer, open_tree}
 use Rattle.open.proofs.Accepted.{Accepts, open_accepts}
 use Rattle.demand.specs.History.{begun, cell_in, first_in, parent_in, Leaf}
@@ -68,7 +68,7 @@ used_in t d entries used h m low side =
 
 module _ (t : Tree) (n : ℕ) (a : Accepts t n) (long : 3 ≤ length t.plan) where
   abbrev u : Tree
-  u = opened_by t (Opened n)
+  u = opened_by t (Ok n)
 
   abbrev lines : ℕ
   lines = lines_in (stream_opened t)
@@ -155,8 +155,8 @@ module _ (t : Tree) (n : ℕ) (a : Accepts t n) (long : 3 ≤ length t.plan) whe
         line_counts = line_counts;
       }
 
-pub open_sound : (t : Tree) (n : ℕ) → open_answer t ≡ Opened n → Sound (open_tree t) begun
+pub open_sound : (t : Tree) (n : ℕ) → open_answer t ≡ Ok n → Sound (open_tree t) begun
 open_sound t n e =
     let a = open_accepts t n e in
-    subst (λ (r : Answer). Sound (opened_by t r) begun) (sym e)
+    subst (λ (r : Result ℕ Refusal). Sound (opened_by t r) begun) (sym e)
     (opened_sound t n a (omega (arith, (Rows.drawn (drawing_tables t) a.counts a.drawing).room.plan)))

@@ -8,14 +8,13 @@ use native.Mathlib.Nat.{one-le-pow, two-pow-succ}
 use lib.Dec.{eqb, ltb}
 use lib.ListN.{length}
 use borrow.Author.Tests.{eqb-true, eqb-false, ltb-true, eq-eqb}
+use Rattle.std.specs.Prelude.{Result, Ok, Err}
 use Rattle.refusals.specs.declared.Refusal.{Refusal}
 use Rattle.refusals.specs.declared.Refusal.TheVariants.{Argument, NoCell, AlreadySplit, Smallest, Room, Broken}
 use Rattle.refusals.specs.Refusals.{number_of}
 use Rattle.cells.specs.Cells.{Cell, cell, level, side}
 use Rattle.cells.proofs.Cells.{some_side}
 use Rattle.celltable.specs.Ranges.{cell_range, cells_held, entries_held}
-use Rattle.split.specs.declared.Answer.{Answer}
-use Rattle.split.specs.declared.Answer.TheVariants.{Split, Not}
 use Rattle.tables.specs.Tables.{Tree, cells_used, entries_used, counts_in, leaf_passes}
 use Rattle.split.specs.Split.{words, against, made, room_answer, cell_split, counts_split, split_answer}
 use Rattle.split_laws.specs.After.{split_tree}
@@ -27,14 +26,14 @@ use Rattle.demand.proofs.Passing.{cell_passes, leaf_passes_law}
 use Rattle.demand.proofs.Splits.{split_sound}
 
 -- what a split leaves: with its answer, and the history after it
-pub data Outcome (t : Tree) (H : List Node) (i : ℕ) : Answer → Type 0 where
-  accepted : (n : ℕ) → n ≡ length H → Leaf H i → 0 < level (cell_in H i) → Sound (split_tree t i) (split_at H i) → Outcome t H i (Split n)
-  refused : (r : Refusal) → (r ≡ Broken → ⊥) → Outcome t H i (Not r)
+pub data Outcome (t : Tree) (H : List Node) (i : ℕ) : Result ℕ Refusal → Type 0 where
+  accepted : (n : ℕ) → n ≡ length H → Leaf H i → 0 < level (cell_in H i) → Sound (split_tree t i) (split_at H i) → Outcome t H i (Ok n)
+  refused : (r : Refusal) → (r ≡ Broken → ⊥) → Outcome t H i (Err r)
 
 -- of a leaf of a side over 1: only 11 is left
-pub data Roomed (t : Tree) (H : List Node) (i : ℕ) : Answer → Type 0 where
-  fits : (n : ℕ) → n ≡ length H → Sound (split_tree t i) (split_at H i) → Roomed t H i (Split n)
-  short : Roomed t H i (Not Room)
+pub data Roomed (t : Tree) (H : List Node) (i : ℕ) : Result ℕ Refusal → Type 0 where
+  fits : (n : ℕ) → n ≡ length H → Sound (split_tree t i) (split_at H i) → Roomed t H i (Ok n)
+  short : Roomed t H i (Err Room)
 
 -- refusals have numbers of their own
 pub other : (r : Refusal) → (number_of r ≡ 12 → ⊥) → r ≡ Broken → ⊥
@@ -55,32 +54,32 @@ module _ (t : Tree) (H : List Node) (i : ℕ) (s : Sound t H) where
   abbrev free : ℕ
   free = entries_used t.head
 
-  abbrev room : Answer
+  abbrev room : Result ℕ Refusal
   room = room_answer (length t.cells) (length t.entries) used free (length (made t i))
 
   abbrev streamed : Bool
   streamed = leaf_passes t.entries (words t i).first (words t i).count (words t i).lines free (against t i)
 
-  abbrev sized : Answer
-  sized = cond (eqb (words t i).side 1) (Not Smallest) room
+  abbrev sized : Result ℕ Refusal
+  sized = cond (eqb (words t i).side 1) (Err Smallest) room
 
-  abbrev leafed : Answer
-  leafed = cond streamed sized (Not Broken)
+  abbrev leafed : Result ℕ Refusal
+  leafed = cond streamed sized (Err Broken)
 
-  abbrev celled : Answer
-  celled = cond (eqb (words t i).child 0) leafed (Not AlreadySplit)
+  abbrev celled : Result ℕ Refusal
+  celled = cond (eqb (words t i).child 0) leafed (Err AlreadySplit)
 
   module _ (h : i < length H) where
     -- 12 does not meet the numbers in use, nor the cell
     counted : counts_split t i ≡ celled
     counted =
-        chosen (counts_in t) (cell_split t i) (Not Broken) s.counts
-        ∙ chosen (cell_range t.cells i used free) celled (Not Broken) (cell_passes t H s i h)
+        chosen (counts_in t) (cell_split t i) (Err Broken) s.counts
+        ∙ chosen (cell_range t.cells i used free) celled (Err Broken) (cell_passes t H s i h)
 
     module _ (l : Leaf H i) where
       -- the stream of a leaf passes
       leaf_sized : leafed ≡ sized
-      leaf_sized = chosen streamed sized (Not Broken) (leaf_passes_law t H s i l)
+      leaf_sized = chosen streamed sized (Err Broken) (leaf_passes_law t H s i l)
 
       module _ (big : (words t i).side ≡ 1 → ⊥) where
         large : 0 < level (cell_in H i)
@@ -99,9 +98,9 @@ module _ (t : Tree) (H : List Node) (i : ℕ) (s : Sound t H) where
             }
 
         roomed : (a b : Bool) → cells_held (used + 4) (length t.cells) ≡ a → entries_held (free + length (made t i)) (length t.entries) ≡ b
-            → Roomed t H i (cond a (cond b (Split used) (Not Room)) (Not Room))
+            → Roomed t H i (cond a (cond b (Ok used) (Err Room)) (Err Room))
         roomed true true p q =
-            let e : split_answer t i ≡ Split used = able_answer t i able ∙ (λ d. cond (p d) (cond (q d) (Split used) (Not Room)) (Not Room)) in
+            let e : split_answer t i ≡ Ok used = able_answer t i able ∙ (λ d. cond (p d) (cond (q d) (Ok used) (Err Room)) (Err Room)) in
             fits used s.in_use (split_sound t H i used s e l large)
         roomed true false p q = short
         roomed false b p q = short
@@ -109,15 +108,15 @@ module _ (t : Tree) (H : List Node) (i : ℕ) (s : Sound t H) where
         room_out : Roomed t H i room
         room_out = roomed (cells_held (used + 4) (length t.cells)) (entries_held (free + length (made t i)) (length t.entries)) refl refl
 
-        roomed_out : {r : Answer} → Roomed t H i r → Outcome t H i r
+        roomed_out : {r : Result ℕ Refusal} → Roomed t H i r → Outcome t H i r
         roomed_out (fits n e o) = accepted n e l large o
         roomed_out short = refused Room (other Room (λ e. omega arith))
 
-      sized_out : (b : Bool) → eqb (words t i).side 1 ≡ b → Outcome t H i (cond b (Not Smallest) room)
+      sized_out : (b : Bool) → eqb (words t i).side 1 ≡ b → Outcome t H i (cond b (Err Smallest) room)
       sized_out true e = refused Smallest (other Smallest (λ z. omega arith))
       sized_out false e = let f = eqb-false (words t i).side 1 e in roomed_out f (room_out f)
 
-    celled_out : (b : Bool) → eqb (words t i).child 0 ≡ b → Outcome t H i (cond b leafed (Not AlreadySplit))
+    celled_out : (b : Bool) → eqb (words t i).child 0 ≡ b → Outcome t H i (cond b leafed (Err AlreadySplit))
     celled_out true e =
         let l : Leaf H i = record { in_use = h; undivided = sym (s.firsts i h) ∙ eqb-true (words t i).child 0 e } in
         subst (Outcome t H i) (sym (leaf_sized l)) (sized_out l (eqb (words t i).side 1) refl)
@@ -128,7 +127,7 @@ module _ (t : Tree) (H : List Node) (i : ℕ) (s : Sound t H) where
       let f : (words t i).side ≡ 1 → ⊥ = λ e. wide_side (cell_in H i) k (sym (s.squares i l.in_use).same_side ∙ e) in
       subst (Roomed t H i) (sym (able_answer t i (able l.in_use l f))) (room_out l.in_use l f)
 
-  numbered : (b : Bool) → ltb i used ≡ b → Outcome t H i (cond b (counts_split t i) (Not NoCell))
+  numbered : (b : Bool) → ltb i used ≡ b → Outcome t H i (cond b (counts_split t i) (Err NoCell))
   numbered true e =
       let h : i < length H = omega (arith, ltb-true i used e, s.in_use) in
       subst (Outcome t H i) (sym (counted h)) (celled_out h (eqb (words t i).child 0) refl)
@@ -138,6 +137,6 @@ module _ (t : Tree) (H : List Node) (i : ℕ) (s : Sound t H) where
   split_outcome =
       subst (Outcome t H i)
       (sym
-      (chosen (eqb (length t.xs) (length t.ys)) (cond (ltb i used) (counts_split t i) (Not NoCell)) (Not Argument)
+      (chosen (eqb (length t.xs) (length t.ys)) (cond (ltb i used) (counts_split t i) (Err NoCell)) (Err Argument)
       (eq-eqb (length t.xs) (length t.ys) s.drawn.pair)))
       (numbered (ltb i used) refl)

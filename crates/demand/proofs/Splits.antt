@@ -4,6 +4,7 @@ use mathlib.Core.List.{List}
 use Prim.Native.Nat.{ℕ, suc, ◌+◌, ◌≤◌, ◌<◌}
 use native.Mathlib.Omega.{arith}
 use lib.ListN.{length}
+use Rattle.std.specs.Prelude.{Ok}
 use Rattle.cells.specs.Cells.{Cell, level, Quarter, child}
 use Rattle.cells.specs.Drawings.{Drawing}
 use Rattle.stream.specs.Entry.{lines_in}
@@ -16,7 +17,6 @@ use Rattle.celltable.proofs.Grid.{SaysCell}
 use Rattle.making.specs.Made.{words_made}
 use Rattle.four_children.specs.Children.{words_with, entries_of_child, lines_of_child, streams_to}
 use Rattle.four_children.proofs.Filled.{streams_more}
-use Rattle.split.specs.declared.Answer.TheVariants.{Split}
 use Rattle.tables.specs.Tables.{Tree, cells_used, entries_used, bounds_of}
 use Rattle.split.specs.Split.{words, drawing, stream, split_answer}
 use Rattle.split_laws.specs.After.{split_tree}
@@ -60,7 +60,7 @@ drawn_split : (t : Tree) (i : ℕ) → Drawn t → Drawn (split_tree t i)
 unfolding split_tree
 drawn_split t i d = record { valid = d.valid; held = d.held; pair = d.pair }
 
-module _ (t : Tree) (H : List Node) (i n : ℕ) (s : Sound t H) (e : split_answer t i ≡ Split n) (l : Leaf H i) (large : 0 < level (cell_in H i)) where
+module _ (t : Tree) (H : List Node) (i n : ℕ) (s : Sound t H) (e : split_answer t i ≡ Ok n) (l : Leaf H i) (large : 0 < level (cell_in H i)) where
   abbrev m₀ : ℕ
   m₀ = length H
 

@@ -1,18 +1,15 @@
 -- Document 01, "The list of demand 3": the calls of the list as a maker calls them: what each answers, the words that it writes, and the tables that it
 -- leaves. Each is the definition that the contract of the exported call cites (`zones_open`, `zones_split`, `zones_grow`, `zones_find_leaf`,
 -- `zones_position`, `zones_pixel_row`, `zones_zone_log`).
-use Rattle.std.specs.Prelude.{Bool, true, false, cond, List, [], ℕ, eqb, leb, length}
+use Rattle.std.specs.Prelude.{Bool, true, false, cond, List, [], ℕ, eqb, leb, length, Result, Ok, Err}
+use Rattle.refusals.specs.declared.Refusal.{Refusal}
 use Rattle.refusals.specs.Refusals.{number_of}
 use Rattle.tables.specs.Tables.{Tree}
-use Rattle.split.specs.declared.Answer as Splitting
-use Rattle.split.specs.declared.Answer.TheVariants as Splits
 use Rattle.split.specs.Split.{split_answer}
 use Rattle.split_laws.specs.After.{split_tree}
-use Rattle.open.specs.declared.Answer as Opening
-use Rattle.open.specs.declared.Answer.TheVariants as Opens
 use Rattle.open.specs.Open.{open_answer, open_tree}
-use Rattle.grow.specs.declared.Answer as Growing
-use Rattle.grow.specs.declared.Answer.TheVariants as Grows
+use Rattle.grow.specs.declared.Growth.{Growth}
+use Rattle.grow.specs.declared.Growth.TheVariants as Growths
 use Rattle.grow.specs.Grow.{grown, grow_answer, grow_tree}
 use Rattle.find_leaf.specs.declared.Answer as Finding
 use Rattle.find_leaf.specs.declared.Answer.TheVariants as Finds
@@ -65,9 +62,9 @@ is_growing (logs px py out) = false
 
 -- ---- the answers
 pub data Answer : Type 0 where
-  opening : Opening.Answer → Answer
-  splitting : Splitting.Answer → Answer
-  growing : Growing.Answer → Answer
+  opening : Result ℕ Refusal → Answer
+  splitting : Result ℕ Refusal → Answer
+  growing : Result Growth Refusal → Answer
   finding : Finding.Answer → Answer
   reading : Reading.Answer → Answer
   rowing : RowAnswer → Answer
@@ -95,13 +92,13 @@ number_by (logging a) = log_number a
 
 -- the number of its refusal, 0 where it is accepted
 abbrev pub refusal : Answer → ℕ
-refusal (opening (Opens.Opened n)) = 0
-refusal (opening (Opens.Not r)) = number_of r
-refusal (splitting (Splits.Split n)) = 0
-refusal (splitting (Splits.Not r)) = number_of r
-refusal (growing (Grows.Done k)) = 0
-refusal (growing (Grows.Full k)) = 0
-refusal (growing (Grows.Not r)) = number_of r
+refusal (opening (Ok n)) = 0
+refusal (opening (Err r)) = number_of r
+refusal (splitting (Ok n)) = 0
+refusal (splitting (Err r)) = number_of r
+refusal (growing (Ok (Growths.Done k))) = 0
+refusal (growing (Ok (Growths.Full k))) = 0
+refusal (growing (Err r)) = number_of r
 refusal (finding (Finds.Found l)) = 0
 refusal (finding (Finds.Not r)) = number_of r
 refusal (reading (Reads.At s)) = 0
@@ -144,9 +141,9 @@ abbrev pub given : Call → Tree → Given
 given c t = gives (answer_to c t) (output_after c t)
 
 -- ---- the history
-abbrev pub after_split : List Node → ℕ → Splitting.Answer → List Node
-after_split H i (Splits.Split n) = split_at H i
-after_split H i (Splits.Not r) = H
+abbrev pub after_split : List Node → ℕ → Result ℕ Refusal → List Node
+after_split H i (Ok n) = split_at H i
+after_split H i (Err r) = H
 
 -- the cells that growing splits, in order; it is refused with 7 as `grow_answer` says
 abbrev pub grown_cells : Tree → (n l : ℕ) → List ℕ

@@ -1,18 +1,16 @@
 -- Document 01, "The list of demand 3", as a single claim about the list; document 02, Item 4.
-use Rattle.std.specs.Prelude.{◌≡◌, true, false, List, [], ◌∷◌, ℕ, ◌+◌, ◌*◌, ◌-◌, ◌<◌, length}
+use Rattle.std.specs.Prelude.{◌≡◌, true, false, List, [], ◌∷◌, ℕ, ◌+◌, ◌*◌, ◌-◌, ◌<◌, length, Result, Ok, Err}
+use Rattle.refusals.specs.declared.Refusal.{Refusal}
 use Rattle.refusals.specs.declared.Refusal.TheVariants as Refusals
 use Rattle.geometry.specs.Classes.{Inside}
 use Rattle.cells.specs.Cells.{Position, at, col, row, left, low, side, level}
 use Rattle.cells.specs.Drawings.{Drawing}
 use Rattle.stream.specs.Entry.{lines_in, is_uniform}
 use Rattle.tables.specs.Tables.{Tree}
-use Rattle.split.specs.declared.Answer as Splitting
-use Rattle.split.specs.declared.Answer.TheVariants as Splits
 use Rattle.split.specs.Split.{split_answer}
-use Rattle.open.specs.declared.Answer.TheVariants as Opens
 use Rattle.open.specs.Open.{drawing_tables, open_answer, open_tree}
-use Rattle.grow.specs.declared.Answer as Growing
-use Rattle.grow.specs.declared.Answer.TheVariants as Grows
+use Rattle.grow.specs.declared.Growth.{Growth}
+use Rattle.grow.specs.declared.Growth.TheVariants as Growths
 use Rattle.grow.specs.Grow.{grow_answer, grow_tree}
 use Rattle.find_leaf.specs.declared.FoundLeaf.{FoundLeaf}
 use Rattle.find_leaf.specs.declared.Answer as Finding
@@ -34,9 +32,9 @@ use Rattle.demand.specs.Lists.{Listed, own, other, Allowed, tables_after, nodes_
 -- ---- the answers
 
 -- a split gives the first of the four new cells, "numbered onward from the cells in use"; it divides a leaf
-abbrev pub SplitRight : List Node → ℕ → Splitting.Answer → Type 0
-SplitRight H i (Splits.Split n) = (n ≡ length H) × Leaf H i
-SplitRight H i (Splits.Not r) = Unit {0}
+abbrev pub SplitRight : List Node → ℕ → Result ℕ Refusal → Type 0
+SplitRight H i (Ok n) = (n ≡ length H) × Leaf H i
+SplitRight H i (Err r) = Unit {0}
 
 -- growing, with threshold n and depth limit l: a "leaf with more lines than the threshold and a depth below the limit"
 pub record Wanted (D : Drawing) (n l : ℕ) (H : List Node) (i : ℕ) : Type 0 where
@@ -53,13 +51,13 @@ pub record FullAt (D : Drawing) (n l : ℕ) (H : List Node) (t : Tree) : Type 0 
   pub cell : ℕ
   pub wanted : Wanted D n l H cell
   pub lowest : (j : ℕ) → j < cell → Wanted D n l H j → ⊥
-  pub refused : split_answer t cell ≡ Splits.Not Refusals.Room
+  pub refused : split_answer t cell ≡ Err Refusals.Room
 
 -- "and gives the splits made", each of which makes four cells; K and t are the history and the tables after it
-abbrev pub GrowRight : Drawing → (n l : ℕ) → (H K : List Node) → Tree → Growing.Answer → Type 0
-GrowRight D n l H K t (Grows.Done k) = (length K ≡ length H + 4 * k) × NoneWanted D n l K
-GrowRight D n l H K t (Grows.Full k) = (length K ≡ length H + 4 * k) × FullAt D n l K t
-GrowRight D n l H K t (Grows.Not r) = K ≡ H
+abbrev pub GrowRight : Drawing → (n l : ℕ) → (H K : List Node) → Tree → Result Growth Refusal → Type 0
+GrowRight D n l H K t (Ok (Growths.Done k)) = (length K ≡ length H + 4 * k) × NoneWanted D n l K
+GrowRight D n l H K t (Ok (Growths.Full k)) = (length K ≡ length H + 4 * k) × FullAt D n l K t
+GrowRight D n l H K t (Err r) = K ≡ H
 
 -- a leaf of the history: its number, its square, as many steps as its depth, and the entries and lines of the stream that is made from the drawing;
 -- document 02: "yes exactly when the leaf's stream holds no line, curve or shortcut"
@@ -145,4 +143,4 @@ Throughout D (c ∷ cs) t H = Allowed c t → Claim D c t H × Throughout D cs (
 
 -- "After one accepted opening come calls that split, grow or read, none or more, in any sequence, accepted or refused": over the drawing that is opened
 abbrev pub Demand3 : Type 0
-Demand3 = (t : Tree) (n : ℕ) → open_answer t ≡ Opens.Opened n → (cs : List Listed) → Throughout (drawing_of t) cs (open_tree t) begun
+Demand3 = (t : Tree) (n : ℕ) → open_answer t ≡ Ok n → (cs : List Listed) → Throughout (drawing_of t) cs (open_tree t) begun

@@ -10,7 +10,6 @@ use Rattle.cells.specs.Cells.{at}
 use Rattle.cells.specs.Drawings.{Drawing}
 use Rattle.plans.specs.Plans.{drawing_from}
 use Rattle.tables.specs.Tables.{Tree, tree}
-use Rattle.open.specs.declared.Answer.TheVariants.{Opened}
 use Rattle.open.specs.Open.{open_answer, open_tree}
 use Rattle.answers.specs.Readings.{spot_put, low_half}
 use Rattle.demand.specs.History.{Node, begun, LeafAt}
@@ -35,7 +34,7 @@ pub record FileOpened (file : List ℕ) (t : Tree) : Type 0 where
   pub counts : Counts
   pub read : read_answer file t.plan t.areas t.xs t.ys ≡ Ok counts
   pub entries : ℕ
-  pub opened : open_answer (read_tree file t) ≡ Opened entries
+  pub opened : open_answer (read_tree file t) ≡ Ok entries
 
 -- the tables then
 abbrev pub file_tree : (file : List ℕ) (t : Tree) → Tree

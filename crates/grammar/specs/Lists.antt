@@ -1,8 +1,9 @@
 -- The abstract drawing is its list of records: how many areas and corners it has.
-use Rattle.std.specs.Prelude.{ℕ, ◌+◌, List, [], ◌∷◌, Ok, Err}
+use Rattle.std.specs.Prelude.{ℕ, ◌+◌, List, [], ◌∷◌}
 use Rattle.records.specs.declared.Record.{Record}
 use Rattle.records.specs.declared.Record.TheVariants.{Area, First, Next, Open, Bar, Close, Control}
 use Rattle.records.specs.Record.{Decoded}
+use Rattle.std.specs.Prelude.{Ok, Err}
 
 -- the records among what was decoded: all of it where nothing is refused
 abbrev pub good_records : List Decoded → List Record

@@ -7,20 +7,18 @@ use native.Mathlib.Nat.{pow-le-pow_right}
 use lib.Dec.{eqb, ltb}
 use lib.ListN.{length}
 use borrow.Author.Tests.{eqb-true, eqb-false, ltb-true, ltb-false}
+use Rattle.std.specs.Prelude.{Result, Ok, Err}
+use Rattle.refusals.specs.declared.Refusal.{Refusal}
 use Rattle.laws.proofs.Booleans.{and_right}
 use Rattle.refusals.specs.Refusals.{number_of}
 use Rattle.cells.specs.Cells.{cell, side, Quarter, child}
 use Rattle.celltable.specs.declared.CellWords.{CellWords}
 use Rattle.celltable.specs.Ranges.{cell_range, level_of}
 use Rattle.celltable.specs.Descent.{quarter_at}
-use Rattle.split.specs.declared.Answer as Splitting
-use Rattle.split.specs.declared.Answer.TheVariants as split
 use Rattle.tables.specs.Tables.{Tree, cells_used, entries_used, counts_in}
 use Rattle.split.specs.Split.{words, split_answer}
 use Rattle.split_laws.specs.After.{split_tree}
 use Rattle.split_laws.proofs.Trees.{tree_used, tree_keeps_cell, tree_cell, tree_child}
-use Rattle.open.specs.declared.Answer.{Answer}
-use Rattle.open.specs.declared.Answer.TheVariants.{Opened}
 use Rattle.open.specs.Open.{open_answer, open_tree}
 use Rattle.open.proofs.Accepted.{open_accepts}
 use Rattle.open.proofs.After.{cells_used_law, cell_is}
@@ -93,7 +91,7 @@ module _ (t : Tree) (n : ℕ) where
   pub record Rounded (i : ℕ) : Type 0 where
     pub wanted : tried t n 4 i ≡ Wanted
     pub first : ℕ
-    pub accepted : split_answer t i ≡ split.Split first
+    pub accepted : split_answer t i ≡ Ok first
 
   round_splits : (i : ℕ) → round n 4 t ≡ splits i → Rounded i
   unfolding round
@@ -103,9 +101,9 @@ module _ (t : Tree) (n : ℕ) where
       refused true q = absurd (let z : ◌≡◌ {A = ℕ} 0 1 = cc in omega arith)
       refused false q = absurd (let z : ◌≡◌ {A = ℕ} 0 1 = cc in omega arith)
 
-      answered : (j : ℕ) (a : Splitting.Answer) → tried t n 4 j ≡ Wanted → split_answer t j ≡ a → round_at j a ≡ splits i → Rounded i
-      answered j (split.Split k) w a q = let h : j ≡ i = cc in subst Rounded h (record { wanted = w; first = k; accepted = a })
-      answered j (split.Not r) w a q = refused (eqb (number_of r) 11) q
+      answered : (j : ℕ) (a : Result ℕ Refusal) → tried t n 4 j ≡ Wanted → split_answer t j ≡ a → round_at j a ≡ splits i → Rounded i
+      answered j (Ok k) w a q = let h : j ≡ i = cc in subst Rounded h (record { wanted = w; first = k; accepted = a })
+      answered j (Err r) w a q = refused (eqb (number_of r) 11) q
 
       lowest : (x : Lowest) → lowest_from t n 4 0 (cells_used t.head) ≡ x → round_by t x ≡ splits i → Rounded i
       lowest none p q = absurd (let z : ◌≡◌ {A = ℕ} 0 1 = cc in omega arith)
@@ -124,7 +122,7 @@ child_wide x y zero q h = absurd (low h)
     low h = omega arith
 child_wide x y (suc k) q h = pow-le-pow_right {n = 2} (omega arith) {i = 12} {j = k} (omega arith)
 
-module _ (t : Tree) (i n : ℕ) (e : split_answer t i ≡ split.Split n) (deep : 13 ≤ level_of (words t i).side) (s : Shallow t) where
+module _ (t : Tree) (i n : ℕ) (e : split_answer t i ≡ Ok n) (deep : 13 ≤ level_of (words t i).side) (s : Shallow t) where
   same_cell : (j : ℕ) → j < cells_used t.head → 4096 ≤ (words (split_tree t i) j).side
   same_cell j h = go (eqb j i) refl
     where
@@ -176,14 +174,14 @@ shallow_grown t n s = go (eqb (length t.xs) (length t.ys))
     go true = shallow_growing n 4096 t s
     go false = s
 
-shallow_opened : (t : Tree) (n : ℕ) → open_answer t ≡ Opened n → Shallow (open_tree t)
-shallow_opened t n e = subst (λ (r : Answer). Shallow (opened_by t r)) (sym e) cell_0
+shallow_opened : (t : Tree) (n : ℕ) → open_answer t ≡ Ok n → Shallow (open_tree t)
+shallow_opened t n e = subst (λ (r : Result ℕ Refusal). Shallow (opened_by t r)) (sym e) cell_0
   where
-    cell_0 : Shallow (opened_by t (Opened n))
+    cell_0 : Shallow (opened_by t (Ok n))
     cell_0 j h =
         let a = open_accepts t n e in
         let z : j ≡ 0 = omega (arith, cells_used_law t n a, h) in
-        subst (λ (m : ℕ). 4096 ≤ (words (opened_by t (Opened n)) m).side) (sym z) (subst (λ (w : CellWords). 4096 ≤ w.side) (sym (cell_is t n a)) (omega arith))
+        subst (λ (m : ℕ). 4096 ≤ (words (opened_by t (Ok n)) m).side) (sym z) (subst (λ (w : CellWords). 4096 ≤ w.side) (sym (cell_is t n a)) (omega arith))
 
 -- ---- so a leaf that is found is printed
 steps_few : (s : ℕ) → 4096 ≤ 2 ^ (16 - s) → s ≤ 4
@@ -196,7 +194,7 @@ steps_few s h = go (ltb 4 s) refl
     go false p = ltb-false 4 s p
 
 -- "prints each leaf": of every position
-pub each_leaf : (t : Tree) (n : ℕ) → open_answer t ≡ Opened n → (x y : ℕ) (f : FoundLeaf) → find_answer (grown_tree (open_tree t)) x y ≡ Found f
+pub each_leaf : (t : Tree) (n : ℕ) → open_answer t ≡ Ok n → (x y : ℕ) (f : FoundLeaf) → find_answer (grown_tree (open_tree t)) x y ≡ Found f
     → Among (line_of f) (listed (grown_tree (open_tree t)))
 each_leaf t n e x y f p =
     let u = grown_tree (open_tree t) in

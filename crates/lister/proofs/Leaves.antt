@@ -7,6 +7,7 @@ use native.Mathlib.Omega.{arith}
 use lib.Dec.{eqb, ltb}
 use lib.ListN.{length}
 use borrow.Author.Tests.{eq-eqb, lt-ltb}
+use Rattle.std.specs.Prelude.{Result, Ok, Err}
 use Rattle.laws.proofs.Booleans.{and_both}
 use Rattle.refusals.specs.declared.Refusal.{Refusal}
 use Rattle.cells.specs.Cells.{at, OnGrid, side, level}
@@ -14,11 +15,9 @@ use Rattle.cells.proofs.Cells.{some_side}
 use Rattle.celltable.specs.Descent.{leaf_of}
 use Rattle.tables.specs.Tables.{Tree}
 use Rattle.split.specs.Split.{words}
-use Rattle.open.specs.declared.Answer as Opening
-use Rattle.open.specs.declared.Answer.TheVariants.{Opened}
 use Rattle.open.specs.Open.{open_answer, open_tree}
-use Rattle.grow.specs.declared.Answer.{Answer}
-use Rattle.grow.specs.declared.Answer.TheVariants as Answers
+use Rattle.grow.specs.declared.Growth.{Growth}
+use Rattle.grow.specs.declared.Growth.TheVariants as Growths
 use Rattle.grow.specs.Grow.{Ending, none_left, no_room, not_passed, grown, answer_by, answer_of}
 use Rattle.find_leaf.specs.declared.FoundLeaf.{FoundLeaf}
 use Rattle.find_leaf.specs.declared.Answer.TheVariants as Finds
@@ -113,15 +112,15 @@ module _ (u : Tree) (H : List Node) (s : Sound u H) where
   not_refused r e =
       let a : grows u ≡ answer_of (grown 0 4 u) = rw paired in
       let n = length (listed (grown_tree u)) in
-      not_by (grown 0 4 u).ending (length (grown 0 4 u).cells) n r keeps.ending (sym (ap (λ (b : Answer). outcome_of b n) a) ∙ e)
+      not_by (grown 0 4 u).ending (length (grown 0 4 u).cells) n r keeps.ending (sym (ap (λ (b : Result Growth Refusal). outcome_of b n) a) ∙ e)
 
-lines_by : (a : Answer) (n : ℕ) → ((r : Refusal) → outcome_of a n ≡ Not r → ⊥) → lines_of (outcome_of a n) ≡ n
-lines_by (Answers.Done k) n f = refl
-lines_by (Answers.Full k) n f = refl
-lines_by (Answers.Not r) n f = absurd (f r refl)
+lines_by : (a : Result Growth Refusal) (n : ℕ) → ((r : Refusal) → outcome_of a n ≡ Not r → ⊥) → lines_of (outcome_of a n) ≡ n
+lines_by (Ok (Growths.Done k)) n f = refl
+lines_by (Ok (Growths.Full k)) n f = refl
+lines_by (Err r) n f = absurd (f r refl)
 
 -- ---- the lister
-module _ (t : Tree) (n : ℕ) (e : open_answer t ≡ Opened n) where
+module _ (t : Tree) (n : ℕ) (e : open_answer t ≡ Ok n) where
   abbrev u : Tree
   u = grown_tree (open_tree t)
 
@@ -140,7 +139,7 @@ module _ (t : Tree) (n : ℕ) (e : open_answer t ≡ Opened n) where
   lines_are rows h =
       let n : ℕ = length (listed u) in
       let m : lines_of (outcome_grown (open_tree t)) ≡ n = lines_by (grows (open_tree t)) n (not_refused (open_tree t) begun opened) in
-      ap (λ (a : Opening.Answer). lines_in (rows_opened t a rows) 0 (lines_of (outcome_opened t a))) e
+      ap (λ (a : Result ℕ Refusal). lines_in (rows_opened t a rows) 0 (lines_of (outcome_opened t a))) e
       ∙ (ap (lines_in (rows_grown (open_tree t) rows) 0) m ∙ written_read rows 0 (listed u) (omega (arith, few_lines u)))
 
 pub prints_each_leaf : PrintsEachLeaf

@@ -4,7 +4,6 @@ use Rattle.refusals.specs.declared.Refusal.{Refusal}
 use Rattle.grammar.specs.declared.Counts.{Counts}
 use Rattle.read.specs.Reading.{verdict_of}
 use Rattle.tables.specs.Tables.{Tree}
-use Rattle.open.specs.declared.Answer.TheVariants.{Opened}
 use Rattle.open.specs.Open.{open_answer, open_tree}
 use Rattle.listing.specs.declared.Line.{Line}
 use Rattle.listing.specs.Listed.{keys_from, Among, IsLeaf, leaf_line}
@@ -27,7 +26,7 @@ pub record Prints (t : Tree) (rows : List ℕ) : Type 0 where
 -- "The leaf lister reads a drawing on standard input, grows with threshold 0 and depth limit 4, and prints each leaf in key order: cell, key, side,
 -- entries, lines.": after an accepted opening, whatever the table of 256 lines or more held
 abbrev pub PrintsEachLeaf : Type 0
-PrintsEachLeaf = (t : Tree) (n : ℕ) → open_answer t ≡ Opened n → (rows : List ℕ) → 1280 ≤ length rows → Prints t rows
+PrintsEachLeaf = (t : Tree) (n : ℕ) → open_answer t ≡ Ok n → (rows : List ℕ) → 1280 ≤ length rows → Prints t rows
 
 -- "if growing ends on "full", a last line `full` follows"
 abbrev pub last_line : Outcome → List ℕ
@@ -43,4 +42,4 @@ pub record PrintsLeaves (file : List ℕ) : Type 0 where
 
 -- the same sentence, of the bytes that are printed: of any file that is accepted, and whose tree opens
 abbrev pub FilePrintsEachLeaf : Type 0
-FilePrintsEachLeaf = (file : List ℕ) (k : Counts) (n : ℕ) → verdict_of file ≡ Ok k → open_answer (file_tree file) ≡ Opened n → PrintsLeaves file
+FilePrintsEachLeaf = (file : List ℕ) (k : Counts) (n : ℕ) → verdict_of file ≡ Ok k → open_answer (file_tree file) ≡ Ok n → PrintsLeaves file

@@ -11,6 +11,8 @@ ghost use Rattle.lister.specs.Printed.{lines_of, outcome_of, outcome_grown, rows
 ghost use Rattle.lister.specs.Leaves.{PrintsEachLeaf, FilePrintsEachLeaf};
 ghost use Rattle.lister.specs.Text.{line_text, lines_text, refused_text, outcome_text, drawing_text, file_text};
 
+use drawing::Drawing;
+use grow::{Growth, Limits};
 use listing::Line;
 use refusals::Refusal;
 use std::io;
@@ -79,15 +81,15 @@ pub enum Outcome {
     Not(Refusal),
 }
 
-fn outcome_of(a: grow::Answer, n: usize) -> Outcome
+fn outcome_of(a: Result<Growth, Refusal>, n: usize) -> Outcome
     requires { n ≤ 256 }
     ensures answer { result ≡ outcome_of a n }
     ensures range { lines_of result ≤ 256 }
 {
     match a {
-        grow::Answer::Done(_) => Outcome::Done(n),
-        grow::Answer::Full(_) => Outcome::Full(n),
-        grow::Answer::Not(r) => Outcome::Not(r),
+        Ok(Growth::Done(_)) => Outcome::Done(n),
+        Ok(Growth::Full(_)) => Outcome::Full(n),
+        Err(r) => Outcome::Not(r),
     }
 }
 
@@ -108,15 +110,19 @@ fn list_grown(
     ensures range { lines_of result ≤ 256 }
 {
     let a = grow::grow(
-        plan,
-        areas,
-        xs,
-        ys,
+        Drawing {
+            plan,
+            areas,
+            xs,
+            ys,
+        },
         head,
         cells,
         entries,
-        THRESHOLD,
-        DEPTH_LIMIT,
+        Limits {
+            threshold: THRESHOLD,
+            depth: DEPTH_LIMIT,
+        },
     );
     let n = listing::list_leaves(plan, areas, xs, ys, head, cells, entries, rows);
     outcome_of(a, n)
@@ -139,10 +145,20 @@ fn list_drawing(
     ensures range { lines_of result ≤ 256 }
     ensures leaves { PrintsEachLeaf }
 {
-    let a = open::open(plan, areas, xs, ys, head, cells, entries);
+    let a = open::open(
+        Drawing {
+            plan,
+            areas,
+            xs,
+            ys,
+        },
+        head,
+        cells,
+        entries,
+    );
     match a {
-        open::Answer::Opened(_) => list_grown(plan, areas, xs, ys, head, cells, entries, rows),
-        open::Answer::Not(r) => Outcome::Not(r),
+        Ok(_) => list_grown(plan, areas, xs, ys, head, cells, entries, rows),
+        Err(r) => Outcome::Not(r),
     }
 }
 

@@ -1,7 +1,8 @@
 -- When lent tables hold the areas and corners of a drawing.
-use Rattle.std.specs.Prelude.{◌≡◌, List, [], ◌∷◌, ℕ, zero, suc, ◌+◌, ◌<◌, length, take, Ok}
+use Rattle.std.specs.Prelude.{◌≡◌, List, [], ◌∷◌, ℕ, zero, suc, ◌+◌, ◌<◌, length, take}
 use Rattle.records.specs.declared.Fields.{Fields}
 use Rattle.records.specs.declared.Record.TheVariants.{Area}
+use Rattle.std.specs.Prelude.{Ok}
 use Rattle.drawing.specs.Tables.{fields_at, area_row}
 use Rattle.pruning.specs.Sides.{end}
 use Rattle.cells.specs.Drawings.{Drawing, fields_of}

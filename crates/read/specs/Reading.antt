@@ -1,6 +1,7 @@
 -- Document 01, "From the input": what reading a file answers and leaves.
+use Rattle.std.specs.Prelude.{Ok, Err}
 use Rattle.refusals.specs.Refusals.{at_place}
-use Rattle.std.specs.Prelude.{ℕ, zero, suc, ◌+◌, ◌*◌, ◌-◌, ◌/◌, ◌%◌, ◌≤◌, ◌≡◌, Bool, true, false, cond, ◌&&◌, List, [], ◌∷◌, length, eqb, leb, Ok, Err}
+use Rattle.std.specs.Prelude.{ℕ, zero, suc, ◌+◌, ◌*◌, ◌-◌, ◌/◌, ◌%◌, ◌≤◌, ◌≡◌, Bool, true, false, cond, ◌&&◌, List, [], ◌∷◌, length, eqb, leb}
 use Rattle.std.proofs.lemmas.List.Edits.{sets}
 use denote.Triple.Both.{Both}
 use Rattle.std.specs.Borrow.{Bor, MutBor}

@@ -1,10 +1,11 @@
 -- Document 01, "From the state", 12, and document 02, Item 2: when the entries of a stream are in range and in the grammar.
-use Rattle.std.specs.Prelude.{ℕ, ◌+◌, ◌*◌, ◌-◌, ◌/◌, ◌≤◌, ◌≡◌, Bool, true, false, cond, not, ◌&&◌, List, [], ◌∷◌, length, get_or, eqb, ltb, leb, Ok, Err}
+use Rattle.std.specs.Prelude.{ℕ, ◌+◌, ◌*◌, ◌-◌, ◌/◌, ◌≤◌, ◌≡◌, Bool, true, false, cond, not, ◌&&◌, List, [], ◌∷◌, length, get_or, eqb, ltb, leb}
 use Rattle.curves.specs.Curves.{curve_fits}
 use Rattle.groups.specs.Sides.{Frame, is_paint, on_left, on_right, opening, to_right, to_outer, is_empty}
 use Rattle.records.specs.declared.Record.{Record}
 use Rattle.records.specs.declared.Record.TheVariants.{Area, First, Next, Open, Bar, Close, Control}
 use Rattle.records.specs.Record.{Decoded}
+use Rattle.std.specs.Prelude.{Ok, Err}
 use Rattle.records.specs.Record.{corner_range, is_good}
 use Rattle.drawing.specs.Tables.{area_row}
 use Rattle.stream.specs.declared.Words.{Words}

@@ -9,6 +9,7 @@ use native.Mathlib.Omega.{arith}
 use lib.ListN.{length}
 use lib.Dec.{eqb, leb}
 use borrow.Author.Tests.{leb-true}
+use Rattle.std.specs.Prelude.{Err}
 use Rattle.refusals.specs.declared.Refusal.TheVariants.{Length, Argument, Room}
 use Rattle.grammar.specs.Grammar.{Verdict}
 use Rattle.grammar.specs.Grammar.{checked, Verdict·place}
@@ -37,7 +38,6 @@ use Rattle.grow.specs.Grow.{
   answer_of,
   grow_answer,
 }
-use Rattle.grow.specs.declared.Answer.TheVariants as growth
 use Rattle.answers.specs.Answers.{read_low, write_low, grow_splits}
 
 verdict_place : (b : List ℕ) → Verdict·place (verdict_of b) ≤ 4096
@@ -105,7 +105,7 @@ grow_low t n l = go (eqb (length t.xs) (length t.ys)) (leb l 16)
     by_ending no_room k h = h
     by_ending not_passed k h = omega arith
 
-    go : (a b : Bool) → grow_splits (cond a (cond b (answer_of (growing 4096 n l t)) (growth.Not Argument)) (growth.Not Argument)) ≤ 4096
+    go : (a b : Bool) → grow_splits (cond a (cond b (answer_of (growing 4096 n l t)) (Err Argument)) (Err Argument)) ≤ 4096
     go true true = by_ending (growing 4096 n l t).ending (length (growing 4096 n l t).cells) (splits_made 4096 n l t)
     go true false = omega arith
     go false b = omega arith

@@ -24,6 +24,7 @@ ghost use Rattle.grow.specs.Grow.{grow_answer, grow_tree};
 ghost use Rattle.answers.specs.Answers.{read_number, write_number, open_number, split_number, grow_number, find_room, find_number, leaf_written};
 
 use drawing::Drawing;
+use grow::Limits;
 
 // Reads a file of records into the four tables of a drawing. The result is the number of records.
 // Refusals, in this order: 7 (tables of x and y of unequal length), 1, each record by 2 to 6, the end by 4 and 5, 11.
@@ -85,7 +86,17 @@ pub extern "C" fn zones_open(
     ensures cells { cells.new ≡ (open_tree (tree_lent_mut plan areas xs ys head cells entries)).cells }
     ensures entries { entries.new ≡ (open_tree (tree_lent_mut plan areas xs ys head cells entries)).entries }
 {
-    let a = open::open(plan, areas, xs, ys, head, cells, entries);
+    let a = open::open(
+        Drawing {
+            plan,
+            areas,
+            xs,
+            ys,
+        },
+        head,
+        cells,
+        entries,
+    );
     answers::pack_open(a)
 }
 
@@ -107,7 +118,18 @@ pub extern "C" fn zones_split(
     ensures cells { cells.new ≡ (split_tables (tree_lent_mut plan areas xs ys head cells entries) cell).cells }
     ensures entries { entries.new ≡ (split_tables (tree_lent_mut plan areas xs ys head cells entries) cell).entries }
 {
-    let a = split::split(plan, areas, xs, ys, head, cells, entries, cell);
+    let a = split::split(
+        Drawing {
+            plan,
+            areas,
+            xs,
+            ys,
+        },
+        head,
+        cells,
+        entries,
+        cell,
+    );
     answers::pack_split(a)
 }
 
@@ -131,7 +153,21 @@ pub extern "C" fn zones_grow(
     ensures cells { cells.new ≡ (grow_tree (tree_lent_mut plan areas xs ys head cells entries) threshold limit).cells }
     ensures entries { entries.new ≡ (grow_tree (tree_lent_mut plan areas xs ys head cells entries) threshold limit).entries }
 {
-    let a = grow::grow(plan, areas, xs, ys, head, cells, entries, threshold, limit);
+    let a = grow::grow(
+        Drawing {
+            plan,
+            areas,
+            xs,
+            ys,
+        },
+        head,
+        cells,
+        entries,
+        Limits {
+            threshold,
+            depth: limit,
+        },
+    );
     answers::pack_grow(a)
 }
 

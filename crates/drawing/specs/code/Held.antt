@@ -1,5 +1,6 @@
 -- Records that a file may hold, and tables that begin with their words: what reading an accepted file leaves.
-use Rattle.std.specs.Prelude.{◌≤◌, ◌≡◌, true, List, map, length, Ok}
+use Rattle.std.specs.Prelude.{Ok}
+use Rattle.std.specs.Prelude.{◌≤◌, ◌≡◌, true, List, map, length}
 use Rattle.records.specs.declared.Record.{Record}
 use Rattle.grammar.specs.declared.Counts.{Counts}
 use Rattle.grammar.specs.Grammar.{checked}
