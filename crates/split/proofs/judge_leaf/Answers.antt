@@ -1,10 +1,10 @@
 use mathlib.Core.Path.{sym, ◌∙◌}
 use native.Mathlib.Omega.{arith}
-use borrow.Author.Tests.{eq-eqb, ne_eqb}
+use borrow.Author.Tests.{eq-eqb}
 use Rattle.stream.specs.Grammar.{env}
 use Rattle.stream.proofs.Passed.{passed}
 use Rattle.celltable.proofs.Ranges.{square_fits_law}
-use Rattle.tables.proofs.Leaves.{leaf_told, leaf_none, leaf_stream_law}
+use Rattle.tables.proofs.Leaves.{leaf_told, leaf_stream_law}
 use Rattle.split.proofs.judge_leaf.Goals as goal
 
 pub judge_children-requires : goal.judge_children-requires
