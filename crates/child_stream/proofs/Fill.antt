@@ -4,8 +4,8 @@ use mathlib.Core.List.{List, [], ◌∷◌, ◌++◌}
 use Prim.Native.Nat.{ℕ, ◌+◌, ◌*◌, ◌-◌, ◌≤◌, ◌<◌}
 use native.Mathlib.Omega.{arith}
 use lib.ListN.{length, take, drop, length-drop}
+use lib.Seq.{take-take}
 use lib.IntN.{ℤ}
-use borrow.Rule.Slice.PartMut.{put_mid}
 use Rattle.geometry.specs.declared.class.Class.{Class}
 use Rattle.geometry.specs.declared.class.Square.{Square}
 use Rattle.pruning.specs.code.Pruner.{going}
@@ -25,25 +25,23 @@ use Rattle.making.proofs.Made.{made_length}
 use Rattle.making.proofs.Standing.{Reads}
 use Rattle.making.proofs.Whole.{all_of, standing_start}
 use Rattle.writing.specs.code.Numbers.{settled_put, one_put}
-use Rattle.writing.proofs.Same.{same_refl, same_one}
+use Rattle.writing.proofs.Same.{same_refl}
 use Rattle.writing.proofs.Written.{Writes}
 use Rattle.writing.proofs.Turn.{Writing, writing_next}
 use Rattle.writing.proofs.Whole.{written_end}
 use Rattle.child_stream.proofs.Loop.{Looping}
-use Rattle.child_stream.proofs.Tail.{tail_is, put_tail, put_front, put_back, put_size, tail_written}
+use Rattle.child_stream.proofs.Tail.{tail_written}
 
--- the table t was t₀: as it was up to entry `free`, and behind that what is made so far
+-- behind entry `free` the table was the end of t₀ and is t: what is made so far stands in it
 pub record Filling (v : Env) (D : Drawing) (c : Cell) (t₀ : List ℕ) (first count free limit i : ℕ) (m : Maker) (t : List ℕ) : Type 0 where
   pub from : first ≤ i
   pub to : i ≤ first + count
-  pub size : length t ≡ length t₀
-  pub kept : take (free * 4) t ≡ take (free * 4) t₀
-  pub writing : Writing v D c (i - first) m (words_from t₀ i (first + count - i)) (all_of D c (words_from t₀ first count)) limit
-      (drop (free * 4) t₀) (drop (free * 4) t)
+  pub writing : Writing v D c (i - first) m (words_from t₀ i (first + count - i)) (all_of D c (words_from t₀ first count)) limit (drop (free * 4) t₀) t
 
 module _ (v : Env) (D : Drawing) (c : Cell) (R : Reads v D) (t₀ : List ℕ) (first count free limit : ℕ) (P : Passed t₀ first count v)
     (behind : first + count ≤ free) (room : (free + limit) * 4 ≤ length t₀) where
-  pub fill_begin : (m : Maker) → counted m.pruner ≡ ct 0 0 going [] → m.waiting ≡ resting → Filling v D c t₀ first count free limit first m t₀
+  pub fill_begin : (m : Maker) → counted m.pruner ≡ ct 0 0 going [] → m.waiting ≡ resting
+      → Filling v D c t₀ first count free limit first m (drop (free * 4) t₀)
   fill_begin m e f =
       let a : first - first ≡ 0 = omega arith in
       let b : first + count - first ≡ count = omega arith in
@@ -52,8 +50,6 @@ module _ (v : Env) (D : Drawing) (c : Cell) (R : Reads v D) (t₀ : List ℕ) (f
       record {
         from = omega arith;
         to = omega arith;
-        size = refl;
-        kept = refl;
         writing = rw (a, b)
             (record {
               standing = x.0;
@@ -62,7 +58,7 @@ module _ (v : Env) (D : Drawing) (c : Cell) (R : Reads v D) (t₀ : List ℕ) (f
             });
       }
 
-  -- where the table is t
+  -- where the end of the table is t
   module _ (i : ℕ) (m : Maker) (t : List ℕ) (f : Filling v D c t₀ first count free limit i m t) where
     pub looping : Looping v D c t₀ first count i m
     looping = record { from = f.from; to = f.to; standing = f.writing.standing }
@@ -70,74 +66,51 @@ module _ (v : Env) (D : Drawing) (c : Cell) (R : Reads v D) (t₀ : List ℕ) (f
     few : i - first ≤ 4096
     few = omega (arith, P.few, f.from, f.to)
 
-    pub tail_room : limit * 4 ≤ length (drop (free * 4) t)
-    tail_room = omega (arith, length-drop (free * 4) t, f.size)
+    pub tail_room : limit * 4 ≤ length t
+    tail_room = omega (arith, length-drop (free * 4) t₀, f.writing.same.size)
 
-    long : free * 4 ≤ length t
-    long = omega (arith, f.size)
+    -- the entry that is read is the parent's
+    pub entry_is : i < first + count → words_at (take (free * 4) t₀) i ≡ words_at t₀ i
+    entry_is h = at_agree (take (free * 4) t₀) t₀ (free * 4) i (take-take (free * 4) (free * 4) t₀ (omega arith)) (omega arith)
 
-    -- the part that is lent
-    pub part_room : limit * 4 ≤ length (take (length t - free * 4) (drop (free * 4) t))
-    part_room = rw (tail_is t (free * 4)) tail_room
-
-    module _ (h : i < first + count) where
-      -- the entry that is read is the parent's
-      pub entry_is : words_at t i ≡ words_at t₀ i
-      entry_is = at_agree t t₀ (free * 4) i f.kept (omega arith)
-
-      pub fill_turn : (n : Maker) (w : Words) (q : Square) (g : Class) (z : ℤ) (s : List ℕ)
-          → w ≡ words_at t₀ i
-          → w.q < 4294967296
-          → square_of c ≡ q
-          → g ≡ left_class v.xs v.ys q w
-          → z ≡ left_sign v.xs v.ys w
-          → counted n.pruner ≡ pruned_n v.areas (counted m.pruner) m.waiting w.kind
-          → n.waiting ≡ waiting_n m.waiting g z w
-          → s ≡ one_put limit v.areas (take (length t - free * 4) (drop (free * 4) t)) m g z w n.pruner.weight
-          → Filling v D c t₀ first count free limit (i + 1) n (put_mid (free * 4) (length t - free * 4) t s)
-      fill_turn n w q g z s e b r x y hp ha hs =
-          let k : i - first + 1 ≡ i + 1 - first = omega (arith, f.from) in
-          let s₁ : s ≡ one_put limit v.areas (drop (free * 4) t) m g z w n.pruner.weight = rw (tail_is t (free * 4)) at hs in
-          let len : length s ≡ length (drop (free * 4) t) = rw s₁ (same_one limit v.areas (drop (free * 4) t) m g z w n.pruner.weight).size in
-          let ws : List Words = words_from t₀ (i + 1) (first + count - (i + 1)) in
-          let now : Writing v D c (i - first) m (w ∷ ws) (all_of D c (words_from t₀ first count)) limit (drop (free * 4) t₀)
-          (drop (free * 4) t) = subst
-          (λ (u : List Words).
-          Writing v D c (i - first) m u (all_of D c (words_from t₀ first count)) limit (drop (free * 4) t₀) (drop (free * 4) t))
-          (words_step t₀ i (first + count) h ∙ ap (λ (u : Words). u ∷ ws) (sym e)) f.writing in
-          let next : Writing v D c (i - first + 1) n ws (all_of D c (words_from t₀ first count)) limit (drop (free * 4) t₀) s = writing_next v
-          D c R (i - first) m (all_of D c (words_from t₀ first count)) limit (drop (free * 4) t₀) (drop (free * 4) t) few tail_room w ws now s
-          n.pruner.weight g z (x ∙ ap (λ (a : Square). left_class v.xs v.ys a w) (sym r)) y s₁ n refl b hp ha in
-          rw (put_tail t s (free * 4) long)
-          (record {
-            from = omega (arith, f.from);
-            to = omega arith;
-            size = put_size t s (free * 4) long len ∙ f.size;
-            kept = put_front t s (free * 4) long ∙ f.kept;
-            writing = rw (put_back t s (free * 4) long)
-                (subst (λ (j : ℕ). Writing v D c j n ws (all_of D c (words_from t₀ first count)) limit (drop (free * 4) t₀) s) k next);
-          })
+    pub fill_turn : i < first + count
+        → (n : Maker) (w : Words) (q : Square) (g : Class) (z : ℤ) (s : List ℕ)
+        → w ≡ words_at t₀ i
+        → w.q < 4294967296
+        → square_of c ≡ q
+        → g ≡ left_class v.xs v.ys q w
+        → z ≡ left_sign v.xs v.ys w
+        → counted n.pruner ≡ pruned_n v.areas (counted m.pruner) m.waiting w.kind
+        → n.waiting ≡ waiting_n m.waiting g z w
+        → s ≡ one_put limit v.areas t m g z w n.pruner.weight
+        → Filling v D c t₀ first count free limit (i + 1) n s
+    fill_turn h n w q g z s e b r x y hp ha hs =
+        let k : i - first + 1 ≡ i + 1 - first = omega (arith, f.from) in
+        let ws : List Words = words_from t₀ (i + 1) (first + count - (i + 1)) in
+        let all : Making = all_of D c (words_from t₀ first count) in
+        let now : Writing v D c (i - first) m (w ∷ ws) all limit (drop (free * 4) t₀) t = subst
+        (λ (u : List Words). Writing v D c (i - first) m u all limit (drop (free * 4) t₀) t)
+        (words_step t₀ i (first + count) h ∙ ap (λ (u : Words). u ∷ ws) (sym e)) f.writing in
+        let next : Writing v D c (i - first + 1) n ws all limit (drop (free * 4) t₀) s = writing_next v D c R (i - first) m all limit
+        (drop (free * 4) t₀) t few tail_room w ws now s n.pruner.weight g z
+        (x ∙ ap (λ (a : Square). left_class v.xs v.ys a w) (sym r)) y hs n refl b hp ha in
+        record {
+          from = omega (arith, f.from);
+          to = omega arith;
+          writing = subst (λ (j : ℕ). Writing v D c j n ws all limit (drop (free * 4) t₀) s) k next;
+        }
 
     -- where no entry is left
-    module _ (h : first + count ≤ i) (exact : limit ≡ length (elements_made D c (words_from t₀ first count))) where
-      length_made : length (words_made D c (words_from t₀ first count)) ≡ limit
-      length_made = made_length D c (words_from t₀ first count) ∙ sym exact
-
-      pub fill_end : (s : List ℕ) → s ≡ settled_put limit v.areas (take (length t - free * 4) (drop (free * 4) t)) m
-          → put_mid (free * 4) (length t - free * 4) t s ≡ written t₀ free (words_made D c (words_from t₀ first count))
-      fill_end s hs =
-          let s₁ : s ≡ settled_put limit v.areas (drop (free * 4) t) m = rw (tail_is t (free * 4)) at hs in
-          let last : Writing v D c (i - first) m [] (all_of D c (words_from t₀ first count)) limit (drop (free * 4) t₀) (drop (free * 4) t) =
-          subst
-          (λ (u : List Words).
-          Writing v D c (i - first) m u (all_of D c (words_from t₀ first count)) limit (drop (free * 4) t₀) (drop (free * 4) t))
-          (words_none t₀ i (first + count) h) f.writing in
-          put_tail t s (free * 4) long
-          ∙ (ap (λ (x : List ℕ). x ++ s) f.kept
-          ∙ (ap (λ (x : List ℕ). take (free * 4) t₀ ++ x)
-          (s₁
-          ∙ written_end v D c R (words_from t₀ first count) P.grammar (i - first) m limit (drop (free * 4) t₀) (drop (free * 4) t) few
-          tail_room exact last)
-          ∙ (ap (λ (n : ℕ). take (free * 4) t₀ ++ (flat (words_made D c (words_from t₀ first count)) ++ drop (n * 4) (drop (free * 4) t₀)))
-          (sym length_made)
-          ∙ tail_written t₀ free (words_made D c (words_from t₀ first count)) (omega (arith, length_made, room)))))
+    pub fill_end : first + count ≤ i → limit ≡ length (elements_made D c (words_from t₀ first count)) → (s : List ℕ) → s ≡ settled_put limit v.areas t m
+        → take (free * 4) t₀ ++ s ≡ written t₀ free (words_made D c (words_from t₀ first count))
+    fill_end h exact s hs =
+        let made : List Words = words_made D c (words_from t₀ first count) in
+        let length_made : length made ≡ limit = made_length D c (words_from t₀ first count) ∙ sym exact in
+        let last : Writing v D c (i - first) m [] (all_of D c (words_from t₀ first count)) limit (drop (free * 4) t₀) t = subst
+        (λ (u : List Words). Writing v D c (i - first) m u (all_of D c (words_from t₀ first count)) limit (drop (free * 4) t₀) t)
+        (words_none t₀ i (first + count) h) f.writing in
+        ap (λ (x : List ℕ). take (free * 4) t₀ ++ x)
+        (hs
+        ∙ written_end v D c R (words_from t₀ first count) P.grammar (i - first) m limit (drop (free * 4) t₀) t few tail_room exact last)
+        ∙ (ap (λ (n : ℕ). take (free * 4) t₀ ++ (flat made ++ drop (n * 4) (drop (free * 4) t₀))) (sym length_made)
+        ∙ tail_written t₀ free made (omega (arith, length_made, room)))

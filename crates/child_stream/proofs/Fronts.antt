@@ -28,6 +28,7 @@ use Rattle.evaluate.specs.Reading.{element_for}
 use Rattle.evaluate.specs.code.Numbers.{segment_of}
 use Rattle.evaluate.proofs.Laws.{element_segment}
 use Rattle.making.proofs.Laws.{by_kind}
+use Rattle.making.specs.code.Numbers.{start_in}
 use Rattle.making.proofs.Follows.{state_of, waiting_of, waiting_for}
 use Rattle.writing.proofs.Places.{Moves, adds, cuts, open_moves, bar_moves, close_moves}
 use Rattle.child_stream.specs.code.Starts.{starts_of}
@@ -81,7 +82,7 @@ front_moves out out' r e (cuts p m) = rw m (front_take p out)
 -- ---- one entry more: the start numbers are at the front of those there were and that of the area that waited
 module _ (D : Drawing) (c : Cell) where
   abbrev pub with_next : Making → List ℤ
-  with_next m = starts_of (out_of (state_of m)) ++ ((waiting_for (waiting_of m)).start ∷ [])
+  with_next m = starts_of (out_of (state_of m)) ++ (start_in (waiting_for (waiting_of m)) ∷ [])
 
   item_front : (k : Kind) (f : Items.Class) (n : ℕ) (z : ℤ) (gs : List Segment) (out : List Element) (b : ℕ) (fs : List Frame)
       → Front (starts_of (out_of (add_item (items D) Element entry_elements k f (area n z gs) out b fs))) (starts_of out ++ (z ∷ []))
@@ -132,7 +133,7 @@ module _ (D : Drawing) (c : Cell) where
       (λ e. settle_front m)
       (λ s. rw (element_segment w [] s) (same_front (segment_of w) m))
       (λ e. front_then (bare_front (settle D c m)) (settle_front m))
-      (front_of (starts_of (out_of (state_of m))) ((waiting_for (waiting_of m)).start ∷ []))
+      (front_of (starts_of (out_of (state_of m))) (start_in (waiting_for (waiting_of m)) ∷ []))
 
 -- ---- how many, from one number
 

@@ -1,13 +1,11 @@
 -- The loop over a parent's stream.
 use mathlib.Core.Path.{◌≡◌, sym, ap, subst, ◌∙◌}
-use mathlib.Core.Bool.{true}
 use mathlib.Core.List.{List, [], ◌∷◌}
 use Prim.Native.Nat.{ℕ, ◌+◌, ◌-◌, ◌^◌, ◌≤◌, ◌<◌}
 use native.Mathlib.Omega.{arith}
 use lib.ListN.{length}
 use lib.IntN.{ℤ, nat_abs}
-use mir.Syntax.{w64}
-use mir.Val.{to_z, of_z}
+use Rattle.std.specs.Prelude.{Option, Some, None}
 use Rattle.geometry.specs.declared.class.Class.{Class}
 use Rattle.geometry.specs.declared.class.Square.{Square}
 use Rattle.pruning.specs.code.Pruner.{going}
@@ -15,18 +13,18 @@ use Rattle.pruning.specs.code.Counters.{ct, length_of}
 use Rattle.pruning.specs.code.Weights.{total}
 use Rattle.cells.specs.Cells.{Cell, square_of}
 use Rattle.cells.specs.Drawings.{Drawing}
-use Rattle.cells.specs.code.Making.{element_size}
+use Rattle.cells.specs.code.Making.{Making, element_size}
 use Rattle.stream.specs.declared.Words.{Words}
 use Rattle.stream.specs.Table.{words_at, words_from}
 use Rattle.stream.specs.Grammar.{Env, Passed}
 use Rattle.stream.proofs.Table.{words_step, words_none}
 use Rattle.pruner.specs.code.Numbers.{counted}
-use Rattle.evaluate.proofs.Laws.{small_back}
 use Rattle.making.specs.declared.Maker.{Maker}
+use Rattle.making.specs.declared.Waiting.{Waiting}
 use Rattle.making.specs.Made.{elements_made}
-use Rattle.making.specs.code.Numbers.{resting, left_sign, left_class, left_range, waiting_n, settled_n, pruned_n, Inside, Asks}
+use Rattle.making.specs.code.Numbers.{resting, left_sign, left_class, start_in, weight_in, waiting_n, settled_n, pruned_n, Inside, Asks}
 use Rattle.making.proofs.Standing.{Reads, Standing}
-use Rattle.making.proofs.Turn.{standing_weight, standing_base, standing_inside, standing_room, standing_start, standing_left, standing_sign, standing_next}
+use Rattle.making.proofs.Turn.{waits_small, standing_weight, standing_base, standing_inside, standing_room, standing_start, standing_left, standing_sign, standing_next}
 use Rattle.making.proofs.Whole.{all_of, standing_begin, weight_end}
 
 -- entries i to first + count - 1 are to come
@@ -57,32 +55,22 @@ module _ (v : Env) (D : Drawing) (c : Cell) (R : Reads v D) (t : List ℕ) (firs
     few : i - first ≤ 4096
     few = omega (arith, P.few, l.from)
 
-    pub loop_left : left_range v.xs v.ys v.used.corners (words_at t i) ≡ true
-    loop_left =
-        standing_left v D c R (i - first) m.pruner m.waiting (all_of D c (words_from t first count)) (words_at t i)
-        (words_from t (i + 1) (first + count - (i + 1))) here
-
-    pub loop_sign : nat_abs (left_sign v.xs v.ys (words_at t i)) ≤ 1
-    loop_sign =
-        standing_sign v D c R (i - first) m.pruner m.waiting (all_of D c (words_from t first count)) (words_at t i)
-        (words_from t (i + 1) (first + count - (i + 1))) here
-
-    -- the sign that is left of entry i, and as the code hands it on
-    pub sign_of : (w : Words) → w ≡ words_at t i → nat_abs (left_sign v.xs v.ys w) ≤ 1
-    sign_of w e = subst (λ (u : Words). nat_abs (left_sign v.xs v.ys u) ≤ 1) (sym e) loop_sign
-
-    pub sign_read : (w : Words) → w ≡ words_at t i → (s : ℤ) → s ≡ left_sign v.xs v.ys w → to_z w64 (of_z w64 s) ≡ left_sign v.xs v.ys w
-    sign_read w e s q = ap (λ (x : ℤ). to_z w64 (of_z w64 x)) q ∙ small_back (left_sign v.xs v.ys w) (omega (arith, sign_of w e))
-
-    pub loop_asks : Asks (length v.areas) m.pruner m.waiting (words_at t i)
-    loop_asks =
+    -- what the next entry asks of the code
+    pub loop_asks : (w : Words) → w ≡ words_at t i → Asks v m w
+    loop_asks w e =
+        let ws : List Words = words_from t (i + 1) (first + count - (i + 1)) in
+        let all : Making = all_of D c (words_from t first count) in
+        let s : Standing v D c (i - first) m.pruner m.waiting (w ∷ ws) all = rw e here in
+        let room = standing_room v D c R (i - first) m.pruner m.waiting all w ws s few in
+        let inside = standing_inside v D c R (i - first) m.pruner m.waiting all (w ∷ ws) few P.ready.areas s in
         record {
-          inside = standing_inside v D c R (i - first) m.pruner m.waiting (all_of D c (words_from t first count))
-              (words_at t i ∷ words_from t (i + 1) (first + count - (i + 1))) few P.ready.areas here;
-          room = standing_room v D c R (i - first) m.pruner m.waiting (all_of D c (words_from t first count)) (words_at t i)
-              (words_from t (i + 1) (first + count - (i + 1))) here few;
-          start = standing_start v D c R (i - first) m.pruner m.waiting (all_of D c (words_from t first count)) (words_at t i)
-              (words_from t (i + 1) (first + count - (i + 1))) here;
+          inside = inside;
+          room = room;
+          start = standing_start v D c R (i - first) m.pruner m.waiting all w ws s;
+          left = standing_left v D c R (i - first) m.pruner m.waiting all w ws s;
+          sign = standing_sign v D c R (i - first) m.pruner m.waiting all w ws s;
+          small = waits_small (length v.areas) m.waiting inside;
+          light = omega (arith, room.weight);
         }
 
     pub loop_turn : (n : Maker) (w : Words) (q : Square) (f : Class) (z : ℤ)
@@ -126,7 +114,7 @@ module _ (v : Env) (D : Drawing) (c : Cell) (R : Reads v D) (t : List ℕ) (firs
         standing_inside v D c R (i - first) m.pruner m.waiting (all_of D c (words_from t first count)) []
         (omega (arith, P.few, l.to, l.from)) P.ready.areas none
 
-    pub end_room : (m.pruner.weight + m.waiting.weight < 2 ^ 60) × (m.pruner.base < 2 ^ 60)
+    pub end_room : (m.pruner.weight + weight_in m.waiting < 2 ^ 60) × (m.pruner.base < 2 ^ 60)
     end_room = (
       omega (arith, standing_weight v D c R (i - first) m.pruner m.waiting (all_of D c (words_from t first count)) [] none, P.few, l.to, l.from),
       omega (arith, standing_base v D c R (i - first) m.pruner m.waiting (all_of D c (words_from t first count)) [] none, P.few, l.to, l.from),

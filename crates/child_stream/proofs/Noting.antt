@@ -24,9 +24,8 @@ use Rattle.pruner.specs.code.Numbers.{counted}
 use Rattle.pruner.proofs.Near.{counted_weight}
 use Rattle.evaluate.specs.Reading.{elements_in}
 use Rattle.making.specs.declared.Maker.{Maker}
-use Rattle.making.specs.declared.Waiting.{Waiting}
 use Rattle.making.specs.Made.{elements_made}
-use Rattle.making.specs.code.Numbers.{resting, left_sign, left_class, waiting_n, pruned_n}
+use Rattle.making.specs.code.Numbers.{resting, start_in, left_sign, left_class, waiting_n, pruned_n}
 use Rattle.making.proofs.Follows.{state_of, waiting_of, waiting_for, settle_short}
 use Rattle.making.proofs.Standing.{Reads, Standing}
 use Rattle.making.proofs.Turn.{standing_elements, weight_is}
@@ -47,15 +46,15 @@ noted_stands : (v : Env) (D : Drawing) (c : Cell) (k : ℕ) (mk : Maker) (ws : L
     → k ≤ 4096
     → length zs ≡ 64
     → (s : Noting v D c k mk ws whole zs)
-    → Stands (put_start zs (areas_in mk.pruner.weight) mk.waiting.start) (with_next D c s.standing.elements)
+    → Stands (put_start zs (areas_in mk.pruner.weight) (start_in mk.waiting)) (with_next D c s.standing.elements)
 noted_stands v D c k mk ws whole zs l e s =
     let f = s.standing.follows in
     let out : List Element = out_of (state_of s.standing.elements) in
     let short : length out ≤ 8192 = omega (arith, f.short) in
     let n : areas_in mk.pruner.weight ≡ length (starts_of out) =
     ap areas_in (sym (counted_weight mk.pruner) ∙ (ap length_of f.counts ∙ weight_is (state_of s.standing.elements))) ∙ areas_is out short in
-    let z : mk.waiting.start ≡ (waiting_for (waiting_of s.standing.elements)).start = ap (λ (a : Waiting). a.start) f.waits in
-    rw (n, z) (stands_more zs (starts_of out) (waiting_for (waiting_of s.standing.elements)).start e s.stands)
+    let z : start_in mk.waiting ≡ start_in (waiting_for (waiting_of s.standing.elements)) = ap start_in f.waits in
+    rw (n, z) (stands_more zs (starts_of out) (start_in (waiting_for (waiting_of s.standing.elements))) e s.stands)
 
 -- entries i to first + count - 1 are to come
 pub record Counting (v : Env) (D : Drawing) (c : Cell) (t : List ℕ) (first count i : ℕ) (m : Maker) (zs : List ℤ) : Type 0 where
@@ -94,7 +93,7 @@ module _ (v : Env) (D : Drawing) (c : Cell) (R : Reads v D) (t : List ℕ) (firs
 
     -- the array with the start number of the area that waits
     abbrev next : List ℤ
-    next = put_start zs (areas_in m.pruner.weight) m.waiting.start
+    next = put_start zs (areas_in m.pruner.weight) (start_in m.waiting)
 
     pub counting_turn : i < first + count
         → (n : Maker) (w : Words) (q : Square) (f : Class) (z : ℤ)
@@ -124,7 +123,7 @@ module _ (v : Env) (D : Drawing) (c : Cell) (R : Reads v D) (t : List ℕ) (firs
         (record {
           from = omega (arith, l.from);
           to = omega arith;
-          size = put_length zs (areas_in m.pruner.weight) m.waiting.start ∙ l.size;
+          size = put_length zs (areas_in m.pruner.weight) (start_in m.waiting) ∙ l.size;
           noting = subst (λ (j : ℕ). Noting v D c j n ws whole next) k (record { standing = s.0; stands = done });
         })
 
@@ -163,4 +162,4 @@ module _ (v : Env) (D : Drawing) (c : Cell) (R : Reads v D) (t : List ℕ) (firs
           rw (hz, k)
           (ap (starts (length (starts_of (elements_made D c (words_from t first count)))))
           (first_filled next (starts_of (elements_made D c (words_from t first count)))
-          (put_length zs (areas_in m.pruner.weight) m.waiting.start ∙ l.size) made_stands))
+          (put_length zs (areas_in m.pruner.weight) (start_in m.waiting) ∙ l.size) made_stands))

@@ -7,37 +7,37 @@ ghost use Rattle.geometry.specs.code.Reach.{SquareIn};
 ghost use Rattle.cells.specs.Cells.{square_of};
 ghost use Rattle.cells.specs.code.Making.{element_size};
 ghost use Rattle.pruning.specs.code.Weights.{total};
-ghost use Rattle.stream.specs.Table.{words_from, written};
-ghost use Rattle.stream.specs.Grammar.{env, Passed};
-ghost use Rattle.ranges.specs.Held.{lent};
+ghost use Rattle.stream.specs.Table.{words_from, words_passed, written};
+ghost use Rattle.stream.specs.Grammar.{env_of, Passed};
+ghost use Rattle.ranges.specs.Held.{lent_of, lent_passed};
 ghost use Rattle.making.specs.Made.{elements_made, words_made};
-ghost use Rattle.making.specs.code.Numbers.{cell_in};
+ghost use Rattle.making.specs.code.Numbers.{cell_in, start_in};
 ghost use Rattle.child_stream.specs.code.Numbers.{starts, noted_n, first_of, starts_in};
 
 use geometry::class::Square;
-use making::{Maker, Waiting};
-use pruner::Pruner;
-use stream::Bounds;
+use making::Maker;
+use stream::{Context, Stream};
 
 // ---- the start numbers of the areas
 // How many, and the numbers, with zeros behind them: the `starts` of document 01's "child tallies (entries, lines, starts)". They are proved to be those
 // of the child's stream (`count_child`: `starts_in`), which is written from its parent's stream and not from them. 16 bits hold each.
-#[derive(Clone, Copy)]
+// A tally goes by value, four in an array (document 01), and the kit's `ArrayVec<i16, 64>` is not `Copy`.
+#[derive(Clone, Copy, Debug, PartialEq, Eq)]
 pub struct Starts {
     pub count: usize,
     pub at: [i16; records::MOST_AREAS],
 }
 
 // The start number of the area that waits, behind those of the areas that stand. An area that goes again makes place for the next.
-fn note(at: &mut [i16], p: Pruner, a: Waiting)
+fn note(at: &mut [i16], m: &Maker)
     requires at_len { length at.old ≡ 64 }
-    requires start_bound { nat_abs a.start ≤ 8192 }
-    ensures at { at.new ≡ noted_n at.old p a }
+    requires start_bound { nat_abs (start_in m.now.waiting) ≤ 8192 }
+    ensures at { at.new ≡ noted_n at.old m.now.pruner m.now.waiting }
 {
-    let k = (p.weight / 4294967296) as usize;
-    let z = a.start as i16;
+    let start = m.waiting.map_or(0, |a| a.start);
+    let k = (m.pruner.weight / making::AREA) as usize;
     if k < records::MOST_AREAS {
-        at[k] = z;
+        at[k] = start as i16;
     }
 }
 
@@ -45,78 +45,39 @@ fn note(at: &mut [i16], p: Pruner, a: Waiting)
 fn ended(mut at: [i16; records::MOST_AREAS], count: usize) -> Starts
     ensures answer { result ≡ starts count (first_of count at) }
 {
-    let mut i = count;
-    while i < records::MOST_AREAS {
+    for i in count..records::MOST_AREAS {
         at[i] = 0;
-        i += 1;
     }
-    Starts {
-        count: count,
-        at: at,
-    }
+    Starts { count, at }
 }
 
 // ---- the child's stream
-// `weight`: that of its entries, 1 for each, 65,536 more for a line, 4,294,967,296 more for an area. `starts`: the start numbers of its areas.
-#[derive(Clone, Copy)]
+// `weight`: that of its entries (crate `making`). `starts`: the start numbers of its areas.
+#[derive(Clone, Copy, Debug, PartialEq, Eq)]
 pub struct Count {
     pub weight: u64,
     pub starts: Starts,
 }
 
 // What the child's stream weighs, and its start numbers, in one pass over its parent's.
-pub fn count_child(
-    entries: &[u32],
-    first: usize,
-    count: usize,
-    areas: &[u32],
-    xs: &[u32],
-    ys: &[u32],
-    b: Bounds,
-    s: Square,
-) -> Count
-    requires passed { Passed entries.now first count (env areas.now xs.now ys.now b) }
+pub fn count_child(parent: Stream, context: Context, s: Square) -> Count
+    requires passed { Passed parent.entries.now parent.first parent.count (env_of context) }
     requires square_in { SquareIn s }
     requires s_value { square_of (cell_in s) ≡ s }
-    ensures weight { result.weight ≡ total element_size (elements_made
-        (lent areas.now xs.now ys.now b) (cell_in s) (words_from entries.now first count)) }
-    ensures starts { result.starts ≡ starts_in (elements_made
-        (lent areas.now xs.now ys.now b) (cell_in s) (words_from entries.now first count)) }
+    ensures weight { result.weight ≡ total element_size (elements_made (lent_passed context) (cell_in s) (words_passed parent)) }
+    ensures starts { result.starts ≡ starts_in (elements_made (lent_passed context) (cell_in s) (words_passed parent)) }
 {
-    let end = first + count;
-    let mut p = pruner::begun();
-    let mut a = making::rest();
+    let mut m = Maker::begun();
     let mut at = [0i16; records::MOST_AREAS];
-    let mut i = first;
-    while i < end {
-        let w = stream::read_entry(entries, i);
-        note(&mut at, p, a);
-        if making::prunes(w.kind) {
-            let q = making::pruner_after(areas, p, a, w.kind);
-            p = q;
-            let n = making::waiting_from(w);
-            a = n;
-        } else {
-            let l = making::left_of(xs, ys, b.corners, s, w);
-            let k = l.class;
-            let n = making::with_left(a, k, l.sign);
-            a = n;
-        }
-        i += 1;
+    for i in parent.first..parent.first + parent.count {
+        let w = stream::read_entry(parent.entries, i);
+        note(&mut at, &m);
+        m.go_on(context, s, w);
     }
-    note(&mut at, p, a);
-    let weight = making::made_weight(
-        areas,
-        Maker {
-            pruner: p,
-            waiting: a,
-        },
-    );
-    let made = ended(at, (weight / 4294967296) as usize);
-    Count {
-        weight: weight,
-        starts: made,
-    }
+    note(&mut at, &m);
+    let weight = m.weight(context.areas);
+    let starts = ended(at, (weight / making::AREA) as usize);
+    Count { weight, starts }
 }
 
 // Writes the child's stream to the free end of the table, which begins at entry `free`. It has `made` entries. Beyond them the table stays as it was.
@@ -126,45 +87,23 @@ pub fn write_child(
     count: usize,
     free: usize,
     made: usize,
-    areas: &[u32],
-    xs: &[u32],
-    ys: &[u32],
-    b: Bounds,
+    context: Context,
     s: Square,
 )
-    requires passed { Passed entries.old first count (env areas.now xs.now ys.now b) }
+    requires passed { Passed entries.old first count (env_of context) }
     requires square_in { SquareIn s }
     requires s_value { square_of (cell_in s) ≡ s }
     requires count_bound { first + count ≤ free }
     requires made_in_bounds { (free + made) * 4 ≤ length entries.old }
-    requires made_value { made ≡ length (elements_made (lent areas.now xs.now ys.now b) (cell_in s) (words_from entries.old first count)) }
+    requires made_value { made ≡ length (elements_made (lent_of context) (cell_in s) (words_from entries.old first count)) }
     ensures entries { entries.new ≡ written entries.old free (words_made
-        (lent areas.now xs.now ys.now b) (cell_in s) (words_from entries.old first count)) }
+        (lent_passed context) (cell_in s) (words_from entries.old first count)) }
 {
-    let end = first + count;
-    let base = free * stream::ENTRY_WORDS;
-    let mut p = pruner::begun();
-    let mut a = making::rest();
-    let mut i = first;
-    while i < end {
-        let w = stream::read_entry(entries, i);
-        if making::prunes(w.kind) {
-            let q = writing::write_other(&mut entries[base..], made, areas, p, a, w.kind);
-            p = q;
-            let n = making::waiting_from(w);
-            a = n;
-        } else {
-            let l = making::left_of(xs, ys, b.corners, s, w);
-            writing::put_segment(&mut entries[base..], made, p, a, l, w);
-            let k = l.class;
-            let n = making::with_left(a, k, l.sign);
-            a = n;
-        }
-        i += 1;
+    let (used, out) = entries.split_at_mut(free * stream::ENTRY_WORDS);
+    let mut m = Maker::begun();
+    for i in first..first + count {
+        let w = stream::read_entry(used, i);
+        writing::write_entry(out, made, &mut m, context, s, w);
     }
-    let last = Maker {
-        pruner: p,
-        waiting: a,
-    };
-    writing::put_settled(&mut entries[base..], made, areas, last);
+    writing::put_settled(out, made, context.areas, m);
 }

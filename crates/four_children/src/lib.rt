@@ -14,7 +14,7 @@ ghost use Rattle.celltable.specs.Descent.{quarter_at};
 
 use celltable::CellWords;
 use child_stream::{Count, Starts};
-use stream::Bounds;
+use stream::{Bounds, Context, Stream};
 
 // What a child's stream has; document 01 asks for an "array of four child tallies (entries, lines, starts) passed and returned by value". `entries`
 // decides 11 and where the child's stream begins, `lines` is the child's line count. `starts` are those of that stream too (`EachPass`); no call reads
@@ -57,7 +57,20 @@ fn count_one(
         (lent areas.now xs.now ys.now b) (cell_of w) (words_from entries.now first count) q) }
 {
     let s = celltable::quarter_of(w, q);
-    let n = child_stream::count_child(entries, first, count, areas, xs, ys, b, s);
+    let n = child_stream::count_child(
+        Stream {
+            entries,
+            first,
+            count,
+        },
+        Context {
+            areas,
+            xs,
+            ys,
+            bounds: b,
+        },
+        s,
+    );
     tally_of(n)
 }
 
@@ -156,7 +169,20 @@ fn write_child(
         (lent areas.now xs.now ys.now b) (cell_of w) (words_from entries.old first count) q) }
 {
     let s = celltable::quarter_of(w, q);
-    child_stream::write_child(entries, first, count, free, made, areas, xs, ys, b, s);
+    child_stream::write_child(
+        entries,
+        first,
+        count,
+        free,
+        made,
+        Context {
+            areas,
+            xs,
+            ys,
+            bounds: b,
+        },
+        s,
+    );
 }
 
 // Writes the streams of all four children, child by child, from entry `free` on.

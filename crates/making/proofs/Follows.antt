@@ -34,7 +34,9 @@ use Rattle.pruner.specs.code.Numbers.{counted}
 use Rattle.evaluate.specs.Reading.{opaque_at}
 use Rattle.evaluate.specs.Words.{Agrees}
 use Rattle.making.specs.declared.Waiting as Declared
-use Rattle.making.specs.code.Numbers.{waiting, resting, with_class, with_left, class_n, settled_n}
+use Rattle.making.specs.code.Numbers.{waiting_as, waiting, resting, with_left, class_n, settled_n}
+use Rattle.std.specs.Prelude.{Option}
+use Rattle.pruner.specs.declared.ItemClass.TheVariants.{Fails, Passes, Neither}
 
 abbrev pub state_of : Making → Pruning.State Element
 state_of (making x w) = x
@@ -43,9 +45,9 @@ abbrev pub waiting_of : Making → Waiting
 waiting_of (making x w) = w
 
 -- the area that waits, as numbers
-abbrev pub waiting_for : Waiting → Declared.Waiting
+abbrev pub waiting_for : Waiting → Option Declared.Waiting
 waiting_for nothing = resting
-waiting_for (held n z gs) = waiting true n z (total element_size (item_elements (area n z gs)))
+waiting_for (held n z gs) = waiting n z (total element_size (item_elements (area n z gs)))
 
 -- its elements
 abbrev pub elements_for : Waiting → ℕ
@@ -58,7 +60,7 @@ WaitsIn u k nothing = Unit {0}
 WaitsIn u k (held n z gs) = (n < u) × (nat_abs z ≤ 2048 + k)
 
 -- after k entries
-pub record Follows (D : Drawing) (k : ℕ) (p : Pruner) (a : Declared.Waiting) (m : Making) : Type 0 where
+pub record Follows (D : Drawing) (k : ℕ) (p : Pruner) (a : Option Declared.Waiting) (m : Making) : Type 0 where
   pub counts : counted p ≡ weighed element_size (state_of m)
   pub waits : a ≡ waiting_for (waiting_of m)
   pub fit : Fit (count (items D) Element entry_elements entry_some (state_of m))
@@ -135,29 +137,29 @@ module _ (areas : List ℕ) (D : Drawing) (c : Cell) (agrees : (n : ℕ) → n <
       )
 
   -- the class of the area that waits
-  class_alone : (n : ℕ) (z : ℤ) → n < length D.fields → Numbers.class_of (class_n areas (waiting true n z 4294967297)) ≡ class_of D (role_in D n) (area n z [])
+  class_alone : (n : ℕ) (z : ℤ) → n < length D.fields → Numbers.class_of (class_n areas (waiting_as n z 4294967297)) ≡ class_of D (role_in D n) (area n z [])
   class_alone n z h = rw ((agrees n h).pass z) (go (passes_by D n z) (eqb (get_or areas (n * 8) 0) 0) (role_in D n) (agrees n h).role)
     where
       opaque : opaque_at areas n ≡ is_opaque D n
       opaque = (agrees n h).opaque
 
-      opaque_by : (o : Bool) → Numbers.class_of (cond o 1 2) ≡ cond o passes other
+      opaque_by : (o : Bool) → Numbers.class_of (cond o Passes Neither) ≡ cond o passes other
       opaque_by true = refl
       opaque_by false = refl
 
-      go : (b t : Bool) (k : Kind) → cond t paint clip ≡ k → Numbers.class_of (cond b (cond t (cond (opaque_at areas n) 1 2) 1) 0)
+      go : (b t : Bool) (k : Kind) → cond t paint clip ≡ k → Numbers.class_of (cond b (cond t (cond (opaque_at areas n) Passes Neither) Passes) Fails)
           ≡ cond b (passing D k n) fails
-      go true true k e = subst (λ j. Numbers.class_of (cond (opaque_at areas n) 1 2) ≡ passing D j n) e (rw opaque (opaque_by (is_opaque D n)))
+      go true true k e = subst (λ j. Numbers.class_of (cond (opaque_at areas n) Passes Neither) ≡ passing D j n) e (rw opaque (opaque_by (is_opaque D n)))
       go true false k e = subst (λ j. passes ≡ passing D j n) e refl
       go false t k e = refl
 
   pub class_is : (n : ℕ) (z : ℤ) (gs : List Segment) → n < length D.fields
-      → Numbers.class_of (class_n areas (waiting_for (held n z gs))) ≡ class_of D (role_in D n) (area n z gs)
+      → Numbers.class_of (class_n areas (waiting_as n z (total element_size (item_elements (area n z gs))))) ≡ class_of D (role_in D n) (area n z gs)
   class_is n z [] h = class_alone n z h
   class_is n z (g ∷ gs) h = rw (ne_eqb (total element_size (item_elements (area n z (g ∷ gs)))) 4294967297 (λ e. omega (arith, element_some (segment g))))
 
   -- the area that waits goes to the pruner
-  pub settle_counts : (k : ℕ) (p : Pruner) (a : Declared.Waiting) (m : Making)
+  pub settle_counts : (k : ℕ) (p : Pruner) (a : Option Declared.Waiting) (m : Making)
       → Follows D k p a m
       → settled_n areas (counted p) a ≡ weighed element_size (settle D c m)
   settle_counts k p a (making x nothing) f = rw f.waits f.counts
@@ -168,19 +170,19 @@ module _ (areas : List ℕ) (D : Drawing) (c : Cell) (agrees : (n : ℕ) → n <
       ∙ sized_step element_size element_some (items D) entry_elements entry_some refl refl refl refl (weighed element_size x)
       (item (role_in D n) (area n z gs))))
 
-  pub settle_fits : (k : ℕ) (p : Pruner) (a : Declared.Waiting) (m : Making)
+  pub settle_fits : (k : ℕ) (p : Pruner) (a : Option Declared.Waiting) (m : Making)
       → Follows D k p a m
       → Fit (count (items D) Element entry_elements entry_some (settle D c m))
   settle_fits k p a (making x nothing) f = f.fit
   settle_fits k p a (making x (held n z gs)) f = step_fits x (item (role_in D n) (area n z gs)) f.fit
 
-  pub settle_short : (k : ℕ) (p : Pruner) (a : Declared.Waiting) (m : Making) → Follows D k p a m → length (out_of (settle D c m)) ≤ k
+  pub settle_short : (k : ℕ) (p : Pruner) (a : Option Declared.Waiting) (m : Making) → Follows D k p a m → length (out_of (settle D c m)) ≤ k
   settle_short k p a (making x nothing) f = omega (arith, f.short)
   settle_short k p a (making x (held n z gs)) f =
       omega (arith, f.short, step_short x (item (role_in D n) (area n z gs)) f.fit, length-map {B = Element} gs segment)
 
   -- a delimiter or "passes"
-  pub mark_follows : (k : ℕ) (p p' : Pruner) (a : Declared.Waiting) (m : Making) (e : Entry Item)
+  pub mark_follows : (k : ℕ) (p p' : Pruner) (a : Option Declared.Waiting) (m : Making) (e : Entry Item)
       → length (entry_elements e) ≡ 1
       → Follows D k p a m
       → counted p' ≡ count_step (items D) (λ e. total element_size (entry_elements e)) (settled_n areas (counted p) a) e
@@ -197,8 +199,8 @@ module _ (areas : List ℕ) (D : Drawing) (c : Cell) (agrees : (n : ℕ) → n <
       }
 
   -- an area
-  pub area_follows : (k : ℕ) (p p' : Pruner) (a : Declared.Waiting) (m : Making) (n : ℕ) (z : ℤ) → n < length D.fields → nat_abs z ≤ 2048 → Follows D k p a m
-      → counted p' ≡ settled_n areas (counted p) a → Follows D (k + 1) p' (waiting true n z 4294967297) (making (settle D c m) (held n z []))
+  pub area_follows : (k : ℕ) (p p' : Pruner) (a : Option Declared.Waiting) (m : Making) (n : ℕ) (z : ℤ) → n < length D.fields → nat_abs z ≤ 2048 → Follows D k p a m
+      → counted p' ≡ settled_n areas (counted p) a → Follows D (k + 1) p' (waiting n z 4294967297) (making (settle D c m) (held n z []))
   area_follows k p p' a m n z i s f h =
       record {
         counts = h ∙ settle_counts k p a m f;
@@ -238,7 +240,7 @@ module _ (areas : List ℕ) (D : Drawing) (c : Cell) (agrees : (n : ℕ) → n <
 
   abbrev Left : (k : ℕ) (x : Pruning.State Element) (n : ℕ) (z : ℤ) (gs : List Segment) (g : Segment) → Classes.Class → Type 0
   Left k x n z gs g f =
-      (with_class f (waiting_for (held n z gs)) (sign_of D.xs D.ys g)
+      (with_left (waiting_for (held n z gs)) f (sign_of D.xs D.ys g)
       ≡ waiting_for (held n (start_by D.xs D.ys f g z) (gs ++ kept_by D.xs D.ys f g [])))
       × (length (gs ++ kept_by D.xs D.ys f g []) ≤ length gs + 1)
       × (nat_abs (start_by D.xs D.ys f g z) ≤ nat_abs z + 1)
@@ -251,10 +253,10 @@ module _ (areas : List ℕ) (D : Drawing) (c : Cell) (agrees : (n : ℕ) → n <
   left_by_law k x n z gs g Start s e = (rw (append-nil gs) refl, rw (append-nil gs) (omega arith), omega (arith, abs_add z (sign_of D.xs D.ys g)))
   left_by_law k x n z gs g (Shortcut lo hi) s e =
       let h : Segment = shortcut (sign_of D.xs D.ys g) lo hi in
-      (ap (waiting true n z) (omega (arith, weight_more gs h)), omega (arith, one_more_law gs h), omega arith)
-  left_by_law k x n z gs g Kept s e = (ap (waiting true n z) (omega (arith, weight_more gs g, e refl)), omega (arith, one_more_law gs g), omega arith)
+      (ap (waiting n z) (omega (arith, weight_more gs h)), omega (arith, one_more_law gs h), omega arith)
+  left_by_law k x n z gs g Kept s e = (ap (waiting n z) (omega (arith, weight_more gs g, e refl)), omega (arith, one_more_law gs g), omega arith)
 
-  pub segment_follows : (k : ℕ) (p p' : Pruner) (a a' : Declared.Waiting) (m : Making) (g : Segment) → nat_abs (sign_of D.xs D.ys g) ≤ 1 → Follows D k p a m
+  pub segment_follows : (k : ℕ) (p p' : Pruner) (a a' : Option Declared.Waiting) (m : Making) (g : Segment) → nat_abs (sign_of D.xs D.ys g) ≤ 1 → Follows D k p a m
       → counted p' ≡ counted p → a' ≡ with_left a (class_in D.xs D.ys c g) (sign_of D.xs D.ys g) → Follows D (k + 1) p' a' (add_to D c g m)
   segment_follows k p p' a a' (making x nothing) g s f h e =
       record { counts = h ∙ f.counts; waits = e ∙ rw f.waits; fit = f.fit; short = omega (arith, f.short); named_in = tt }

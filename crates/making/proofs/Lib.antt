@@ -10,4 +10,3 @@ pub mod Lent
 pub mod Meaning
 pub mod Whole
 pub mod Shorter
-pub mod Stays

@@ -1,5 +1,5 @@
 -- The numbers of a pruner after an area has settled are still far from their ends.
-use mathlib.Core.Path.{◌≡◌, sym, ap, ◌∙◌}
+use mathlib.Core.Path.{◌≡◌, refl, sym, ap, ◌∙◌}
 use mathlib.Core.Bool.{Bool, true, false, cond}
 use mathlib.Core.List.{List}
 use Prim.Native.Nat.{ℕ, ◌^◌, ◌≤◌, ◌<◌}
@@ -11,27 +11,27 @@ use Rattle.pruning.specs.Sides.{item}
 use Rattle.pruning.specs.code.Counters.{Count, count_step}
 use Rattle.pruning.specs.code.Weights.{sized, sized_items, size_of}
 use Rattle.pruner.specs.declared.Pruner.{Pruner}
-use Rattle.pruner.specs.code.Numbers.{counted, class_of}
+use Rattle.std.specs.Prelude.{Option, Some, None}
+use Rattle.pruner.specs.code.Numbers.{counted, class_of, skip_of, skip_number}
 use Rattle.pruner.proofs.Near.{Near, near_same, item_near, counted_weight, counted_base, counted_skip, counted_depth}
 use Rattle.stream.specs.Entry.{is_segment}
 use Rattle.evaluate.specs.Reading.{role_at, pass_at}
 use Rattle.evaluate.proofs.Laws.{small_back}
 use Rattle.making.specs.declared.Waiting.{Waiting}
-use Rattle.making.specs.code.Numbers.{class_n, settled_n, moved_n, pruned_n, Room}
+use Rattle.making.specs.code.Numbers.{class_n, settled_n, moved_n, pruned_n, weight_in, Room}
 
-pub settled_near : (areas : List ℕ) (c : Count) (a : Waiting) → Near a.weight c (settled_n areas c a)
-settled_near areas c a = go a.waits
-  where
-    go : (b : Bool)
-        → Near a.weight c
-        (cond b (count_step sized_items size_of c (item (role_at areas a.number) (sized (class_of (class_n areas a)) a.weight))) c)
-    go true = item_near (role_at areas a.number) (class_of (class_n areas a)) a.weight c
-    go false = near_same a.weight c
+pub settled_near : (areas : List ℕ) (c : Count) (a : Option Waiting) → Near (weight_in a) c (settled_n areas c a)
+settled_near areas c None = near_same 0 c
+settled_near areas c (Some a) = item_near (role_at areas a.number) (class_of (class_n areas a)) a.weight c
 
-pub room_after : (areas : List ℕ) (p q : Pruner) (a : Waiting) (kind : ℕ) → counted q ≡ settled_n areas (counted p) a → Room p a kind
-    → ((q.weight < 2 ^ 61) × (q.base < 2 ^ 61) × (q.skip < 4096) × (q.depth ≤ 8)) × (kind ≡ 1 → q.skip ≡ 0 → q.depth < 8)
+none_by : (s : Option ℕ) → skip_number (skip_of s) ≡ 0 → s ≡ None
+none_by None e = refl
+none_by (Some m) e = absurd (omega arith)
+
+pub room_after : (areas : List ℕ) (p q : Pruner) (a : Option Waiting) (kind : ℕ) → counted q ≡ settled_n areas (counted p) a → Room p a kind
+    → ((q.weight < 2 ^ 61) × (q.base < 2 ^ 61) × (skip_number (skip_of q.skip) < 4096) × (q.depth ≤ 8)) × (kind ≡ 1 → q.skip ≡ None → q.depth < 8)
 room_after areas p q a kind e r =
-    let n : Near a.weight (counted p) (counted q) = rw e (settled_near areas (counted p) a) in
+    let n : Near (weight_in a) (counted p) (counted q) = rw e (settled_near areas (counted p) a) in
     let d : q.depth ≡ p.depth = sym (counted_depth q) ∙ (n.depth_same ∙ counted_depth p) in (
       (
         omega (arith, n.weight_near, counted_weight p, counted_weight q, counted_base p, r.weight, r.base),
@@ -39,14 +39,14 @@ room_after areas p q a kind e r =
         omega (arith, n.skip_near, counted_skip p, counted_skip q, r.skip),
         omega (arith, d, r.depth),
       ),
-      λ k z. rw d (r.deep k (sym (counted_skip p) ∙ n.skip_zero (counted_skip q ∙ z))),
+      λ k z. rw d (r.deep k (none_by p.skip (sym (counted_skip p) ∙ n.skip_zero (counted_skip q ∙ ap (λ s. skip_number (skip_of s)) z)))),
     )
 
 -- whether an area passes, by a start number that went through a word of 64 bits
 pub passes_same : (areas : List ℕ) (n : ℕ) (z : ℤ) (r b : Bool) → nat_abs z ≤ 8192 → r ≡ pass_at areas n (to_z w64 (of_z w64 z)) → r ≡ b → pass_at areas n z ≡ b
 passes_same areas n z r b h e t = ap (pass_at areas n) (sym (small_back z h)) ∙ (sym e ∙ t)
 
-pub pruned_by : (areas : List ℕ) (c : Count) (a : Waiting) (kind : ℕ) (d r : Count)
+pub pruned_by : (areas : List ℕ) (c : Count) (a : Option Waiting) (kind : ℕ) (d r : Count)
     → is_segment kind ≡ false
     → r ≡ moved_n kind d
     → d ≡ settled_n areas c a

@@ -5,6 +5,7 @@ use mathlib.Core.Bool.{Bool, true, false, cond}
 use mathlib.Core.List.{List, [], ◌∷◌}
 use Prim.Native.Nat.{ℕ, ◌≤◌, ◌<◌}
 use lib.ListN.{length}
+use Rattle.std.specs.Prelude.{Option}
 use Rattle.laws.proofs.Booleans.{clash}
 use Rattle.geometry.specs.Edges.{sign}
 use Rattle.geometry.specs.Windings.{Line, edge_of}
@@ -56,7 +57,7 @@ module _ (v : Env) (D : Drawing) (R : Reads v D) where
   class_same s (shortcut z lo hi) h = refl
 
 -- after k entries, with ws to come
-pub record Standing (v : Env) (D : Drawing) (c : Cell) (k : ℕ) (p : Pruner) (a : Waiting) (ws : List Words) (whole : Making) : Type 0 where
+pub record Standing (v : Env) (D : Drawing) (c : Cell) (k : ℕ) (p : Pruner) (a : Option Waiting) (ws : List Words) (whole : Making) : Type 0 where
   pub elements : Making
   pub place : Place
   pub follows : Follows D k p a elements

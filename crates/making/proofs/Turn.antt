@@ -33,14 +33,15 @@ use Rattle.stream.specs.Entry.{decode, is_segment, start_range}
 use Rattle.records.specs.Record.{is_good}
 use Rattle.stream.specs.Grammar.{Env, after, in_range, area_met}
 use Rattle.pruner.specs.declared.Pruner.{Pruner}
-use Rattle.pruner.specs.code.Numbers.{counted, base_of, skip_in}
+use Rattle.std.specs.Prelude.{Option, Some, None}
+use Rattle.pruner.specs.code.Numbers.{counted, base_of, skip_of, skip_number, skip_in}
 use Rattle.pruner.proofs.Near.{counted_weight, counted_base, counted_skip, counted_depth}
 use Rattle.evaluate.specs.Reading.{element_for, elements_in}
 use Rattle.evaluate.specs.code.Numbers.{segment_of}
 use Rattle.evaluate.proofs.Laws.{both, area_below, start_small, element_segment, in_segment}
 use Rattle.ranges.proofs.Groups.{opens, opens_length}
 use Rattle.making.specs.declared.Waiting as Declared
-use Rattle.making.specs.code.Numbers.{left_sign, left_class, left_range, waiting, resting, with_left, waiting_n, settled_n, pruned_n, Room, Inside}
+use Rattle.making.specs.code.Numbers.{left_sign, left_class, left_range, waiting, resting, with_left, waiting_n, start_in, weight_in, settled_n, pruned_n, Room, Inside}
 use Rattle.cells.proofs.Making.{entry_some}
 use Rattle.making.proofs.Laws.{by_kind, after_segment, SegmentBelow, range_below, range_sign, left_small}
 use Rattle.making.proofs.Follows.{
@@ -90,7 +91,7 @@ skip_most (ct n b (shut m) fs) = omega arith
 segments_length : (gs : List Segment) → total element_size (map segment gs) ≤ length gs * 4294967297
 segments_length gs = omega (arith, total_most (map segment gs), length-map {B = Element} gs segment)
 
-waiting_most : (w : Waiting) → (waiting_for w).weight ≤ elements_for w * 4294967297
+waiting_most : (w : Waiting) → weight_in (waiting_for w) ≤ elements_for w * 4294967297
 waiting_most nothing = omega arith
 waiting_most (held n z gs) = omega (arith, segments_length gs)
 
@@ -106,8 +107,12 @@ outer_length [] = omega arith
 outer_length (f ∷ fs) = omega arith
 
 -- ---- what the code asks
-module _ (v : Env) (D : Drawing) (c : Cell) (R : Reads v D) (k : ℕ) (p : Pruner) (a : Declared.Waiting) (whole : Making) where
-  pub standing_weight : (ws : List Words) → Standing v D c k p a ws whole → p.weight + a.weight ≤ k * 4294967297
+pub waits_small : (words : ℕ) (a : Option Declared.Waiting) → Inside words a → nat_abs (start_in a) ≤ 8192
+waits_small words None h = omega arith
+waits_small words (Some a) h = h.small
+
+module _ (v : Env) (D : Drawing) (c : Cell) (R : Reads v D) (k : ℕ) (p : Pruner) (a : Option Declared.Waiting) (whole : Making) where
+  pub standing_weight : (ws : List Words) → Standing v D c k p a ws whole → p.weight + weight_in a ≤ k * 4294967297
   standing_weight ws s =
       let f = s.follows in
       omega (
@@ -116,7 +121,7 @@ module _ (v : Env) (D : Drawing) (c : Cell) (R : Reads v D) (k : ℕ) (p : Prune
         ap length_of f.counts,
         weight_is (state_of s.elements),
         total_most (out_of (state_of s.elements)),
-        ap (λ (x : Declared.Waiting). x.weight) f.waits,
+        ap weight_in f.waits,
         waiting_most (waiting_of s.elements),
         f.short,
       )
@@ -136,7 +141,7 @@ module _ (v : Env) (D : Drawing) (c : Cell) (R : Reads v D) (k : ℕ) (p : Prune
         opens_length s.place.groups,
       )
 
-  pub standing_skip : (ws : List Words) → Standing v D c k p a ws whole → p.skip ≤ 9
+  pub standing_skip : (ws : List Words) → Standing v D c k p a ws whole → skip_number (skip_of p.skip) ≤ 9
   standing_skip ws s =
       omega (
         arith,
@@ -152,8 +157,8 @@ module _ (v : Env) (D : Drawing) (c : Cell) (R : Reads v D) (k : ℕ) (p : Prune
   standing_inside ws l r s = go (waiting_of s.elements) s.follows.waits s.follows.named_in
     where
       go : (w : Waiting) → a ≡ waiting_for w → WaitsIn (length D.fields) k w → Inside (length v.areas) a
-      go nothing e h = rw e (record { small = omega arith; inside = λ t. clash t })
-      go (held n z gs) e h = rw e (record { small = omega (arith, h.1); inside = λ t. omega (arith, h.0, R.fields) })
+      go nothing e h = rw e tt
+      go (held n z gs) e h = rw e (record { small = omega (arith, h.1); inside = omega (arith, h.0, R.fields) })
 
   -- with entry w to come
   module _ (w : Words) (ws : List Words) (s : Standing v D c k p a (w ∷ ws) whole) where
@@ -186,7 +191,7 @@ module _ (v : Env) (D : Drawing) (c : Cell) (R : Reads v D) (k : ℕ) (p : Prune
     abbrev pub next : Entries.Entry → Making
     next e = on_elements D c (element_for e []) s.elements
 
-    abbrev Next : Pruner → Declared.Waiting → Entries.Entry → Type 0
+    abbrev Next : Pruner → Option Declared.Waiting → Entries.Entry → Type 0
     Next p' a' e =
         Follows D (k + 1) p' a' (next e)
         × Tracks (weighed element_size (state_of (next e))) (opens (after s.place e).groups)
@@ -209,7 +214,7 @@ module _ (v : Env) (D : Drawing) (c : Cell) (R : Reads v D) (k : ℕ) (p : Prune
         ≡ count_step (items D) (λ e. total element_size (entry_elements e)) k e
     sized_is k e = sym (sized_step element_size element_some (items D) entry_elements entry_some refl refl refl refl k e)
 
-    module _ (p' : Pruner) (a' : Declared.Waiting) (hp : counted p' ≡ pruned_n v.areas (counted p) a w.kind)
+    module _ (p' : Pruner) (a' : Option Declared.Waiting) (hp : counted p' ≡ pruned_n v.areas (counted p) a w.kind)
         (ha : a' ≡ waiting_n a (left_class v.xs v.ys (square_of c) w) (left_sign v.xs v.ys w) w) where
       abbrev settled : Count
       settled = settled_n v.areas (counted p) a
@@ -252,7 +257,7 @@ module _ (v : Env) (D : Drawing) (c : Cell) (R : Reads v D) (k : ℕ) (p : Prune
 
       on_area : w.q < 4294967296 → w.kind ≡ 4 → Passes v s.place (Entries.area w.p w.q) ws → Next p' a' (Entries.area w.p w.q)
       on_area l e h =
-          let a₁ : a' ≡ waiting true w.p (to_z w32 w.q) 4294967297 = rw e at ha in
+          let a₁ : a' ≡ waiting w.p (to_z w32 w.q) 4294967297 = rw e at ha in
           let p₁ : counted p' ≡ settled = rw e at hp in
           let r = both (is_good (area_met v w.p)) (start_range w.q) h.range in
           let n : w.p < length D.fields = omega (arith, R.fields, area_below v.areas v.used.areas w.p r.0) in (

@@ -20,6 +20,7 @@ use Rattle.stream.specs.Grammar.{Env, accepts}
 use Rattle.pruner.specs.declared.Pruner.{Pruner}
 use Rattle.pruner.specs.code.Numbers.{counted}
 use Rattle.evaluate.specs.Reading.{elements_in}
+use Rattle.std.specs.Prelude.{Option}
 use Rattle.making.specs.declared.Waiting.{Waiting}
 use Rattle.making.specs.Made.{elements_made}
 use Rattle.making.specs.code.Numbers.{resting, settled_n}
@@ -33,7 +34,7 @@ abbrev pub all_of : Drawing → Cell → List Words → Making
 all_of D c ws = on_elements D c (elements_in ws) (begun D c)
 
 module _ (v : Env) (D : Drawing) (c : Cell) (R : Reads v D) (ws : List Words) (h : accepts v ws ≡ true) where
-  pub standing_start : (p : Pruner) (a : Waiting)
+  pub standing_start : (p : Pruner) (a : Option Waiting)
       → counted p ≡ ct 0 0 going []
       → a ≡ resting
       → (x : Standing v D c 0 p a ws (all_of D c ws)) × (x.elements ≡ begun D c)
@@ -51,7 +52,7 @@ module _ (v : Env) (D : Drawing) (c : Cell) (R : Reads v D) (ws : List Words) (h
     refl,
   )
 
-  pub standing_begin : (p : Pruner) (a : Waiting) → counted p ≡ ct 0 0 going [] → a ≡ resting → Standing v D c 0 p a ws (all_of D c ws)
+  pub standing_begin : (p : Pruner) (a : Option Waiting) → counted p ≡ ct 0 0 going [] → a ≡ resting → Standing v D c 0 p a ws (all_of D c ws)
   standing_begin p a e f = (standing_start p a e f).0
 
   pub elements_all : out_of (settle D c (all_of D c ws)) ≡ elements_made D c ws
@@ -61,7 +62,7 @@ module _ (v : Env) (D : Drawing) (c : Cell) (R : Reads v D) (ws : List Words) (h
       (entries_flat v (role_in D) (λ n l. (R.agrees n (omega (arith, R.fields))).role) ws h)
 
   -- no entry is left
-  module _ (k : ℕ) (p : Pruner) (a : Waiting) (s : Standing v D c k p a [] (all_of D c ws)) where
+  module _ (k : ℕ) (p : Pruner) (a : Option Waiting) (s : Standing v D c k p a [] (all_of D c ws)) where
     pub standing_end : settled_n v.areas (counted p) a ≡ weighed element_size (settle D c (all_of D c ws))
     unfolding elements_in
     standing_end = settle_counts v.areas D c R.agrees k p a s.elements s.follows ∙ ap (λ m. weighed element_size (settle D c m)) s.ahead

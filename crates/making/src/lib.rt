@@ -2,7 +2,7 @@
 
 #![tactic(auto)]
 
-ghost use Rattle.std.specs.Prelude.{◌≡◌, true, ◌+◌, ◌*◌, ◌^◌, ◌≤◌, ◌<◌, length, nat_abs};
+ghost use Rattle.std.specs.Prelude.{◌≡◌, true, [], ◌+◌, ◌*◌, ◌^◌, ◌≤◌, ◌<◌, length, nat_abs};
 ghost use Rattle.std.specs.Int.{w32};
 ghost use Rattle.std.proofs.Common.{to_z};
 ghost use Rattle.geometry.specs.Edges.{sign};
@@ -10,17 +10,27 @@ ghost use Rattle.geometry.specs.Windings.{edge_of};
 ghost use Rattle.geometry.specs.Classes.{edge_class, cut};
 ghost use Rattle.geometry.specs.code.Reach.{EdgeIn, LineBelow, SquareIn};
 ghost use Rattle.stream.specs.Entry.{start_range, sign_range};
+ghost use Rattle.stream.specs.Grammar.{env_of};
 ghost use Rattle.evaluate.specs.code.Numbers.{line_of};
-ghost use Rattle.pruning.specs.code.Counters.{length_of};
-ghost use Rattle.pruner.specs.code.Numbers.{counted};
-ghost use Rattle.making.specs.code.Numbers.{left_sign, left_class, left_range, waiting, resting, with_left, waiting_from, waiting_n};
+ghost use Rattle.pruning.specs.code.Pruner.{going};
+ghost use Rattle.pruning.specs.code.Counters.{ct, length_of};
+ghost use Rattle.pruner.specs.code.Numbers.{counted, skip_of, skip_number};
+ghost use Rattle.making.specs.code.Numbers.{left_sign, left_class, left_range, resting, with_class, with_left, waiting_from, waiting_n};
 ghost use Rattle.making.specs.code.Numbers.{class_n, settled_n, moved_n, prunes_n};
-ghost use Rattle.making.specs.code.Numbers.{pruned_n, Room, Inside};
+ghost use Rattle.making.specs.code.Numbers.{pruned_n, start_in, weight_in, Room, AreaIn, Inside, Asks};
 
 use geometry::class::{Class, Square};
 use geometry::{class, edge};
-use pruner::Pruner;
-use stream::Words;
+use pruner::{ItemClass, Pruner};
+use stream::{Context, Words};
+
+// What is made weighs 1 for each entry, LINE more for a line or a curve, AREA more for an area.
+pub const LINE: u64 = 65536;
+
+pub const AREA: u64 = 4294967296;
+
+// An area with no line, curve or shortcut left.
+const AREA_ALONE: u64 = AREA + 1;
 
 // ---- what is left of a line, a curve or a shortcut in a square
 #[derive(Clone, Copy)]
@@ -37,9 +47,9 @@ fn line_left(xs: &[u32], ys: &[u32], s: Square, w: Words) -> Left
         × (result.class ≡ edge_class (edge_of xs.now ys.now (line_of w)) s) }
 {
     let e = evaluate::edge_of(xs, ys, w);
-    let z = edge::edge_sign(e);
-    let k = class::classify(e, s);
-    Left { sign: z, class: k }
+    let sign = edge::edge_sign(e);
+    let class = class::classify(e, s);
+    Left { sign, class }
 }
 
 fn shortcut_left(s: Square, w: Words) -> Left
@@ -47,183 +57,120 @@ fn shortcut_left(s: Square, w: Words) -> Left
     requires square_in { SquareIn s }
     ensures answer { (result.sign ≡ to_z w32 w.p) × (result.class ≡ cut w.q w.r s.y s.side) }
 {
-    let k = class::cut_rows(w.q, w.r, s);
-    if w.p == 1 {
-        return Left { sign: 1, class: k };
-    }
-    Left { sign: -1, class: k }
+    let class = class::cut_rows(w.q, w.r, s);
+    let sign = if w.p == stream::PLUS_ONE { 1 } else { -1 };
+    Left { sign, class }
 }
 
 // Of an entry of another kind: nothing.
-pub fn left_of(xs: &[u32], ys: &[u32], corners: usize, s: Square, w: Words) -> Left
-    requires corners_in_bounds { (corners ≤ length xs.now) × (corners ≤ length ys.now) }
-    requires w_value { left_range xs.now ys.now corners w ≡ true }
+pub fn left_of(context: Context, s: Square, w: Words) -> Left
+    requires corners_in_bounds { (context.bounds.corners ≤ length context.xs.now)
+        × (context.bounds.corners ≤ length context.ys.now) }
+    requires w_value { left_range context.xs.now context.ys.now context.bounds.corners w ≡ true }
     requires square_in { SquareIn s }
-    ensures answer { (result.sign ≡ left_sign xs.now ys.now w) × (result.class ≡ left_class xs.now ys.now s w) }
+    ensures answer { (result.sign ≡ left_sign context.entry.xs.now context.entry.ys.now w)
+        × (result.class ≡ left_class context.entry.xs.now context.entry.ys.now s w) }
 {
-    if stream::is_segment(w.kind) {
-        if stream::is_line(w.kind) {
-            return line_left(xs, ys, s, w);
+    if !stream::is_segment(w.kind) {
+        Left {
+            sign: 0,
+            class: Class::Dropped,
         }
-        return shortcut_left(s, w);
-    }
-    Left {
-        sign: 0,
-        class: Class::Dropped,
+    } else if stream::is_line(w.kind) {
+        line_left(context.xs, context.ys, s, w)
+    } else {
+        shortcut_left(s, w)
     }
 }
 
 // ---- the area that waits
-// Whether an area waits for its lines, curves and shortcuts, its number, its start number, and its weight: 4,294,967,297 for the area, 65,537 for
-// each line and curve, 1 for each shortcut.
-#[derive(Clone, Copy)]
+// An area that waits for its lines, curves and shortcuts: its number, its start number, and its weight, with that of what is left of them.
+#[derive(Clone, Copy, Debug, PartialEq, Eq)]
 pub struct Waiting {
-    pub waits: bool,
     pub number: u32,
     pub start: i64,
     pub weight: u64,
 }
 
-// No area waits.
-pub fn rest() -> Waiting
-    ensures answer { result ≡ resting }
-{
-    Waiting {
-        waits: false,
-        number: 0,
-        start: 0,
-        weight: 0,
-    }
-}
-
-fn named(w: Words) -> Waiting
-    requires { start_range w.q ≡ true }
-    ensures answer { result ≡ waiting true w.p (to_z w32 w.q) 4294967297 }
-{
-    let z = evaluate::start_of(w);
-    Waiting {
-        waits: true,
-        number: w.p,
-        start: z,
-        weight: 4294967297,
-    }
-}
-
-// The same area with another weight.
-fn grown(a: Waiting, weight: u64) -> Waiting
-    requires { nat_abs a.start ≤ 8192 }
-    ensures answer { result ≡ waiting true a.number a.start weight }
-{
-    Waiting {
-        waits: true,
-        number: a.number,
-        start: a.start,
-        weight: weight,
-    }
-}
-
-// A line, a curve or a shortcut with this sign and class, of the area that waits.
-pub fn with_left(a: Waiting, k: Class, sign: i64) -> Waiting
-    requires { (nat_abs a.start ≤ 8192) × (nat_abs sign ≤ 1) × (a.weight < 2 ^ 60) }
-    ensures answer { result ≡ with_left a k sign }
-{
-    if a.waits {
-        match k {
-            Class::Dropped => {
-                return a;
-            }
-            Class::Start => {
-                return Waiting {
-                    waits: true,
-                    number: a.number,
-                    start: a.start + sign,
-                    weight: a.weight,
-                };
-            }
-            Class::Shortcut(_, _) => {
-                return grown(a, a.weight + 1);
-            }
-            Class::Kept => {
-                return grown(a, a.weight + 65537);
-            }
+impl Waiting {
+    // With a line, a curve or a shortcut of which this is left.
+    fn with(self, left: Left) -> Waiting
+        requires { (nat_abs self.start ≤ 8192) × (nat_abs left.sign ≤ 1) × (self.weight < 2 ^ 60) }
+        ensures answer { result ≡ with_class left.class self left.sign }
+    {
+        match left.class {
+            Class::Dropped => self,
+            Class::Start => Waiting {
+                start: self.start + left.sign,
+                ..self
+            },
+            Class::Shortcut(_, _) => Waiting {
+                weight: self.weight + 1,
+                ..self
+            },
+            Class::Kept => Waiting {
+                weight: self.weight + LINE + 1,
+                ..self
+            },
         }
     }
-    a
+
+    // Its class.
+    pub fn class(self, areas: &[u32]) -> ItemClass
+        requires inside { AreaIn (length areas.now) self }
+        ensures answer { result ≡ class_n areas.now self }
+    {
+        if self.weight != AREA_ALONE {
+            return ItemClass::Neither;
+        }
+        let at = (self.number as usize) * records::AREA_WORDS;
+        if !evaluate::area_passes(areas, self.number as usize, self.start) {
+            ItemClass::Fails
+        } else if areas[at] == records::PAINT && areas[at + records::ALPHA] != records::OPAQUE {
+            ItemClass::Neither
+        } else {
+            ItemClass::Passes
+        }
+    }
+}
+
+// With a line, a curve or a shortcut of which this is left, of the area that waits, if one does.
+pub fn with_left(a: Option<Waiting>, left: Left) -> Option<Waiting>
+    requires { (nat_abs (start_in a) ≤ 8192) × (nat_abs left.sign ≤ 1) × (weight_in a < 2 ^ 60) }
+    ensures answer { result ≡ with_left a left.class left.sign }
+{
+    let a = a?;
+    Some(a.with(left))
 }
 
 // After an entry that is no line, curve or shortcut.
-pub fn waiting_from(w: Words) -> Waiting
+pub fn waiting_from(w: Words) -> Option<Waiting>
     requires { w.kind ≡ 4 → start_range w.q ≡ true }
     ensures answer { result ≡ waiting_from w }
 {
-    if w.kind == stream::ENTRY_AREA {
-        return named(w);
+    if w.kind != stream::ENTRY_AREA {
+        return None;
     }
-    rest()
-}
-
-// After an entry, of which l is left.
-pub fn waiting_after(a: Waiting, l: Left, w: Words) -> Waiting
-    requires start_bound { (nat_abs a.start ≤ 8192) × (nat_abs l.sign ≤ 1) × (a.weight < 2 ^ 60) }
-    requires q_value { w.kind ≡ 4 → start_range w.q ≡ true }
-    ensures answer { result ≡ waiting_n a l.class l.sign w }
-{
-    if stream::is_segment(w.kind) {
-        let k = l.class;
-        return with_left(a, k, l.sign);
-    }
-    waiting_from(w)
+    let start = evaluate::start_of(w);
+    Some(Waiting {
+        number: w.p,
+        start,
+        weight: AREA_ALONE,
+    })
 }
 
 // ---- the pruner
-// The class of the area that waits: 0 fails, 1 passes, 2 neither.
-pub fn class_of(areas: &[u32], a: Waiting) -> u32
-    requires start_bound { nat_abs a.start ≤ 8192 }
-    requires number_in_bounds { a.number * 8 + 8 ≤ length areas.now }
-    ensures answer { result ≡ class_n areas.now a }
-{
-    if a.weight == 4294967297 {
-        let at = (a.number as usize) * records::AREA_WORDS;
-        if evaluate::area_passes(areas, a.number as usize, a.start) {
-            if areas[at] == records::PAINT {
-                if areas[at + records::ALPHA] == records::OPAQUE {
-                    return 1;
-                }
-                return 2;
-            }
-            return 1;
-        }
-        return 0;
-    }
-    2
-}
-
-// After the area that waits, if one does.
-pub fn settled(areas: &[u32], p: Pruner, a: Waiting) -> Pruner
-    requires inside { Inside (length areas.now) a }
-    requires weight_bound { (p.weight + a.weight < 2 ^ 60) × (p.base < 2 ^ 60) }
-    ensures answer { counted result ≡ settled_n areas.now (counted p) a }
-{
-    if a.waits {
-        let k = class_of(areas, a);
-        let at = (a.number as usize) * records::AREA_WORDS;
-        let paint = areas[at] == records::PAINT;
-        return pruner::after_item(p, paint, k, a.weight);
-    }
-    p
-}
-
 // After a delimiter, "passes", or an area, which only waits.
 fn moved(p: Pruner, kind: u32) -> Pruner
-    requires weight_bound { (p.weight < 2 ^ 61) × (p.base < 2 ^ 61) × (p.skip < 4096) × (p.depth ≤ 8) }
-    requires depth_bound { kind ≡ 1 → p.skip ≡ 0 → p.depth < 8 }
+    requires weight_bound { (p.weight < 2 ^ 61) × (p.base < 2 ^ 61) × (skip_number (skip_of p.skip) < 4096) × (p.depth ≤ 8) }
+    requires depth_bound { kind ≡ 1 → p.skip ≡ None → p.depth < 8 }
     ensures answer { counted result ≡ moved_n kind (counted p) }
 {
     match kind {
-        stream::ENTRY_OPEN => pruner::after_open(p),
-        stream::ENTRY_BAR => pruner::after_bar(p),
-        stream::ENTRY_CLOSE => pruner::after_close(p),
-        stream::ENTRY_PASSES => pruner::after_item(p, false, 1, 1),
+        stream::ENTRY_OPEN => p.after_open(),
+        stream::ENTRY_BAR => p.after_bar(),
+        stream::ENTRY_CLOSE => p.after_close(),
+        stream::ENTRY_PASSES => p.after_item(false, ItemClass::Passes, 1),
         _ => p,
     }
 }
@@ -235,35 +182,81 @@ pub fn prunes(kind: u32) -> bool
     !stream::is_segment(kind)
 }
 
-// After an entry.
-pub fn pruner_after(areas: &[u32], p: Pruner, a: Waiting, kind: u32) -> Pruner
-    requires inside { Inside (length areas.now) a }
-    requires room { Room p a kind }
-    ensures answer { counted result ≡ pruned_n areas.now (counted p) a kind }
-{
-    if stream::is_segment(kind) {
-        return p;
-    }
-    let q = settled(areas, p, a);
-    moved(q, kind)
-}
-
 // ---- both
-// Where a making stands.
-#[derive(Clone, Copy)]
+// Where a making stands: the pruner, and the area that waits, if one does.
+#[derive(Clone, Copy, Debug, PartialEq, Eq)]
 pub struct Maker {
     pub pruner: Pruner,
-    pub waiting: Waiting,
+    pub waiting: Option<Waiting>,
 }
 
-// The weight of what is made once the area that waits has settled.
-pub fn made_weight(areas: &[u32], m: Maker) -> u64
-    requires inside { Inside (length areas.now) m.waiting }
-    requires weight_bound { (m.pruner.weight + m.waiting.weight < 2 ^ 60) × (m.pruner.base < 2 ^ 60) }
-    ensures answer { result ≡ length_of (settled_n areas.now (counted m.pruner) m.waiting) }
-{
-    let p = m.pruner;
-    let a = m.waiting;
-    let q = settled(areas, p, a);
-    q.weight
+impl Maker {
+    // Nothing is made.
+    pub fn begun() -> Maker
+        ensures pruner { counted result.pruner ≡ ct 0 0 going [] }
+        ensures waiting { result.waiting ≡ resting }
+    {
+        Maker {
+            pruner: Pruner::begun(),
+            waiting: None,
+        }
+    }
+
+    // The pruner after the area that waits, if one does.
+    pub fn settled(self, areas: &[u32]) -> Pruner
+        requires inside { Inside (length areas.now) self.waiting }
+        requires weight_bound { (self.pruner.weight + weight_in self.waiting < 2 ^ 60) × (self.pruner.base < 2 ^ 60) }
+        ensures answer { counted result ≡ settled_n areas.now (counted self.pruner) self.waiting }
+    {
+        let Some(a) = self.waiting else {
+            return self.pruner;
+        };
+        let class = a.class(areas);
+        let paint = areas[(a.number as usize) * records::AREA_WORDS] == records::PAINT;
+        self.pruner.after_item(paint, class, a.weight)
+    }
+
+    // The pruner after an entry.
+    pub fn pruner_after(self, areas: &[u32], kind: u32) -> Pruner
+        requires inside { Inside (length areas.now) self.waiting }
+        requires room { Room self.pruner self.waiting kind }
+        ensures answer { counted result ≡ pruned_n areas.now (counted self.pruner) self.waiting kind }
+    {
+        if stream::is_segment(kind) {
+            return self.pruner;
+        }
+        let q = self.settled(areas);
+        moved(q, kind)
+    }
+
+    // Goes on to the next entry, w.
+    pub fn go_on(&mut self, context: Context, s: Square, w: Words)
+        requires corners_in_bounds { (context.bounds.corners ≤ length context.xs.now)
+            × (context.bounds.corners ≤ length context.ys.now) }
+        requires square_in { SquareIn s }
+        requires asks { Asks (env_of context) self.old w }
+        ensures pruner { counted self.new.pruner ≡
+            pruned_n context.entry.areas.now (counted self.old.pruner) self.old.waiting w.kind }
+        ensures waiting { self.new.waiting ≡
+            waiting_n self.old.waiting (left_class context.entry.xs.now context.entry.ys.now s w)
+            (left_sign context.entry.xs.now context.entry.ys.now w) w }
+    {
+        if prunes(w.kind) {
+            self.pruner = self.pruner_after(context.areas, w.kind);
+            self.waiting = waiting_from(w);
+        } else {
+            let left = left_of(context, s, w);
+            self.waiting = with_left(self.waiting, left);
+        }
+    }
+
+    // The weight of what is made once the area that waits has settled.
+    pub fn weight(self, areas: &[u32]) -> u64
+        requires inside { Inside (length areas.now) self.waiting }
+        requires weight_bound { (self.pruner.weight + weight_in self.waiting < 2 ^ 60) × (self.pruner.base < 2 ^ 60) }
+        ensures answer { result ≡ length_of (settled_n areas.now (counted self.pruner) self.waiting) }
+    {
+        let q = self.settled(areas);
+        q.weight
+    }
 }

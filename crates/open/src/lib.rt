@@ -54,14 +54,7 @@ fn judge_room(tree: Tree, counts: Counts) -> Result<Planned, Refusal>
     let drawing = tree.drawing;
     let bounds = root_bounds(counts);
     // The counting answers the number of entries and, above it, the number of lines and curves.
-    let size = root_stream::count_open(
-        drawing.plan,
-        drawing.areas,
-        drawing.xs,
-        drawing.ys,
-        counts.records,
-        bounds,
-    );
+    let size = root_stream::count_open(drawing, counts.records, bounds);
     let n = (size % 65536) as usize;
     if !has_room(tree.head.len(), tree.cells.len(), tree.entries.len(), n) {
         return Err(Refusal::Room);
@@ -122,16 +115,7 @@ fn put_opened(
     let n = plan.entries;
     let counts = plan.counts;
     let bounds = root_bounds(counts);
-    root_stream::write_open(
-        entries,
-        n as usize,
-        drawing.plan,
-        drawing.areas,
-        drawing.xs,
-        drawing.ys,
-        counts.records,
-        bounds,
-    );
+    root_stream::write_open(entries, n as usize, drawing, counts.records, bounds);
     put_root(cells, n, plan.lines);
     tables::put_head(head, 1, n);
 }

@@ -154,7 +154,20 @@ fn entries_made(
     ensures answer { result ≡ length (child_elements entries.now first count (env areas.now xs.now ys.now b) s) }
     ensures range { result < 65536 }
 {
-    let k = child_stream::count_child(entries, first, count, areas, xs, ys, b, s);
+    let k = child_stream::count_child(
+        Stream {
+            entries,
+            first,
+            count,
+        },
+        Context {
+            areas,
+            xs,
+            ys,
+            bounds: b,
+        },
+        s,
+    );
     (k.weight % 65536) as usize
 }
 
@@ -181,7 +194,20 @@ fn write_if_room(
 {
     let n = entries_made(entries, first, count, areas, xs, ys, b, s);
     if used + n <= entries.len() / celltable::ENTRY_WORDS {
-        child_stream::write_child(entries, first, count, used, n, areas, xs, ys, b, s);
+        child_stream::write_child(
+            entries,
+            first,
+            count,
+            used,
+            n,
+            Context {
+                areas,
+                xs,
+                ys,
+                bounds: b,
+            },
+            s,
+        );
         return (n as u64) + 1;
     }
     0

@@ -17,10 +17,6 @@ use Rattle.pruner.specs.code.Numbers.{skip_of, frames_of, counted, base_of, skip
 
 -- ---- the numbers of a count
 
-skip_back : (n : ℕ) → skip_number (skip_of n) ≡ n
-skip_back zero = refl
-skip_back (suc n) = refl
-
 frames_length : (l : List Frame) (d : ℕ) → length (frames_of l d) ≡ d
 frames_length l zero = refl
 frames_length l (suc d) = ap suc (frames_length l d)
@@ -34,9 +30,9 @@ module _ (p : Pruner) where
   unfolding counted
   counted_base = refl
 
-  pub counted_skip : skip_in (counted p) ≡ p.skip
+  pub counted_skip : skip_in (counted p) ≡ skip_number (skip_of p.skip)
   unfolding counted
-  counted_skip = skip_back p.skip
+  counted_skip = refl
 
   pub counted_depth : frames (counted p) ≡ p.depth
   unfolding counted

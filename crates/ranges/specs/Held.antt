@@ -6,7 +6,9 @@ use Rattle.std.specs.Prelude.{Ok}
 use Rattle.drawing.specs.Tables.{fields_at, area_row}
 use Rattle.pruning.specs.Sides.{end}
 use Rattle.cells.specs.Drawings.{Drawing, fields_of}
+use denote.Triple.Both.{Both}
 use Rattle.stream.specs.declared.Bounds.{Bounds}
+use Rattle.stream.specs.declared.Context.{Context}
 use Rattle.stream.specs.Grammar.{Ready}
 
 -- the fields of the n areas from area i on
@@ -18,6 +20,12 @@ fields_from t i (suc n) = fields_at t i ∷ fields_from t (i + 1) n
 abbrev pub lent : (areas xs ys : List ℕ) → Bounds → Drawing
 lent areas xs ys b =
     record { fields = fields_from areas 0 b.areas; xs = take b.corners xs; ys = take b.corners ys; contours = []; plan = end }
+
+abbrev pub lent_of : Context → Drawing
+lent_of c = lent c.areas.now c.xs.now c.ys.now c.bounds
+
+abbrev pub lent_passed : Both Context Context → Drawing
+lent_passed c = lent_of c.entry
 
 -- the tables hold the areas and corners of a drawing, and its numbers are those in use
 pub record Held (areas xs ys : List ℕ) (b : Bounds) (D : Drawing) : Type 0 where

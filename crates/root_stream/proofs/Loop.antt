@@ -1,11 +1,10 @@
 -- The loop over the records of a drawing.
 use mathlib.Core.Path.{◌≡◌, ap, ap₂, subst, ◌∙◌}
-use mathlib.Core.Bool.{true}
 use mathlib.Core.List.{List, [], ◌∷◌}
 use Prim.Native.Nat.{ℕ, ◌+◌, ◌^◌, ◌≤◌, ◌<◌}
 use native.Mathlib.Omega.{arith}
 use lib.ListN.{length}
-use lib.IntN.{ℤ, nat_abs}
+use lib.IntN.{ℤ}
 use Rattle.geometry.specs.code.Reach.{SquareIn}
 use Rattle.geometry.specs.declared.class.Class.{Class}
 use Rattle.geometry.specs.declared.class.Square.{Square}
@@ -14,13 +13,14 @@ use Rattle.pruning.specs.code.Counters.{ct, length_of}
 use Rattle.pruning.specs.code.Weights.{total}
 use Rattle.cells.specs.Cells.{root, square_of}
 use Rattle.cells.specs.Drawings.{Drawing}
-use Rattle.cells.specs.code.Making.{element_size}
+use Rattle.cells.specs.code.Making.{Making, element_size}
 use Rattle.stream.specs.declared.Words.{Words}
 use Rattle.stream.specs.Grammar.{Env}
 use Rattle.pruner.specs.code.Numbers.{counted}
 use Rattle.making.specs.declared.Maker.{Maker}
 use Rattle.making.specs.Made.{elements_made}
-use Rattle.making.specs.code.Numbers.{resting, left_sign, left_class, left_range, waiting_n, settled_n, pruned_n, Inside, Asks}
+use Rattle.making.proofs.Turn.{waits_small}
+use Rattle.making.specs.code.Numbers.{resting, left_sign, left_class, waiting_n, settled_n, pruned_n, Inside, Asks, weight_in}
 use Rattle.making.proofs.Standing.{Standing}
 use Rattle.making.proofs.Turn.{standing_weight, standing_base, standing_inside, standing_room, standing_start, standing_left, standing_sign, standing_next}
 use Rattle.making.proofs.Whole.{all_of, standing_begin, weight_end}
@@ -82,20 +82,21 @@ module _ (v : Env) (D : Drawing) (plan : List ℕ) (records : ℕ) (all : List W
     few : l.done ≤ 4096
     few = omega (arith, B.few, l.early)
 
-    pub loop_left : left_range v.xs v.ys v.used.corners (entry_n s kind behind) ≡ true
-    loop_left = standing_left v D root B.reads l.done m.pruner m.waiting (all_of D root all) (entry_n s kind behind) next.0 here
-
-    pub loop_sign : nat_abs (left_sign v.xs v.ys (entry_n s kind behind)) ≤ 1
-    loop_sign = standing_sign v D root B.reads l.done m.pruner m.waiting (all_of D root all) (entry_n s kind behind) next.0 here
-
-    pub loop_asks : Asks (length v.areas) m.pruner m.waiting (entry_n s kind behind)
-    loop_asks =
+    -- what the next entry asks of the code
+    pub loop_asks : (w : Words) → w ≡ entry_n s kind behind → Asks v m w
+    loop_asks w e =
+        let all : Making = all_of D root all in
+        let s : Standing v D root l.done m.pruner m.waiting (w ∷ next.0) all = rw e here in
+        let room = standing_room v D root B.reads l.done m.pruner m.waiting all w next.0 s few in
+        let inside = standing_inside v D root B.reads l.done m.pruner m.waiting all (w ∷ next.0) few B.ready.areas s in
         record {
-          inside = standing_inside v D root B.reads l.done m.pruner m.waiting (all_of D root all) (entry_n s kind behind ∷ next.0) few
-              B.ready.areas here;
-          room = standing_room v D root B.reads l.done m.pruner m.waiting (all_of D root all) (entry_n s kind behind) next.0 here
-              few;
-          start = standing_start v D root B.reads l.done m.pruner m.waiting (all_of D root all) (entry_n s kind behind) next.0 here;
+          inside = inside;
+          room = room;
+          start = standing_start v D root B.reads l.done m.pruner m.waiting all w next.0 s;
+          left = standing_left v D root B.reads l.done m.pruner m.waiting all w next.0 s;
+          sign = standing_sign v D root B.reads l.done m.pruner m.waiting all w next.0 s;
+          small = waits_small (length v.areas) m.waiting inside;
+          light = omega (arith, room.weight);
         }
 
     pub loop_turn : (n : Maker) (w : Words) (q : Square) (f : Class) (z : ℤ) (s' : Source) (j : ℕ)
@@ -137,7 +138,7 @@ module _ (v : Env) (D : Drawing) (plan : List ℕ) (records : ℕ) (all : List W
     pub end_inside : Inside (length v.areas) m.waiting
     end_inside = standing_inside v D root B.reads l.done m.pruner m.waiting (all_of D root all) [] few_end B.ready.areas none
 
-    pub end_room : (m.pruner.weight + m.waiting.weight < 2 ^ 60) × (m.pruner.base < 2 ^ 60)
+    pub end_room : (m.pruner.weight + weight_in m.waiting < 2 ^ 60) × (m.pruner.base < 2 ^ 60)
     end_room = (
       omega (arith, standing_weight v D root B.reads l.done m.pruner m.waiting (all_of D root all) [] none, few_end),
       omega (arith, standing_base v D root B.reads l.done m.pruner m.waiting (all_of D root all) [] none, few_end),

@@ -6,32 +6,74 @@ ghost use Rattle.std.specs.Prelude.{◌≡◌, ◌+◌, ◌*◌, ◌≤◌, ◌<
 ghost use Rattle.cells.specs.Cells.{square_of, root};
 ghost use Rattle.cells.specs.code.Making.{element_size};
 ghost use Rattle.pruning.specs.code.Weights.{total};
-ghost use Rattle.drawing.specs.Tables.{tables, drawing_lent};
+ghost use Rattle.drawing.specs.Tables.{tables_of, drawing_passed};
 ghost use Rattle.stream.specs.Table.{written};
 ghost use Rattle.evaluate.specs.Words.{words};
 ghost use Rattle.root_stream.specs.code.Numbers.{source_at, kind_n, stride_n, edge_n, mark_n, entry_n, after_n, Opened};
 ghost use Rattle.root_stream.specs.Opened.{elements_opened, words_opened};
 
+use drawing::Drawing;
 use geometry::class::Square;
 use making::Maker;
-use stream::{Bounds, Words};
+use stream::{Bounds, Context, Words};
 
 // The areas and the corners before a record, and the first corner of the contour in progress.
-#[derive(Clone, Copy)]
+#[derive(Clone, Copy, Debug, PartialEq, Eq)]
 pub struct Source {
     pub area: u32,
     pub corner: u32,
     pub first: u32,
 }
 
-// Before the first record.
-fn source_begin() -> Source
-    ensures answer { result ≡ source_at 0 0 0 }
-{
-    Source {
-        area: 0,
-        corner: 0,
-        first: 0,
+impl Source {
+    // Before the first record.
+    fn begun() -> Source
+        ensures answer { result ≡ source_at 0 0 0 }
+    {
+        Source {
+            area: 0,
+            corner: 0,
+            first: 0,
+        }
+    }
+
+    // The entry of a record, with one of kind `behind` straight behind it: the area, the edge from its corner, or the delimiter.
+    fn entry(self, kind: u32, behind: u32) -> Words
+        requires { self.corner ≤ 2048 }
+        ensures answer { result ≡ entry_n self kind behind }
+    {
+        match kind {
+            records::KIND_AREA => Words {
+                kind: stream::ENTRY_AREA,
+                p: self.area,
+                q: 0,
+                r: 0,
+            },
+            records::KIND_FIRST => edge_from(behind, self.corner, self.corner),
+            records::KIND_NEXT => edge_from(behind, self.corner, self.first),
+            _ => delimiter(kind),
+        }
+    }
+
+    // Behind that entry.
+    fn after(self, kind: u32, behind: u32) -> Source
+        requires { (self.area ≤ 64) × (self.corner ≤ 2048) }
+        ensures answer { result ≡ after_n self kind behind }
+    {
+        let corner = self.corner + stride(behind) as u32;
+        match kind {
+            records::KIND_AREA => Source {
+                area: self.area + 1,
+                ..self
+            },
+            records::KIND_FIRST => Source {
+                corner,
+                first: self.corner,
+                ..self
+            },
+            records::KIND_NEXT => Source { corner, ..self },
+            _ => self,
+        }
     }
 }
 
@@ -41,20 +83,22 @@ fn kind_at(plan: &[u32], i: usize, records: usize) -> u32
     ensures answer { result ≡ kind_n plan.now records i }
 {
     if i < records {
-        return plan[i + read::PLAN_COUNTS];
+        plan[i + read::PLAN_COUNTS]
+    } else {
+        0
     }
-    0
 }
 
-// How many records and corners an edge from a corner takes up to where it ends, where a record of kind `behind` stands straight behind the corner.
-fn stride(behind: u32) -> u32
+// How many records an edge from a corner takes up to where it ends, where a record of kind `behind` stands straight behind the corner.
+fn stride(behind: u32) -> usize
     ensures answer { result ≡ stride_n behind }
     ensures range { (0 < result) × (result ≤ 2) }
 {
     if behind == records::KIND_CONTROL {
-        return 2;
+        2
+    } else {
+        1
     }
-    1
 }
 
 // The edge from a corner: to the next corner where it stands straight behind, the curve by a control corner that stands there, or to the first
@@ -63,37 +107,15 @@ fn edge_from(behind: u32, corner: u32, first: u32) -> Words
     requires { corner ≤ 2048 }
     ensures answer { result ≡ edge_n behind corner first }
 {
-    if behind == records::KIND_NEXT {
-        return Words {
-            kind: stream::ENTRY_LINE,
-            p: corner,
-            q: corner + 1,
-            r: 0,
-        };
-    }
-    if behind == records::KIND_CONTROL {
-        return Words {
-            kind: stream::ENTRY_CURVE,
-            p: corner,
-            q: 0,
-            r: 0,
-        };
-    }
+    let (kind, q) = match behind {
+        records::KIND_NEXT => (stream::ENTRY_LINE, corner + 1),
+        records::KIND_CONTROL => (stream::ENTRY_CURVE, 0),
+        _ => (stream::ENTRY_LINE, first),
+    };
     Words {
-        kind: stream::ENTRY_LINE,
+        kind,
         p: corner,
-        q: first,
-        r: 0,
-    }
-}
-
-fn mark(kind: u32) -> Words
-    ensures answer { result ≡ words kind 0 0 0 }
-{
-    Words {
-        kind: kind,
-        p: 0,
-        q: 0,
+        q,
         r: 0,
     }
 }
@@ -101,65 +123,17 @@ fn mark(kind: u32) -> Words
 fn delimiter(kind: u32) -> Words
     ensures answer { result ≡ mark_n kind }
 {
-    if kind == records::KIND_OPEN {
-        return mark(stream::ENTRY_OPEN);
+    let kind = match kind {
+        records::KIND_OPEN => stream::ENTRY_OPEN,
+        records::KIND_BAR => stream::ENTRY_BAR,
+        _ => stream::ENTRY_CLOSE,
+    };
+    Words {
+        kind,
+        p: 0,
+        q: 0,
+        r: 0,
     }
-    if kind == records::KIND_BAR {
-        return mark(stream::ENTRY_BAR);
-    }
-    mark(stream::ENTRY_CLOSE)
-}
-
-// The entry of a record, with one of kind `behind` straight behind it: the area, the edge from its corner, or the delimiter.
-fn source_entry(c: Source, kind: u32, behind: u32) -> Words
-    requires { c.corner ≤ 2048 }
-    ensures answer { result ≡ entry_n c kind behind }
-{
-    if kind == records::KIND_AREA {
-        return Words {
-            kind: stream::ENTRY_AREA,
-            p: c.area,
-            q: 0,
-            r: 0,
-        };
-    }
-    if kind == records::KIND_FIRST {
-        return edge_from(behind, c.corner, c.corner);
-    }
-    if kind == records::KIND_NEXT {
-        return edge_from(behind, c.corner, c.first);
-    }
-    delimiter(kind)
-}
-
-// Behind that entry.
-fn source_after(c: Source, kind: u32, behind: u32) -> Source
-    requires { (c.area ≤ 64) × (c.corner ≤ 2048) }
-    ensures answer { result ≡ after_n c kind behind }
-{
-    if kind == records::KIND_AREA {
-        return Source {
-            area: c.area + 1,
-            corner: c.corner,
-            first: c.first,
-        };
-    }
-    let n = stride(behind);
-    if kind == records::KIND_FIRST {
-        return Source {
-            area: c.area,
-            corner: c.corner + n,
-            first: c.corner,
-        };
-    }
-    if kind == records::KIND_NEXT {
-        return Source {
-            area: c.area,
-            corner: c.corner + n,
-            first: c.first,
-        };
-    }
-    c
 }
 
 // ---- the stream of cell 0
@@ -173,88 +147,63 @@ fn root_square() -> Square
     }
 }
 
-// What cell 0's stream weighs: 1 for each entry, 65,536 more for a line, 4,294,967,296 more for an area.
-pub fn count_open(
-    plan: &[u32],
-    areas: &[u32],
-    xs: &[u32],
-    ys: &[u32],
-    records: usize,
-    b: Bounds,
-) -> u64
-    requires { Opened (tables plan.now areas.now xs.now ys.now) records b }
-    ensures answer { result ≡ total element_size (elements_opened (drawing_lent plan areas xs ys)) }
+// What cell 0's stream weighs (crate `making`).
+pub fn count_open(drawing: Drawing, records: usize, bounds: Bounds) -> u64
+    requires { Opened (tables_of drawing) records bounds }
+    ensures answer { result ≡ total element_size (elements_opened (drawing_passed drawing)) }
 {
+    let context = Context {
+        areas: drawing.areas,
+        xs: drawing.xs,
+        ys: drawing.ys,
+        bounds,
+    };
     let s = root_square();
-    let mut p = pruner::begun();
-    let mut a = making::rest();
-    let mut c = source_begin();
+    let mut m = Maker::begun();
+    let mut source = Source::begun();
     let mut i = 0;
+    // A curve takes two records, so no `for` over the records goes on by one.
     while i < records {
-        let kind = kind_at(plan, i, records);
-        let behind = kind_at(plan, i + 1, records);
-        let w = source_entry(c, kind, behind);
-        let l = making::left_of(xs, ys, b.corners, s, w);
-        if making::prunes(w.kind) {
-            let q = making::pruner_after(areas, p, a, w.kind);
-            p = q;
-        }
-        let t = making::waiting_after(a, l, w);
-        a = t;
-        c = source_after(c, kind, behind);
-        let n = stride(behind);
-        i += n as usize;
+        let kind = kind_at(drawing.plan, i, records);
+        let behind = kind_at(drawing.plan, i + 1, records);
+        let w = source.entry(kind, behind);
+        m.go_on(context, s, w);
+        source = source.after(kind, behind);
+        i += stride(behind);
     }
-    making::made_weight(
-        areas,
-        Maker {
-            pruner: p,
-            waiting: a,
-        },
-    )
+    m.weight(drawing.areas)
 }
 
 // Writes cell 0's stream to the table's first entries. It has `made` of them. Beyond them the table stays as it was.
 pub fn write_open(
     entries: &mut [u32],
     made: usize,
-    plan: &[u32],
-    areas: &[u32],
-    xs: &[u32],
-    ys: &[u32],
+    drawing: Drawing,
     records: usize,
-    b: Bounds,
+    bounds: Bounds,
 )
-    requires opened { Opened (tables plan.now areas.now xs.now ys.now) records b }
-    requires made_value { made ≡ length (elements_opened (tables plan.now areas.now xs.now ys.now)) }
+    requires opened { Opened (tables_of drawing) records bounds }
+    requires made_value { made ≡ length (elements_opened (tables_of drawing)) }
     requires made_in_bounds { made * 4 ≤ length entries.old }
-    ensures entries { entries.new ≡ written entries.old 0 (words_opened (drawing_lent plan areas xs ys)) }
+    ensures entries { entries.new ≡ written entries.old 0 (words_opened (drawing_passed drawing)) }
 {
+    let context = Context {
+        areas: drawing.areas,
+        xs: drawing.xs,
+        ys: drawing.ys,
+        bounds,
+    };
     let s = root_square();
-    let mut p = pruner::begun();
-    let mut a = making::rest();
-    let mut c = source_begin();
+    let mut m = Maker::begun();
+    let mut source = Source::begun();
     let mut i = 0;
     while i < records {
-        let kind = kind_at(plan, i, records);
-        let behind = kind_at(plan, i + 1, records);
-        let w = source_entry(c, kind, behind);
-        let l = making::left_of(xs, ys, b.corners, s, w);
-        if making::prunes(w.kind) {
-            let q = writing::write_other(entries, made, areas, p, a, w.kind);
-            p = q;
-        } else {
-            writing::put_segment(entries, made, p, a, l, w);
-        }
-        let t = making::waiting_after(a, l, w);
-        a = t;
-        c = source_after(c, kind, behind);
-        let n = stride(behind);
-        i += n as usize;
+        let kind = kind_at(drawing.plan, i, records);
+        let behind = kind_at(drawing.plan, i + 1, records);
+        let w = source.entry(kind, behind);
+        writing::write_entry(entries, made, &mut m, context, s, w);
+        source = source.after(kind, behind);
+        i += stride(behind);
     }
-    let last = Maker {
-        pruner: p,
-        waiting: a,
-    };
-    writing::put_settled(entries, made, areas, last);
+    writing::put_settled(entries, made, drawing.areas, m);
 }

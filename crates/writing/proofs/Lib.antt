@@ -1,5 +1,4 @@
 -- Laws of writing.
-pub mod Signed
 pub mod Marks
 pub mod Agree
 pub mod Places
@@ -7,4 +6,3 @@ pub mod Written
 pub mod Same
 pub mod Turn
 pub mod Whole
-pub mod Stays

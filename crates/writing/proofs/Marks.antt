@@ -1,12 +1,24 @@
 -- A delimiter by a pruner's numbers and by those of its count.
-use mathlib.Core.Path.{◌≡◌}
+use mathlib.Core.Path.{◌≡◌, refl, ap, ◌∙◌}
 use mathlib.Core.List.{List}
-use Prim.Native.Nat.{ℕ}
+use Prim.Native.Nat.{ℕ, suc}
+use native.Mathlib.Omega.{arith}
+use lib.Dec.{eqb}
+use borrow.Author.Tests.{ne_eqb}
+use Rattle.std.specs.Prelude.{Option, Some, None, is_none}
 use Rattle.pruning.specs.code.Counters.{Count}
 use Rattle.pruner.specs.declared.Pruner.{Pruner}
-use Rattle.pruner.specs.code.Numbers.{counted}
+use Rattle.pruner.specs.code.Numbers.{counted, skip_of, skip_number, skip_in}
 use Rattle.pruner.proofs.Near.{counted_weight, counted_base, counted_skip}
 use Rattle.writing.specs.code.Numbers.{mark_put, mark_on}
 
+-- the side is read on
+pub none_is : (p : Pruner) → eqb (skip_in (counted p)) 0 ≡ is_none p.skip
+none_is p = ap (λ n. eqb n 0) (counted_skip p) ∙ go p.skip
+  where
+    go : (s : Option ℕ) → eqb (skip_number (skip_of s)) 0 ≡ is_none s
+    go None = refl
+    go (Some m) = ne_eqb (suc m) 0 (λ e. omega arith)
+
 pub mark_is : (limit : ℕ) (t : List ℕ) (q : Pruner) (n kind : ℕ) (c : Count) → counted q ≡ c → mark_put limit t q n kind ≡ mark_on limit t c n kind
-mark_is limit t q n kind c e = rw (← e, counted_weight q, counted_base q, counted_skip q)
+mark_is limit t q n kind c e = rw (← e, counted_weight q, counted_base q, none_is q)

@@ -17,9 +17,14 @@ use Rattle.stream.specs.declared.Words.{Words}
 use Rattle.stream.specs.Entry.{is_segment}
 use Rattle.evaluate.specs.Words.{words, segment_words}
 use Rattle.evaluate.specs.code.Numbers.{line_of}
+use Rattle.std.specs.Prelude.{Option, Some, None, is_none}
+use Rattle.pruner.specs.declared.ItemClass.{ItemClass}
+use Rattle.pruner.specs.declared.ItemClass.TheVariants.{Fails, Passes, Neither}
+use Rattle.pruner.specs.declared.Pruner.{Pruner}
 use Rattle.making.specs.declared.Maker.{Maker}
+use Rattle.making.specs.declared.Waiting.{Waiting}
 use Rattle.making.specs.code.Numbers.{class_n, settled_n}
-use Rattle.writing.specs.code.Numbers.{put_below, place_of, kept_put, segment_put, class_put, settled_put, mark_on, one_put}
+use Rattle.writing.specs.code.Numbers.{put_below, place_of, kept_put, behind_put, segment_put, class_put, waiting_put, settled_put, mark_on, one_put}
 use Rattle.writing.proofs.Agree.{below_length, below_rest}
 
 module _ (limit : ℕ) where
@@ -46,25 +51,27 @@ module _ (limit : ℕ) where
   same_kept (Shortcut lo hi) t at z w = same_put t at (segment_words (shortcut z lo hi))
   same_kept Kept t at z w = same_put t at (segment_words (drawn (line_of w)))
 
+  same_behind : (f : Class) (t : List ℕ) (p : Pruner) (a : Option Waiting) (z : ℤ) (w : Words) → Same t (behind_put f limit t p a z w)
+  same_behind f t p None z w = same_refl t
+  same_behind f t p (Some a) z w = same_kept f t (place_of p.weight + place_of a.weight) z w
+
+  same_class : (areas t : List ℕ) (p : Pruner) (a : Waiting) (k : ItemClass) → Same t (class_put limit areas t p a k)
+  same_class areas t p a Fails = same_refl t
+  same_class areas t p a Passes =
+      same_if (eqb (get_or areas (a.number * 8) 0) 0) t _ _ (same_put t (place_of p.weight) (words 4 a.number (of_z w32 a.start) 0))
+      (same_put t (place_of p.base) (words 7 0 0 0))
+  same_class areas t p a Neither = same_put t (place_of p.weight) (words 4 a.number (of_z w32 a.start) 0)
+
+  same_waiting : (areas t : List ℕ) (p : Pruner) (a : Option Waiting) → Same t (waiting_put limit areas t p a)
+  same_waiting areas t p None = same_refl t
+  same_waiting areas t p (Some a) = same_class areas t p a (class_n areas a)
+
   module _ (areas : List ℕ) (t : List ℕ) (m : Maker) where
     same_segment : (f : Class) (z : ℤ) (w : Words) → Same t (segment_put limit t m f z w)
-    same_segment f z w =
-        same_if (eqb m.pruner.skip 0) t _ t
-        (same_if m.waiting.waits t _ t (same_kept f t (place_of m.pruner.weight + place_of m.waiting.weight) z w) (same_refl t))
-        (same_refl t)
-
-    same_class : (k : ℕ) → Same t (class_put limit areas t m k)
-    same_class k =
-        let named = same_put t (place_of m.pruner.weight) (words 4 m.waiting.number (of_z w32 m.waiting.start) 0) in
-        same_if (eqb k 0) t t _ (same_refl t)
-        (same_if (eqb k 1) t _ _
-        (same_if (eqb (get_or areas (m.waiting.number * 8) 0) 0) t _ _ named (same_put t (place_of m.pruner.base) (words 7 0 0 0)))
-        named)
+    same_segment f z w = same_if (is_none m.pruner.skip) t _ t (same_behind f t m.pruner m.waiting z w) (same_refl t)
 
     pub same_settled : Same t (settled_put limit areas t m)
-    same_settled =
-        same_if m.waiting.waits t _ t (same_if (eqb m.pruner.skip 0) t _ t (same_class (class_n areas m.waiting)) (same_refl t))
-        (same_refl t)
+    same_settled = same_if (is_none m.pruner.skip) t _ t (same_waiting areas t m.pruner m.waiting) (same_refl t)
 
     same_mark : (u : List ℕ) (c : Count) (n kind : ℕ) → Same u (mark_on limit u c n kind)
     same_mark u c n kind =

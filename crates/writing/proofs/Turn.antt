@@ -47,17 +47,13 @@ use Rattle.writing.specs.code.Numbers.{put_below, place_of, segment_put, settled
 use Rattle.writing.proofs.Agree.{Agree}
 use Rattle.writing.proofs.Same.{Same, same_then, same_settled, same_one}
 use Rattle.writing.proofs.Places.{Moves, open_moves, bar_moves, close_moves}
-use Rattle.writing.proofs.Written.{is_going, Writes, mark_agrees, bare_agrees, settle_agrees, segment_writes}
+use Rattle.writing.proofs.Written.{going_is, Writes, mark_agrees, bare_agrees, settle_agrees, segment_writes}
 
 -- the table t was t₀; what is made so far stands in it
 pub record Writing (v : Env) (D : Drawing) (c : Cell) (k : ℕ) (mk : Maker) (ws : List Words) (whole : Making) (limit : ℕ) (t₀ t : List ℕ) : Type 0 where
   pub standing : Standing v D c k mk.pruner mk.waiting ws whole
   pub writes : Writes limit t standing.elements
   pub same : Same limit t₀ t
-
-going_is : (x : Pruning.State Element) → eqb (skip_in (weighed element_size x)) 0 ≡ is_going x
-going_is (st out b going fs) = refl
-going_is (st out b (shut m) fs) = ne_eqb (suc m) 0 (λ e. omega arith)
 
 module _ (v : Env) (D : Drawing) (c : Cell) (R : Reads v D) (k : ℕ) (mk : Maker) (whole : Making) (limit : ℕ) (t₀ t : List ℕ) (l : k ≤ 4096)
     (room : limit * 4 ≤ length t) (w : Words) (ws : List Words) (s : Writing v D c k mk (w ∷ ws) whole limit t₀ t) where

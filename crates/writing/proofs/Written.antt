@@ -16,10 +16,9 @@ use Rattle.laws.proofs.Booleans.{clash}
 use Rattle.geometry.specs.declared.class.Class.{Class}
 use Rattle.geometry.specs.declared.class.Class.TheVariants.{Dropped, Start, Shortcut, Kept}
 use Rattle.pruning.specs.Sides.{paint, clip, item}
-use Rattle.pruning.specs.Items.{fails, passes, other}
 use Rattle.pruning.specs.code.Pruner as Pruning
 use Rattle.pruning.specs.code.Pruner.{Frame, going, shut, st, add_item}
-use Rattle.pruning.specs.code.Counters.{length_of}
+use Rattle.pruning.specs.code.Counters.{Count, length_of}
 use Rattle.pruning.specs.code.Effects.{out_of}
 use Rattle.pruning.specs.code.Weights.{total, weighed}
 use Rattle.pruning.proofs.Counters.{Fit, count}
@@ -32,16 +31,21 @@ use Rattle.cells.specs.Elements.{Element, bare, named, segment, item_elements, e
 use Rattle.cells.specs.code.Making.{Waiting, nothing, held, Making, making, prune, settle, add_to, element_size}
 use Rattle.cells.proofs.Making.{entry_some}
 use Rattle.stream.specs.declared.Words.{Words}
+use Rattle.std.specs.Prelude.{is_none}
+use Rattle.pruner.specs.declared.ItemClass.{ItemClass}
+use Rattle.pruner.specs.declared.ItemClass.TheVariants.{Fails, Passes, Neither}
 use Rattle.pruner.specs.declared.Pruner.{Pruner}
-use Rattle.pruner.specs.code.Numbers.{counted, base_of, skip_in}
-use Rattle.pruner.proofs.Near.{counted_weight, counted_base, counted_skip}
+use Rattle.pruner.specs.code.Numbers.{class_of, counted, base_of, skip_in}
+use Rattle.pruner.proofs.Near.{counted_weight, counted_base}
 use Rattle.evaluate.specs.Words.{words, segment_words, words_of, Agrees}
 use Rattle.evaluate.specs.code.Numbers.{line_of}
 use Rattle.making.specs.declared.Maker.{Maker}
-use Rattle.making.specs.code.Numbers.{class_n}
+use Rattle.making.specs.declared.Waiting as Declared
+use Rattle.making.specs.code.Numbers.{waiting_as, class_n}
 use Rattle.making.proofs.Follows.{state_of, waiting_of, waiting_for, Follows, class_is}
 use Rattle.making.proofs.Turn.{before_most}
-use Rattle.writing.specs.code.Numbers.{put_below, place_of, kept_put, segment_put, settled_put}
+use Rattle.writing.specs.code.Numbers.{put_below, place_of, kept_put, segment_put, class_put, settled_put}
+use Rattle.writing.proofs.Marks.{none_is}
 use Rattle.writing.proofs.Agree.{Agree, agree_append, agree_take, agree_behind, agree_before, agree_more, below_here}
 use Rattle.writing.proofs.Places.{place_is, Moves, adds, cuts}
 
@@ -60,12 +64,12 @@ pub record Writes (limit : ℕ) (t : List ℕ) (m : Making) : Type 0 where
 
 -- ---- the numbers of a pruner
 
-pub skip_is : (p : Pruner) (x : Pruning.State Element) → counted p ≡ weighed element_size x → eqb p.skip 0 ≡ is_going x
-skip_is p x e = ap (λ (n : ℕ). eqb n 0) (sym (counted_skip p) ∙ ap skip_in e) ∙ go x
-  where
-    go : (x : Pruning.State Element) → eqb (skip_in (weighed element_size x)) 0 ≡ is_going x
-    go (st out b going fs) = refl
-    go (st out b (shut m) fs) = ne_eqb (suc m) 0 (λ e. omega arith)
+pub going_is : (x : Pruning.State Element) → eqb (skip_in (weighed element_size x)) 0 ≡ is_going x
+going_is (st out b going fs) = refl
+going_is (st out b (shut m) fs) = ne_eqb (suc m) 0 (λ e. omega arith)
+
+pub skip_is : (p : Pruner) (x : Pruning.State Element) → counted p ≡ weighed element_size x → is_none p.skip ≡ is_going x
+skip_is p x e = sym (none_is p) ∙ (ap (λ (c : Count). eqb (skip_in c) 0) e ∙ going_is x)
 
 pub length_place : (p : Pruner) (x : Pruning.State Element) → counted p ≡ weighed element_size x → length (out_of x) < 65536
     → place_of p.weight ≡ length (out_of x)
@@ -130,22 +134,29 @@ module _ (limit : ℕ) where
 
   -- ---- the area that waits
   module _ (areas : List ℕ) (D : Drawing) (c : Cell) (agrees : (n : ℕ) → n < length D.fields → Agrees areas D n) where
+    same_cond : (b : Bool) (t : List ℕ) (out : List Element) → Agree limit t 0 out → Agree limit (cond b t t) 0 out
+    same_cond true t out a = a
+    same_cond false t out a = a
+
     class_agrees : (t : List ℕ) (out : List Element) (b : ℕ) (fs : List Frame) (n : ℕ) (z : ℤ) (gs : List Segment)
         → limit * 4 ≤ length t
         → b ≤ length out
         → Agree limit t 0 out
         → Agree limit t (length out + 1) (map segment gs)
-        → (x y is_paint : Bool)
-        → Agree limit
-        (cond x t
-        (cond y (cond is_paint (put_below limit t (length out) (words 4 n (of_z w32 z) 0)) (put_below limit t b (words 7 0 0 0)))
-        (put_below limit t (length out) (words 4 n (of_z w32 z) 0))))
-        0 (out_of (add_item (items D) Element entry_elements (cond is_paint paint clip) (cond x fails (cond y passes other)) (area n z gs) out b fs))
-    class_agrees t out b fs n z gs h l a g true y is_paint = a
-    class_agrees t out b fs n z gs h l a g false true true = item_agrees t out (map segment gs) (named n z) h a g
-    class_agrees t out b fs n z gs h l a g false true false = back_agrees t out b bare h l a
-    class_agrees t out b fs n z gs h l a g false false true = item_agrees t out (map segment gs) (named n z) h a g
-    class_agrees t out b fs n z gs h l a g false false false = item_agrees t out (map segment gs) (named n z) h a g
+        → (p : Pruner) (a : Declared.Waiting)
+        → a.number ≡ n
+        → a.start ≡ z
+        → place_of p.weight ≡ length out
+        → place_of p.base ≡ b
+        → (k : ItemClass) (is_paint : Bool)
+        → eqb (get_or areas (n * 8) 0) 0 ≡ is_paint
+        → Agree limit (class_put limit areas t p a k) 0
+        (out_of (add_item (items D) Element entry_elements (cond is_paint paint clip) (class_of k) (area n z gs) out b fs))
+    class_agrees t out b fs n z gs h l ag g p a en ez ew eb Fails is_paint e = ag
+    class_agrees t out b fs n z gs h l ag g p a en ez ew eb Passes true e = rw (en, ez, ew, e) (item_agrees t out (map segment gs) (named n z) h ag g)
+    class_agrees t out b fs n z gs h l ag g p a en ez ew eb Passes false e = rw (en, eb, e) (back_agrees t out b bare h l ag)
+    class_agrees t out b fs n z gs h l ag g p a en ez ew eb Neither true e = rw (en, ez, ew) (item_agrees t out (map segment gs) (named n z) h ag g)
+    class_agrees t out b fs n z gs h l ag g p a en ez ew eb Neither false e = rw (en, ez, ew) (item_agrees t out (map segment gs) (named n z) h ag g)
 
     pub settle_agrees : (k : ℕ) (mk : Maker) (m : Making) (t : List ℕ)
         → k ≤ 4096
@@ -153,23 +164,18 @@ module _ (limit : ℕ) where
         → Follows D k mk.pruner mk.waiting m
         → Writes limit t m
         → Agree limit (settled_put limit areas t mk) 0 (out_of (settle D c m))
-    settle_agrees k mk (making x nothing) t l h f w = rw f.waits w.done
+    settle_agrees k mk (making x nothing) t l h f w = rw f.waits (same_cond (is_none mk.pruner.skip) t (out_of x) w.done)
     settle_agrees k mk (making (st out b (shut s) fs) (held n z gs)) t l h f w =
         rw (f.waits, skip_is mk.pruner (st out b (shut s) fs) f.counts) w.done
     settle_agrees k mk (making (st out b going fs) (held n z gs)) t l h f w =
         let small : length out < 65536 = omega (arith, f.short) in
         let i = f.named_in.0 in
-        rw (
-          f.waits,
-          skip_is mk.pruner (st out b going fs) f.counts,
-          length_place mk.pruner (st out b going fs) f.counts small,
-          sym (counted_base mk.pruner) ∙ ap base_of f.counts,
-          base_at out b f.fit.0 small,
-          ← class_is areas D c agrees n z gs i,
-          ← (agrees n i).role,
-        )
-        (class_agrees t out b fs n z gs h f.fit.0 w.done (w.behind refl) (eqb (class_n areas (waiting_for (held n z gs))) 0)
-        (eqb (class_n areas (waiting_for (held n z gs))) 1) (eqb (get_or areas (n * 8) 0) 0))
+        let alone = waiting_as n z (total element_size (item_elements (area n z gs))) in
+        rw (f.waits, skip_is mk.pruner (st out b going fs) f.counts, ← class_is areas D c agrees n z gs i, ← (agrees n i).role)
+        (class_agrees t out b fs n z gs h f.fit.0 w.done (w.behind refl) mk.pruner alone refl refl
+        (length_place mk.pruner (st out b going fs) f.counts small)
+        (ap place_of (sym (counted_base mk.pruner) ∙ ap base_of f.counts) ∙ base_at out b f.fit.0 small)
+        (class_n areas alone) (eqb (get_or areas (n * 8) 0) 0) refl)
 
     -- ---- a line, a curve or a shortcut
     segments_more : (gs : List Segment) (g : Segment) → map segment (gs ++ (g ∷ [])) ≡ map segment gs ++ (segment g ∷ [])
@@ -222,7 +228,7 @@ module _ (limit : ℕ) where
         → Follows D k mk.pruner mk.waiting m
         → Writes limit t m
         → Writes limit (segment_put limit t mk (class_in D.xs D.ys c g) (sign_of D.xs D.ys g) wd) (add_to D c g m)
-    segment_writes k mk (making x nothing) t g wd l h e f w = rw f.waits (same (eqb mk.pruner.skip 0))
+    segment_writes k mk (making x nothing) t g wd l h e f w = rw f.waits (same (is_none mk.pruner.skip))
       where
         same : (b : Bool) → Writes limit (cond b t t) (making x nothing)
         same true = w

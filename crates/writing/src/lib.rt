@@ -10,25 +10,25 @@ ghost use Rattle.pruner.specs.code.Numbers.{counted};
 ghost use Rattle.cells.specs.Segments.{drawn};
 ghost use Rattle.evaluate.specs.Words.{segment_words};
 ghost use Rattle.evaluate.specs.code.Numbers.{line_of};
-ghost use Rattle.making.specs.code.Numbers.{settled_n, pruned_n, maker, Inside, Room};
-ghost use Rattle.writing.specs.code.Numbers.{put_below, place_of, kept_put, segment_put, named_put, bare_put, class_put, settled_put, mark_put, mark_on};
+ghost use Rattle.geometry.specs.code.Reach.{SquareIn};
+ghost use Rattle.stream.specs.Grammar.{env_of};
+ghost use Rattle.making.specs.code.Numbers.{left_class, left_sign, waiting_n, settled_n, pruned_n, AreaIn, Inside, Room, Asks};
+ghost use Rattle.writing.specs.code.Numbers.{put_below, place_of, kept_put, segment_put, named_put, bare_put, class_put, settled_put, mark_put, mark_on, one_put};
 
-use geometry::class::Class;
+use geometry::class::{Class, Square};
 use making::{Left, Maker, Waiting};
-use pruner::Pruner;
-use stream::Words;
+use pruner::{ItemClass, Pruner};
+use stream::{Context, Words};
 
 // A signed number as a word in two's complement.
 fn word_of(z: i64) -> u32
     requires { nat_abs z ≤ 8192 }
     ensures answer { result ≡ of_z w32 z }
 {
-    if z < 0 {
-        return (z + 4294967296) as u32;
-    }
-    z as u32
+    (z as i32).cast_unsigned()
 }
 
+#[tactic(auto, unfolding(crate::specs::code::Numbers::put_below))]
 fn put_below(out: &mut [u32], limit: usize, at: usize, w: Words)
     requires { limit * 4 ≤ length out.old }
     ensures out { out.new ≡ put_below limit out.old at w }
@@ -38,10 +38,11 @@ fn put_below(out: &mut [u32], limit: usize, at: usize, w: Words)
     }
 }
 
-fn place_of(n: u64) -> usize
-    ensures answer { result ≡ place_of n }
+// The place behind entries that weigh this much.
+fn place_of(weight: u64) -> usize
+    ensures answer { result ≡ place_of weight }
 {
-    (n % 65536) as usize
+    (weight % making::LINE) as usize
 }
 
 // The words of the line or the curve that entry w names.
@@ -49,64 +50,60 @@ fn line_words(w: Words) -> Words
     ensures answer { result ≡ segment_words (drawn (line_of w)) }
 {
     if stream::is_curve(w.kind) {
-        return Words {
+        Words {
             kind: stream::ENTRY_CURVE,
             p: w.p,
             q: 0,
             r: 0,
-        };
-    }
-    Words {
-        kind: stream::ENTRY_LINE,
-        p: w.p,
-        q: w.q,
-        r: 0,
+        }
+    } else {
+        Words {
+            kind: stream::ENTRY_LINE,
+            p: w.p,
+            q: w.q,
+            r: 0,
+        }
     }
 }
 
 // Entry `at` is what is left of the line, the curve or the shortcut of entry w.
-fn put_kept(out: &mut [u32], limit: usize, at: usize, l: Left, w: Words)
+fn put_kept(out: &mut [u32], limit: usize, at: usize, left: Left, w: Words)
     requires limit_in_bounds { limit * 4 ≤ length out.old }
-    requires sign_bound { nat_abs l.sign ≤ 1 }
-    ensures out { out.new ≡ kept_put l.class limit out.old at l.sign w }
+    requires sign_bound { nat_abs left.sign ≤ 1 }
+    ensures out { out.new ≡ kept_put left.class limit out.old at left.sign w }
 {
-    let k = l.class;
-    match k {
-        Class::Shortcut(lo, hi) => {
-            let z = word_of(l.sign);
+    match left.class {
+        Class::Shortcut(q, r) => {
+            let p = word_of(left.sign);
             put_below(
                 out,
                 limit,
                 at,
                 Words {
                     kind: stream::ENTRY_SHORTCUT,
-                    p: z,
-                    q: lo,
-                    r: hi,
+                    p,
+                    q,
+                    r,
                 },
             );
         }
-        Class::Kept => {
-            let v = line_words(w);
-            put_below(out, limit, at, v);
-        }
-        Class::Dropped => {}
-        Class::Start => {}
+        Class::Kept => put_below(out, limit, at, line_words(w)),
+        Class::Dropped | Class::Start => {}
     }
 }
 
 // The line, the curve or the shortcut of entry w, behind what waits.
-pub fn put_segment(out: &mut [u32], limit: usize, p: Pruner, a: Waiting, l: Left, w: Words)
+fn put_segment(out: &mut [u32], limit: usize, m: Maker, left: Left, w: Words)
     requires limit_in_bounds { limit * 4 ≤ length out.old }
-    requires sign_bound { nat_abs l.sign ≤ 1 }
-    ensures out { out.new ≡ segment_put limit out.old (maker p a) l.class l.sign w }
+    requires sign_bound { nat_abs left.sign ≤ 1 }
+    ensures out { out.new ≡ segment_put limit out.old m left.class left.sign w }
 {
-    if p.skip == 0 {
-        if a.waits {
-            let n = place_of(p.weight);
-            let k = place_of(a.weight);
-            put_kept(out, limit, n + k, l, w);
-        }
+    if m.pruner.skip.is_some() {
+        return;
+    }
+    if let Some(a) = m.waiting {
+        let at = place_of(m.pruner.weight) + place_of(a.weight);
+        put_kept(out, limit, at, left, w);
     }
 }
 
@@ -130,15 +127,13 @@ fn put_bare(out: &mut [u32], limit: usize, p: Pruner)
 }
 
 // The area that waits, behind what is written.
-fn put_named(out: &mut [u32], limit: usize, m: Maker)
+fn put_named(out: &mut [u32], limit: usize, p: Pruner, a: Waiting)
     requires limit_in_bounds { limit * 4 ≤ length out.old }
-    requires start_bound { nat_abs m.waiting.start ≤ 8192 }
-    ensures out { out.new ≡ named_put limit out.old m }
+    requires start_bound { nat_abs a.start ≤ 8192 }
+    ensures out { out.new ≡ named_put limit out.old p a }
 {
-    let p = m.pruner;
-    let a = m.waiting;
     let at = place_of(p.weight);
-    let z = word_of(a.start);
+    let q = word_of(a.start);
     put_below(
         out,
         limit,
@@ -146,34 +141,25 @@ fn put_named(out: &mut [u32], limit: usize, m: Maker)
         Words {
             kind: stream::ENTRY_AREA,
             p: a.number,
-            q: z,
+            q,
             r: 0,
         },
     );
 }
 
-// The area that waits, of class k: 0 fails, 1 passes, 2 neither.
-fn put_class(out: &mut [u32], limit: usize, areas: &[u32], m: Maker, k: u32)
+// The area that waits, of this class.
+fn put_class(out: &mut [u32], limit: usize, areas: &[u32], p: Pruner, a: Waiting, class: ItemClass)
     requires limit_in_bounds { limit * 4 ≤ length out.old }
-    requires start_bound { nat_abs m.waiting.start ≤ 8192 }
-    requires number_in_bounds { m.waiting.number * 8 + 8 ≤ length areas.now }
-    ensures out { out.new ≡ class_put limit areas.now out.old m k }
+    requires inside { AreaIn (length areas.now) a }
+    ensures out { out.new ≡ class_put limit areas.now out.old p a class }
 {
-    if k == 0 {
-        return;
-    }
-    if k == 1 {
-        let p = m.pruner;
-        let a = m.waiting;
-        let at = (a.number as usize) * records::AREA_WORDS;
-        if areas[at] == records::PAINT {
-            put_named(out, limit, m);
-            return;
+    match class {
+        ItemClass::Fails => {}
+        ItemClass::Passes if areas[(a.number as usize) * records::AREA_WORDS] != records::PAINT => {
+            put_bare(out, limit, p)
         }
-        put_bare(out, limit, p);
-        return;
+        _ => put_named(out, limit, p, a),
     }
-    put_named(out, limit, m);
 }
 
 // What the area that waits, if one does, is written as.
@@ -182,13 +168,12 @@ pub fn put_settled(out: &mut [u32], limit: usize, areas: &[u32], m: Maker)
     requires inside { Inside (length areas.now) m.waiting }
     ensures out { out.new ≡ settled_put limit areas.now out.old m }
 {
-    let p = m.pruner;
-    let a = m.waiting;
-    if a.waits {
-        if p.skip == 0 {
-            let k = making::class_of(areas, a);
-            put_class(out, limit, areas, m, k);
-        }
+    if m.pruner.skip.is_some() {
+        return;
+    }
+    if let Some(a) = m.waiting {
+        let class = a.class(areas);
+        put_class(out, limit, areas, m.pruner, a, class);
     }
 }
 
@@ -198,19 +183,17 @@ fn put_mark(out: &mut [u32], limit: usize, q: Pruner, weight: u64, kind: u32)
     ensures out { out.new ≡ mark_put limit out.old q weight kind }
 {
     if kind == stream::ENTRY_PASSES {
-        if q.skip == 0 {
+        if q.skip.is_none() {
             put_bare(out, limit, q);
         }
-        return;
-    }
-    if q.weight < weight {
+    } else if q.weight < weight {
         let at = place_of(q.weight);
         put_below(
             out,
             limit,
             at,
             Words {
-                kind: kind,
+                kind,
                 p: 0,
                 q: 0,
                 r: 0,
@@ -219,50 +202,52 @@ fn put_mark(out: &mut [u32], limit: usize, q: Pruner, weight: u64, kind: u32)
     }
 }
 
-// The area that waits, and then a delimiter, "passes" or nothing, after which what is made has this weight.
-fn put_other(out: &mut [u32], limit: usize, areas: &[u32], m: Maker, weight: u64, kind: u32)
+// An entry more that is no line, curve or shortcut: what it makes is written, and the pruner goes on.
+fn write_other(out: &mut [u32], limit: usize, areas: &[u32], m: Maker, kind: u32) -> Pruner
     requires limit_in_bounds { limit * 4 ≤ length out.old }
     requires inside { Inside (length areas.now) m.waiting }
-    requires weight_bound { (m.pruner.weight + m.waiting.weight < 2 ^ 60) × (m.pruner.base < 2 ^ 60) }
+    requires room { Room m.pruner m.waiting kind }
+    ensures answer { counted result ≡ pruned_n areas.now (counted m.pruner) m.waiting kind }
     ensures out { out.new ≡
         mark_on limit (settled_put limit areas.now out.old m) (settled_n areas.now (counted m.pruner) m.waiting)
-        weight kind }
+        result.weight kind }
 {
-    let p = m.pruner;
-    let a = m.waiting;
-    let q = making::settled(areas, p, a);
+    let after = m.pruner_after(areas, kind);
+    let q = m.settled(areas);
     put_settled(out, limit, areas, m);
-    put_mark(out, limit, q, weight, kind);
+    put_mark(out, limit, q, after.weight, kind);
+    after
 }
 
-// An entry more that is no line, curve or shortcut: what it makes is written, and the pruner goes on.
-pub fn write_other(
+// Goes on to the next entry, w, and writes what it makes.
+pub fn write_entry(
     out: &mut [u32],
     limit: usize,
-    areas: &[u32],
-    p: Pruner,
-    a: Waiting,
-    kind: u32,
-) -> Pruner
+    m: &mut Maker,
+    context: Context,
+    s: Square,
+    w: Words,
+)
     requires limit_in_bounds { limit * 4 ≤ length out.old }
-    requires inside { Inside (length areas.now) a }
-    requires room { Room p a kind }
-    ensures answer { counted result ≡ pruned_n areas.now (counted p) a kind }
+    requires corners_in_bounds { (context.bounds.corners ≤ length context.xs.now)
+        × (context.bounds.corners ≤ length context.ys.now) }
+    requires square_in { SquareIn s }
+    requires asks { Asks (env_of context) m.old w }
+    ensures pruner { counted m.new.pruner ≡
+        pruned_n context.entry.areas.now (counted m.old.pruner) m.old.waiting w.kind }
+    ensures waiting { m.new.waiting ≡
+        waiting_n m.old.waiting (left_class context.entry.xs.now context.entry.ys.now s w)
+        (left_sign context.entry.xs.now context.entry.ys.now w) w }
     ensures out { out.new ≡
-        mark_on limit (settled_put limit areas.now out.old (maker p a)) (settled_n areas.now (counted p) a) result.weight
-        kind }
+        one_put limit context.entry.areas.now out.old m.old (left_class context.entry.xs.now context.entry.ys.now s w)
+        (left_sign context.entry.xs.now context.entry.ys.now w) w m.new.pruner.weight }
 {
-    let q = making::pruner_after(areas, p, a, kind);
-    put_other(
-        out,
-        limit,
-        areas,
-        Maker {
-            pruner: p,
-            waiting: a,
-        },
-        q.weight,
-        kind,
-    );
-    q
+    if making::prunes(w.kind) {
+        m.pruner = write_other(out, limit, context.areas, *m, w.kind);
+        m.waiting = making::waiting_from(w);
+    } else {
+        let left = making::left_of(context, s, w);
+        put_segment(out, limit, *m, left, w);
+        m.waiting = making::with_left(m.waiting, left);
+    }
 }

@@ -1,12 +1,9 @@
-use Prim.Native.Nat.{◌-◌}
-use Rattle.stream.specs.Grammar.{env}
-use Rattle.ranges.specs.Held.{lent}
-use Rattle.making.specs.code.Numbers.{cell_in, maker}
+use Rattle.stream.specs.Grammar.{env_of}
+use Rattle.ranges.specs.Held.{lent_of}
+use Rattle.making.specs.code.Numbers.{cell_in}
 use Rattle.child_stream.proofs.Noting.{Counting}
 use Rattle.child_stream.proofs.count_child.Given as goal
 
 abbrev pub invariant-loop-i : goal.invariant-loop-i
-invariant-loop-i l = Counting (env l.areas l.xs l.ys l.b) (lent l.areas l.xs l.ys l.b) (cell_in l.s) l.entries l.first l.count l.i (maker l.p l.a) l.at
-
-abbrev pub decreases-loop-i : goal.decreases-loop-i
-decreases-loop-i l = l.end - l.i
+invariant-loop-i l =
+    Counting (env_of l.context) (lent_of l.context) (cell_in l.s) l.parent.entries.now l.parent.first l.parent.count l.i l.m l.at

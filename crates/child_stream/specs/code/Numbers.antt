@@ -1,8 +1,9 @@
 -- The start numbers as the code holds them, while it counts and in the end. `Rattle.child_stream.proofs` says that they are those of the elements.
-use Rattle.std.specs.Prelude.{cond, List, [], ◌∷◌, ℕ, zero, suc, ◌/◌, ltb, length, set, ℤ, pos}
+use Rattle.std.specs.Prelude.{cond, List, [], ◌∷◌, ℕ, zero, suc, ◌/◌, ltb, length, set, ℤ, pos, Option}
 use Rattle.cells.specs.Elements.{Element}
 use Rattle.pruner.specs.declared.Pruner.{Pruner}
 use Rattle.making.specs.declared.Waiting.{Waiting}
+use Rattle.making.specs.code.Numbers.{start_in}
 use Rattle.child_stream.specs.declared.Starts.{Starts}
 use Rattle.child_stream.specs.code.Starts.{starts_of}
 
@@ -18,8 +19,8 @@ unfoldable pub put_start : List ℤ → (k : ℕ) → ℤ → List ℤ
 put_start zs k z = cond (ltb k 64) (set zs k z) zs
 
 -- the start number of the area that waits, behind those of the areas that stand
-abbrev pub noted_n : List ℤ → Pruner → Waiting → List ℤ
-noted_n zs p a = put_start zs (areas_in p.weight) a.start
+abbrev pub noted_n : List ℤ → Pruner → Option Waiting → List ℤ
+noted_n zs p a = put_start zs (areas_in p.weight) (start_in a)
 
 -- the first n numbers, and zeros in place of the others
 unfoldable pub first_of : ℕ → List ℤ → List ℤ

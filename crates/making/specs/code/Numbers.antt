@@ -1,6 +1,6 @@
 -- The making of a stream, one entry at a time, as the numbers that the code holds. `Rattle.making.proofs` says that they go as the elements do
 -- (`Rattle.cells.specs.code.Making`).
-use Rattle.std.specs.Prelude.{◌≡◌, Bool, true, false, cond, not, List, ℕ, zero, suc, ◌+◌, ◌*◌, ◌/◌, ◌^◌, ◌<◌, ◌≤◌, eqb, leb, get_or, ℤ, pos, ◌+ℤ◌, nat_abs}
+use Rattle.std.specs.Prelude.{◌≡◌, Bool, true, false, cond, not, List, ℕ, zero, suc, ◌+◌, ◌*◌, ◌/◌, ◌^◌, ◌<◌, ◌≤◌, eqb, leb, get_or, length, ℤ, pos, ◌+ℤ◌, nat_abs, Option, Some, None}
 use Rattle.std.specs.Int.{w32}
 use Rattle.std.proofs.Common.{to_z}
 use Rattle.geometry.specs.declared.class.Class.{Class}
@@ -13,9 +13,12 @@ use Rattle.pruning.specs.code.Weights.{sized, sized_items, size_of}
 use Rattle.cells.specs.Cells.{Cell, cell}
 use Rattle.cells.specs.Segments.{sign_of, class_on}
 use Rattle.pruner.specs.declared.Pruner.{Pruner}
-use Rattle.pruner.specs.code.Numbers.{class_of}
+use Rattle.pruner.specs.declared.ItemClass.{ItemClass}
+use Rattle.pruner.specs.declared.ItemClass.TheVariants.{Fails, Passes, Neither}
+use Rattle.pruner.specs.code.Numbers.{class_of, skip_of, skip_number}
 use Rattle.stream.specs.declared.Words.{Words}
 use Rattle.stream.specs.Entry.{is_segment, start_range}
+use Rattle.stream.specs.Grammar.{Env}
 use Rattle.evaluate.specs.Reading.{role_at, pass_at, opaque_at}
 use Rattle.evaluate.specs.code.Numbers.{segment_of, segment_range}
 use Rattle.making.specs.declared.Waiting.{Waiting}
@@ -42,41 +45,55 @@ left_class xs ys s w = cond (is_segment w.kind) (class_on xs ys s (segment_of w)
 abbrev pub left_range : (xs ys : List ℕ) (corners : ℕ) → Words → Bool
 left_range xs ys corners w = cond (is_segment w.kind) (segment_range xs ys corners w) true
 
--- ---- the area that waits: its number, its start number, its weight with what is left of its lines, curves and shortcuts
+-- ---- the area that waits, if one does: its number, its start number, its weight with what is left of its lines, curves and shortcuts
 
-abbrev pub waiting : Bool → ℕ → ℤ → ℕ → Waiting
-waiting b n z s = record { waits = b; number = n; start = z; weight = s }
+abbrev pub waiting_as : ℕ → ℤ → ℕ → Waiting
+waiting_as n z s = record { number = n; start = z; weight = s }
 
-abbrev pub resting : Waiting
-resting = waiting false 0 (pos 0) 0
+abbrev pub waiting : ℕ → ℤ → ℕ → Option Waiting
+waiting n z s = Some (waiting_as n z s)
+
+abbrev pub resting : Option Waiting
+resting = None
+
+-- 0 where none waits
+abbrev pub start_in : Option Waiting → ℤ
+start_in None = pos 0
+start_in (Some a) = a.start
+
+abbrev pub weight_in : Option Waiting → ℕ
+weight_in None = 0
+weight_in (Some a) = a.weight
 
 abbrev pub with_class : Class → Waiting → ℤ → Waiting
 with_class Dropped a z = a
-with_class Start a z = waiting true a.number (a.start +ℤ z) a.weight
-with_class (Shortcut lo hi) a z = waiting true a.number a.start (a.weight + 1)
-with_class Kept a z = waiting true a.number a.start (a.weight + 65537)
+with_class Start a z = waiting_as a.number (a.start +ℤ z) a.weight
+with_class (Shortcut lo hi) a z = waiting_as a.number a.start (a.weight + 1)
+with_class Kept a z = waiting_as a.number a.start (a.weight + 65537)
 
-abbrev pub with_left : Waiting → Class → ℤ → Waiting
-with_left a f z = cond a.waits (with_class f a z) a
+abbrev pub with_left : Option Waiting → Class → ℤ → Option Waiting
+with_left None f z = None
+with_left (Some a) f z = Some (with_class f a z)
 
 -- after an entry that is no line, curve or shortcut: an area alone weighs 4,294,967,297
-abbrev pub waiting_from : Words → Waiting
-waiting_from w = cond (eqb w.kind 4) (waiting true w.p (to_z w32 w.q) 4294967297) resting
+abbrev pub waiting_from : Words → Option Waiting
+waiting_from w = cond (eqb w.kind 4) (waiting w.p (to_z w32 w.q) 4294967297) resting
 
-abbrev pub waiting_n : Waiting → Class → ℤ → Words → Waiting
+abbrev pub waiting_n : Option Waiting → Class → ℤ → Words → Option Waiting
 waiting_n a f z w = cond (is_segment w.kind) (with_left a f z) (waiting_from w)
 
 -- ---- the pruner
 
--- 0 fails, 1 passes, 2 neither
-abbrev pub class_n : List ℕ → Waiting → ℕ
+abbrev pub class_n : List ℕ → Waiting → ItemClass
 class_n areas a =
     cond (eqb a.weight 4294967297)
-    (cond (pass_at areas a.number a.start) (cond (eqb (get_or areas (a.number * 8) 0) 0) (cond (opaque_at areas a.number) 1 2) 1) 0)
-    2
+    (cond (pass_at areas a.number a.start)
+    (cond (eqb (get_or areas (a.number * 8) 0) 0) (cond (opaque_at areas a.number) Passes Neither) Passes) Fails)
+    Neither
 
-abbrev pub settled_n : List ℕ → Count → Waiting → Count
-settled_n areas c a = cond a.waits (count_step sized_items size_of c (item (role_at areas a.number) (sized (class_of (class_n areas a)) a.weight))) c
+abbrev pub settled_n : List ℕ → Count → Option Waiting → Count
+settled_n areas c None = c
+settled_n areas c (Some a) = count_step sized_items size_of c (item (role_at areas a.number) (sized (class_of (class_n areas a)) a.weight))
 
 abbrev pub moved_n : ℕ → Count → Count
 moved_n kind c =
@@ -89,27 +106,35 @@ moved_n kind c =
 abbrev pub prunes_n : ℕ → Bool
 prunes_n kind = not (is_segment kind)
 
-abbrev pub pruned_n : List ℕ → Count → Waiting → ℕ → Count
+abbrev pub pruned_n : List ℕ → Count → Option Waiting → ℕ → Count
 pruned_n areas c a kind = cond (is_segment kind) c (moved_n kind (settled_n areas c a))
 
-abbrev pub maker : Pruner → Waiting → Maker
+abbrev pub maker : Pruner → Option Waiting → Maker
 maker p a = record { pruner = p; waiting = a }
 
 -- the numbers, weights first, are far from their ends
-pub record Room (p : Pruner) (a : Waiting) (kind : ℕ) : Type 0 where
-  pub weight : p.weight + a.weight < 2 ^ 60
+pub record Room (p : Pruner) (a : Option Waiting) (kind : ℕ) : Type 0 where
+  pub weight : p.weight + weight_in a < 2 ^ 60
   pub base : p.base < 2 ^ 60
-  pub skip : p.skip < 4000
+  pub skip : skip_number (skip_of p.skip) < 4000
   pub depth : p.depth ≤ 8
-  pub deep : kind ≡ 1 → p.skip ≡ 0 → p.depth < 8
+  pub deep : kind ≡ 1 → p.skip ≡ None → p.depth < 8
 
--- the area that waits is one of a table of so many words
-pub record Inside (words : ℕ) (a : Waiting) : Type 0 where
+-- an area that waits is one of a table of so many words
+pub record AreaIn (words : ℕ) (a : Waiting) : Type 0 where
   pub small : nat_abs a.start ≤ 8192
-  pub inside : a.waits ≡ true → a.number * 8 + 8 ≤ words
+  pub inside : a.number * 8 + 8 ≤ words
 
--- what entry w asks of the numbers
-pub record Asks (words : ℕ) (p : Pruner) (a : Waiting) (w : Words) : Type 0 where
-  pub inside : Inside words a
-  pub room : Room p a w.kind
+abbrev pub Inside : (words : ℕ) → Option Waiting → Type 0
+Inside words None = Unit {0}
+Inside words (Some a) = AreaIn words a
+
+-- what entry w, the next, asks of a making read against v
+pub record Asks (v : Env) (m : Maker) (w : Words) : Type 0 where
+  pub inside : Inside (length v.areas) m.waiting
+  pub room : Room m.pruner m.waiting w.kind
   pub start : w.kind ≡ 4 → start_range w.q ≡ true
+  pub left : left_range v.xs v.ys v.used.corners w ≡ true
+  pub sign : nat_abs (left_sign v.xs v.ys w) ≤ 1
+  pub small : nat_abs (start_in m.waiting) ≤ 8192
+  pub light : weight_in m.waiting < 2 ^ 60

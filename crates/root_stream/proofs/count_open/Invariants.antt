@@ -1,15 +1,16 @@
 use Prim.Native.Nat.{◌-◌}
-use Rattle.drawing.specs.Tables.{tables}
+use Rattle.drawing.specs.Tables.{tables_of}
 use Rattle.stream.specs.Grammar.{env}
-use Rattle.making.specs.code.Numbers.{maker}
 use Rattle.root_stream.specs.Opened.{drawing_in}
 use Rattle.root_stream.proofs.Base.{words_in}
 use Rattle.root_stream.proofs.Loop.{Looping}
 use Rattle.root_stream.proofs.count_open.Given as goal
 
 abbrev pub invariant-loop-i : goal.invariant-loop-i
-invariant-loop-i l = Looping (env l.areas l.xs l.ys l.b) (drawing_in (tables l.plan l.areas l.xs l.ys)) l.plan l.records
-    (words_in (tables l.plan l.areas l.xs l.ys)) l.i l.c (maker l.p l.a)
+invariant-loop-i l =
+    let d = l.drawing in
+    let t = tables_of d in
+    Looping (env d.areas.now d.xs.now d.ys.now l.fn.bounds) (drawing_in t) d.plan.now l.records (words_in t) l.i l.source l.m
 
 abbrev pub decreases-loop-i : goal.decreases-loop-i
 decreases-loop-i l = l.records - l.i

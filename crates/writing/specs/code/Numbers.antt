@@ -1,6 +1,6 @@
 -- The words that a making writes, one entry at a time, as the numbers that the code holds; only below a limit, which is the length of what is made.
 -- `Rattle.writing.proofs` says that they are the elements (`Rattle.cells.specs.code.Making`).
-use Rattle.std.specs.Prelude.{cond, List, ℕ, ◌+◌, ◌*◌, ◌%◌, eqb, ltb, get_or, ℤ}
+use Rattle.std.specs.Prelude.{cond, List, ℕ, ◌+◌, ◌*◌, ◌%◌, eqb, ltb, get_or, ℤ, Option, Some, None, is_none}
 use Rattle.std.specs.Int.{w32}
 use Rattle.std.proofs.Common.{of_z}
 use Rattle.geometry.specs.declared.class.Class.{Class}
@@ -14,7 +14,10 @@ use Rattle.stream.specs.Table.{put_at}
 use Rattle.cells.specs.Segments.{drawn, shortcut}
 use Rattle.evaluate.specs.Words.{words, segment_words}
 use Rattle.evaluate.specs.code.Numbers.{line_of}
+use Rattle.pruner.specs.declared.ItemClass.{ItemClass}
+use Rattle.pruner.specs.declared.ItemClass.TheVariants.{Fails, Passes, Neither}
 use Rattle.making.specs.declared.Maker.{Maker}
+use Rattle.making.specs.declared.Waiting.{Waiting}
 use Rattle.making.specs.code.Numbers.{class_n, settled_n}
 
 unfoldable pub put_below : (limit : ℕ) → List ℕ → (at : ℕ) → Words → List ℕ
@@ -32,31 +35,38 @@ kept_put Start limit t at z w = t
 kept_put (Shortcut lo hi) limit t at z w = put_below limit t at (segment_words (shortcut z lo hi))
 kept_put Kept limit t at z w = put_below limit t at (segment_words (drawn (line_of w)))
 
+abbrev pub behind_put : Class → (limit : ℕ) → List ℕ → Pruner → Option Waiting → ℤ → Words → List ℕ
+behind_put f limit t p None z w = t
+behind_put f limit t p (Some a) z w = kept_put f limit t (place_of p.weight + place_of a.weight) z w
+
 abbrev pub segment_put : (limit : ℕ) → List ℕ → Maker → Class → ℤ → Words → List ℕ
-segment_put limit t m f z w =
-    cond (eqb m.pruner.skip 0) (cond m.waiting.waits (kept_put f limit t (place_of m.pruner.weight + place_of m.waiting.weight) z w) t) t
+segment_put limit t m f z w = cond (is_none m.pruner.skip) (behind_put f limit t m.pruner m.waiting z w) t
 
 -- ---- the area that waits
 
-abbrev pub named_put : (limit : ℕ) → List ℕ → Maker → List ℕ
-named_put limit t m = put_below limit t (place_of m.pruner.weight) (words 4 m.waiting.number (of_z w32 m.waiting.start) 0)
+abbrev pub named_put : (limit : ℕ) → List ℕ → Pruner → Waiting → List ℕ
+named_put limit t p a = put_below limit t (place_of p.weight) (words 4 a.number (of_z w32 a.start) 0)
 
 abbrev pub bare_put : (limit : ℕ) → List ℕ → Pruner → List ℕ
 bare_put limit t p = put_below limit t (place_of p.base) (words 7 0 0 0)
 
-abbrev pub class_put : (limit : ℕ) → (areas t : List ℕ) → Maker → ℕ → List ℕ
-class_put limit areas t m k =
-    cond (eqb k 0) t
-    (cond (eqb k 1) (cond (eqb (get_or areas (m.waiting.number * 8) 0) 0) (named_put limit t m) (bare_put limit t m.pruner)) (named_put limit t m))
+abbrev pub class_put : (limit : ℕ) → (areas t : List ℕ) → Pruner → Waiting → ItemClass → List ℕ
+class_put limit areas t p a Fails = t
+class_put limit areas t p a Passes = cond (eqb (get_or areas (a.number * 8) 0) 0) (named_put limit t p a) (bare_put limit t p)
+class_put limit areas t p a Neither = named_put limit t p a
+
+abbrev pub waiting_put : (limit : ℕ) → (areas t : List ℕ) → Pruner → Option Waiting → List ℕ
+waiting_put limit areas t p None = t
+waiting_put limit areas t p (Some a) = class_put limit areas t p a (class_n areas a)
 
 abbrev pub settled_put : (limit : ℕ) → (areas t : List ℕ) → Maker → List ℕ
-settled_put limit areas t m = cond m.waiting.waits (cond (eqb m.pruner.skip 0) (class_put limit areas t m (class_n areas m.waiting)) t) t
+settled_put limit areas t m = cond (is_none m.pruner.skip) (waiting_put limit areas t m.pruner m.waiting) t
 
 -- ---- a delimiter or "passes", after which what is made has this weight
 
 abbrev pub mark_put : (limit : ℕ) → List ℕ → Pruner → (weight kind : ℕ) → List ℕ
 mark_put limit t q n kind =
-    cond (eqb kind 7) (cond (eqb q.skip 0) (bare_put limit t q) t) (cond (ltb q.weight n) (put_below limit t (place_of q.weight) (words kind 0 0 0)) t)
+    cond (eqb kind 7) (cond (is_none q.skip) (bare_put limit t q) t) (cond (ltb q.weight n) (put_below limit t (place_of q.weight) (words kind 0 0 0)) t)
 
 -- the same by the numbers of a count
 abbrev pub mark_on : (limit : ℕ) → List ℕ → Count → (weight kind : ℕ) → List ℕ
