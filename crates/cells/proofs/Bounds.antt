@@ -26,7 +26,7 @@ use Rattle.cells.proofs.Streams.{made_normal}
 
 pub sign_abs : (e : Edge) → nat_abs (sign e) ≤ 1
 unfolding sign
-sign_abs e = go (ltb e.y0 e.y1) (ltb e.y1 e.y0)
+sign_abs e = go (ltb e.from.y e.to.y) (ltb e.to.y e.from.y)
   where
     go : (a b : Bool) → nat_abs (cond a (pos 1) (cond b (negsuc 0) (pos 0))) ≤ 1
     go true b = omega arith

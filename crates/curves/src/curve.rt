@@ -1,21 +1,9 @@
 // A curve, taken from its lower end: where it counts.
-ghost use Rattle.std.specs.Prelude.{◌≡◌, true, ◌≤◌, min, max, nat_abs};
+ghost use Rattle.std.specs.Prelude.{◌≡◌, true, ◌≤◌, nat_abs};
 ghost use Rattle.curves.specs.Curves.{curve_fits, implicit, side_by, side, curve_counts};
 ghost use Rattle.curves.specs.code.Reach.{EndsIn, PositionIn, BoxIn, widest};
 
-use crate::line;
-
-fn larger(a: u32, b: u32) -> u32
-    ensures answer { result ≡ max a b }
-{
-    if a < b { b } else { a }
-}
-
-fn smaller(a: u32, b: u32) -> u32
-    ensures answer { result ≡ min a b }
-{
-    if a < b { a } else { b }
-}
+use crate::{Point, line};
 
 // Document 000's implicit form, of the products of the chord, the first leg and the second.
 fn implicit_form(c: i64, f: i64, s: i64) -> i64
@@ -36,48 +24,48 @@ fn side_by(e: i64, c: i64, f: i64, s: i64) -> bool
 {
     let form = implicit_form(c, f, s);
     if e > 0 {
-        return (c > 0) & (form > 0);
+        c > 0 && form > 0
+    } else if e < 0 {
+        c > 0 || form < 0
+    } else {
+        c > 0
     }
-    if e < 0 {
-        return (c > 0) | (form < 0);
-    }
-    c > 0
 }
 
 // The same by the corners, at a position within the box of the curve.
-fn curve_side(x0: u32, y0: u32, x1: u32, y1: u32, x2: u32, y2: u32, x: u32, y: u32) -> bool
-    requires box_in { BoxIn x0 y0 x1 y1 x2 y2 x y }
-    requires ends_in { EndsIn x0 y0 x2 y2 }
-    requires position_in { PositionIn x1 y1 }
-    requires position_in_2 { PositionIn x y }
-    ensures answer { result ≡ side x0 y0 x1 y1 x2 y2 x y }
+fn curve_side(low: Point, control: Point, high: Point, at: Point) -> bool
+    requires box_in { BoxIn low.x low.y control.x control.y high.x high.y at.x at.y }
+    requires ends_in { EndsIn low.x low.y high.x high.y }
+    requires position_in { PositionIn control.x control.y }
+    requires position_in_2 { PositionIn at.x at.y }
+    ensures answer { result ≡ side low.x low.y control.x control.y high.x high.y at.x at.y }
 {
-    let e = line::signed_product(x0, y0, x2, y2, x1, y1);
-    let c = line::signed_product(x0, y0, x2, y2, x, y);
-    let f = line::signed_product(x0, y0, x1, y1, x, y);
-    let s = line::signed_product(x1, y1, x2, y2, x, y);
+    let e = line::signed_product(low, high, control);
+    let c = line::signed_product(low, high, at);
+    let f = line::signed_product(low, control, at);
+    let s = line::signed_product(control, high, at);
     side_by(e, c, f, s)
 }
 
-// Whether the curve with lower end (x0, y0), control corner (x1, y1) and upper end (x2, y2) counts at (x, y): by its rows, by its box, by its form.
-pub fn curve_counts(x0: u32, y0: u32, x1: u32, y1: u32, x2: u32, y2: u32, x: u32, y: u32) -> bool
-    requires y2_value { curve_fits x0 y0 x1 y1 x2 y2 ≡ true }
-    requires y0_le_y2 { y0 ≤ y2 }
-    requires ends_in { EndsIn x0 y0 x2 y2 }
-    requires position_in { PositionIn x y }
-    ensures answer { result ≡ curve_counts x0 y0 x1 y1 x2 y2 x y }
+// Whether the curve with these ends and this control corner counts at `at`: by its rows, by its box, by its form.
+pub fn curve_counts(low: Point, control: Point, high: Point, at: Point) -> bool
+    requires y2_value { curve_fits low.x low.y control.x control.y high.x high.y ≡ true }
+    requires y0_le_y2 { low.y ≤ high.y }
+    requires ends_in { EndsIn low.x low.y high.x high.y }
+    requires position_in { PositionIn at.x at.y }
+    ensures answer { result ≡ curve_counts low.x low.y control.x control.y high.x high.y at.x at.y }
 {
-    if y < y0 {
+    if at.y < low.y {
         return false;
     }
-    if y2 <= y {
+    if high.y <= at.y {
         return false;
     }
-    if larger(x0, x2) <= x {
+    if low.x.max(high.x) <= at.x {
         return false;
     }
-    if x < smaller(x0, x2) {
+    if at.x < low.x.min(high.x) {
         return true;
     }
-    curve_side(x0, y0, x1, y1, x2, y2, x, y)
+    curve_side(low, control, high, at)
 }

@@ -3,27 +3,24 @@ ghost use Rattle.std.specs.Prelude.{◌≡◌};
 ghost use Rattle.curves.specs.Lines.{product, line_counts};
 ghost use Rattle.curves.specs.code.Reach.{EndsIn, PositionIn};
 
-// The signed product P at (x, y), of the line with lower end (a, b) and upper end (c, d).
-pub fn signed_product(a: u32, b: u32, c: u32, d: u32, x: u32, y: u32) -> i64
-    requires ends_in { EndsIn a b c d }
-    requires position_in { PositionIn x y }
-    ensures answer { result ≡ product a b c d x y }
+use crate::Point;
+
+// The signed product P at `at`, of the line with these ends.
+pub fn signed_product(low: Point, high: Point, at: Point) -> i64
+    requires ends_in { EndsIn low.x low.y high.x high.y }
+    requires position_in { PositionIn at.x at.y }
+    ensures answer { result ≡ product low.x low.y high.x high.y at.x at.y }
 {
-    laws::difference(a, x) * laws::difference(d, b)
-        + laws::difference(y, b) * laws::difference(c, a)
+    laws::difference(low.x, at.x) * laws::difference(high.y, low.y)
+        + laws::difference(at.y, low.y) * laws::difference(high.x, low.x)
 }
 
-// Whether the line with lower end (a, b) and upper end (c, d) counts at (x, y).
-pub fn line_counts(a: u32, b: u32, c: u32, d: u32, x: u32, y: u32) -> bool
-    requires ends_in { EndsIn a b c d }
-    requires position_in { PositionIn x y }
-    ensures answer { result ≡ line_counts a b c d x y }
+// Whether the line with these ends counts at `at`.
+#[tactic(auto, unfolding(crate::specs::Lines::line_counts))]
+pub fn line_counts(low: Point, high: Point, at: Point) -> bool
+    requires ends_in { EndsIn low.x low.y high.x high.y }
+    requires position_in { PositionIn at.x at.y }
+    ensures answer { result ≡ line_counts low.x low.y high.x high.y at.x at.y }
 {
-    if y < b {
-        return false;
-    }
-    if d <= y {
-        return false;
-    }
-    signed_product(a, b, c, d, x, y) > 0
+    low.y <= at.y && at.y < high.y && signed_product(low, high, at) > 0
 }

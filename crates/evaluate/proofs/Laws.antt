@@ -118,12 +118,12 @@ module _ (xs ys : List ℕ) (used : ℕ) where
       let p = both (corner_met xs ys used a) (corner_met xs ys used b) h in
       let u = met_in xs ys used a p.0 in
       let v = met_in xs ys used b p.1 in
-      record { ends = record { first_x = omega arith; first_y = omega arith; second_x = omega arith; second_y = omega arith }; fits = λ e. clash e }
+      record { ends = record { first_x = omega arith; first_y = omega arith; second_x = omega arith; second_y = omega arith }; fits = tt }
   line_edge (curve a) h =
       let p = curve_parts a h in
       let u = met_in xs ys used a p.0 in
       let v = met_in xs ys used (a + 2) p.1 in
-      record { ends = record { first_x = omega arith; first_y = omega arith; second_x = omega arith; second_y = omega arith }; fits = λ _. p.2 }
+      record { ends = record { first_x = omega arith; first_y = omega arith; second_x = omega arith; second_y = omega arith }; fits = p.2 }
 
 below_more : (m n : ℕ) (l : Line) → LineBelow m l → m ≤ n → LineBelow n l
 below_more m n (line a b) h k = (omega arith, omega arith)

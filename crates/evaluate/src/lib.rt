@@ -19,6 +19,7 @@ ghost use Rattle.stream.specs.code.Machine.{run_length};
 ghost use Rattle.evaluate.specs.Reading.{role_at, pass_at, opaque_at, set_at};
 ghost use Rattle.evaluate.specs.code.Numbers.{line_of, segment_range, segment_adds, segments_sum, moved_by, SegmentsIn, Ranged, Onward};
 
+use curves::Point;
 use geometry::edge::Edge;
 use geometry::fill::FillRule;
 use geometry::{fill, winding};
@@ -58,8 +59,7 @@ fn line_adds(xs: &[u32], ys: &[u32], w: Words, x: u32, y: u32) -> i64
     requires position_in { PositionIn x y }
     ensures answer { result ≡ adds (edge_of xs.now ys.now (line_of w)) x y }
 {
-    let e = edge_of(xs, ys, w);
-    winding::edge_adds(e, x, y)
+    edge_of(xs, ys, w).adds(Point { x, y })
 }
 
 // Whether an area with this winding passes.
@@ -85,9 +85,9 @@ fn after_area(areas: &[u32], m: Machine, n: u32, sum: i64) -> Machine
     let passes = area_passes(areas, n as usize, sum);
     if areas[at] == records::PAINT {
         let opaque = areas[at + records::ALPHA] == records::OPAQUE;
-        return machine::after_paint(m, passes, opaque, n);
+        return m.after_paint(passes, opaque, n);
     }
-    machine::after_clip(m, passes)
+    m.after_clip(passes)
 }
 
 // The start number of an area.
@@ -169,14 +169,14 @@ fn moved(m: Machine, kind: u32) -> Machine
     ensures answer { (meant result ≡ moved_by kind (meant m)) × (result.depth ≤ m.depth + 1) }
 {
     match kind {
-        stream::ENTRY_OPEN => machine::after_open(m),
-        stream::ENTRY_BAR => machine::after_bar(m),
-        stream::ENTRY_CLOSE => machine::after_close(m),
+        stream::ENTRY_OPEN => m.after_open(),
+        stream::ENTRY_BAR => m.after_bar(),
+        stream::ENTRY_CLOSE => m.after_close(),
         _ => {
             if stream::is_segment(kind) {
                 return m;
             }
-            machine::after_clip(m, true)
+            m.after_clip(true)
         }
     }
 }
@@ -262,7 +262,7 @@ pub fn read_stream(
     ensures answer { result ≡ set_at areas.now xs.now ys.now x y (words_from entries.now first count) }
 {
     let end = first + count;
-    let mut m = machine::begun();
+    let mut m = Machine::begun();
     let mut i = first;
     while i < end {
         if m.state == machine::STOPPED {

@@ -1,6 +1,6 @@
 -- A drawn edge, straight or bent, is a segment.
 use mathlib.Core.Path.{subst₃, fun_ext}
-use mathlib.Core.Bool.{Bool, true, false, cond}
+use mathlib.Core.Bool.{Bool, cond}
 use Prim.Native.Nat.{ℕ, ◌≤◌, min, max}
 use native.Mathlib.Omega.{arith}
 use native.Mathlib.Decide.{dec_le}
@@ -9,7 +9,9 @@ use borrow.Author.Tests.{lt-leb, le-leb}
 use Rattle.curves.proofs.Segments.{Segment}
 use Rattle.curves.proofs.Lines.{line_segment}
 use Rattle.curves.proofs.Shapes.{curve_segment}
-use Rattle.geometry.specs.Edges.{straight_counts, bent_counts, counts, first_row, end_row}
+use Rattle.geometry.specs.Edges.{counts_by, counts, first_row, end_row}
+use Rattle.std.specs.Prelude.{Option, Some, None}
+use Rattle.curves.specs.declared.Point.{Point}
 use Rattle.geometry.specs.declared.edge.Edge.{Edge}
 
 -- between the rows b and d: f from the end in row b, g from the end in row d, taken from the lower one
@@ -22,10 +24,12 @@ from_lower f g b d up down = go (dec_le b d)
 
 pub edge_segment : (e : Edge) → Segment (counts e) (first_row e) (end_row e)
 unfolding counts
-edge_segment e = go e.bent
+edge_segment e = go e.control
   where
-    go : (b : Bool) → Segment (λ x y. cond b (bent_counts e.x0 e.y0 e.cx e.cy e.x1 e.y1 x y) (straight_counts e x y)) (first_row e) (end_row e)
-    go true =
-        from_lower _ _ e.y0 e.y1 (curve_segment e.x0 e.y0 e.cx e.cy e.x1 e.y1)
-        (curve_segment e.x1 e.y1 e.cx e.cy e.x0 e.y0)
-    go false = from_lower _ _ e.y0 e.y1 (line_segment e.x0 e.y0 e.x1 e.y1) (line_segment e.x1 e.y1 e.x0 e.y0)
+    go : (k : Option Point) → Segment (counts_by k e) (first_row e) (end_row e)
+    go (Some c) =
+        from_lower _ _ e.from.y e.to.y (curve_segment e.from.x e.from.y c.x c.y e.to.x e.to.y)
+        (curve_segment e.to.x e.to.y c.x c.y e.from.x e.from.y)
+    go None =
+        from_lower _ _ e.from.y e.to.y (line_segment e.from.x e.from.y e.to.x e.to.y)
+        (line_segment e.to.x e.to.y e.from.x e.from.y)

@@ -11,12 +11,14 @@ use Rattle.curves.proofs.Sentences.{order_up, rise_of, sentence}
 use Rattle.curves.proofs.Boxes.{fits_says, fits_turn}
 use Rattle.geometry.specs.Edges.{counts}
 use Rattle.geometry.specs.code.Reach.{CurveIn}
+use Rattle.std.specs.Prelude.{Some}
+use Rattle.curves.specs.declared.Point.{Point}
 use Rattle.geometry.specs.declared.edge.Edge.{Edge}
 
 -- document 02: "Taken from its lower end"
-pub record BentBy (e : Edge) (x y : ℕ) : Type 0 where
-  pub upward : e.y0 ≤ e.y1 → CountsBy e.x0 e.y0 e.cx e.cy e.x1 e.y1 x y
-  pub downward : e.y1 < e.y0 → CountsBy e.x1 e.y1 e.cx e.cy e.x0 e.y0 x y
+pub record BentBy (e : Edge) (c : Point) (x y : ℕ) : Type 0 where
+  pub upward : e.from.y ≤ e.to.y → CountsBy e.from.x e.from.y c.x c.y e.to.x e.to.y x y
+  pub downward : e.to.y < e.from.y → CountsBy e.to.x e.to.y c.x c.y e.from.x e.from.y x y
 
 -- a curve from its lower end
 from_lower : (x0 y0 x1 y1 x2 y2 x y : ℕ) → curve_fits x0 y0 x1 y1 x2 y2 ≡ true → y0 ≤ y2
@@ -26,28 +28,31 @@ from_lower x0 y0 x1 y1 x2 y2 x y f h =
     let u = order_up y0 y1 y2 k.upward h in
     sentence x0 y0 x1 y1 x2 y2 x y (rise_of y0 y1 y2 u.0 u.1) k.across
 
-module _ (e : Edge) (b : e.bent ≡ true) (k : CurveIn e) (x y : ℕ) where
-  bent_up : e.y0 ≤ e.y1 → counts e x y ≡ curve_counts e.x0 e.y0 e.cx e.cy e.x1 e.y1 x y
-  unfolding counts
-  bent_up h = rw (b, le-leb e.y0 e.y1 h)
+module _ (e : Edge) (c : Point) (b : e.control ≡ Some c) (k : CurveIn e) (x y : ℕ) where
+  fits : curve_fits e.from.x e.from.y c.x c.y e.to.x e.to.y ≡ true
+  fits = rw b at k
 
-  bent_down : e.y1 < e.y0 → counts e x y ≡ curve_counts e.x1 e.y1 e.cx e.cy e.x0 e.y0 x y
+  bent_up : e.from.y ≤ e.to.y → counts e x y ≡ curve_counts e.from.x e.from.y c.x c.y e.to.x e.to.y x y
   unfolding counts
-  bent_down h = rw (b, lt-leb e.y0 e.y1 h)
+  bent_up h = rw (b, le-leb e.from.y e.to.y h)
 
-  pub bent_sentence : (T (counts e x y) → BentBy e x y) × (BentBy e x y → T (counts e x y))
-  bent_sentence = go (dec_le e.y0 e.y1)
+  bent_down : e.to.y < e.from.y → counts e x y ≡ curve_counts e.to.x e.to.y c.x c.y e.from.x e.from.y x y
+  unfolding counts
+  bent_down h = rw (b, lt-leb e.from.y e.to.y h)
+
+  pub bent_sentence : (T (counts e x y) → BentBy e c x y) × (BentBy e c x y → T (counts e x y))
+  bent_sentence = go (dec_le e.from.y e.to.y)
     where
-      go : Dec (e.y0 ≤ e.y1) → (T (counts e x y) → BentBy e x y) × (BentBy e x y → T (counts e x y))
+      go : Dec (e.from.y ≤ e.to.y) → (T (counts e x y) → BentBy e c x y) × (BentBy e c x y → T (counts e x y))
       go (yes h) =
-          let s = from_lower e.x0 e.y0 e.cx e.cy e.x1 e.y1 x y (k b) h in (
+          let s = from_lower e.from.x e.from.y c.x c.y e.to.x e.to.y x y fits h in (
             (λ t. record { upward = λ p. s.0 (subst T (bent_up h) t); downward = λ p. absurd (omega arith) }),
-            (λ c. subst T (sym (bent_up h)) (s.1 (c.upward h))),
+            (λ t. subst T (sym (bent_up h)) (s.1 (t.upward h))),
           )
       go (no h) =
-          let l : e.y1 < e.y0 = omega arith in
-          let s = from_lower e.x1 e.y1 e.cx e.cy e.x0 e.y0 x y
-          (sym (fits_turn e.x0 e.y0 e.cx e.cy e.x1 e.y1) ∙ k b) (omega arith) in (
+          let l : e.to.y < e.from.y = omega arith in
+          let s = from_lower e.to.x e.to.y c.x c.y e.from.x e.from.y x y
+          (sym (fits_turn e.from.x e.from.y c.x c.y e.to.x e.to.y) ∙ fits) (omega arith) in (
             (λ t. record { upward = λ p. absurd (omega arith); downward = λ p. s.0 (subst T (bent_down l) t) }),
-            (λ c. subst T (sym (bent_down l)) (s.1 (c.downward l))),
+            (λ t. subst T (sym (bent_down l)) (s.1 (t.downward l))),
           )

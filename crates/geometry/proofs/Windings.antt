@@ -48,7 +48,7 @@ pub adds_abs : (e : Edge) (x y : ℕ) → nat_abs (adds e x y) ≤ 1
 unfolding adds sign
 adds_abs e x y =
     abs_one (counts e x y) _ _
-    (abs_one (ltb e.y0 e.y1) _ _ (omega arith) (abs_one (ltb e.y1 e.y0) _ _ (omega arith) (omega arith))) (omega arith)
+    (abs_one (ltb e.from.y e.to.y) _ _ (omega arith) (abs_one (ltb e.to.y e.from.y) _ _ (omega arith) (omega arith))) (omega arith)
 
 pub sum_abs : (xs ys : List ℕ) (ls : List Line) (x y : ℕ) → nat_abs (sum_of xs ys ls x y) ≤ length ls
 unfolding sum_of

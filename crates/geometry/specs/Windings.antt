@@ -1,6 +1,7 @@
 -- Document 01, "Drawing" and "Winding and meaning", and document 02, Item 2: the edges of an area, and its winding at a position.
-use Rattle.std.specs.Prelude.{Bool, true, false, cond, ◌&&◌, List, [], ◌∷◌, ◌++◌, ℕ, zero, suc, ◌+◌, ◌-◌, leb, ltb, get_or, ℤ, pos, ◌+ℤ◌}
+use Rattle.std.specs.Prelude.{Bool, cond, ◌&&◌, Some, None, List, [], ◌∷◌, ◌++◌, ℕ, zero, suc, ◌+◌, ◌-◌, leb, ltb, get_or, ℤ, pos, ◌+ℤ◌}
 use Rattle.geometry.specs.Edges.{counts, sign}
+use Rattle.curves.specs.declared.Point.{Point}
 use Rattle.geometry.specs.declared.edge.Edge.{Edge}
 
 -- a line by the numbers of its two corners, drawn from the one to the other; a curve by the number of its first corner, of which the control corner
@@ -9,19 +10,13 @@ pub data Line : Type 0 where
   line : (from to : ℕ) → Line
   curve : (from : ℕ) → Line
 
--- the edge of a line: "corner coordinates lie in lent 32-bit tables"
+-- a corner, and the edge of a line: "corner coordinates lie in lent 32-bit tables"
+abbrev pub corner_of : (xs ys : List ℕ) → (n : ℕ) → Point
+corner_of xs ys n = record { x = get_or xs n 0; y = get_or ys n 0 }
+
 abbrev pub edge_of : (xs ys : List ℕ) → Line → Edge
-edge_of xs ys (line p q) = record { x0 = get_or xs p 0; y0 = get_or ys p 0; x1 = get_or xs q 0; y1 = get_or ys q 0; bent = false; cx = 0; cy = 0 }
-edge_of xs ys (curve p) =
-    record {
-      x0 = get_or xs p 0;
-      y0 = get_or ys p 0;
-      x1 = get_or xs (p + 2) 0;
-      y1 = get_or ys (p + 2) 0;
-      bent = true;
-      cx = get_or xs (p + 1) 0;
-      cy = get_or ys (p + 1) 0;
-    }
+edge_of xs ys (line p q) = record { from = corner_of xs ys p; to = corner_of xs ys q; control = None }
+edge_of xs ys (curve p) = record { from = corner_of xs ys p; to = corner_of xs ys (p + 2); control = Some (corner_of xs ys (p + 1)) }
 
 -- from a corner to the next that is no control corner: straight, or by the control corner between them
 pub data Piece : Type 0 where

@@ -1,87 +1,81 @@
-// A drawn edge: where it counts, its sign and its rows.
+// A drawn edge: where it counts, its sign, its rows, and what it adds to a winding.
 ghost use Rattle.std.specs.Prelude.{◌≡◌, true};
 ghost use Rattle.curves.specs.Curves.{curve_fits};
 ghost use Rattle.curves.specs.code.Reach.{EndsIn, PositionIn};
 ghost use Rattle.geometry.specs.code.Reach.{EdgeIn};
 ghost use Rattle.geometry.specs.Edges.{bent_counts, counts, sign, first_row, end_row};
+ghost use Rattle.geometry.specs.Windings.{adds};
 
-// An edge drawn from (x0, y0) to (x1, y1): a curve with the control corner (cx, cy) where it is bent, else straight, and cx and cy are 0.
+use curves::{Point, curve, line};
+use std::ops::Range;
+
+// An edge drawn from one corner to another: a curve where it has a control corner, else straight. Contracts ask its range (EdgeIn), which no ghost field
+// holds: `edge_between` and `curve_from` make edges of any tables.
 #[derive(Clone, Copy)]
 pub struct Edge {
-    pub x0: u32,
-    pub y0: u32,
-    pub x1: u32,
-    pub y1: u32,
-    pub bent: bool,
-    pub cx: u32,
-    pub cy: u32,
+    pub from: Point,
+    pub to: Point,
+    pub control: Option<Point>,
 }
 
-// The rows of an edge: the first, and the one past the last. None where they are equal.
-#[derive(Clone, Copy)]
-pub struct Rows {
-    pub first: u32,
-    pub end: u32,
-}
-
-// Whether the curve drawn from (x0, y0) by the control corner (cx, cy) to (x1, y1) counts at (x, y).
-pub fn bent_counts(x0: u32, y0: u32, cx: u32, cy: u32, x1: u32, y1: u32, x: u32, y: u32) -> bool
-    requires ends_in { EndsIn x0 y0 x1 y1 }
-    requires y1_value { curve_fits x0 y0 cx cy x1 y1 ≡ true }
-    requires position_in { PositionIn x y }
-    ensures answer { result ≡ bent_counts x0 y0 cx cy x1 y1 x y }
+// Whether the curve drawn from `from` by the control corner to `to` counts at `at`.
+pub fn bent_counts(from: Point, control: Point, to: Point, at: Point) -> bool
+    requires ends_in { EndsIn from.x from.y to.x to.y }
+    requires y1_value { curve_fits from.x from.y control.x control.y to.x to.y ≡ true }
+    requires position_in { PositionIn at.x at.y }
+    ensures answer { result ≡ bent_counts from.x from.y control.x control.y to.x to.y at.x at.y }
 {
-    let upward = y0 <= y1;
-    if upward {
-        curves::curve::curve_counts(x0, y0, cx, cy, x1, y1, x, y)
+    if from.y <= to.y {
+        curve::curve_counts(from, control, to, at)
     } else {
-        curves::curve::curve_counts(x1, y1, cx, cy, x0, y0, x, y)
+        curve::curve_counts(to, control, from, at)
     }
 }
 
-// Whether an edge counts at (x, y).
-pub fn edge_counts(e: Edge, x: u32, y: u32) -> bool
-    requires edge_in { EdgeIn e }
-    requires position_in { PositionIn x y }
-    ensures answer { result ≡ counts e x y }
-{
-    if e.bent {
-        return bent_counts(e.x0, e.y0, e.cx, e.cy, e.x1, e.y1, x, y);
-    }
-    if e.y0 <= e.y1 {
-        curves::line::line_counts(e.x0, e.y0, e.x1, e.y1, x, y)
-    } else {
-        curves::line::line_counts(e.x1, e.y1, e.x0, e.y0, x, y)
-    }
-}
-
-// +1 where it is drawn upward, -1 downward, 0 where it is level.
-pub fn edge_sign(e: Edge) -> i64
-    ensures answer { result ≡ sign e }
-{
-    if e.y0 < e.y1 {
-        1
-    } else if e.y1 < e.y0 {
-        -1
-    } else {
-        0
-    }
-}
-
-// The rows of an edge.
-pub fn rows_of(e: Edge) -> Rows
-    ensures first { result.first ≡ first_row e }
-    ensures end { result.end ≡ end_row e }
-{
-    if e.y0 < e.y1 {
-        Rows {
-            first: e.y0,
-            end: e.y1,
+impl Edge {
+    // Whether an edge counts at `at`.
+    #[tactic(auto, unfolding(crate::specs::Edges::counts))]
+    pub fn counts(self, at: Point) -> bool
+        requires edge_in { EdgeIn self }
+        requires position_in { PositionIn at.x at.y }
+        ensures answer { result ≡ counts self at.x at.y }
+    {
+        match self.control {
+            Some(control) => bent_counts(self.from, control, self.to, at),
+            None if self.from.y <= self.to.y => line::line_counts(self.from, self.to, at),
+            None => line::line_counts(self.to, self.from, at),
         }
-    } else {
-        Rows {
-            first: e.y1,
-            end: e.y0,
+    }
+
+    // +1 where it is drawn upward, -1 downward, 0 where it is level.
+    #[tactic(auto, unfolding(crate::specs::Edges::sign))]
+    pub fn sign(self) -> i64
+        ensures answer { result ≡ sign self }
+    {
+        if self.from.y < self.to.y {
+            1
+        } else if self.to.y < self.from.y {
+            -1
+        } else {
+            0
         }
+    }
+
+    // What an edge adds to the winding at `at`.
+    #[tactic(auto, unfolding(crate::specs::Windings::adds))]
+    pub fn adds(self, at: Point) -> i64
+        requires edge_in { EdgeIn self }
+        requires position_in { PositionIn at.x at.y }
+        ensures answer { result ≡ adds self at.x at.y }
+    {
+        if self.counts(at) { self.sign() } else { 0 }
+    }
+
+    // The rows of an edge; none where it is level.
+    pub fn rows(self) -> Range<u32>
+        ensures first { result.start ≡ first_row self }
+        ensures end { result.end ≡ end_row self }
+    {
+        self.from.y.min(self.to.y)..self.from.y.max(self.to.y)
     }
 }

@@ -1,11 +1,20 @@
 // The winding of an area at a position, with no tree.
-ghost use Rattle.std.specs.Prelude.{◌≡◌, true, T, length, ◌+◌, ◌-◌, ◌≤◌, ◌<◌};
+ghost use Rattle.std.specs.Prelude.{◌≡◌, T, length, ◌+◌, ◌-◌, ◌≤◌, ◌<◌};
 ghost use Rattle.curves.specs.code.Reach.{PositionIn};
-ghost use Rattle.geometry.specs.code.Reach.{EdgeIn, CornersIn};
-ghost use Rattle.geometry.specs.Windings.{line, curve, edge_of, next_corner, straight_lines, adds, sum_of, winding, contours_to, follow};
+ghost use Rattle.geometry.specs.code.Reach.{CornersIn};
+ghost use Rattle.geometry.specs.Windings.{line, curve, corner_of, edge_of, next_corner, straight_lines, adds, sum_of, winding, contours_to, follow};
 
-use crate::edge;
 use crate::edge::Edge;
+use curves::Point;
+
+// Corner n of the tables.
+fn corner(xs: &[u32], ys: &[u32], n: usize) -> Point
+    requires n_in_bounds { n < length xs.now }
+    requires n_in_bounds_2 { n < length ys.now }
+    ensures answer { result ≡ corner_of xs.now ys.now n }
+{
+    Point { x: xs[n], y: ys[n] }
+}
 
 // The edge drawn from corner p to corner q.
 pub fn edge_between(xs: &[u32], ys: &[u32], p: usize, q: usize) -> Edge
@@ -16,13 +25,9 @@ pub fn edge_between(xs: &[u32], ys: &[u32], p: usize, q: usize) -> Edge
     ensures answer { result ≡ edge_of xs.now ys.now (line p q) }
 {
     Edge {
-        x0: xs[p],
-        y0: ys[p],
-        x1: xs[q],
-        y1: ys[q],
-        bent: false,
-        cx: 0,
-        cy: 0,
+        from: corner(xs, ys, p),
+        to: corner(xs, ys, q),
+        control: None,
     }
 }
 
@@ -33,42 +38,9 @@ pub fn curve_from(xs: &[u32], ys: &[u32], p: usize) -> Edge
     ensures answer { result ≡ edge_of xs.now ys.now (curve p) }
 {
     Edge {
-        x0: xs[p],
-        y0: ys[p],
-        x1: xs[p + 2],
-        y1: ys[p + 2],
-        bent: true,
-        cx: xs[p + 1],
-        cy: ys[p + 1],
-    }
-}
-
-// What a curve adds to the winding at (x, y).
-fn bent_adds(e: Edge, x: u32, y: u32) -> i64
-    requires edge_in { EdgeIn e }
-    requires bent_value { e.bent ≡ true }
-    requires position_in { PositionIn x y }
-    ensures answer { result ≡ adds e x y }
-{
-    if edge::bent_counts(e.x0, e.y0, e.cx, e.cy, e.x1, e.y1, x, y) {
-        return edge::edge_sign(e);
-    }
-    0
-}
-
-// What an edge adds to the winding at (x, y). A curve goes its own way, so that a straight edge's stays short.
-pub fn edge_adds(e: Edge, x: u32, y: u32) -> i64
-    requires edge_in { EdgeIn e }
-    requires position_in { PositionIn x y }
-    ensures answer { result ≡ adds e x y }
-{
-    if e.bent {
-        return bent_adds(e, x, y);
-    }
-    if edge::edge_counts(e, x, y) {
-        edge::edge_sign(e)
-    } else {
-        0
+        from: corner(xs, ys, p),
+        to: corner(xs, ys, p + 2),
+        control: Some(corner(xs, ys, p + 1)),
     }
 }
 
@@ -92,8 +64,7 @@ fn corner_adds(xs: &[u32], ys: &[u32], first: usize, end: usize, i: usize, x: u3
     ensures answer { result ≡ adds (edge_of xs.now ys.now (line i (next_corner first end i))) x y }
 {
     let next = next_corner(first, end, i);
-    let e = edge_between(xs, ys, i, next);
-    edge_adds(e, x, y)
+    edge_between(xs, ys, i, next).adds(Point { x, y })
 }
 
 // The sum over the edges of one contour, which begins at corner `first` and ends before corner `end`.
@@ -105,10 +76,8 @@ fn contour_winding(xs: &[u32], ys: &[u32], first: usize, end: usize, x: u32, y: 
     ensures answer { result ≡ sum_of xs.now ys.now (straight_lines first first (end - first)) x y }
 {
     let mut sum: i64 = 0;
-    let mut i = first;
-    while i < end {
+    for i in first..end {
         sum += corner_adds(xs, ys, first, end, i, x, y);
-        i += 1;
     }
     sum
 }
@@ -123,12 +92,10 @@ pub fn area_winding(xs: &[u32], ys: &[u32], ends: &[u32], x: u32, y: u32) -> i64
 {
     let mut sum: i64 = 0;
     let mut first = 0;
-    let mut k = 0;
-    while k < ends.len() {
-        let end = laws::wide(ends[k]);
+    for end in ends {
+        let end = *end as usize;
         sum += contour_winding(xs, ys, first, end, x, y);
         first = end;
-        k += 1;
     }
     sum
 }

@@ -7,6 +7,7 @@ ghost use Rattle.grammar.specs.Grammar.{is_short, one_more};
 ghost use Rattle.grammar.specs.code.Machine.{role_n, breaks_n, stands_n, fits_n, ends_short_n, in_limit_n, no_contour_n, after_n, step_n};
 ghost use Rattle.grammar.specs.code.Machine.{advance_n, start_n, end_state_n, ended_n};
 
+use curves::Point;
 use records::Record;
 use refusals::{Refusal, Refused};
 
@@ -67,7 +68,11 @@ impl State {
     {
         match (self.control, r) {
             (Some((x1, y1)), Record::Next(x, y)) => {
-                !curves::curve_fits(self.x0, self.y0, x1, y1, x, y)
+                let first = Point {
+                    x: self.x0,
+                    y: self.y0,
+                };
+                !curves::curve_fits(first, Point { x: x1, y: y1 }, Point { x, y })
             }
             _ => false,
         }

@@ -8,7 +8,7 @@ ghost use Rattle.std.specs.Prelude.{◌≡◌, pos, ◌-ℤ◌};
 pub fn difference(a: u32, b: u32) -> i64
     ensures answer { result ≡ pos a -ℤ pos b }
 {
-    (a as i64) - (b as i64)
+    i64::from(a) - i64::from(b)
 }
 
 // A word as an index.

@@ -20,7 +20,6 @@ ghost use Rattle.making.specs.code.Numbers.{class_n, settled_n, moved_n, prunes_
 ghost use Rattle.making.specs.code.Numbers.{pruned_n, start_in, weight_in, Room, AreaIn, Inside, Asks};
 
 use geometry::class::{Class, Square};
-use geometry::{class, edge};
 use pruner::{ItemClass, Pruner};
 use stream::{Context, Words};
 
@@ -47,8 +46,8 @@ fn line_left(xs: &[u32], ys: &[u32], s: Square, w: Words) -> Left
         × (result.class ≡ edge_class (edge_of xs.now ys.now (line_of w)) s) }
 {
     let e = evaluate::edge_of(xs, ys, w);
-    let sign = edge::edge_sign(e);
-    let class = class::classify(e, s);
+    let sign = e.sign();
+    let class = s.classify(e);
     Left { sign, class }
 }
 
@@ -57,7 +56,7 @@ fn shortcut_left(s: Square, w: Words) -> Left
     requires square_in { SquareIn s }
     ensures answer { (result.sign ≡ to_z w32 w.p) × (result.class ≡ cut w.q w.r s.y s.side) }
 {
-    let class = class::cut_rows(w.q, w.r, s);
+    let class = s.cut_rows(w.q, w.r);
     let sign = if w.p == stream::PLUS_ONE { 1 } else { -1 };
     Left { sign, class }
 }

@@ -8,6 +8,8 @@ use lib.Dec.{T}
 use lib.ListN.{get_or}
 use Rattle.laws.proofs.Booleans.{clash}
 use Rattle.curves.specs.Curves.{curve_fits}
+use Rattle.std.specs.Prelude.{Some}
+use Rattle.curves.specs.declared.Point.{Point}
 use Rattle.geometry.specs.Edges.{counts}
 use Rattle.geometry.specs.Windings.{Line, edge_of, lines_from, lines_of}
 use Rattle.geometry.specs.code.Reach.{CurveIn}
@@ -42,14 +44,14 @@ module _ (xs ys : List ℕ) where
   curve_here : (rs : List Record) (p : Progress) (c first : ℕ) → Runs p rs → From c (p.x0 ∷ x_words rs) (p.y0 ∷ y_words rs)
       → CurveIn (edge_of xs ys (edge_from rs c first))
   unfolding joined
-  curve_here [] p c first h f = λ e. clash e
-  curve_here (Area g ∷ rs) p c first h f = λ e. clash e
-  curve_here (First x y ∷ rs) p c first h f = λ e. clash e
-  curve_here (Next x y ∷ rs) p c first h f = λ e. clash e
+  curve_here [] p c first h f = tt
+  curve_here (Area g ∷ rs) p c first h f = tt
+  curve_here (First x y ∷ rs) p c first h f = tt
+  curve_here (Next x y ∷ rs) p c first h f = tt
   curve_here (Control u v ∷ []) p c first h f = clash (sym h.1.0)
   curve_here (Control u v ∷ Area g ∷ rs) p c first h f = clash h.1.0.fit
   curve_here (Control u v ∷ First x y ∷ rs) p c first h f = clash h.1.0.fit
-  curve_here (Control u v ∷ Next x y ∷ rs) p c first h f = λ e.
+  curve_here (Control u v ∷ Next x y ∷ rs) p c first h f =
       rw (
         follows_here xs 0 c p.x0 (x_words (Control u v ∷ Next x y ∷ rs)) f.0,
         follows_here ys 0 c p.y0 (y_words (Control u v ∷ Next x y ∷ rs)) f.1,
@@ -63,9 +65,9 @@ module _ (xs ys : List ℕ) where
   curve_here (Control u v ∷ Open ∷ rs) p c first h f = clash h.1.0.fit
   curve_here (Control u v ∷ Bar ∷ rs) p c first h f = clash h.1.0.fit
   curve_here (Control u v ∷ Close ∷ rs) p c first h f = clash h.1.0.fit
-  curve_here (Open ∷ rs) p c first h f = λ e. clash e
-  curve_here (Bar ∷ rs) p c first h f = λ e. clash e
-  curve_here (Close ∷ rs) p c first h f = λ e. clash e
+  curve_here (Open ∷ rs) p c first h f = tt
+  curve_here (Bar ∷ rs) p c first h f = tt
+  curve_here (Close ∷ rs) p c first h f = tt
 
   rest_curves : (rs : List Record) (p : Progress) (c first : ℕ) → Runs p rs → From c (x_words rs) (y_words rs) → CurvesIn xs ys (rest_lines rs c first)
   unfolding joined
@@ -126,14 +128,15 @@ module _ (xs ys : List ℕ) where
   abbrev pub EachBy : List Line → Type 0
   EachBy [] = Unit {0}
   EachBy (l ∷ ls) =
-      ((edge_of xs ys l).bent ≡ true
+      ((c : Point)
+      → (edge_of xs ys l).control ≡ Some c
       → (x y : ℕ)
-      → (T (counts (edge_of xs ys l) x y) → BentBy (edge_of xs ys l) x y) × (BentBy (edge_of xs ys l) x y → T (counts (edge_of xs ys l) x y)))
+      → (T (counts (edge_of xs ys l) x y) → BentBy (edge_of xs ys l) c x y) × (BentBy (edge_of xs ys l) c x y → T (counts (edge_of xs ys l) x y)))
       × EachBy ls
 
   each_by : (ls : List Line) → CurvesIn xs ys ls → EachBy ls
   each_by [] h = tt
-  each_by (l ∷ ls) h = ((λ b x y. bent_sentence (edge_of xs ys l) b h.0 x y), each_by ls h.1)
+  each_by (l ∷ ls) h = ((λ c b x y. bent_sentence (edge_of xs ys l) c b h.0 x y), each_by ls h.1)
 
 -- of an accepted drawing
 pub curves_by_sentence : (rs : List Record) (k : Counts) → Acceptable rs k → (n : ℕ) → EachBy (x_words rs) (y_words rs) (lines (drawing_from rs) n)

@@ -1,5 +1,5 @@
 -- The numbers of an accepted drawing, as words in tables that hold it, are in the ranges of the check of streams.
-use mathlib.Core.Path.{◌≡◌, refl, sym, ap, ap₂, ◌∙◌}
+use mathlib.Core.Path.{◌≡◌, refl, sym, subst, ap, ap₂, ◌∙◌}
 use mathlib.Core.Bool.{Bool, true, false, cond, ◌&&◌}
 use mathlib.Core.List.{List, [], ◌∷◌}
 use Prim.Native.Nat.{ℕ, suc, ◌+◌, ◌-◌, ◌≤◌, ◌<◌}
@@ -88,7 +88,7 @@ module _ (D : Drawing) (areas xs ys : List ℕ) (b : Bounds) (H : Held areas xs 
       and_both (met i && (met (i + 1) && met (i + 2))) _
       (and_both (met i) (met (i + 1) && met (i + 2)) (corner_met_law ok i (omega arith))
       (and_both (met (i + 1)) (met (i + 2)) (corner_met_law ok (i + 1) (omega arith)) (corner_met_law ok (i + 2) h)))
-      (ap (λ (e : Edge). curve_fits e.x0 e.y0 e.cx e.cy e.x1 e.y1) (edge_same (curve i) h) ∙ f refl)
+      (subst CurveIn (sym (edge_same (curve i) h)) f)
 
   -- in a cell whose low row and side are those that the stream is read against
   module _ (c : Cell) (same_low : b.low ≡ low c) (same_side : b.side ≡ side c) where

@@ -24,11 +24,11 @@ use Rattle.ranges.specs.code.Valid.{CornersBelow, CurvesIn}
 -- an edge that has rows is drawn upward or downward
 sign_one : (e : Edge) → first_row e < end_row e → nat_abs (sign e) ≡ 1
 unfolding sign
-sign_one e h = go (dec_lt e.y0 e.y1)
+sign_one e h = go (dec_lt e.from.y e.to.y)
   where
-    go : Dec (e.y0 < e.y1) → nat_abs (cond (ltb e.y0 e.y1) (pos 1) (cond (ltb e.y1 e.y0) (negsuc 0) (pos 0))) ≡ 1
-    go (yes p) = rw (lt-ltb e.y0 e.y1 p)
-    go (no p) = rw (le-ltb e.y0 e.y1 (omega arith), lt-ltb e.y1 e.y0 (omega arith))
+    go : Dec (e.from.y < e.to.y) → nat_abs (cond (ltb e.from.y e.to.y) (pos 1) (cond (ltb e.to.y e.from.y) (negsuc 0) (pos 0))) ≡ 1
+    go (yes p) = rw (lt-ltb e.from.y e.to.y p)
+    go (no p) = rw (le-ltb e.from.y e.to.y (omega arith), lt-ltb e.to.y e.from.y (omega arith))
 
 -- a verdict of a shortcut is one with rows
 verdict_cases : (P : Class → Type 0) (none every : Bool) (lo hi Y S : ℕ)

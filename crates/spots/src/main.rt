@@ -2,12 +2,13 @@
 
 #![tactic(auto)]
 
-ghost use Rattle.std.specs.Prelude.{◌≡◌, false, ◌<◌, IsTrue};
+ghost use Rattle.std.specs.Prelude.{◌<◌, IsTrue};
 ghost use Rattle.curves.specs.code.Reach.{PositionIn, EndsIn};
-ghost use Rattle.geometry.specs.code.Reach.{SquareIn};
+ghost use Rattle.geometry.specs.code.Reach.{EdgeIn, SquareIn};
 ghost use Rattle.paint.specs.Areas.{Painted};
 ghost use Rattle.spots.specs.Starred.{all_right, table};
 
+use curves::Point;
 use geometry::class::{Class, Square};
 use geometry::edge::Edge;
 use geometry::fill::FillRule;
@@ -34,22 +35,13 @@ fn write_passes(rt: &impl Print, rule: FillRule, winding: i64) -> io::Result<()>
     }
 }
 
-// The class of a straight edge in a square.
-fn straight_class(e: Edge, s: Square) -> Class
-    requires ends_in { EndsIn e.x0 e.y0 e.x1 e.y1 }
-    requires bent_value { e.bent ≡ false }
-    requires square_in { SquareIn s }
+// The class of an edge in a square of side 8.
+fn write_class(rt: &impl Print, e: Edge, x: u32, y: u32) -> io::Result<()>
+    requires edge_in { EdgeIn e }
+    requires square_in { SquareIn (record { x = x; y = y; side = 8 }) }
 {
-    geometry::class::classify(e, s)
-}
-
-fn write_class(rt: &impl Print, e: Edge, s: Square) -> io::Result<()>
-    requires ends_in { EndsIn e.x0 e.y0 e.x1 e.y1 }
-    requires bent_value { e.bent ≡ false }
-    requires square_in { SquareIn s }
-{
-    let c = straight_class(e, s);
-    match c {
+    let square = Square { x, y, side: 8 };
+    match square.classify(e) {
         Class::Dropped => println!(rt; "dropped"),
         Class::Start => println!(rt; "start"),
         Class::Shortcut(first, end) => println!(rt; "shortcut {first} {end}"),
@@ -64,7 +56,10 @@ fn write_shown(rt: &impl Print, areas: &[u32], set: u64) -> io::Result<()>
     let material = paint::area::material_of(areas, set);
     let sums = paint::colour::channel_sums(areas, set);
     let colour = sums.rounded();
-    println!(rt; "material {material}, sums {} {} {}, colour {} {} {}", sums.red, sums.green, sums.blue, colour.red, colour.green, colour.blue)
+    println!(rt;
+        "material {material}, sums {} {} {}, colour {} {} {}",
+        sums.red, sums.green, sums.blue, colour.red, colour.green, colour.blue
+    )
 }
 
 // The key of a position.
@@ -111,76 +106,21 @@ fn passes(rt: &impl Print) -> io::Result<()> {
 // An upright edge in squares left of it, right of it and across it; and a slanted one.
 fn classes(rt: &impl Print) -> io::Result<()> {
     let upright = Edge {
-        x0: 10,
-        y0: 2,
-        x1: 10,
-        y1: 20,
-        bent: false,
-        cx: 0,
-        cy: 0,
+        from: Point { x: 10, y: 2 },
+        to: Point { x: 10, y: 20 },
+        control: None,
     };
-    write_class(
-        rt,
-        upright,
-        Square {
-            x: 0,
-            y: 0,
-            side: 8,
-        },
-    )?;
-    write_class(
-        rt,
-        upright,
-        Square {
-            x: 0,
-            y: 8,
-            side: 8,
-        },
-    )?;
-    write_class(
-        rt,
-        upright,
-        Square {
-            x: 8,
-            y: 8,
-            side: 8,
-        },
-    )?;
-    write_class(
-        rt,
-        upright,
-        Square {
-            x: 16,
-            y: 8,
-            side: 8,
-        },
-    )?;
-    write_class(
-        rt,
-        upright,
-        Square {
-            x: 0,
-            y: 24,
-            side: 8,
-        },
-    )?;
-    write_class(
-        rt,
-        Edge {
-            x0: 0,
-            y0: 0,
-            x1: 10,
-            y1: 10,
-            bent: false,
-            cx: 0,
-            cy: 0,
-        },
-        Square {
-            x: 0,
-            y: 0,
-            side: 8,
-        },
-    )
+    write_class(rt, upright, 0, 0)?;
+    write_class(rt, upright, 0, 8)?;
+    write_class(rt, upright, 8, 8)?;
+    write_class(rt, upright, 16, 8)?;
+    write_class(rt, upright, 0, 24)?;
+    let slanted = Edge {
+        from: Point { x: 0, y: 0 },
+        to: Point { x: 10, y: 10 },
+        control: None,
+    };
+    write_class(rt, slanted, 0, 0)
 }
 
 // Black; red before black; two areas of alpha 254; no area.

@@ -11,6 +11,7 @@ ghost use Rattle.stream.specs.code.Machine.{in_groups, after_open_n, after_bar_n
 ghost use Rattle.stream.specs.code.Machine.{line_fits, segment_fits, run_fits, run_to, scan_n, end_passed, Apart, Ran, Onward};
 ghost use Rattle.stream.specs.code.Checks.{told, told_at, checked};
 
+use curves::Point;
 use records::Record;
 use refusals::Refusal;
 
@@ -204,7 +205,17 @@ impl Context<'_> {
             return false;
         }
         let met = self.corner_met(p) & (self.corner_met(control) & self.corner_met(end));
-        let fits = curves::curve_fits(xs[p], ys[p], xs[control], ys[control], xs[end], ys[end]);
+        let fits = curves::curve_fits(
+            Point { x: xs[p], y: ys[p] },
+            Point {
+                x: xs[control],
+                y: ys[control],
+            },
+            Point {
+                x: xs[end],
+                y: ys[end],
+            },
+        );
         met & fits
     }
 

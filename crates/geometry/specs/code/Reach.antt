@@ -1,18 +1,23 @@
 -- The ranges that the code asks of its numbers.
-use Rattle.std.specs.Prelude.{◌≡◌, true, List, ℕ, ◌+◌, ◌≤◌, ◌<◌, length, get_or}
+use Rattle.std.specs.Prelude.{◌≡◌, true, Option, Some, None, List, ℕ, ◌+◌, ◌≤◌, ◌<◌, length, get_or}
 use Rattle.curves.specs.Curves.{curve_fits}
 use Rattle.curves.specs.code.Reach.{reach, EndsIn}
 use Rattle.geometry.specs.Windings.{Line, line, curve}
+use Rattle.curves.specs.declared.Point.{Point}
 use Rattle.geometry.specs.declared.edge.Edge.{Edge}
 use Rattle.geometry.specs.declared.class.Square.{Square}
 
 -- a curve, if it is one, that a drawing may have
+abbrev pub CurveBy : Option Point → (p q : Point) → Type 0
+CurveBy None p q = Unit {0}
+CurveBy (Some c) p q = curve_fits p.x p.y c.x c.y q.x q.y ≡ true
+
 abbrev pub CurveIn : Edge → Type 0
-CurveIn e = e.bent ≡ true → curve_fits e.x0 e.y0 e.cx e.cy e.x1 e.y1 ≡ true
+CurveIn e = CurveBy e.control e.from e.to
 
 -- an edge, by its two ends and its curve
 pub record EdgeIn (e : Edge) : Type 0 where
-  pub ends : EndsIn e.x0 e.y0 e.x1 e.y1
+  pub ends : EndsIn e.from.x e.from.y e.to.x e.to.y
   pub fits : CurveIn e
 
 -- a line of which each corner is below n

@@ -12,20 +12,20 @@ use Rattle.curves.proofs.line.signed_product.Goals as goal
 
 first : (c : After-difference-2)
     → let s = c.args in
-    to_z w64 (of_z w64 c.difference.result) *ℤ to_z w64 (of_z w64 c.difference-2.result) ≡ left s.a s.b s.d s.x
+    to_z w64 (of_z w64 c.difference.result) *ℤ to_z w64 (of_z w64 c.difference-2.result) ≡ left s.low.x s.low.y s.high.y s.at.x
 first c = ap₂ ◌*ℤ◌ (read_back _ c.difference.type_inv ∙ c.difference.ensures.answer)
     (read_back _ c.difference-2.type_inv ∙ c.difference-2.ensures.answer)
-    ∙ (let s = c.args in left_is s.a s.b s.d s.x)
+    ∙ (let s = c.args in left_is s.low.x s.low.y s.high.y s.at.x)
 
 pub overflow_mul-result : goal.overflow_mul-result
 overflow_mul-result c = fits_as (first c) (left_fits c.requires.ends_in c.requires.position_in)
 
 second : (c : After-difference-4)
     → let s = c.args in
-    to_z w64 (of_z w64 c.difference-3.result) *ℤ to_z w64 (of_z w64 c.difference-4.result) ≡ right s.a s.b s.c s.y
+    to_z w64 (of_z w64 c.difference-3.result) *ℤ to_z w64 (of_z w64 c.difference-4.result) ≡ right s.low.x s.low.y s.high.x s.at.y
 second c = ap₂ ◌*ℤ◌ (read_back _ c.difference-3.type_inv ∙ c.difference-3.ensures.answer)
     (read_back _ c.difference-4.type_inv ∙ c.difference-4.ensures.answer)
-    ∙ (let s = c.args in right_is s.a s.b s.c s.y)
+    ∙ (let s = c.args in right_is s.low.x s.low.y s.high.x s.at.y)
 
 pub overflow_mul-result-2 : goal.overflow_mul-result-2
 overflow_mul-result-2 c = fits_as (second c) (right_fits c.requires.ends_in c.requires.position_in)
@@ -34,15 +34,15 @@ overflow_mul-result-2 c = fits_as (second c) (right_fits c.requires.ends_in c.re
 whole : (c : After-difference-4) → let s = c.args in
     to_z w64 (of_z w64 (to_z w64 (of_z w64 c.difference.result) *ℤ to_z w64 (of_z w64 c.difference-2.result)))
     +ℤ to_z w64 (of_z w64 (to_z w64 (of_z w64 c.difference-3.result) *ℤ to_z w64 (of_z w64 c.difference-4.result)))
-    ≡ sub_ℕ (plus s.a s.b s.c s.d s.x s.y) (minus s.a s.b s.c s.d s.x s.y)
+    ≡ sub_ℕ (plus s.low.x s.low.y s.high.x s.high.y s.at.x s.at.y) (minus s.low.x s.low.y s.high.x s.high.y s.at.x s.at.y)
 whole c = let s = c.args in
     ap₂ ◌+ℤ◌ (reads (first c.before.before) (left_fits c.requires.ends_in c.requires.position_in))
     (reads (second c) (right_fits c.requires.ends_in c.requires.position_in))
-    ∙ add_sub (s.a * s.d + s.x * s.b) (s.a * s.b + s.x * s.d) (s.y * s.c + s.b * s.a) (s.y * s.a + s.b * s.c)
+    ∙ add_sub (s.low.x * s.high.y + s.at.x * s.low.y) (s.low.x * s.low.y + s.at.x * s.high.y) (s.at.y * s.high.x + s.low.y * s.low.x) (s.at.y * s.low.x + s.low.y * s.high.x)
 
 pub overflow_add-result : goal.overflow_add-result
 overflow_add-result c = fits_as (whole c) (product_fits c.requires.ends_in c.requires.position_in)
 
 pub returns : goal.returns
 returns c =
-    let s = c.args in record { answer = reads (whole c) (product_fits c.requires.ends_in c.requires.position_in) ∙ sym (product_is s.a s.b s.c s.d s.x s.y) }
+    let s = c.args in record { answer = reads (whole c) (product_fits c.requires.ends_in c.requires.position_in) ∙ sym (product_is s.low.x s.low.y s.high.x s.high.y s.at.x s.at.y) }

@@ -1,14 +1,9 @@
-use Prim.Native.Nat.{◌-◌, ◌≤◌}
+use Prim.Native.Nat.{◌-◌}
 use Rattle.laws.proofs.Signed.{Running}
 use Rattle.geometry.specs.Windings.{straight_lines, sum_of}
 use Rattle.geometry.proofs.winding.contour_winding.Given as goal
 
 abbrev pub invariant-loop-i : goal.invariant-loop-i
 invariant-loop-i l =
-    (l.first ≤ l.i)
-    × (l.i ≤ l.end)
-    × Running (l.i - l.first) l.sum (sum_of l.xs l.ys (straight_lines l.first l.i (l.end - l.i)) l.x l.y)
+    Running (l.i - l.first) l.sum (sum_of l.xs l.ys (straight_lines l.first l.i (l.end - l.i)) l.x l.y)
     (sum_of l.xs l.ys (straight_lines l.first l.first (l.end - l.first)) l.x l.y)
-
-abbrev pub decreases-loop-i : goal.decreases-loop-i
-decreases-loop-i l = l.end - l.i
