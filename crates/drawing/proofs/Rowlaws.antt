@@ -8,7 +8,7 @@ use native.Mathlib.Numerals.{towards_suc}
 use lib.ListN.{length, get_or}
 use lib.Dec.{eqb, ltb, leb}
 use borrow.Author.Tests.{ltb-true, lt-ltb, eqb-true}
-use Rattle.records.specs.declared.Raw.{Raw}
+use Rattle.records.specs.Bytes.{Raw}
 use Rattle.records.specs.declared.Fields.{Fields}
 use Rattle.refusals.specs.declared.Refusal.TheVariants.{Kind, Field}
 use Rattle.records.specs.declared.Record.{Record}

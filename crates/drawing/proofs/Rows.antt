@@ -13,13 +13,11 @@ use lib.Seq.{sets, length-sets}
 use lib.Dec.{eqb, leb}
 use borrow.Author.Tests.{leb-true, eqb-true}
 use Rattle.laws.proofs.Booleans.{clash, and_left, and_right}
-use Rattle.records.specs.declared.Raw.{Raw}
 use Rattle.refusals.specs.declared.Refusal.TheVariants.{Unfit, Short, Limit, Argument, Broken, Curve}
 use Rattle.records.specs.declared.Record.{Record}
 use Rattle.records.specs.declared.Record.TheVariants.{Area, First, Next, Open, Bar, Close, Control}
 use Rattle.records.specs.Record.{Decoded}
-use Rattle.records.specs.Bytes.{raw_of, raw_bytes, put_raw, bytes_of}
-use Rattle.records.proofs.Laws.{put_is}
+use Rattle.records.specs.Bytes.{bytes_of}
 use Rattle.grammar.specs.declared.Counts.{Counts}
 use Rattle.grammar.specs.declared.State.{State}
 use Rattle.grammar.specs.code.Machine.{Step}
@@ -246,12 +244,8 @@ unfolding joined
 copy_done t u n b₀ b i at c h k = rw (re_none t u i n c h) at k.rest
 
 -- ---- one record's bytes
-pub bytes_table : (t t' : List ℕ) (at : ℕ) (d : Decoded) (r : Record) (w : Raw)
-    → d ≡ Ok r
-    → w ≡ raw_of r
-    → t' ≡ put_raw t at w
-    → t' ≡ sets t at (on_good bytes_of d)
-bytes_table t t' at d r w q e h = rw q (h ∙ put_is t at w ∙ ap (λ (v : Raw). sets t at (raw_bytes v)) e)
+pub bytes_table : (t t' : List ℕ) (at : ℕ) (r : Record) (w : List ℕ) → w ≡ bytes_of r → t' ≡ sets t at w → t' ≡ sets t at (bytes_of r)
+bytes_table t t' at r w e h = h ∙ ap (sets t at) e
 
 -- ---- what a drawing that passes has
 pub record Drawn (t : Tables) (k : Counts) : Type 0 where

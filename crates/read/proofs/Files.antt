@@ -20,7 +20,7 @@ use Rattle.grammar.specs.declared.Counts.{Counts}
 use Rattle.grammar.specs.Grammar.{checked}
 use Rattle.grammar.specs.Lists.{good_records, areas_in, corners_in}
 use Rattle.grammar.proofs.Laws.{sound}
-use Rattle.read.specs.Words.{words_of_kind, words_of_area, words_of_x, words_of_y, words_of, joined, plan_words}
+use Rattle.read.specs.Words.{words_of_kind, words_of_area, words_of_x, words_of_y, joined, plan_words}
 use Rattle.read.specs.Reading.{decoded_from, decoded_in, records_in, verdict_of, holds, all_good, Filed}
 
 pub length_from : (b : List ℕ) (i n : ℕ) → length (decoded_from b i n) ≡ n
@@ -121,55 +121,39 @@ unfolding joined
 file_length [] = refl
 file_length (r ∷ rs) = omega (arith, file_length rs)
 
-spread_0 : (rs : List Record) → joined (words_of 0) rs ≡ joined words_of_kind rs
-unfolding words_of
-spread_0 rs = refl
-
-spread_1 : (rs : List Record) → joined (words_of 1) rs ≡ joined words_of_area rs
-unfolding words_of
-spread_1 rs = refl
-
-spread_2 : (rs : List Record) → joined (words_of 2) rs ≡ joined words_of_x rs
-unfolding words_of
-spread_2 rs = refl
-
-spread_3 : (rs : List Record) → joined (words_of 3) rs ≡ joined words_of_y rs
-unfolding words_of
-spread_3 rs = refl
-
 module _ (b : List ℕ) (k : Counts) (c : Filed b k) where
   same_part : records_in b ≡ good_records (decoded_from b 0 k.records)
   same_part = ap (λ (n : ℕ). good_records (decoded_from b 0 n)) (sym c.parts)
 
-  pub room_0 : (m : ℕ) → k.records + 3 ≤ m → 3 + length (joined (words_of 0) (good_records (decoded_from b 0 k.records))) ≤ m
-  room_0 m h = rw (← same_part, spread_0 (records_in b), kinds_length (records_in b)) (omega (arith, c.records))
+  pub room_0 : (m : ℕ) → k.records + 3 ≤ m → 3 + length (joined words_of_kind (good_records (decoded_from b 0 k.records))) ≤ m
+  room_0 m h = rw (← same_part, kinds_length (records_in b)) (omega (arith, c.records))
 
-  pub room_1 : (m : ℕ) → k.areas * 8 ≤ m → 0 + length (joined (words_of 1) (good_records (decoded_from b 0 k.records))) ≤ m
-  room_1 m h = rw (← same_part, spread_1 (records_in b), areas_length (records_in b)) (omega (arith, c.areas))
+  pub room_1 : (m : ℕ) → k.areas * 8 ≤ m → 0 + length (joined words_of_area (good_records (decoded_from b 0 k.records))) ≤ m
+  room_1 m h = rw (← same_part, areas_length (records_in b)) (omega (arith, c.areas))
 
-  pub room_2 : (m : ℕ) → k.corners ≤ m → 0 + length (joined (words_of 2) (good_records (decoded_from b 0 k.records))) ≤ m
-  room_2 m h = rw (← same_part, spread_2 (records_in b), xs_length (records_in b)) (omega (arith, c.corners))
+  pub room_2 : (m : ℕ) → k.corners ≤ m → 0 + length (joined words_of_x (good_records (decoded_from b 0 k.records))) ≤ m
+  room_2 m h = rw (← same_part, xs_length (records_in b)) (omega (arith, c.corners))
 
-  pub room_3 : (m : ℕ) → k.corners ≤ m → 0 + length (joined (words_of 3) (good_records (decoded_from b 0 k.records))) ≤ m
-  room_3 m h = rw (← same_part, spread_3 (records_in b), ys_length (records_in b)) (omega (arith, c.corners))
+  pub room_3 : (m : ℕ) → k.corners ≤ m → 0 + length (joined words_of_y (good_records (decoded_from b 0 k.records))) ≤ m
+  room_3 m h = rw (← same_part, ys_length (records_in b)) (omega (arith, c.corners))
 
   pub left_0 : (t t₁ t₂ : List ℕ)
       → t₁ ≡ set (set (set t 0 k.records) 1 k.areas) 2 k.corners
-      → t₂ ≡ sets t₁ 3 (joined (words_of 0) (good_records (decoded_from b 0 k.records)))
+      → t₂ ≡ sets t₁ 3 (joined words_of_kind (good_records (decoded_from b 0 k.records)))
       → t₂ ≡ sets t 0 (plan_words (records_in b))
-  left_0 t t₁ t₂ p q = q ∙ rw (p, ← same_part, spread_0 (records_in b), c.records, c.areas, c.corners)
+  left_0 t t₁ t₂ p q = q ∙ rw (p, ← same_part, c.records, c.areas, c.corners)
 
-  pub left_1 : (t t₁ : List ℕ) → t₁ ≡ sets t 0 (joined (words_of 1) (good_records (decoded_from b 0 k.records)))
+  pub left_1 : (t t₁ : List ℕ) → t₁ ≡ sets t 0 (joined words_of_area (good_records (decoded_from b 0 k.records)))
       → t₁ ≡ sets t 0 (joined words_of_area (records_in b))
-  left_1 t t₁ q = q ∙ rw (← same_part, spread_1 (records_in b))
+  left_1 t t₁ q = q ∙ rw (← same_part)
 
-  pub left_2 : (t t₁ : List ℕ) → t₁ ≡ sets t 0 (joined (words_of 2) (good_records (decoded_from b 0 k.records))) → t₁
+  pub left_2 : (t t₁ : List ℕ) → t₁ ≡ sets t 0 (joined words_of_x (good_records (decoded_from b 0 k.records))) → t₁
       ≡ sets t 0 (joined words_of_x (records_in b))
-  left_2 t t₁ q = q ∙ rw (← same_part, spread_2 (records_in b))
+  left_2 t t₁ q = q ∙ rw (← same_part)
 
-  pub left_3 : (t t₁ : List ℕ) → t₁ ≡ sets t 0 (joined (words_of 3) (good_records (decoded_from b 0 k.records))) → t₁
+  pub left_3 : (t t₁ : List ℕ) → t₁ ≡ sets t 0 (joined words_of_y (good_records (decoded_from b 0 k.records))) → t₁
       ≡ sets t 0 (joined words_of_y (records_in b))
-  left_3 t t₁ q = q ∙ rw (← same_part, spread_3 (records_in b))
+  left_3 t t₁ q = q ∙ rw (← same_part)
 
 -- ---- the room test
 pub record Holds (p a d : ℕ) (k : Counts) : Type 0 where

@@ -9,7 +9,7 @@ use native.Mathlib.Omega.{arith}
 use lib.ListN.{length}
 use lib.Seq.{sets, length-sets}
 use Rattle.laws.proofs.Booleans.{clash, and_left, and_right}
-use Rattle.records.specs.declared.Raw.{Raw}
+use Rattle.records.specs.Bytes.{Raw}
 use Rattle.records.specs.declared.Record.{Record}
 use Rattle.records.specs.Record.{Decoded}
 use Rattle.records.specs.Bytes.{raw_at, named, decoded_raw}

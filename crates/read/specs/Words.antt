@@ -1,5 +1,5 @@
 -- The words of a list of records in the four tables (docs/TABLES.md), and its bytes in a file.
-use Rattle.std.specs.Prelude.{ℕ, zero, suc, ◌+◌, ◌≤◌, ◌≡◌, Bool, true, cond, ◌&&◌, List, [], ◌∷◌, ◌++◌, length, get_or, eqb}
+use Rattle.std.specs.Prelude.{ℕ, zero, suc, ◌+◌, ◌≤◌, ◌≡◌, Bool, true, ◌&&◌, List, [], ◌∷◌, ◌++◌, length, get_or}
 use Rattle.records.specs.declared.Fields.{Fields}
 use Rattle.records.specs.declared.Record.{Record}
 use Rattle.records.specs.declared.Record.TheVariants.{Area, First, Next, Open, Bar, Close, Control}
@@ -44,10 +44,6 @@ words_of_y Open = []
 words_of_y Bar = []
 words_of_y Close = []
 words_of_y (Control x y) = y ∷ []
-
--- a record's words in a table: 0 the plan's kinds, 1 the areas, 2 the xs, 3 the ys
-unfoldable pub words_of : ℕ → Record → List ℕ
-words_of which r = cond (eqb which 0) (words_of_kind r) (cond (eqb which 1) (words_of_area r) (cond (eqb which 2) (words_of_x r) (words_of_y r)))
 
 -- the words of all records, one after another
 unfoldable pub joined : (Record → List ℕ) → List Record → List ℕ

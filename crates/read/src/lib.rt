@@ -8,11 +8,11 @@ ghost use Rattle.grammar.specs.code.Machine.{scan_n, start_n};
 ghost use Rattle.grammar.specs.Lists.{good_records};
 ghost use Rattle.records.specs.Record.{kind_of, is_good};
 ghost use Rattle.records.specs.Bytes.{raw_at, decoded_raw};
-ghost use Rattle.read.specs.Words.{words_of_kind, words_of_area, words_of_x, words_of_y, words_of, joined, plan_words, area_words, x_words, y_words, on_good};
+ghost use Rattle.read.specs.Words.{words_of_kind, words_of_area, words_of_x, words_of_y, joined, plan_words, area_words, x_words, y_words};
 ghost use Rattle.read.specs.Reading.{decoded_from, all_good, records_lent, verdict_of, holds, read_lent, left_by, Filed};
 
 use grammar::{Counts, State};
-use records::{AREA_WORDS, Fields, RECORD_BYTES, Record};
+use records::{AREA_WORDS, RECORD_BYTES, Record};
 use refusals::{Refusal, Refused};
 
 // The plan: its first words, the counts in use; the kinds of the records follow.
@@ -24,33 +24,21 @@ pub const CORNERS: usize = 2;
 
 pub const PLAN_COUNTS: usize = 3;
 
-// The four tables, by number.
-const TO_PLAN: u32 = 0;
-
-const TO_AREAS: u32 = 1;
-
-const TO_XS: u32 = 2;
-
-const TO_YS: u32 = 3;
-
 // ---- the file
 fn read_record(records: &[u8], i: usize) -> Result<Record, Refusal>
     requires { i * 16 + 16 ≤ length records.now }
     ensures answer { result ≡ decoded_raw (raw_at records.now i) }
 {
-    let r = records::read_raw(records, i);
-    records::decoded_raw(r)
+    records::decoded_raw(records::read_raw(records, i))
 }
 
 // Record i of a file that was accepted: nothing is tried again.
-fn read_accepted(records: &[u8], i: usize) -> Result<Record, Refusal>
+fn read_accepted(records: &[u8], i: usize) -> Record
     requires i_in_bounds { i * 16 + 16 ≤ length records.now }
     requires i_value { is_good (decoded_raw (raw_at records.now i)) ≡ true }
-    ensures answer { result ≡ decoded_raw (raw_at records.now i) }
+    ensures answer { Ok result ≡ decoded_raw (raw_at records.now i) }
 {
-    let r = records::read_raw(records, i);
-    let t = records::named_of(r);
-    Ok(t)
+    records::named_of(records::read_raw(records, i))
 }
 
 fn scan_records(records: &[u8], n: usize) -> Result<State, Refused>
@@ -93,115 +81,35 @@ fn kind_of(r: Record) -> u32
     }
 }
 
-fn put_word(table: &mut [u32], at: usize, w: u32) -> usize
-    requires { at + 1 ≤ length table.old }
-    ensures answer { result ≡ at + 1 }
-    ensures table { table.new ≡ set table.old at w }
-{
-    table[at] = w;
-    at + 1
-}
-
-fn put_kind(table: &mut [u32], at: usize, r: Record) -> usize
-    requires { at + length (words_of_kind r) ≤ length table.old }
-    ensures answer { result ≡ at + length (words_of_kind r) }
-    ensures table { table.new ≡ sets table.old at (words_of_kind r) }
-{
-    let k = kind_of(r);
-    put_word(table, at, k)
-}
-
-fn put_row(table: &mut [u32], at: usize, f: Fields) -> usize
-    requires { at + 8 ≤ length table.old }
-    ensures answer { result ≡ at + 8 }
-    ensures table { table.new ≡
-        set (set (set (set (set (set (set (set table.old at f.role) (at + 1) f.rule) (at + 2) f.alpha) (at + 3) f.red)
-        (at + 4) f.green) (at + 5) f.blue) (at + 6) f.material) (at + 7) 0 }
-{
-    table[at] = f.role;
-    table[at + records::RULE] = f.rule;
-    table[at + records::ALPHA] = f.alpha;
-    table[at + records::RED] = f.red;
-    table[at + records::GREEN] = f.green;
-    table[at + records::BLUE] = f.blue;
-    table[at + records::MATERIAL] = f.material;
-    table[at + records::UNNAMED] = 0;
-    at + AREA_WORDS
-}
-
 fn put_area(table: &mut [u32], at: usize, r: Record) -> usize
     requires { at + length (words_of_area r) ≤ length table.old }
     ensures answer { result ≡ at + length (words_of_area r) }
     ensures table { table.new ≡ sets table.old at (words_of_area r) }
 {
-    match r {
-        Record::Area(f) => put_row(table, at, f),
-        Record::First(_, _) => at,
-        Record::Next(_, _) => at,
-        Record::Open => at,
-        Record::Bar => at,
-        Record::Close => at,
-        Record::Control(_, _) => at,
+    if let Record::Area(f) = r {
+        table[at..at + AREA_WORDS].copy_from_slice(&[
+            f.role, f.rule, f.alpha, f.red, f.green, f.blue, f.material, 0,
+        ]);
+        return at + AREA_WORDS;
     }
+    at
 }
 
-fn put_x(table: &mut [u32], at: usize, r: Record) -> usize
-    requires { at + length (words_of_x r) ≤ length table.old }
+fn put_corner(xs: &mut [u32], ys: &mut [u32], at: usize, r: Record) -> usize
+    requires xs_room { at + length (words_of_x r) ≤ length xs.old }
+    requires ys_room { at + length (words_of_y r) ≤ length ys.old }
     ensures answer { result ≡ at + length (words_of_x r) }
-    ensures table { table.new ≡ sets table.old at (words_of_x r) }
+    ensures alike { result ≡ at + length (words_of_y r) }
+    ensures xs { xs.new ≡ sets xs.old at (words_of_x r) }
+    ensures ys { ys.new ≡ sets ys.old at (words_of_y r) }
 {
     match r {
-        Record::Area(_) => at,
-        Record::First(x, _) => put_word(table, at, x),
-        Record::Next(x, _) => put_word(table, at, x),
-        Record::Open => at,
-        Record::Bar => at,
-        Record::Close => at,
-        Record::Control(x, _) => put_word(table, at, x),
-    }
-}
-
-fn put_y(table: &mut [u32], at: usize, r: Record) -> usize
-    requires { at + length (words_of_y r) ≤ length table.old }
-    ensures answer { result ≡ at + length (words_of_y r) }
-    ensures table { table.new ≡ sets table.old at (words_of_y r) }
-{
-    match r {
-        Record::Area(_) => at,
-        Record::First(_, y) => put_word(table, at, y),
-        Record::Next(_, y) => put_word(table, at, y),
-        Record::Open => at,
-        Record::Bar => at,
-        Record::Close => at,
-        Record::Control(_, y) => put_word(table, at, y),
-    }
-}
-
-fn put_record(table: &mut [u32], at: usize, which: u32, r: Record) -> usize
-    requires { at + length (words_of which r) ≤ length table.old }
-    ensures answer { result ≡ at + length (words_of which r) }
-    ensures table { table.new ≡ sets table.old at (words_of which r) }
-{
-    if which == TO_PLAN {
-        return put_kind(table, at, r);
-    }
-    if which == TO_AREAS {
-        return put_area(table, at, r);
-    }
-    if which == TO_XS {
-        return put_x(table, at, r);
-    }
-    put_y(table, at, r)
-}
-
-fn put_decoded(table: &mut [u32], at: usize, which: u32, d: Result<Record, Refusal>) -> usize
-    requires { at + length (on_good (words_of which) d) ≤ length table.old }
-    ensures answer { result ≡ at + length (on_good (words_of which) d) }
-    ensures table { table.new ≡ sets table.old at (on_good (words_of which) d) }
-{
-    match d {
-        Ok(r) => put_record(table, at, which, r),
-        Err(_) => at,
+        Record::First(x, y) | Record::Next(x, y) | Record::Control(x, y) => {
+            xs[at] = x;
+            ys[at] = y;
+            at + 1
+        }
+        _ => at,
     }
 }
 
@@ -216,25 +124,22 @@ fn fill(
 )
     requires n_in_bounds { n * 16 ≤ length records.now }
     requires n_value { all_good (decoded_from records.now 0 n) ≡ true }
-    requires n_in_bounds_2 { 3 + length (joined (words_of 0) (good_records (decoded_from records.now 0 n))) ≤ length plan.old }
-    requires n_in_bounds_3 { 0 + length (joined (words_of 1) (good_records (decoded_from records.now 0 n))) ≤ length areas.old }
-    requires n_in_bounds_4 { 0 + length (joined (words_of 2) (good_records (decoded_from records.now 0 n))) ≤ length xs.old }
-    requires n_in_bounds_5 { 0 + length (joined (words_of 3) (good_records (decoded_from records.now 0 n))) ≤ length ys.old }
-    ensures plan { plan.new ≡ sets plan.old 3 (joined (words_of 0) (good_records (decoded_from records.now 0 n))) }
-    ensures areas { areas.new ≡ sets areas.old 0 (joined (words_of 1) (good_records (decoded_from records.now 0 n))) }
-    ensures xs { xs.new ≡ sets xs.old 0 (joined (words_of 2) (good_records (decoded_from records.now 0 n))) }
-    ensures ys { ys.new ≡ sets ys.old 0 (joined (words_of 3) (good_records (decoded_from records.now 0 n))) }
+    requires n_in_bounds_2 { 3 + length (joined words_of_kind (good_records (decoded_from records.now 0 n))) ≤ length plan.old }
+    requires n_in_bounds_3 { 0 + length (joined words_of_area (good_records (decoded_from records.now 0 n))) ≤ length areas.old }
+    requires n_in_bounds_4 { 0 + length (joined words_of_x (good_records (decoded_from records.now 0 n))) ≤ length xs.old }
+    requires n_in_bounds_5 { 0 + length (joined words_of_y (good_records (decoded_from records.now 0 n))) ≤ length ys.old }
+    ensures plan { plan.new ≡ sets plan.old 3 (joined words_of_kind (good_records (decoded_from records.now 0 n))) }
+    ensures areas { areas.new ≡ sets areas.old 0 (joined words_of_area (good_records (decoded_from records.now 0 n))) }
+    ensures xs { xs.new ≡ sets xs.old 0 (joined words_of_x (good_records (decoded_from records.now 0 n))) }
+    ensures ys { ys.new ≡ sets ys.old 0 (joined words_of_y (good_records (decoded_from records.now 0 n))) }
 {
-    let mut kind = PLAN_COUNTS;
     let mut area = 0;
-    let mut x = 0;
-    let mut y = 0;
+    let mut corner = 0;
     for i in 0..n {
-        let d = read_accepted(records, i);
-        kind = put_decoded(plan, kind, TO_PLAN, d);
-        area = put_decoded(areas, area, TO_AREAS, d);
-        x = put_decoded(xs, x, TO_XS, d);
-        y = put_decoded(ys, y, TO_YS, d);
+        let r = read_accepted(records, i);
+        plan[PLAN_COUNTS + i] = kind_of(r);
+        area = put_area(areas, area, r);
+        corner = put_corner(xs, ys, corner, r);
     }
 }
 

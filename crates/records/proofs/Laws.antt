@@ -1,22 +1,25 @@
 -- A record's bytes and back.
 use Prim.Native.Nat.{ℕ, zero, suc, ◌+◌, ◌*◌, ◌/◌, ◌%◌, ◌≤◌, ◌<◌}
-use mathlib.Core.Path.{◌≡◌, refl, sym, ap, ◌∙◌}
+use mathlib.Core.Path.{◌≡◌, refl, sym, ap, ap₂, ◌∙◌}
 use mathlib.Core.Bool.{Bool, true, false, cond}
-use mathlib.Core.List.{List, [], ◌∷◌}
+use mathlib.Core.List.{List, [], ◌∷◌, ◌++◌}
 use native.Mathlib.Omega.{arith}
-use lib.Seq.{sets}
+use lib.ListN.{length}
+use lib.Seq.{sets, sets-eq}
+use Rattle.std.proofs.lemmas.List.{take-append-drop}
+use Rattle.std.proofs.lemmas.Slice.{take-put_mid, drop-put_mid}
+use borrow.Rule.Slice.PartMut.{put_mid}
 use lib.Dec.{eqb, leb}
 use borrow.Author.Tests.{leb-true, eqb-true}
 use Rattle.laws.proofs.Booleans.{clash, and_left, and_right}
-use Rattle.records.specs.declared.Raw.{Raw}
+use Rattle.records.specs.Bytes.{Raw}
 use Rattle.records.specs.declared.Fields.{Fields}
-use Rattle.refusals.specs.declared.Refusal.{Refusal}
 use Rattle.refusals.specs.declared.Refusal.TheVariants.{Kind, Field}
 use Rattle.records.specs.declared.Record.{Record}
 use Rattle.records.specs.declared.Record.TheVariants.{Area, First, Next, Open, Bar, Close, Control}
 use Rattle.std.specs.Prelude.{Ok, Err}
 use Rattle.records.specs.Record.{all_zero, paint_range, clip_range, area_range, corner_range, in_range, ranged, corner_of, delimiter_of}
-use Rattle.records.specs.Bytes.{put_raw, raw_bytes, number4, unnamed_zero, fields_of, named, decoded_raw, raw_area, raw_corner, raw_delimiter, raw_of}
+use Rattle.records.specs.Bytes.{number4, unnamed_zero, fields_of, named, decoded_raw, raw_area, raw_corner, raw_delimiter, raw_of}
 
 abbrev Zeros : ℕ → List ℕ → Type 0
 Zeros b [] = b ≡ 0
@@ -325,22 +328,10 @@ raw_back r t s e =
     ∙ back r.b1 r.b2 r.b3 r.b4 r.b5 r.b6 r.b7 r.b8 r.b9 r.b10 r.b11 r.b12 r.b13 r.b14 r.b15
     r.b0 q.low q.high s q.zero
 
--- ---- sixteen stores are one write
-pub put_is : (t : List ℕ) (at : ℕ) (r : Raw) → put_raw t at r ≡ sets t at (raw_bytes r)
-put_is t at r =
-    let e1 : at + 1 ≡ suc at = omega arith in
-    let e2 : at + 2 ≡ suc (suc at) = omega arith in
-    let e3 : at + 3 ≡ suc (suc (suc at)) = omega arith in
-    let e4 : at + 4 ≡ suc (suc (suc (suc at))) = omega arith in
-    let e5 : at + 5 ≡ suc (suc (suc (suc (suc at)))) = omega arith in
-    let e6 : at + 6 ≡ suc (suc (suc (suc (suc (suc at))))) = omega arith in
-    let e7 : at + 7 ≡ suc (suc (suc (suc (suc (suc (suc at)))))) = omega arith in
-    let e8 : at + 8 ≡ suc (suc (suc (suc (suc (suc (suc (suc at))))))) = omega arith in
-    let e9 : at + 9 ≡ suc (suc (suc (suc (suc (suc (suc (suc (suc at)))))))) = omega arith in
-    let e10 : at + 10 ≡ suc (suc (suc (suc (suc (suc (suc (suc (suc (suc at))))))))) = omega arith in
-    let e11 : at + 11 ≡ suc (suc (suc (suc (suc (suc (suc (suc (suc (suc (suc at)))))))))) = omega arith in
-    let e12 : at + 12 ≡ suc (suc (suc (suc (suc (suc (suc (suc (suc (suc (suc (suc at))))))))))) = omega arith in
-    let e13 : at + 13 ≡ suc (suc (suc (suc (suc (suc (suc (suc (suc (suc (suc (suc (suc at)))))))))))) = omega arith in
-    let e14 : at + 14 ≡ suc (suc (suc (suc (suc (suc (suc (suc (suc (suc (suc (suc (suc (suc at))))))))))))) = omega arith in
-    let e15 : at + 15 ≡ suc (suc (suc (suc (suc (suc (suc (suc (suc (suc (suc (suc (suc (suc (suc at)))))))))))))) = omega arith in
-    rw (e1, e2, e3, e4, e5, e6, e7, e8, e9, e10, e11, e12, e13, e14, e15)
+-- ---- a part of a slice, written as a whole
+pub part_sets : (a k : ℕ) (xs ys zs : List ℕ) → ys ≡ zs → length ys ≡ k → a + k ≤ length xs → put_mid a k xs ys ≡ sets xs a zs
+part_sets a k xs ys zs s e h =
+    let n : ℕ = a + length ys in
+    sym (take-append-drop n (put_mid a k xs ys))
+    ∙ ap₂ ◌++◌ (take-put_mid a k xs ys n refl (omega arith)) (drop-put_mid a k xs ys n (omega arith) (omega arith) e)
+    ∙ (sym (sets-eq ys xs a (omega arith)) ∙ ap (sets xs a) s)

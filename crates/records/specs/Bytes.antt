@@ -1,11 +1,29 @@
 -- Document 01, "Drawing", and document 02, Item 2: a record as sixteen bytes.
-use Rattle.std.specs.Prelude.{Err, ℕ, ◌+◌, ◌*◌, ◌/◌, ◌%◌, Bool, cond, List, [], ◌∷◌, get_or, set, eqb, leb}
-use Rattle.records.specs.declared.Raw.{Raw}
+use Rattle.std.specs.Prelude.{Err, ℕ, ◌+◌, ◌*◌, ◌/◌, ◌%◌, Bool, cond, List, [], ◌∷◌, get_or, eqb, leb}
 use Rattle.records.specs.declared.Fields.{Fields}
 use Rattle.refusals.specs.declared.Refusal.TheVariants.{Kind, Field}
 use Rattle.records.specs.declared.Record.{Record}
 use Rattle.records.specs.declared.Record.TheVariants.{Area, First, Next, Open, Bar, Close, Control}
 use Rattle.records.specs.Record.{Decoded, all_zero, ranged, is_corner, corner_of, delimiter_of}
+
+-- the sixteen bytes of a record, by name
+pub record Raw : Type 0 where
+  pub b0 : ℕ
+  pub b1 : ℕ
+  pub b2 : ℕ
+  pub b3 : ℕ
+  pub b4 : ℕ
+  pub b5 : ℕ
+  pub b6 : ℕ
+  pub b7 : ℕ
+  pub b8 : ℕ
+  pub b9 : ℕ
+  pub b10 : ℕ
+  pub b11 : ℕ
+  pub b12 : ℕ
+  pub b13 : ℕ
+  pub b14 : ℕ
+  pub b15 : ℕ
 
 -- "A file of 16-byte records, no header": the bytes of record i
 abbrev pub raw_at : List ℕ → ℕ → Raw
@@ -28,14 +46,6 @@ raw_at b i =
       b14 = get_or b (i * 16 + 14) 0;
       b15 = get_or b (i * 16 + 15) 0;
     }
-
--- the list with sixteen bytes at `at`, as sixteen stores
-abbrev pub put_raw : List ℕ → ℕ → Raw → List ℕ
-put_raw t at r =
-    set (set (set (set (set (set (set (set (set (set (set (set (set (set (set (set t at r.b0) (at + 1) r.b1) (at + 2) r.b2) (at + 3) r.b3)
-    (at + 4) r.b4) (at + 5) r.b5) (at + 6) r.b6) (at + 7) r.b7)
-    (at + 8) r.b8) (at + 9) r.b9) (at + 10) r.b10) (at + 11) r.b11)
-    (at + 12) r.b12) (at + 13) r.b13) (at + 14) r.b14) (at + 15) r.b15
 
 abbrev pub raw_bytes : Raw → List ℕ
 raw_bytes r =

@@ -2,10 +2,11 @@
 
 #![tactic(auto)]
 
-ghost use Rattle.std.specs.Prelude.{◌≡◌, ◌+◌, ◌*◌, ◌≤◌, ◌<◌, length};
+ghost use Rattle.std.specs.Prelude.{◌≡◌, ◌+◌, ◌*◌, ◌%◌, ◌≤◌, ◌<◌, length};
+ghost use Rattle.std.proofs.lemmas.List.Edits.{sets};
 ghost use Rattle.records.specs.Record.{paint_range, clip_range, area_range, corner_range, in_range, ranged, is_corner, corner_of, delimiter_of};
-ghost use Rattle.records.specs.Bytes.{raw_at, put_raw, number2, number4, area_unnamed, corner_unnamed, delimiter_unnamed, unnamed_zero, fields_of, named};
-ghost use Rattle.records.specs.Bytes.{decoded_raw, raw_area, raw_corner, raw_delimiter, raw_of};
+ghost use Rattle.records.specs.Bytes.{raw_at, raw_bytes, number2, number4, area_unnamed, corner_unnamed, delimiter_unnamed, unnamed_zero, fields_of, named};
+ghost use Rattle.records.specs.Bytes.{decoded_raw, raw_area, raw_corner, raw_delimiter, bytes_of};
 
 use refusals::Refusal;
 
@@ -108,125 +109,73 @@ pub enum Record {
     Control(u32, u32),
 }
 
-#[derive(Clone, Copy)]
-pub struct Raw {
-    pub b0: u8,
-    pub b1: u8,
-    pub b2: u8,
-    pub b3: u8,
-    pub b4: u8,
-    pub b5: u8,
-    pub b6: u8,
-    pub b7: u8,
-    pub b8: u8,
-    pub b9: u8,
-    pub b10: u8,
-    pub b11: u8,
-    pub b12: u8,
-    pub b13: u8,
-    pub b14: u8,
-    pub b15: u8,
-}
+// The bytes of a record.
+pub type Raw = [u8; RECORD_BYTES];
 
 // The sixteen bytes of record i.
 pub fn read_raw(records: &[u8], i: usize) -> Raw
     requires { i * 16 + 16 ≤ length records.now }
-    ensures answer { result ≡ raw_at records.now i }
+    ensures answer { raw_at result 0 ≡ raw_at records.now i }
 {
     let at = i * RECORD_BYTES;
-    Raw {
-        b0: records[at],
-        b1: records[at + 1],
-        b2: records[at + 2],
-        b3: records[at + 3],
-        b4: records[at + 4],
-        b5: records[at + 5],
-        b6: records[at + 6],
-        b7: records[at + 7],
-        b8: records[at + 8],
-        b9: records[at + 9],
-        b10: records[at + 10],
-        b11: records[at + 11],
-        b12: records[at + 12],
-        b13: records[at + 13],
-        b14: records[at + 14],
-        b15: records[at + 15],
-    }
+    let mut r = [0; RECORD_BYTES];
+    r.copy_from_slice(&records[at..at + RECORD_BYTES]);
+    r
 }
 
 // Writes sixteen bytes.
 pub fn put_raw(out: &mut [u8], at: usize, r: Raw)
     requires { at + 16 ≤ length out.old }
-    ensures out { out.new ≡ put_raw out.old at r }
+    ensures out { out.new ≡ sets out.old at r }
 {
-    out[at] = r.b0;
-    out[at + 1] = r.b1;
-    out[at + 2] = r.b2;
-    out[at + 3] = r.b3;
-    out[at + 4] = r.b4;
-    out[at + 5] = r.b5;
-    out[at + 6] = r.b6;
-    out[at + 7] = r.b7;
-    out[at + 8] = r.b8;
-    out[at + 9] = r.b9;
-    out[at + 10] = r.b10;
-    out[at + 11] = r.b11;
-    out[at + 12] = r.b12;
-    out[at + 13] = r.b13;
-    out[at + 14] = r.b14;
-    out[at + 15] = r.b15;
-}
-
-fn wide(x: u8) -> u32
-    ensures answer { result ≡ x }
-{
-    x as u32
+    out[at..at + RECORD_BYTES].copy_from_slice(&r);
 }
 
 // Two bytes, the low one first.
 fn two_bytes(a: u8, b: u8) -> u32
     ensures answer { result ≡ number2 a b }
 {
-    (a as u32) + 256 * (b as u32)
+    u16::from_le_bytes([a, b]).into()
 }
 
 // Four bytes, the lowest first.
 fn four_bytes(a: u8, b: u8, d: u8, e: u8) -> u32
     ensures answer { result ≡ number4 a b d e }
 {
-    (a as u32) + 256 * (b as u32) + 65536 * (d as u32) + 16777216 * (e as u32)
+    u32::from_le_bytes([a, b, d, e])
 }
 
 // ---- ranges
 fn paint_range(f: Fields) -> bool
     ensures answer { result ≡ paint_range f }
 {
-    (f.alpha <= OPAQUE)
-        & ((f.red <= MOST_CHANNEL)
-            & ((f.green <= MOST_CHANNEL)
-                & ((f.blue <= MOST_CHANNEL)
-                    & ((LEAST_MATERIAL <= f.material) & (f.material <= MOST_MATERIAL)))))
+    f.alpha <= OPAQUE
+        && f.red <= MOST_CHANNEL
+        && f.green <= MOST_CHANNEL
+        && f.blue <= MOST_CHANNEL
+        && LEAST_MATERIAL <= f.material
+        && f.material <= MOST_MATERIAL
 }
 
 fn clip_range(f: Fields) -> bool
     ensures answer { result ≡ clip_range f }
 {
-    (f.alpha == 0) & ((f.red == 0) & ((f.green == 0) & ((f.blue == 0) & (f.material == 0))))
+    f.alpha == 0 && f.red == 0 && f.green == 0 && f.blue == 0 && f.material == 0
 }
 
+#[tactic(auto, unfolding(crate::specs::Record::area_range))]
 fn area_range(f: Fields) -> bool
     ensures answer { result ≡ area_range f }
 {
-    if f.rule <= EVEN_ODD {
-        if f.role == PAINT {
-            return paint_range(f);
-        }
-        if f.role == CLIP {
-            return clip_range(f);
-        }
-        return false;
+    if f.rule > EVEN_ODD {
+        false
+    } else if f.role == PAINT {
+        paint_range(f)
+    } else if f.role == CLIP {
+        clip_range(f)
+    } else {
+        false
     }
-    false
 }
 
 fn corner_range(x: u32, y: u32) -> bool
@@ -242,10 +191,8 @@ fn in_range(r: Record) -> bool
         Record::Area(f) => area_range(f),
         Record::First(x, y) => corner_range(x, y),
         Record::Next(x, y) => corner_range(x, y),
-        Record::Open => true,
-        Record::Bar => true,
-        Record::Close => true,
         Record::Control(x, y) => corner_range(x, y),
+        _ => true,
     }
 }
 
@@ -253,11 +200,11 @@ fn in_range(r: Record) -> bool
 pub fn ranged_of(r: Record) -> Result<Record, Refusal>
     ensures answer { result ≡ ranged r }
 {
-    let t = in_range(r);
-    if t {
-        return Ok(r);
+    if in_range(r) {
+        Ok(r)
+    } else {
+        Err(Refusal::Field)
     }
-    Err(Refusal::Field)
 }
 
 // ---- from bytes
@@ -265,206 +212,159 @@ pub fn ranged_of(r: Record) -> Result<Record, Refusal>
 pub fn is_corner(k: u32) -> bool
     ensures answer { result ≡ is_corner k }
 {
-    (k < KIND_OPEN) | (k == KIND_CONTROL)
+    k < KIND_OPEN || k == KIND_CONTROL
 }
 
+#[tactic(auto, unfolding(crate::specs::Record::corner_of))]
 pub fn corner_of(k: u32, x: u32, y: u32) -> Record
     ensures answer { result ≡ corner_of k x y }
 {
-    if k == KIND_FIRST {
-        return Record::First(x, y);
+    match k {
+        KIND_FIRST => Record::First(x, y),
+        KIND_NEXT => Record::Next(x, y),
+        _ => Record::Control(x, y),
     }
-    if k == KIND_NEXT {
-        return Record::Next(x, y);
-    }
-    Record::Control(x, y)
 }
 
+#[tactic(auto, unfolding(crate::specs::Record::delimiter_of))]
 pub fn delimiter_of(k: u32) -> Record
     ensures answer { result ≡ delimiter_of k }
 {
-    if k == KIND_OPEN {
-        return Record::Open;
+    match k {
+        KIND_OPEN => Record::Open,
+        KIND_BAR => Record::Bar,
+        _ => Record::Close,
     }
-    if k == KIND_BAR {
-        return Record::Bar;
-    }
-    Record::Close
 }
 
 fn area_unnamed(r: Raw) -> bool
-    ensures answer { result ≡ area_unnamed r }
+    ensures answer { result ≡ area_unnamed (raw_at r 0) }
 {
-    (r.b7 == 0)
-        & ((r.b10 == 0)
-            & ((r.b11 == 0) & ((r.b12 == 0) & ((r.b13 == 0) & ((r.b14 == 0) & (r.b15 == 0))))))
+    r[7] == 0 && r[10..] == [0; 6]
 }
 
 fn corner_unnamed(r: Raw) -> bool
-    ensures answer { result ≡ corner_unnamed r }
+    ensures answer { result ≡ corner_unnamed (raw_at r 0) }
 {
-    (r.b1 == 0)
-        & ((r.b2 == 0)
-            & ((r.b3 == 0) & ((r.b12 == 0) & ((r.b13 == 0) & ((r.b14 == 0) & (r.b15 == 0))))))
+    r[1..4] == [0; 3] && r[12..] == [0; 4]
 }
 
 fn delimiter_unnamed(r: Raw) -> bool
-    ensures answer { result ≡ delimiter_unnamed r }
+    ensures answer { result ≡ delimiter_unnamed (raw_at r 0) }
 {
-    (r.b1 == 0)
-        & ((r.b2 == 0)
-            & ((r.b3 == 0)
-                & ((r.b4 == 0)
-                    & ((r.b5 == 0)
-                        & ((r.b6 == 0)
-                            & ((r.b7 == 0)
-                                & ((r.b8 == 0)
-                                    & ((r.b9 == 0)
-                                        & ((r.b10 == 0)
-                                            & ((r.b11 == 0)
-                                                & ((r.b12 == 0)
-                                                    & ((r.b13 == 0)
-                                                        & ((r.b14 == 0) & (r.b15 == 0))))))))))))))
+    r[1..] == [0; 15]
 }
 
+#[tactic(auto, unfolding(crate::specs::Bytes::unnamed_zero))]
 fn unnamed_zero(r: Raw) -> bool
-    ensures answer { result ≡ unnamed_zero r }
+    ensures answer { result ≡ unnamed_zero (raw_at r 0) }
 {
-    if r.b0 == BYTE_AREA {
-        return area_unnamed(r);
+    if r[0] == BYTE_AREA {
+        area_unnamed(r)
+    } else if is_corner(r[0].into()) {
+        corner_unnamed(r)
+    } else {
+        delimiter_unnamed(r)
     }
-    let k = wide(r.b0);
-    let t = is_corner(k);
-    if t {
-        return corner_unnamed(r);
-    }
-    delimiter_unnamed(r)
 }
 
+#[tactic(auto, unfolding(crate::specs::Bytes::fields_of))]
 fn fields_of(r: Raw) -> Fields
-    ensures answer { result ≡ fields_of r }
+    ensures answer { result ≡ fields_of (raw_at r 0) }
 {
-    let m = two_bytes(r.b8, r.b9);
     Fields {
-        role: r.b1 as u32,
-        rule: r.b2 as u32,
-        alpha: r.b3 as u32,
-        red: r.b4 as u32,
-        green: r.b5 as u32,
-        blue: r.b6 as u32,
-        material: m,
+        role: r[1].into(),
+        rule: r[2].into(),
+        alpha: r[3].into(),
+        red: r[4].into(),
+        green: r[5].into(),
+        blue: r[6].into(),
+        material: two_bytes(r[8], r[9]),
     }
 }
 
 // The record that the named bytes say.
+#[tactic(auto, unfolding(crate::specs::Bytes::named))]
 pub fn named_of(r: Raw) -> Record
-    ensures answer { result ≡ named r }
+    ensures answer { result ≡ named (raw_at r 0) }
 {
-    if r.b0 == BYTE_AREA {
-        let f = fields_of(r);
-        return Record::Area(f);
+    if r[0] == BYTE_AREA {
+        return Record::Area(fields_of(r));
     }
-    let k = wide(r.b0);
-    let t = is_corner(k);
-    if t {
-        let x = four_bytes(r.b4, r.b5, r.b6, r.b7);
-        let y = four_bytes(r.b8, r.b9, r.b10, r.b11);
-        return corner_of(k, x, y);
+    let kind = r[0].into();
+    if is_corner(kind) {
+        corner_of(
+            kind,
+            four_bytes(r[4], r[5], r[6], r[7]),
+            four_bytes(r[8], r[9], r[10], r[11]),
+        )
+    } else {
+        delimiter_of(kind)
     }
-    delimiter_of(k)
 }
 
 // What sixteen bytes say.
+#[tactic(auto, unfolding(crate::specs::Bytes::decoded_raw))]
 pub fn decoded_raw(r: Raw) -> Result<Record, Refusal>
-    ensures answer { result ≡ decoded_raw r }
+    ensures answer { result ≡ decoded_raw (raw_at r 0) }
 {
-    if BYTE_AREA <= r.b0 {
-        if r.b0 <= BYTE_CONTROL {
-            let z = unnamed_zero(r);
-            if z {
-                let t = named_of(r);
-                return ranged_of(t);
-            }
-            return Err(Refusal::Field);
-        }
+    if r[0] < BYTE_AREA || r[0] > BYTE_CONTROL {
         return Err(Refusal::Kind);
     }
-    Err(Refusal::Kind)
+    if !unnamed_zero(r) {
+        return Err(Refusal::Field);
+    }
+    ranged_of(named_of(r))
 }
 
 // ---- to bytes
-fn raw_area(f: Fields) -> Raw
-    ensures answer { result ≡ raw_area f }
+fn low_byte(x: u32) -> u8
+    ensures answer { result ≡ x % 256 }
 {
-    Raw {
-        b0: BYTE_AREA,
-        b1: (f.role % 256) as u8,
-        b2: (f.rule % 256) as u8,
-        b3: (f.alpha % 256) as u8,
-        b4: (f.red % 256) as u8,
-        b5: (f.green % 256) as u8,
-        b6: (f.blue % 256) as u8,
-        b7: 0,
-        b8: (f.material % 256) as u8,
-        b9: (f.material / 256 % 256) as u8,
-        b10: 0,
-        b11: 0,
-        b12: 0,
-        b13: 0,
-        b14: 0,
-        b15: 0,
-    }
+    (x % 256) as u8
+}
+
+fn raw_area(f: Fields) -> Raw
+    ensures answer { result ≡ raw_bytes (raw_area f) }
+{
+    let [low, high, _, _] = f.material.to_le_bytes();
+    [
+        BYTE_AREA,
+        low_byte(f.role),
+        low_byte(f.rule),
+        low_byte(f.alpha),
+        low_byte(f.red),
+        low_byte(f.green),
+        low_byte(f.blue),
+        0,
+        low,
+        high,
+        0,
+        0,
+        0,
+        0,
+        0,
+        0,
+    ]
 }
 
 fn raw_corner(k: u8, x: u32, y: u32) -> Raw
-    ensures answer { result ≡ raw_corner k x y }
+    ensures answer { result ≡ raw_bytes (raw_corner k x y) }
 {
-    Raw {
-        b0: k,
-        b1: 0,
-        b2: 0,
-        b3: 0,
-        b4: (x % 256) as u8,
-        b5: (x / 256 % 256) as u8,
-        b6: (x / 65536 % 256) as u8,
-        b7: (x / 16777216 % 256) as u8,
-        b8: (y % 256) as u8,
-        b9: (y / 256 % 256) as u8,
-        b10: (y / 65536 % 256) as u8,
-        b11: (y / 16777216 % 256) as u8,
-        b12: 0,
-        b13: 0,
-        b14: 0,
-        b15: 0,
-    }
+    let [x0, x1, x2, x3] = x.to_le_bytes();
+    let [y0, y1, y2, y3] = y.to_le_bytes();
+    [k, 0, 0, 0, x0, x1, x2, x3, y0, y1, y2, y3, 0, 0, 0, 0]
 }
 
 fn raw_delimiter(k: u8) -> Raw
-    ensures answer { result ≡ raw_delimiter k }
+    ensures answer { result ≡ raw_bytes (raw_delimiter k) }
 {
-    Raw {
-        b0: k,
-        b1: 0,
-        b2: 0,
-        b3: 0,
-        b4: 0,
-        b5: 0,
-        b6: 0,
-        b7: 0,
-        b8: 0,
-        b9: 0,
-        b10: 0,
-        b11: 0,
-        b12: 0,
-        b13: 0,
-        b14: 0,
-        b15: 0,
-    }
+    [k, 0, 0, 0, 0, 0, 0, 0, 0, 0, 0, 0, 0, 0, 0, 0]
 }
 
 // The bytes of a record.
 pub fn raw_of(r: Record) -> Raw
-    ensures answer { result ≡ raw_of r }
+    ensures answer { result ≡ bytes_of r }
 {
     match r {
         Record::Area(f) => raw_area(f),

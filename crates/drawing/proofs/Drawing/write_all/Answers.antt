@@ -18,7 +18,7 @@ loop-i-preserved c = (
   past_area _ _ _ (Ok c.row_accepted-r.result) c.loop-i.invariant.0 c.past-c.ensures.answer,
   past_corner _ _ _ (Ok c.row_accepted-r.result) c.loop-i.invariant.1 c.past-c.ensures.answer,
   copy_turn _ _ _ _ _ _ _ _ _ _ _ _ c.loop-i-test.true c.row_accepted-r.ensures.answer refl
-      (bytes_table _ _ _ _ _ _ refl c.raw_of.ensures.answer c.put_raw.ensures.out) c.past-c.ensures.answer c.loop-i.invariant.2,
+      (bytes_table _ _ _ _ _ c.raw_of.ensures.answer c.put_raw.ensures.out) c.past-c.ensures.answer c.loop-i.invariant.2,
 )
 
 pub returns : goal.returns
