@@ -180,7 +180,7 @@ fn write_if_room(
         entries.old first count used (env areas.now xs.now ys.now b) s }
 {
     let n = entries_made(entries, first, count, areas, xs, ys, b, s);
-    if used + n <= entries.len() / celltable::ENTRY_WORDS {
+    if used + n <= entries.len() / stream::ENTRY_WORDS {
         child_stream::write_child(entries, first, count, used, n, areas, xs, ys, b, s);
         return (n as u64) + 1;
     }

@@ -165,19 +165,11 @@ pub fn judge(tree: Tree, i: u32) -> Result<Planned, Refusal>
     if drawing.xs.len() != drawing.ys.len() {
         return Err(Refusal::Argument);
     }
-    let used = tables::cells_used(tree.head);
+    let used = tree.cells_used();
     if used <= i {
         return Err(Refusal::NoCell);
     }
-    if !tables::counts_fit(
-        drawing.plan,
-        drawing.areas,
-        drawing.xs,
-        drawing.ys,
-        tree.head,
-        tree.cells,
-        tree.entries,
-    ) {
+    if !tree.counts_fit() {
         return Err(Refusal::Broken);
     }
     let free = tree.head[celltable::ENTRIES];
