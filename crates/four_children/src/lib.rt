@@ -30,11 +30,10 @@ fn tally_of(k: Count) -> Tally
     ensures answer { result ≡ tally_n k }
 {
     let n = k.weight;
-    let z = k.starts;
     Tally {
         entries: (n % 65536) as usize,
         lines: (n / 65536 % 65536) as usize,
-        starts: z,
+        starts: k.starts,
     }
 }
 
@@ -98,8 +97,7 @@ fn count_next(
         (lent areas.now xs.now ys.now b) (cell_of w) (words_from entries.now first count) (q + 1) }
 {
     let t = count_one(entries, first, count, areas, xs, ys, b, w, q);
-    let k = q as usize;
-    ts[k] = t;
+    ts[q as usize] = t;
     ts
 }
 
@@ -123,11 +121,10 @@ pub fn count_to(
         (lent areas.now xs.now ys.now b) (cell_of w) (words_from entries.now first count) n }
 {
     let mut ts = no_tallies();
-    let mut q: u32 = 0;
-    while q < n {
+    for q in 0..n {
+        // the check does not cover a call's result that is laid in an array at once
         let next = count_next(ts, q, entries, first, count, areas, xs, ys, b, w);
         ts = next;
-        q += 1;
     }
     ts
 }
@@ -183,13 +180,10 @@ pub fn write_four(
         (lent areas.now xs.now ys.now b) (cell_of w) (words_from entries.old first count) 4) }
 {
     let mut at = free;
-    let mut q: u32 = 0;
-    while q < celltable::CHILDREN {
-        let k = q as usize;
-        let t = ts[k];
+    for q in 0..celltable::CHILDREN {
+        let t = ts[q as usize];
         write_child(entries, first, count, at, t.entries, areas, xs, ys, b, w, q);
         at += t.entries;
-        q += 1;
     }
 }
 
@@ -206,7 +200,7 @@ fn child_words(w: CellWords, i: u32, q: u32, first: u32, t: Tally) -> CellWords
         y: s.y,
         side: s.side,
         child: 0,
-        first: first,
+        first,
         count: t.entries as u32,
         lines: t.lines as u32,
         parent: i,
@@ -223,14 +217,11 @@ pub fn put_four(cells: &mut [u32], i: u32, used: u32, free: u32, w: CellWords, t
     ensures cells { cells.new ≡ cells_by (cell_of w) ts cells.old i used free 4 }
 {
     let mut at = free;
-    let mut n: u32 = 0;
-    while n < celltable::CHILDREN {
-        let k = n as usize;
-        let t = ts[k];
+    for n in 0..celltable::CHILDREN {
+        let t = ts[n as usize];
         let c = child_words(w, i, n, at, t);
         let new = (used + n) as usize;
         celltable::put_cell(cells, new, c);
         at += t.entries as u32;
-        n += 1;
     }
 }

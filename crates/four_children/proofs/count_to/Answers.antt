@@ -17,9 +17,6 @@ count_next-next-requires c = record {
   ts_value = c.loop-q.invariant.tallies;
 }
 
-pub overflow_add-q : goal.overflow_add-q
-overflow_add-q c = record { fits = omega (arith, c.loop-q-test.true, c.requires.n_bound) }
-
 pub loop-q-preserved : goal.loop-q-preserved
 loop-q-preserved c = record { low = omega (arith, c.loop-q-test.true); tallies = c.count_next-next.ensures.answer }
 

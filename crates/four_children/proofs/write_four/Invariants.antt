@@ -1,4 +1,3 @@
-use Prim.Native.Nat.{◌-◌}
 use Rattle.celltable.specs.Ranges.{cell_of}
 use Rattle.ranges.specs.Held.{lent}
 use Rattle.four_children.proofs.Filled.{Filled}
@@ -6,6 +5,3 @@ use Rattle.four_children.proofs.write_four.Given as goal
 
 abbrev pub invariant-loop-q : goal.invariant-loop-q
 invariant-loop-q l = Filled (lent l.areas l.xs l.ys l.b) (cell_of l.w) l.initial.entries l.first l.count l.free l.q l.at l.entries
-
-abbrev pub decreases-loop-q : goal.decreases-loop-q
-decreases-loop-q l = 4 - l.q
