@@ -4,17 +4,17 @@
 
 ghost use Rattle.std.specs.Prelude.{◌≡◌, true, [], ◌∷◌, ◌+◌, ◌*◌, ◌≤◌, ◌<◌, length};
 ghost use Rattle.stream.specs.Table.{words_from, written};
-ghost use Rattle.stream.specs.Grammar.{env, Passed};
+ghost use Rattle.stream.specs.Grammar.{env, env_of, Passed};
 ghost use Rattle.celltable.specs.Ranges.{square_range, cell_of};
 ghost use Rattle.ranges.specs.Held.{lent};
 ghost use Rattle.four_children.specs.Children.{elements_of_child, words_of_child, entries_of_child, streams_to, words_with};
-ghost use Rattle.four_children.specs.code.Numbers.{tally, tally_n, empty_tally, worked_to, cells_by, FewEach};
+ghost use Rattle.four_children.specs.code.Numbers.{drawing_of, words_of, tally, tally_n, empty_tally, worked_to, cells_by, FewEach};
 ghost use Rattle.cells.specs.Cells.{child};
 ghost use Rattle.celltable.specs.Descent.{quarter_at};
 
 use celltable::CellWords;
 use child_stream::{Count, Starts};
-use stream::Bounds;
+use stream::{Bounds, Context, Stream};
 
 // What a child's stream has; document 01 asks for an "array of four child tallies (entries, lines, starts) passed and returned by value". `entries`
 // decides 11 and where the child's stream begins, `lines` is the child's line count. `starts` are those of that stream too (`EachPass`); no call reads
@@ -38,25 +38,24 @@ fn tally_of(k: Count) -> Tally
 }
 
 // The tally of child q of the cell whose words are w.
-fn count_one(
-    entries: &[u32],
-    first: usize,
-    count: usize,
-    areas: &[u32],
-    xs: &[u32],
-    ys: &[u32],
-    b: Bounds,
-    w: CellWords,
-    q: u32,
-) -> Tally
-    requires passed { Passed entries.now first count (env areas.now xs.now ys.now b) }
+fn count_one(stream: Stream, context: Context, w: CellWords, q: u32) -> Tally
+    requires passed { Passed stream.entries.now stream.first stream.count (env_of context) }
     requires w_value { square_range w ≡ true }
     requires lt_side { 1 < w.side }
     ensures answer { result ≡ tally (elements_of_child
-        (lent areas.now xs.now ys.now b) (cell_of w) (words_from entries.now first count) q) }
+        (drawing_of context.entry) (cell_of w) (words_of stream.entry) q) }
 {
     let s = celltable::quarter_of(w, q);
-    let n = child_stream::count_child(entries, first, count, areas, xs, ys, b, s);
+    let n = child_stream::count_child(
+        stream.entries,
+        stream.first,
+        stream.count,
+        context.areas,
+        context.xs,
+        context.ys,
+        context.bounds,
+        s,
+    );
     tally_of(n)
 }
 
@@ -79,51 +78,36 @@ pub fn no_tallies() -> [Tally; 4]
 fn count_next(
     mut ts: [Tally; 4],
     q: u32,
-    entries: &[u32],
-    first: usize,
-    count: usize,
-    areas: &[u32],
-    xs: &[u32],
-    ys: &[u32],
-    b: Bounds,
+    stream: Stream,
+    context: Context,
     w: CellWords,
 ) -> [Tally; 4]
     requires q_bound { q < 4 }
-    requires passed { Passed entries.now first count (env areas.now xs.now ys.now b) }
+    requires passed { Passed stream.entries.now stream.first stream.count (env_of context) }
     requires w_value { square_range w ≡ true }
     requires lt_side { 1 < w.side }
-    requires ts_value { ts ≡ worked_to (lent areas.now xs.now ys.now b) (cell_of w) (words_from entries.now first count) q }
+    requires ts_value { ts ≡ worked_to (drawing_of context) (cell_of w) (words_of stream) q }
     ensures answer { result ≡ worked_to
-        (lent areas.now xs.now ys.now b) (cell_of w) (words_from entries.now first count) (q + 1) }
+        (drawing_of context.entry) (cell_of w) (words_of stream.entry) (q + 1) }
 {
-    let t = count_one(entries, first, count, areas, xs, ys, b, w, q);
+    let t = count_one(stream, context, w, q);
     ts[q as usize] = t;
     ts
 }
 
 // The tallies after the passes of the first n children, one child after another.
-pub fn count_to(
-    entries: &[u32],
-    first: usize,
-    count: usize,
-    areas: &[u32],
-    xs: &[u32],
-    ys: &[u32],
-    b: Bounds,
-    w: CellWords,
-    n: u32,
-) -> [Tally; 4]
-    requires passed { Passed entries.now first count (env areas.now xs.now ys.now b) }
+pub fn count_to(stream: Stream, context: Context, w: CellWords, n: u32) -> [Tally; 4]
+    requires passed { Passed stream.entries.now stream.first stream.count (env_of context) }
     requires w_value { square_range w ≡ true }
     requires lt_side { 1 < w.side }
     requires n_bound { n ≤ 4 }
     ensures answer { result ≡ worked_to
-        (lent areas.now xs.now ys.now b) (cell_of w) (words_from entries.now first count) n }
+        (drawing_of context.entry) (cell_of w) (words_of stream.entry) n }
 {
     let mut ts = no_tallies();
     for q in 0..n {
         // the check does not cover a call's result that is laid in an array at once
-        let next = count_next(ts, q, entries, first, count, areas, xs, ys, b, w);
+        let next = count_next(ts, q, stream, context, w);
         ts = next;
     }
     ts

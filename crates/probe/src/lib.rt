@@ -283,10 +283,19 @@ fn tally_number(
         tally_number entries.now first count (env areas.now xs.now ys.now b) s q k number }
 {
     let w = leaf_on(s);
-    let ts = four_children::count_to(entries, first, count, areas, xs, ys, b, w, q);
-    let i = k as usize;
-    let t = ts[i];
-    number_in(t, number)
+    let stream = Stream {
+        entries,
+        first,
+        count,
+    };
+    let context = Context {
+        areas,
+        xs,
+        ys,
+        bounds: b,
+    };
+    let ts = four_children::count_to(stream, context, w, q);
+    number_in(ts[k as usize], number)
 }
 
 // A number of the tally of child k of the stream's cell, after the passes of the first q children. 0 if the stream does not pass the check, the square

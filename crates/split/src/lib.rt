@@ -77,17 +77,18 @@ fn judge_children(
         (worked_to (lent t.areas t.xs t.ys bounds) (cell_of w) (words_from t.entries w.first w.count) 4) }
 {
     let drawing = tree.drawing;
-    let children = four_children::count_to(
-        tree.entries,
-        w.first as usize,
-        w.count as usize,
-        drawing.areas,
-        drawing.xs,
-        drawing.ys,
+    let stream = Stream {
+        entries: tree.entries,
+        first: w.first as usize,
+        count: w.count as usize,
+    };
+    let context = Context {
+        areas: drawing.areas,
+        xs: drawing.xs,
+        ys: drawing.ys,
         bounds,
-        w,
-        celltable::CHILDREN,
-    );
+    };
+    let children = four_children::count_to(stream, context, w, celltable::CHILDREN);
     let made = entries_of(children);
     let child = judge_room(tree.cells.len(), tree.entries.len(), used, free, made)?;
     Ok(Planned { child, children })
