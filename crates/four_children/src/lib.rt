@@ -4,9 +4,8 @@
 
 ghost use Rattle.std.specs.Prelude.{◌≡◌, true, [], ◌∷◌, ◌+◌, ◌*◌, ◌≤◌, ◌<◌, length};
 ghost use Rattle.stream.specs.Table.{words_from, written};
-ghost use Rattle.stream.specs.Grammar.{env, env_of, Passed};
+ghost use Rattle.stream.specs.Grammar.{env_of, Passed};
 ghost use Rattle.celltable.specs.Ranges.{square_range, cell_of};
-ghost use Rattle.ranges.specs.Held.{lent};
 ghost use Rattle.four_children.specs.Children.{elements_of_child, words_of_child, entries_of_child, streams_to, words_with};
 ghost use Rattle.four_children.specs.code.Numbers.{drawing_of, words_of, tally, tally_n, empty_tally, worked_to, cells_by, FewEach};
 ghost use Rattle.cells.specs.Cells.{child};
@@ -14,7 +13,7 @@ ghost use Rattle.celltable.specs.Descent.{quarter_at};
 
 use celltable::CellWords;
 use child_stream::{Count, Starts};
-use stream::{Bounds, Context, Stream};
+use stream::{Context, Stream};
 
 // What a child's stream has; document 01 asks for an "array of four child tallies (entries, lines, starts) passed and returned by value". `entries`
 // decides 11 and where the child's stream begins, `lines` is the child's line count. `starts` are those of that stream too (`EachPass`); no call reads
@@ -120,24 +119,27 @@ fn write_child(
     count: usize,
     free: usize,
     made: usize,
-    areas: &[u32],
-    xs: &[u32],
-    ys: &[u32],
-    b: Bounds,
+    context: Context,
     w: CellWords,
     q: u32,
 )
-    requires passed { Passed entries.old first count (env areas.now xs.now ys.now b) }
+    requires passed { Passed entries.old first count (env_of context) }
     requires w_value { square_range w ≡ true }
     requires lt_side { 1 < w.side }
     requires count_bound { first + count ≤ free }
     requires made_in_bounds { (free + made) * 4 ≤ length entries.old }
-    requires made_value { made ≡ entries_of_child (lent areas.now xs.now ys.now b) (cell_of w) (words_from entries.old first count) q }
+    requires made_value { made ≡ entries_of_child (drawing_of context) (cell_of w) (words_from entries.old first count) q }
     ensures entries { entries.new ≡ written entries.old free (words_of_child
-        (lent areas.now xs.now ys.now b) (cell_of w) (words_from entries.old first count) q) }
+        (drawing_of context.entry) (cell_of w) (words_from entries.old first count) q) }
 {
     let s = celltable::quarter_of(w, q);
-    child_stream::write_child(entries, first, count, free, made, areas, xs, ys, b, s);
+    let Context {
+        areas,
+        xs,
+        ys,
+        bounds,
+    } = context;
+    child_stream::write_child(entries, first, count, free, made, areas, xs, ys, bounds, s);
 }
 
 // Writes the streams of all four children, child by child, from entry `free` on.
@@ -146,27 +148,24 @@ pub fn write_four(
     first: usize,
     count: usize,
     free: usize,
-    areas: &[u32],
-    xs: &[u32],
-    ys: &[u32],
-    b: Bounds,
+    context: Context,
     w: CellWords,
     ts: [Tally; 4],
 )
-    requires passed { Passed entries.old first count (env areas.now xs.now ys.now b) }
+    requires passed { Passed entries.old first count (env_of context) }
     requires w_value { square_range w ≡ true }
     requires lt_side { 1 < w.side }
     requires count_bound { first + count ≤ free }
-    requires ts_value { ts ≡ worked_to (lent areas.now xs.now ys.now b) (cell_of w) (words_from entries.old first count) 4 }
-    requires count_in_bounds { (free + length (streams_to (lent areas.now xs.now ys.now b) (cell_of w) (words_from entries.old first count) 4)) * 4
+    requires ts_value { ts ≡ worked_to (drawing_of context) (cell_of w) (words_from entries.old first count) 4 }
+    requires count_in_bounds { (free + length (streams_to (drawing_of context) (cell_of w) (words_from entries.old first count) 4)) * 4
         ≤ length entries.old }
     ensures entries { entries.new ≡ written entries.old free (streams_to
-        (lent areas.now xs.now ys.now b) (cell_of w) (words_from entries.old first count) 4) }
+        (drawing_of context.entry) (cell_of w) (words_from entries.old first count) 4) }
 {
     let mut at = free;
     for q in 0..celltable::CHILDREN {
         let t = ts[q as usize];
-        write_child(entries, first, count, at, t.entries, areas, xs, ys, b, w, q);
+        write_child(entries, first, count, at, t.entries, context, w, q);
         at += t.entries;
     }
 }

@@ -226,18 +226,15 @@ fn put_split(
     ensures entries { let d = drawing.entry in entries.new ≡ written entries.old free
         (streams_to (lent d.areas.now d.xs.now d.ys.now bounds) (cell_of w) (words_from entries.old w.first w.count) 4) }
 {
-    four_children::write_four(
-        entries,
-        w.first as usize,
-        w.count as usize,
-        free as usize,
-        drawing.areas,
-        drawing.xs,
-        drawing.ys,
+    let first = w.first as usize;
+    let count = w.count as usize;
+    let context = Context {
+        areas: drawing.areas,
+        xs: drawing.xs,
+        ys: drawing.ys,
         bounds,
-        w,
-        ts,
-    );
+    };
+    four_children::write_four(entries, first, count, free as usize, context, w, ts);
     put_cells(cells, i, used, free, w, ts);
     let n = entries_of(ts);
     tables::put_head(head, used + celltable::CHILDREN, free + (n as u32));
