@@ -5,8 +5,8 @@ use mathlib.Core.List.{List, [], ◌∷◌, ◌++◌}
 use Prim.Native.Nat.{ℕ}
 use Rattle.cells.specs.Cells.{at, cell}
 use Rattle.celltable.specs.declared.CellWords.{CellWords}
-use Rattle.celltable.specs.declared.Found.{Found}
-use Rattle.celltable.specs.declared.Found.TheVariants.{At, Broken}
+use Rattle.std.specs.Prelude.{Option, None, Some}
+use Rattle.celltable.specs.declared.Leaf.{Leaf}
 use Rattle.celltable.specs.Table.{cell_row}
 use Rattle.celltable.specs.Ranges.{power_up_to, side_range, parent_range, cell_range, head_range}
 use Rattle.celltable.specs.Descent.{down_from, descend_in}
@@ -18,8 +18,8 @@ words x y side child first count = record { x = x; y = y; side = side; child = c
 abbrev row : (x y side child first count : ℕ) → List ℕ
 row x y side child first count = cell_row (words x y side child first count)
 
-abbrev leaf : (i x y side steps first count : ℕ) → Found
-leaf i x y side steps first count = At (record { cell = i; x = x; y = y; side = side; steps = steps; first = first; count = count; lines = 5 })
+abbrev leaf : (i x y side steps first count : ℕ) → Option Leaf
+leaf i x y side steps first count = Some (record { cell = i; x = x; y = y; side = side; steps = steps; first = first; count = count; lines = 5 })
 
 -- ---- cell 0 alone, with three entries
 abbrev alone : List ℕ
@@ -30,7 +30,7 @@ unfolding descend_in down_from cell_range parent_range power_up_to
 found_root = refl
 
 -- its entries are not in use
-entries_beyond : descend_in alone 1 2 100 65535 ≡ Broken
+entries_beyond : descend_in alone 1 2 100 65535 ≡ None
 unfolding descend_in down_from cell_range parent_range power_up_to
 entries_beyond = refl
 
@@ -55,7 +55,7 @@ unfolding descend_in down_from cell_range parent_range power_up_to
 high_high_law = refl
 
 -- a child is not in use
-child_beyond : descend_in split 4 7 0 0 ≡ Broken
+child_beyond : descend_in split 4 7 0 0 ≡ None
 unfolding descend_in down_from cell_range parent_range power_up_to
 child_beyond = refl
 
@@ -67,7 +67,7 @@ off_its_quarter : cell_range swapped 2 5 7 ≡ false
 unfolding cell_range parent_range power_up_to
 off_its_quarter = refl
 
-astray : descend_in swapped 5 7 32768 0 ≡ Broken
+astray : descend_in swapped 5 7 32768 0 ≡ None
 unfolding descend_in down_from cell_range parent_range power_up_to
 astray = refl
 
@@ -75,12 +75,12 @@ astray = refl
 abbrev circle : List ℕ
 circle = row 0 0 65536 1 0 0 ++ row 0 0 32768 1 0 0 ++ row 32768 0 32768 0 0 0 ++ row 0 32768 32768 0 0 0 ++ row 32768 32768 32768 0 0 0
 
-in_circles : descend_in circle 5 0 0 0 ≡ Broken
+in_circles : descend_in circle 5 0 0 0 ≡ None
 unfolding descend_in down_from cell_range parent_range power_up_to
 in_circles = refl
 
 -- a cell of side 1 that says that it is split
-smallest : down_from (row 0 0 1 1 0 0) 9 0 (at 0 0) 1 0 16 (cell 0 0 0) ≡ Broken
+smallest : down_from (row 0 0 1 1 0 0) 9 0 (at 0 0) 1 0 16 (cell 0 0 0) ≡ None
 unfolding down_from cell_range parent_range power_up_to
 smallest = refl
 
@@ -108,12 +108,12 @@ unfolding cell_range parent_range power_up_to
 parent_beyond = refl
 
 -- the way meets it too
-parent_on_the_way : descend_in (under 0 0 0 1) 5 7 65535 65535 ≡ Broken
+parent_on_the_way : descend_in (under 0 0 0 1) 5 7 65535 65535 ≡ None
 unfolding descend_in down_from cell_range parent_range power_up_to
 parent_on_the_way = refl
 
 -- and where it does not go, it meets nothing
-elsewhere : descend_in (under 0 0 0 1) 5 7 0 0 ≡ At (record { cell = 1; x = 0; y = 0; side = 32768; steps = 1; first = 3; count = 1; lines = 0 })
+elsewhere : descend_in (under 0 0 0 1) 5 7 0 0 ≡ Some (record { cell = 1; x = 0; y = 0; side = 32768; steps = 1; first = 3; count = 1; lines = 0 })
 unfolding descend_in down_from cell_range parent_range power_up_to
 elsewhere = refl
 

@@ -10,7 +10,7 @@ use Rattle.cells.specs.Cells.{Position, at, OnGrid, Cell, cell, level, root, Hol
 use Rattle.cells.proofs.Cells.{root_holds, child_holds}
 use Rattle.celltable.specs.declared.CellWords.{CellWords}
 use Rattle.celltable.specs.declared.Leaf.{Leaf}
-use Rattle.celltable.specs.declared.Found.TheVariants.{At, Broken}
+use Rattle.std.specs.Prelude.{Option, None, Some}
 use Rattle.celltable.specs.Table.{cell_at}
 use Rattle.celltable.specs.Ranges.{cell_range, level_of}
 use Rattle.celltable.specs.Descent.{place_of, on_square, leaf_of, down_from, descend_in}
@@ -37,7 +37,7 @@ pub record LeafFound (t : List ℕ) (used entries : ℕ) (p : Position) (l : Lea
 
 module _ (t : List ℕ) (used entries : ℕ) (p : Position) (n i steps : ℕ) (c : Cell) (f : cell_range t i used entries ≡ true)
     (s : on_square (cell_at t i) c ≡ true) where
-  pub down_leaf : (cell_at t i).child ≡ 0 → down_from t used entries p (suc n) i steps c ≡ At (leaf_of i steps (cell_at t i))
+  pub down_leaf : (cell_at t i).child ≡ 0 → down_from t used entries p (suc n) i steps c ≡ Some (leaf_of i steps (cell_at t i))
   unfolding down_from
   down_leaf z = rw (f, s, eq-eqb (cell_at t i).child 0 z)
 
@@ -49,7 +49,7 @@ module _ (t : List ℕ) (used entries : ℕ) (p : Position) (n i steps : ℕ) (c
 
 -- ---- the leaf that is found
 
-pub broken_not : {A : Type 0} (l : Leaf) → Broken ≡ At l → A
+pub broken_not : {A : Type 0} (l : Leaf) → None ≡ Some l → A
 broken_not l e = absurd (let z : ◌≡◌ {A = ℕ} 0 1 = cc in omega arith)
 
 module _ (t : List ℕ) (used entries : ℕ) (p : Position) (l : Leaf) where
@@ -88,9 +88,9 @@ module _ (t : List ℕ) (used entries : ℕ) (p : Position) (l : Leaf) where
       → ((cell_at t i).child + 3 < used
       → down_from t used entries p n ((cell_at t i).child + place_of (quarter_of (cell x y k) p)) (steps + 1)
       (child (cell x y k) (quarter_of (cell x y k) p))
-      ≡ At l
+      ≡ Some l
       → LeafFound t used entries p l)
-      → down_from t used entries p (suc n) i steps (cell x y k) ≡ At l
+      → down_from t used entries p (suc n) i steps (cell x y k) ≡ Some l
       → LeafFound t used entries p l
   unfolding down_from
   one_cell n i steps x y k d u h next e = go (cell_range t i used entries) (on_square w c) (eqb w.child 0) refl refl refl e
@@ -107,11 +107,11 @@ module _ (t : List ℕ) (used entries : ℕ) (p : Position) (l : Leaf) where
           → eqb w.child 0 ≡ z
           → cond a
           (cond b
-          (cond z (At (leaf_of i steps w))
+          (cond z (Some (leaf_of i steps w))
           (down_from t used entries p n (w.child + place_of (quarter_of c p)) (steps + 1) (child c (quarter_of c p))))
-          Broken)
-          Broken
-          ≡ At l
+          None)
+          None
+          ≡ Some l
           → LeafFound t used entries p l
       go true true true f s z q =
           let r : leaf_of i steps w ≡ l = cc in
@@ -125,7 +125,7 @@ module _ (t : List ℕ) (used entries : ℕ) (p : Position) (l : Leaf) where
       → n ≤ suc (level c)
       → i < used
       → Holds c p
-      → down_from t used entries p n i steps c ≡ At l
+      → down_from t used entries p n i steps c ≡ Some l
       → LeafFound t used entries p l
   unfolding down_from
   down_found zero i steps c d m u h e = broken_not l e
@@ -143,7 +143,7 @@ module _ (t : List ℕ) (used entries : ℕ) (p : Position) (l : Leaf) where
 pub leaf_found : (t : List ℕ) (used entries x y : ℕ) (l : Leaf)
     → 1 ≤ used
     → OnGrid (at x y)
-    → descend_in t used entries x y ≡ At l
+    → descend_in t used entries x y ≡ Some l
     → LeafFound t used entries (at x y) l
 unfolding descend_in
 leaf_found t used entries x y l u g e = down_found t used entries (at x y) l 17 0 0 root (omega arith) (omega arith) u (root_holds (at x y) g) e

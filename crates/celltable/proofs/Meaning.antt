@@ -11,9 +11,9 @@ use Rattle.laws.proofs.Booleans.{and_left}
 use Rattle.cells.specs.Cells.{Position, at, Cell, cell, left, low, level, side, root, Quarter, along_x, along_y, child, quarter_by, quarter_of}
 use Rattle.celltable.specs.declared.CellWords.{CellWords}
 use Rattle.celltable.specs.declared.Cursor.{Cursor}
-use Rattle.celltable.specs.declared.Down.TheVariants.{Deeper, AtLeaf, Bad}
-use Rattle.celltable.specs.declared.Found.{Found}
-use Rattle.celltable.specs.declared.Found.TheVariants.{At, Broken}
+use Rattle.celltable.specs.declared.Down.TheVariants.{Deeper, AtLeaf}
+use Rattle.std.specs.Prelude.{Option, None, Some}
+use Rattle.celltable.specs.declared.Leaf.{Leaf}
 use Rattle.celltable.specs.Table.{cell_at}
 use Rattle.celltable.specs.Ranges.{child_range, entry_range, parent_range, cell_range}
 use Rattle.celltable.specs.Descent.{place_of, on_square, leaf_of, down_from, descend_in}
@@ -115,10 +115,10 @@ module _ (t : List ℕ) (used entries px py : ℕ) where
       numbers : Bool
       numbers = numbers_n t used entries (cursor_of i p steps c) w
 
-      deeper : Found
+      deeper : Option Leaf
       deeper = down_from t used entries (at px py) n (w.child + place_of (quarter_of c (at px py))) (steps + 1) (child c (quarter_of c (at px py)))
 
-      astray : (a : Bool) → Broken ≡ cond a Broken Broken
+      astray : (a : Bool) → ◌≡◌ {A = Option Leaf} None (cond a None None)
       astray true = refl
       astray false = refl
 
@@ -126,9 +126,9 @@ module _ (t : List ℕ) (used entries px py : ℕ) where
           → on_square w c ≡ a
           → numbers ≡ b
           → eqb w.child 0 ≡ d
-          → go_on (cond a (cond b (cond d (AtLeaf (leaf_of i steps w)) (Deeper (deeper_n (cursor_of i p steps c) w.child px py))) Bad) Bad)
+          → go_on (cond a (cond b (cond d (Some (AtLeaf (leaf_of i steps w))) (Some (Deeper (deeper_n (cursor_of i p steps c) w.child px py)))) None) None)
           (walk_n t used entries px py n)
-          ≡ cond (cell_range t i used entries) (cond a (cond d (At (leaf_of i steps w)) deeper) Broken) Broken
+          ≡ cond (cell_range t i used entries) (cond a (cond d (Some (leaf_of i steps w)) deeper) None) None
       go true true true e f k = rw (numbers_are i p steps c g o r e ∙ f)
       go true true false e f k =
           rw (numbers_are i p steps c g o r e ∙ f)

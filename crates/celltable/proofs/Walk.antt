@@ -11,9 +11,8 @@ use Rattle.celltable.specs.declared.CellWords.{CellWords}
 use Rattle.celltable.specs.declared.Cursor.{Cursor}
 use Rattle.celltable.specs.declared.Leaf.{Leaf}
 use Rattle.celltable.specs.declared.Down.{Down}
-use Rattle.celltable.specs.declared.Down.TheVariants.{Deeper, AtLeaf, Bad}
-use Rattle.celltable.specs.declared.Found.{Found}
-use Rattle.celltable.specs.declared.Found.TheVariants.{At, Broken}
+use Rattle.celltable.specs.declared.Down.TheVariants.{Deeper, AtLeaf}
+use Rattle.std.specs.Prelude.{Option, None, Some}
 use Rattle.celltable.specs.Table.{cell_at}
 use Rattle.celltable.specs.Ranges.{child_range}
 use Rattle.celltable.specs.Descent.{leaf_of}
@@ -25,33 +24,33 @@ module _ (t : List ℕ) (used entries : ℕ) (c : Cursor) (px py : ℕ) (w : Cel
   read_is : met_n t w used entries c px py ≡ step_n t used entries c px py
   read_is = ap (λ (v : CellWords). met_n t v used entries c px py) p
 
-  pub step_astray : s ≡ false → Bad ≡ step_n t used entries c px py
+  pub step_astray : s ≡ false → None ≡ step_n t used entries c px py
   unfolding met_n
   step_astray k = met ∙ read_is
     where
-      met : Bad ≡ met_n t w used entries c px py
+      met : None ≡ met_n t w used entries c px py
       met = rw (← r, k)
 
   module _ (f : Bool) (k : s ≡ true) (q : f ≡ numbers_n t used entries c w) where
-    pub step_unfit : f ≡ false → Bad ≡ step_n t used entries c px py
+    pub step_unfit : f ≡ false → None ≡ step_n t used entries c px py
     unfolding met_n
     step_unfit h = met ∙ read_is
       where
-        met : Bad ≡ met_n t w used entries c px py
+        met : None ≡ met_n t w used entries c px py
         met = rw (← r, k, ← q, h)
 
-    pub step_landed : f ≡ true → w.child ≡ 0 → AtLeaf (leaf_of c.cell c.steps w) ≡ step_n t used entries c px py
+    pub step_landed : f ≡ true → w.child ≡ 0 → Some (AtLeaf (leaf_of c.cell c.steps w)) ≡ step_n t used entries c px py
     unfolding met_n
     step_landed h l = met ∙ read_is
       where
-        met : AtLeaf (leaf_of c.cell c.steps w) ≡ met_n t w used entries c px py
+        met : Some (AtLeaf (leaf_of c.cell c.steps w)) ≡ met_n t w used entries c px py
         met = rw (← r, k, ← q, h, eq-eqb w.child 0 l)
 
-    pub step_deeper : (next : Cursor) → f ≡ true → (w.child ≡ 0 → ⊥) → next ≡ deeper_n c w.child px py → Deeper next ≡ step_n t used entries c px py
+    pub step_deeper : (next : Cursor) → f ≡ true → (w.child ≡ 0 → ⊥) → next ≡ deeper_n c w.child px py → Some (Deeper next) ≡ step_n t used entries c px py
     unfolding met_n
     step_deeper next h l e = met ∙ read_is
       where
-        met : Deeper next ≡ met_n t w used entries c px py
+        met : Some (Deeper next) ≡ met_n t w used entries c px py
         met = rw (← r, k, ← q, h, ne_eqb w.child 0 l, e)
 
 -- a cell whose numbers pass has children in range
@@ -60,8 +59,8 @@ pub numbers_child : (t : List ℕ) (used entries : ℕ) (c : Cursor) (w : CellWo
 numbers_child t used entries c w f q h = and_left (child_range w.child used) _ (sym q ∙ h)
 
 -- ---- the loop: what is left gives what the whole gives
-module _ (t : List ℕ) (used entries px py n : ℕ) (c : Cursor) (r : Down) (whole : Found) where
-  walk_step : (d : Down)
+module _ (t : List ℕ) (used entries px py n : ℕ) (c : Cursor) (r : Option Down) (whole : Option Leaf) where
+  walk_step : (d : Option Down)
       → 0 < n
       → r ≡ step_n t used entries c px py
       → r ≡ d
@@ -76,18 +75,18 @@ module _ (t : List ℕ) (used entries px py n : ℕ) (c : Cursor) (r : Down) (wh
   pub walk_deeper : (c' : Cursor)
       → 0 < n
       → r ≡ step_n t used entries c px py
-      → r ≡ Deeper c'
+      → r ≡ Some (Deeper c')
       → walk_n t used entries px py n c ≡ whole
       → walk_n t used entries px py (n - 1) c' ≡ whole
-  walk_deeper c' h p q inv = walk_step (Deeper c') h p q inv
+  walk_deeper c' h p q inv = walk_step (Some (Deeper c')) h p q inv
 
-  pub walk_landed : (l : Leaf) → 0 < n → r ≡ step_n t used entries c px py → r ≡ AtLeaf l → walk_n t used entries px py n c ≡ whole → At l ≡ whole
-  walk_landed l h p q inv = walk_step (AtLeaf l) h p q inv
+  pub walk_landed : (l : Leaf) → 0 < n → r ≡ step_n t used entries c px py → r ≡ Some (AtLeaf l) → walk_n t used entries px py n c ≡ whole → Some l ≡ whole
+  walk_landed l h p q inv = walk_step (Some (AtLeaf l)) h p q inv
 
-  pub walk_bad : 0 < n → r ≡ step_n t used entries c px py → r ≡ Bad → walk_n t used entries px py n c ≡ whole → Broken ≡ whole
-  walk_bad h p q inv = walk_step Bad h p q inv
+  pub walk_bad : 0 < n → r ≡ step_n t used entries c px py → r ≡ None → walk_n t used entries px py n c ≡ whole → None ≡ whole
+  walk_bad h p q inv = walk_step None h p q inv
 
-pub walk_done : (t : List ℕ) (used entries px py n : ℕ) (c : Cursor) (whole : Found) → n ≤ 0 → walk_n t used entries px py n c ≡ whole → Broken ≡ whole
+pub walk_done : (t : List ℕ) (used entries px py n : ℕ) (c : Cursor) (whole : Option Leaf) → n ≤ 0 → walk_n t used entries px py n c ≡ whole → None ≡ whole
 unfolding walk_n
 walk_done t used entries px py n c whole h inv =
     let s : n ≡ 0 = omega arith in
@@ -123,7 +122,7 @@ deeper_follows used first px py c u =
     upper : Bool
     upper = leb (c.y + c.side / 2) py
 
-step_follows : (t : List ℕ) (used entries px py : ℕ) (c c' : Cursor) (r : Down) → r ≡ step_n t used entries c px py → r ≡ Deeper c' → Follows c c' used
+step_follows : (t : List ℕ) (used entries px py : ℕ) (c c' : Cursor) (r : Option Down) → r ≡ step_n t used entries c px py → r ≡ Some (Deeper c') → Follows c c' used
 unfolding met_n
 step_follows t used entries px py c c' r p q = go (stands_n c w) numbers (eqb w.child 0) refl refl (sym p ∙ q)
   where
@@ -134,7 +133,7 @@ step_follows t used entries px py c c' r p q = go (stands_n c w) numbers (eqb w.
     numbers = numbers_n t used entries c w
 
     go : (a b d : Bool) → numbers ≡ b → eqb w.child 0 ≡ d
-        → cond a (cond b (cond d (AtLeaf (leaf_of c.cell c.steps w)) (Deeper (deeper_n c w.child px py))) Bad) Bad ≡ Deeper c' → Follows c c' used
+        → cond a (cond b (cond d (Some (AtLeaf (leaf_of c.cell c.steps w))) (Some (Deeper (deeper_n c w.child px py)))) None) None ≡ Some (Deeper c') → Follows c c' used
     go true true false e f k =
         let s : deeper_n c w.child px py ≡ c' = cc in
         subst (λ (v : Cursor). Follows c v used) s
@@ -157,7 +156,7 @@ going_start used h = record { in_use = h; east = omega arith; north = omega arit
 pub going_in : (c : Cursor) (used n : ℕ) → 0 < n → Going c used n → CursorIn c used
 going_in c used n h g = record { in_use = g.in_use; east = g.east; north = g.north; steps_few = omega arith }
 
-pub going_on : (t : List ℕ) (used entries px py n : ℕ) (c c' : Cursor) (r : Down) → 0 < n → r ≡ step_n t used entries c px py → r ≡ Deeper c'
+pub going_on : (t : List ℕ) (used entries px py n : ℕ) (c c' : Cursor) (r : Option Down) → 0 < n → r ≡ step_n t used entries c px py → r ≡ Some (Deeper c')
     → Going c used n → Going c' used (n - 1)
 going_on t used entries px py n c c' r h p q g =
     let f : Follows c c' used = step_follows t used entries px py c c' r p q in

@@ -1,10 +1,8 @@
 -- Document 01, "Cells": the path down from cell 0 to the leaf that holds a position.
-use Rattle.std.specs.Prelude.{ℕ, zero, suc, ◌+◌, ◌%◌, Bool, cond, ◌&&◌, List, eqb, leb}
+use Rattle.std.specs.Prelude.{ℕ, zero, suc, ◌+◌, ◌%◌, Bool, cond, ◌&&◌, List, eqb, leb, Option, None, Some}
 use Rattle.cells.specs.Cells.{Position, at, Cell, left, low, side, root, Quarter, low_low, high_low, low_high, high_high, child, quarter_by, quarter_of}
 use Rattle.celltable.specs.declared.CellWords.{CellWords}
 use Rattle.celltable.specs.declared.Leaf.{Leaf}
-use Rattle.celltable.specs.declared.Found.{Found}
-use Rattle.celltable.specs.declared.Found.TheVariants.{At, Broken}
 use Rattle.celltable.specs.Table.{cell_at}
 use Rattle.celltable.specs.Ranges.{cell_range}
 
@@ -29,17 +27,17 @@ leaf_of i steps w =
 
 -- "Each step down picks one quarter and gives the next cell": from cell i, which has to be the cell c, so many steps below cell 0, over at
 -- most n cells. Each cell that is met passes 12 and is on its own square, or the way is broken.
-unfoldable pub down_from : List ℕ → (used entries : ℕ) → Position → (n i steps : ℕ) → Cell → Found
-down_from t used entries p zero i steps c = Broken
+unfoldable pub down_from : List ℕ → (used entries : ℕ) → Position → (n i steps : ℕ) → Cell → Option Leaf
+down_from t used entries p zero i steps c = None
 down_from t used entries p (suc n) i steps c =
     cond (cell_range t i used entries)
     (cond (on_square (cell_at t i) c)
-    (cond (eqb (cell_at t i).child 0) (At (leaf_of i steps (cell_at t i)))
+    (cond (eqb (cell_at t i).child 0) (Some (leaf_of i steps (cell_at t i)))
     (down_from t used entries p n ((cell_at t i).child + place_of (quarter_of c p)) (steps + 1) (child c (quarter_of c p))))
-    Broken)
-    Broken
+    None)
+    None
 
 -- "finding a leaf reports as many steps as the leaf's depth, at most 16": so at most 17 cells are met, and a cell of side 1 that says that it
 -- is split, as the last of 17, breaks the way
-unfoldable pub descend_in : List ℕ → (used entries x y : ℕ) → Found
+unfoldable pub descend_in : List ℕ → (used entries x y : ℕ) → Option Leaf
 descend_in t used entries x y = down_from t used entries (at x y) 17 0 0 root

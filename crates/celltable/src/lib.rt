@@ -16,10 +16,8 @@ use geometry::class::Square;
 // The side of cell 0, one past the last position.
 pub const GRID: u32 = 65536;
 
-// The cells and the entries of a tree at most.
+// The cells of a tree at most.
 pub const MOST_CELLS: usize = 4096;
-
-pub const MOST_ENTRIES: usize = 65536;
 
 // The depth of the smallest cells.
 pub const DEEPEST: u32 = 16;
@@ -53,9 +51,6 @@ const LINES: usize = 6;
 const PARENT: usize = 7;
 
 pub const CELL_WORDS: usize = 8;
-
-// The words of an entry.
-pub const ENTRY_WORDS: usize = 4;
 
 // The words of a cell. `child` is the first of its four children, or 0 for a leaf; `lines` is how many lines and curves its stream has; `parent` is 0
 // for cell 0.
@@ -103,19 +98,11 @@ pub struct Leaf {
     pub lines: u32,
 }
 
-// One step down: the next cursor, the leaf, or a cell that does not pass.
+// One step down: the next cursor, or the leaf.
 #[derive(Clone, Copy)]
 pub enum Down {
     Deeper(Cursor),
     AtLeaf(Leaf),
-    Bad,
-}
-
-// The end of a path down. `Broken` is document 01's 12.
-#[derive(Clone, Copy)]
-pub enum Found {
-    At(Leaf),
-    Broken,
 }
 
 // ---- the table of cells
@@ -166,20 +153,14 @@ pub fn put_child(cells: &mut [u32], i: usize, child: u32)
 fn side_fits(s: u32) -> bool
     ensures answer { result ≡ side_range s }
 {
-    if s == 0 {
-        return false;
-    }
-    GRID % s == 0
+    s != 0 && GRID % s == 0
 }
 
 // Whether a cell's side is a power of two, and its low corner is on the grid of that side.
 pub fn square_fits(w: CellWords) -> bool
     ensures answer { result ≡ square_range w }
 {
-    if side_fits(w.side) {
-        return ((w.x % w.side == 0) & (w.x < GRID)) & ((w.y % w.side == 0) & (w.y < GRID));
-    }
-    false
+    side_fits(w.side) && ((w.x % w.side == 0) & (w.x < GRID)) & ((w.y % w.side == 0) & (w.y < GRID))
 }
 
 // Whether a cell's four children, where it has some, are in use.
@@ -200,10 +181,7 @@ fn entries_fit(first: u32, count: u32, entries: usize) -> bool
 fn root_fits(w: CellWords, i: usize) -> bool
     ensures answer { result ≡ root_range w i }
 {
-    if i == 0 {
-        return (w.x == 0) & ((w.y == 0) & (w.side == GRID));
-    }
-    true
+    i != 0 || (w.x == 0) & ((w.y == 0) & (w.side == GRID))
 }
 
 // A coordinate of the low corner of a half of the parent, which may be any words.
@@ -211,10 +189,7 @@ fn half_at(v: u32, side: u32, high: bool) -> usize
     ensures answer { result ≡ half_at v side high }
 {
     let low = v as usize;
-    if high {
-        return low + (side as usize);
-    }
-    low
+    if high { low + (side as usize) } else { low }
 }
 
 // Whether a cell with the words w lies on the quarter at place q of one with the words p.
@@ -231,10 +206,8 @@ fn held_by(p: CellWords, w: CellWords, i: usize, used: usize) -> bool
     ensures answer { result ≡ held_by p w i used }
 {
     let first = p.child as usize;
-    if (1 <= first) & ((first + 3 < used) & ((first <= i) & (i <= first + 3))) {
-        return on_quarter(p, w, i - first);
-    }
-    false
+    (1 <= first) & ((first + 3 < used) & ((first <= i) & (i <= first + 3)))
+        && on_quarter(p, w, i - first)
 }
 
 // Whether the parent of cell i, whose words are w, is itself for cell 0, else a split cell that holds it as one of its four.
@@ -247,11 +220,7 @@ fn parent_fits(cells: &[u32], i: usize, used: usize, w: CellWords) -> bool
         return w.parent == 0;
     }
     let up = w.parent as usize;
-    if up < used {
-        let p = read_cell(cells, up);
-        return held_by(p, w, i, used);
-    }
-    false
+    up < used && held_by(read_cell(cells, up), w, i, used)
 }
 
 // Whether the numbers of cell i are in range, with so many cells and entries in use.
@@ -260,25 +229,23 @@ pub fn cell_fits(cells: &[u32], i: usize, used: usize, entries: usize) -> bool
     ensures answer { result ≡ cell_range cells.now i used entries }
 {
     let w = read_cell(cells, i);
-    let square = square_fits(w);
-    let children = children_fit(w.child, used);
-    let run = entries_fit(w.first, w.count, entries);
-    let root = root_fits(w, i);
-    let parent = parent_fits(cells, i, used, w);
-    square & (children & (run & (root & parent)))
+    square_fits(w)
+        & (children_fit(w.child, used)
+            & (entries_fit(w.first, w.count, entries)
+                & (root_fits(w, i) & parent_fits(cells, i, used, w))))
 }
 
 // Whether the numbers in use, in the head, are in range for tables of cells and of entries of these lengths.
 pub fn head_fits(head: &[u32], cells: usize, entries: usize) -> bool
     ensures answer { result ≡ head_range head.now cells entries }
 {
-    if HEAD_WORDS <= head.len() {
-        let n = laws::wide(head[CELLS]);
-        let m = laws::wide(head[ENTRIES]);
-        return ((1 <= n) & ((n <= cells / CELL_WORDS) & (n <= MOST_CELLS)))
-            & ((m <= entries / ENTRY_WORDS) & (m <= MOST_ENTRIES));
+    if head.len() < HEAD_WORDS {
+        return false;
     }
-    false
+    let n = laws::wide(head[CELLS]);
+    let m = laws::wide(head[ENTRIES]);
+    ((1 <= n) & ((n <= cells / CELL_WORDS) & (n <= MOST_CELLS)))
+        & ((m <= entries / stream::ENTRY_WORDS) & (m <= stream::MOST_ENTRIES))
 }
 
 // ---- the quarters of a cell
@@ -289,12 +256,13 @@ fn half_of(at: u32, half: u32, high: bool) -> Half
     ensures bit_range { result.bit ≤ 1 }
 {
     if high {
-        return Half {
+        Half {
             at: at + half,
             bit: 1,
-        };
+        }
+    } else {
+        Half { at, bit: 0 }
     }
-    Half { at, bit: 0 }
 }
 
 // The square of the child at place q: low x low y, high x low y, low x high y, high x high y.
@@ -347,10 +315,7 @@ impl Cursor {
         requires w_value { w ≡ cell_at cells.now self.cell }
         ensures answer { result ≡ parent_n cells.now used self w }
     {
-        if w.parent == self.parent {
-            return true;
-        }
-        parent_fits(cells, self.cell as usize, used, w)
+        w.parent == self.parent || parent_fits(cells, self.cell as usize, used, w)
     }
 
     // Whether the children, the entries and the parent of a cell on the way are in range. On the square that the way expects it has a side and a
@@ -360,44 +325,41 @@ impl Cursor {
         requires w_value { w ≡ cell_at cells.now self.cell }
         ensures answer { result ≡ numbers_n cells.now used entries self w }
     {
-        let children = children_fit(w.child, used);
-        let run = entries_fit(w.first, w.count, entries);
-        let parent = self.parent_holds(cells, used, w);
-        children & (run & parent)
+        children_fit(w.child, used)
+            & (entries_fit(w.first, w.count, entries) & self.parent_holds(cells, used, w))
     }
 
     // The cell is read and tried; a leaf ends the way, another cell gives the cursor one level deeper.
-    fn step(self, cells: &[u32], used: usize, entries: usize, px: u32, py: u32) -> Down
+    fn step(self, cells: &[u32], used: usize, entries: usize, px: u32, py: u32) -> Option<Down>
         requires cells_in { CellsIn cells.now used }
         requires cursor_in { CursorIn self used }
         ensures answer { result ≡ step_n cells.now used entries self px py }
     {
         let w = read_cell(cells, self.cell as usize);
-        if self.stands_on(w) {
-            if self.numbers_fit(cells, used, entries, w) {
-                if w.child == 0 {
-                    return Down::AtLeaf(Leaf {
-                        cell: self.cell,
-                        x: w.x,
-                        y: w.y,
-                        side: w.side,
-                        steps: self.steps,
-                        first: w.first,
-                        count: w.count,
-                        lines: w.lines,
-                    });
-                }
-                let c = self.deeper(w.child, px, py);
-                return Down::Deeper(c);
-            }
-            return Down::Bad;
+        if !self.stands_on(w) {
+            return None;
         }
-        Down::Bad
+        if !self.numbers_fit(cells, used, entries, w) {
+            return None;
+        }
+        if w.child != 0 {
+            return Some(Down::Deeper(self.deeper(w.child, px, py)));
+        }
+        Some(Down::AtLeaf(Leaf {
+            cell: self.cell,
+            x: w.x,
+            y: w.y,
+            side: w.side,
+            steps: self.steps,
+            first: w.first,
+            count: w.count,
+            lines: w.lines,
+        }))
     }
 }
 
 // The leaf that holds (x, y), over at most 16 steps from cell 0. `used` and `entries` are the head's numbers, and the head has passed.
-pub fn descend(cells: &[u32], used: usize, entries: usize, x: u32, y: u32) -> Found
+pub fn descend(cells: &[u32], used: usize, entries: usize, x: u32, y: u32) -> Option<Leaf>
     requires { CellsIn cells.now used }
     ensures answer { result ≡ descend_in cells.now used entries x y }
 {
@@ -409,21 +371,15 @@ pub fn descend(cells: &[u32], used: usize, entries: usize, x: u32, y: u32) -> Fo
         side: GRID,
         steps: 0,
     };
-    let mut left: u32 = LONGEST_WAY;
-    while 0 < left {
-        let d = c.step(cells, used, entries, x, y);
-        match d {
+    for k in 0..LONGEST_WAY {
+        match c.step(cells, used, entries, x, y)? {
             Down::Deeper(next) => {
                 c = next;
             }
             Down::AtLeaf(leaf) => {
-                return Found::At(leaf);
-            }
-            Down::Bad => {
-                return Found::Broken;
+                return Some(leaf);
             }
         }
-        left -= 1;
     }
-    Found::Broken
+    None
 }

@@ -9,8 +9,8 @@ use native.Mathlib.Decide.{ℕ_discrete}
 use lib.ListN.{length}
 use Rattle.cells.specs.Cells.{Position, at, OnGrid, Cell, level, root, Holds, child, quarter_of}
 use Rattle.cells.proofs.Cells.{root_holds, child_holds, level_child}
-use Rattle.celltable.specs.declared.Found.{Found}
-use Rattle.celltable.specs.declared.Found.TheVariants.{At}
+use Rattle.std.specs.Prelude.{Option, None, Some}
+use Rattle.celltable.specs.declared.Leaf.{Leaf}
 use Rattle.celltable.specs.Descent.{place_of, on_square, leaf_of, down_from, descend_in}
 use Rattle.celltable.proofs.Landing.{down_leaf, down_split}
 use Rattle.celltable.proofs.Grid.{SaysCell, on_square_law}
@@ -31,11 +31,11 @@ module _ (t : Tree) (H : List Node) (s : Sound t H) where
   free = entries_used t.head
 
   -- the end of a way: the leaf, and the steps to it
-  pub record Ends (p : Position) (steps depth : ℕ) (f : Found) : Type 0 where
+  pub record Ends (p : Position) (steps depth : ℕ) (f : Option Leaf) : Type 0 where
     pub leaf : ℕ
     pub holds : LeafAt H p leaf
     pub deep : ℕ
-    pub found : f ≡ At (leaf_of leaf deep (words t leaf))
+    pub found : f ≡ Some (leaf_of leaf deep (words t leaf))
     pub level_is : deep + level (cell_in H leaf) ≡ steps + depth
 
   on_cell : (i : ℕ) (c : Cell) → i < length H → cell_in H i ≡ c → on_square (words t i) c ≡ true
@@ -93,7 +93,7 @@ module _ (t : Tree) (H : List Node) (s : Sound t H) where
   pub record Lands (x y : ℕ) : Type 0 where
     pub leaf : ℕ
     pub holds : LeafAt H (at x y) leaf
-    pub found : leaf_in t x y ≡ At (leaf_of leaf (16 - level (cell_in H leaf)) (words t leaf))
+    pub found : leaf_in t x y ≡ Some (leaf_of leaf (16 - level (cell_in H leaf)) (words t leaf))
 
   pub lands : (x y : ℕ) → OnGrid (at x y) → Lands x y
   lands x y g =
@@ -104,5 +104,5 @@ module _ (t : Tree) (H : List Node) (s : Sound t H) where
         holds = r.holds;
         found =
             sym (leaf_met t x y (leaf_of r.leaf r.deep (words t r.leaf)) s.counts (sym r.found) (leaf_passes_law t H s r.leaf r.holds.leaf))
-            ∙ ap (λ (k : ℕ). At (leaf_of r.leaf k (words t r.leaf))) m;
+            ∙ ap (λ (k : ℕ). Some (leaf_of r.leaf k (words t r.leaf))) m;
       }

@@ -7,8 +7,7 @@ use lib.ListN.{length}
 use borrow.Author.Tests.{eq-eqb, ne_eqb}
 use Rattle.refusals.specs.declared.Refusal.TheVariants as Refusals
 use Rattle.celltable.specs.declared.Leaf.{Leaf}
-use Rattle.celltable.specs.declared.Found.{Found}
-use Rattle.celltable.specs.declared.Found.TheVariants.{At, Broken}
+use Rattle.std.specs.Prelude.{Option, None, Some}
 use Rattle.tables.specs.Tables.{Tree}
 use Rattle.laws.proofs.Choices.{pick_true, pick_false}
 use Rattle.find_leaf.specs.declared.FoundLeaf.{FoundLeaf}
@@ -25,9 +24,9 @@ module _ (t : Tree) (x y : ℕ) where
   answer_of (Reads.At l n u) = Answers.Found (report_n l n u)
   answer_of Reads.Broken = Answers.Not Refusals.Broken
 
-  answer_is : (g : Found) → answer_of (read_by t g) ≡ found_by t g
-  answer_is (At l) = refl
-  answer_is Broken = refl
+  answer_is : (g : Option Leaf) → answer_of (read_by t g) ≡ found_by t g
+  answer_is (Some l) = refl
+  answer_is None = refl
 
   module _ (f : LeafRead) (h : f ≡ leaf_read t x y) where
     pub found_yes : (l : Leaf) (n : ℕ) (u : Bool) (r : FoundLeaf) → f ≡ Reads.At l n u → r ≡ report_n l n u → Answers.Found r ≡ found_by t (leaf_in t x y)

@@ -11,8 +11,7 @@ use Rattle.cells.specs.Cells.{Position, at, col, row, Cell, cell, root, Holds, Q
 use Rattle.cells.proofs.Cells.{holds_up}
 use Rattle.celltable.specs.declared.CellWords.{CellWords}
 use Rattle.celltable.specs.declared.Leaf.{Leaf}
-use Rattle.celltable.specs.declared.Found.{Found}
-use Rattle.celltable.specs.declared.Found.TheVariants.{At, Broken}
+use Rattle.std.specs.Prelude.{Option, None, Some}
 use Rattle.celltable.specs.Table.{cell_at}
 use Rattle.celltable.specs.Ranges.{cell_range}
 use Rattle.celltable.specs.Descent.{place_of, on_square, leaf_of, down_from, descend_in}
@@ -38,11 +37,11 @@ quarter_same (cell x y (suc k)) p p' h = go (leb (x + 2 ^ k) (col p)) (leb (y + 
     go true true i = rw (le-leb (x + 2 ^ k) (col p') (omega (arith, i.west)), le-leb (y + 2 ^ k) (row p') (omega (arith, i.south)))
 
 module _ (t : List ℕ) (used entries : ℕ) (p p' : Position) (l : Leaf) (h : LeafHolds l p') where
-  abbrev rest : Position → (n i steps : ℕ) → Cell → Quarter → Found
+  abbrev rest : Position → (n i steps : ℕ) → Cell → Quarter → Option Leaf
   rest r n i steps c q = down_from t used entries r n ((cell_at t i).child + place_of q) (steps + 1) (child c q)
 
   -- each cell on the way to the leaf holds the positions of the leaf
-  down_holds : (n i steps : ℕ) (c : Cell) → down_from t used entries p n i steps c ≡ At l → Holds c p'
+  down_holds : (n i steps : ℕ) (c : Cell) → down_from t used entries p n i steps c ≡ Some l → Holds c p'
   unfolding down_from
   down_holds zero i steps c e = broken_not l e
   down_holds (suc n) i steps c e =
@@ -64,8 +63,8 @@ module _ (t : List ℕ) (used entries : ℕ) (p p' : Position) (l : Leaf) (h : L
             north = omega (arith, g.north, says.same_y, says.same_side);
           }
 
-      go : (a b z : Bool) → on_square w c ≡ b → (rest p n i steps c (quarter_of c p) ≡ At l → Holds (child c (quarter_of c p)) p')
-          → cond a (cond b (cond z (At (leaf_of i steps w)) (rest p n i steps c (quarter_of c p))) Broken) Broken ≡ At l → Holds c p'
+      go : (a b z : Bool) → on_square w c ≡ b → (rest p n i steps c (quarter_of c p) ≡ Some l → Holds (child c (quarter_of c p)) p')
+          → cond a (cond b (cond z (Some (leaf_of i steps w)) (rest p n i steps c (quarter_of c p))) None) None ≡ Some l → Holds c p'
       go true true true s next q =
           let r : leaf_of i steps w ≡ l = cc in
           landed s r
@@ -73,7 +72,7 @@ module _ (t : List ℕ) (used entries : ℕ) (p p' : Position) (l : Leaf) (h : L
       go true false z s next q = broken_not l q
       go false b z s next q = broken_not l q
 
-  same_down : (n i steps : ℕ) (c : Cell) → down_from t used entries p n i steps c ≡ At l → down_from t used entries p' n i steps c ≡ At l
+  same_down : (n i steps : ℕ) (c : Cell) → down_from t used entries p n i steps c ≡ Some l → down_from t used entries p' n i steps c ≡ Some l
   unfolding down_from
   same_down zero i steps c e = broken_not l e
   same_down (suc n) i steps c e =
@@ -84,16 +83,16 @@ module _ (t : List ℕ) (used entries : ℕ) (p p' : Position) (l : Leaf) (h : L
       w : CellWords
       w = cell_at t i
 
-      deeper : (rest p n i steps c (quarter_of c p) ≡ At l → rest p' n i steps c (quarter_of c p) ≡ At l)
-          → rest p n i steps c (quarter_of c p) ≡ At l → rest p' n i steps c (quarter_of c p') ≡ At l
+      deeper : (rest p n i steps c (quarter_of c p) ≡ Some l → rest p' n i steps c (quarter_of c p) ≡ Some l)
+          → rest p n i steps c (quarter_of c p) ≡ Some l → rest p' n i steps c (quarter_of c p') ≡ Some l
       deeper next q =
-          subst (λ (k : Quarter). rest p' n i steps c k ≡ At l)
+          subst (λ (k : Quarter). rest p' n i steps c k ≡ Some l)
           (sym (quarter_same c p p' (down_holds n (w.child + place_of (quarter_of c p)) (steps + 1) (child c (quarter_of c p)) q)))
           (next q)
 
-      go : (a b z : Bool) → (rest p n i steps c (quarter_of c p) ≡ At l → rest p' n i steps c (quarter_of c p) ≡ At l)
-          → cond a (cond b (cond z (At (leaf_of i steps w)) (rest p n i steps c (quarter_of c p))) Broken) Broken ≡ At l
-          → cond a (cond b (cond z (At (leaf_of i steps w)) (rest p' n i steps c (quarter_of c p'))) Broken) Broken ≡ At l
+      go : (a b z : Bool) → (rest p n i steps c (quarter_of c p) ≡ Some l → rest p' n i steps c (quarter_of c p) ≡ Some l)
+          → cond a (cond b (cond z (Some (leaf_of i steps w)) (rest p n i steps c (quarter_of c p))) None) None ≡ Some l
+          → cond a (cond b (cond z (Some (leaf_of i steps w)) (rest p' n i steps c (quarter_of c p'))) None) None ≡ Some l
       go true true true next q = q
       go true true false next q = deeper next q
       go true false z next q = q
@@ -101,13 +100,13 @@ module _ (t : List ℕ) (used entries : ℕ) (p p' : Position) (l : Leaf) (h : L
 
 pub descend_same : (t : List ℕ) (used entries x y x' y' : ℕ) (l : Leaf)
     → LeafHolds l (at x' y')
-    → descend_in t used entries x y ≡ At l
-    → descend_in t used entries x' y' ≡ At l
+    → descend_in t used entries x y ≡ Some l
+    → descend_in t used entries x' y' ≡ Some l
 unfolding descend_in
 descend_same t used entries x y x' y' l h e = same_down t used entries (at x y) (at x' y') l h 17 0 0 root e
 
 -- so a run tries a leaf once
-pub leaf_same : (t : Tree) (x y x' y' : ℕ) (l : Leaf) → LeafHolds l (at x' y') → leaf_in t x y ≡ At l → leaf_in t x' y' ≡ At l
+pub leaf_same : (t : Tree) (x y x' y' : ℕ) (l : Leaf) → LeafHolds l (at x' y') → leaf_in t x y ≡ Some l → leaf_in t x' y' ≡ Some l
 leaf_same t x y x' y' l h e =
     let m = leaf_landed t x y l e in
     sym (leaf_met t x' y' l m.counts (sym (descend_same t.cells (cells_used t.head) (entries_used t.head) x y x' y' l h m.way)) m.stream)

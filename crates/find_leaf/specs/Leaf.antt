@@ -7,8 +7,7 @@ use Rattle.stream.specs.Entry.{lines_in, is_uniform}
 use Rattle.stream.specs.Table.{words_from}
 use Rattle.stream.specs.Grammar.{env, bounds}
 use Rattle.celltable.specs.declared.Leaf.{Leaf}
-use Rattle.celltable.specs.declared.Found.{Found}
-use Rattle.celltable.specs.declared.Found.TheVariants.{At, Broken}
+use Rattle.std.specs.Prelude.{Option, None, Some}
 use Rattle.celltable.specs.Descent.{descend_in}
 use Rattle.tables.specs.Tables.{Tree, cells_used, entries_used, counts_in, leaf_passes}
 use Rattle.find_leaf.specs.declared.FoundLeaf.{FoundLeaf}
@@ -43,19 +42,19 @@ module _ (t : Tree) where
   leaf_stream l = words_from t.entries l.first l.count
 
   -- 12: "a number met in ... the whole leaf when answering ... is outside its range, or that ... stream breaks the grammar"; and its line count
-  abbrev pub stream_found : Found → Found
-  stream_found (At l) =
-      cond (leaf_passes t.entries l.first l.count l.lines (entries_used t.head) (env t.areas t.xs t.ys (leaf_bounds l))) (At l) Broken
-  stream_found Broken = Broken
+  abbrev pub stream_found : Option Leaf → Option Leaf
+  stream_found (Some l) =
+      cond (leaf_passes t.entries l.first l.count l.lines (entries_used t.head) (env t.areas t.xs t.ys (leaf_bounds l))) (Some l) None
+  stream_found None = None
 
   -- 12 over the numbers in use, then "the path down and the whole leaf when answering"
-  unfoldable pub leaf_in : (x y : ℕ) → Found
-  leaf_in x y = cond (counts_in t) (stream_found (descend_in t.cells (cells_used t.head) (entries_used t.head) x y)) Broken
+  unfoldable pub leaf_in : (x y : ℕ) → Option Leaf
+  leaf_in x y = cond (counts_in t) (stream_found (descend_in t.cells (cells_used t.head) (entries_used t.head) x y)) None
 
   -- the leaf as it is reported, or 12
-  abbrev pub found_by : Found → Answer
-  found_by (At l) = Answers.Found (report_of t.entries l)
-  found_by Broken = Answers.Not Refusals.Broken
+  abbrev pub found_by : Option Leaf → Answer
+  found_by (Some l) = Answers.Found (report_of t.entries l)
+  found_by None = Answers.Not Refusals.Broken
 
   -- 7: "a lent pair of x and y tables of unequal length (tried before all other checks ...); position ... out of range"; then 12
   abbrev pub find_answer : (x y : ℕ) → Answer

@@ -9,9 +9,11 @@ ghost use Rattle.tables.specs.Tables.{tree_lent};
 ghost use Rattle.find_leaf.specs.Leaf.{position_range, leaf_in, found_by, find_answer};
 ghost use Rattle.find_leaf.specs.code.Numbers.{leaf_read, report_n};
 
-use celltable::{Found, Leaf};
+use celltable::Leaf;
+use drawing::Drawing;
 use refusals::Refusal;
 use stream::{Checked, Context, Stream};
+use tables::Tree;
 
 // A leaf as it is reported: its number, low corner, side, depth, how many entries and lines it has, and whether it has no line, curve or shortcut.
 #[derive(Clone, Copy)]
@@ -85,26 +87,33 @@ pub fn read_leaf(
 ) -> LeafRead
     ensures answer { result ≡ leaf_read (tree_lent plan areas xs ys head cells entries) x y }
 {
-    if tables::counts_fit(plan, areas, xs, ys, head, cells, entries) {
-        let used = laws::wide(head[celltable::CELLS]);
-        let free = laws::wide(head[celltable::ENTRIES]);
-        let f = celltable::descend(cells, used, free, x, y);
-        match f {
-            Found::At(l) => {
-                let Some(c) = check_leaf(plan, areas, xs, ys, entries, free, l) else {
-                    return LeafRead::Broken;
-                };
-                if c.lines == l.lines {
-                    return LeafRead::At(l, c.lines, c.segments == 0);
-                }
-                return LeafRead::Broken;
-            }
-            Found::Broken => {
-                return LeafRead::Broken;
-            }
-        }
+    let drawing = Drawing {
+        plan,
+        areas,
+        xs,
+        ys,
+    };
+    let tree = Tree {
+        drawing,
+        head,
+        cells,
+        entries,
+    };
+    if !tree.counts_fit() {
+        return LeafRead::Broken;
     }
-    LeafRead::Broken
+    let used = laws::wide(head[celltable::CELLS]);
+    let free = laws::wide(head[celltable::ENTRIES]);
+    let Some(l) = celltable::descend(cells, used, free, x, y) else {
+        return LeafRead::Broken;
+    };
+    let Some(c) = check_leaf(plan, areas, xs, ys, entries, free, l) else {
+        return LeafRead::Broken;
+    };
+    if c.lines != l.lines {
+        return LeafRead::Broken;
+    }
+    LeafRead::At(l, c.lines, c.segments == 0)
 }
 
 // A leaf that is found, as it is reported.

@@ -4,17 +4,16 @@
 
 ghost use Rattle.std.specs.Prelude.{◌≡◌, true, [], ◌∷◌, ◌+◌, ◌*◌, ◌≤◌, ◌<◌, length};
 ghost use Rattle.stream.specs.Table.{words_from, written};
-ghost use Rattle.stream.specs.Grammar.{env, Passed};
+ghost use Rattle.stream.specs.Grammar.{env_of, Passed};
 ghost use Rattle.celltable.specs.Ranges.{square_range, cell_of};
-ghost use Rattle.ranges.specs.Held.{lent};
 ghost use Rattle.four_children.specs.Children.{elements_of_child, words_of_child, entries_of_child, streams_to, words_with};
-ghost use Rattle.four_children.specs.code.Numbers.{tally, tally_n, empty_tally, worked_to, cells_by, FewEach};
+ghost use Rattle.four_children.specs.code.Numbers.{drawing_of, words_of, tally, tally_n, empty_tally, worked_to, cells_by, FewEach};
 ghost use Rattle.cells.specs.Cells.{child};
 ghost use Rattle.celltable.specs.Descent.{quarter_at};
 
 use celltable::CellWords;
 use child_stream::{Count, Starts};
-use stream::{Bounds, Context, Stream};
+use stream::{Context, Stream};
 
 // What a child's stream has; document 01 asks for an "array of four child tallies (entries, lines, starts) passed and returned by value". `entries`
 // decides 11 and where the child's stream begins, `lines` is the child's line count. `starts` are those of that stream too (`EachPass`); no call reads
@@ -30,47 +29,23 @@ fn tally_of(k: Count) -> Tally
     ensures answer { result ≡ tally_n k }
 {
     let n = k.weight;
-    let z = k.starts;
     Tally {
         entries: (n % 65536) as usize,
         lines: (n / 65536 % 65536) as usize,
-        starts: z,
+        starts: k.starts,
     }
 }
 
 // The tally of child q of the cell whose words are w.
-fn count_one(
-    entries: &[u32],
-    first: usize,
-    count: usize,
-    areas: &[u32],
-    xs: &[u32],
-    ys: &[u32],
-    b: Bounds,
-    w: CellWords,
-    q: u32,
-) -> Tally
-    requires passed { Passed entries.now first count (env areas.now xs.now ys.now b) }
+fn count_one(stream: Stream, context: Context, w: CellWords, q: u32) -> Tally
+    requires passed { Passed stream.entries.now stream.first stream.count (env_of context) }
     requires w_value { square_range w ≡ true }
     requires lt_side { 1 < w.side }
     ensures answer { result ≡ tally (elements_of_child
-        (lent areas.now xs.now ys.now b) (cell_of w) (words_from entries.now first count) q) }
+        (drawing_of context.entry) (cell_of w) (words_of stream.entry) q) }
 {
     let s = celltable::quarter_of(w, q);
-    let n = child_stream::count_child(
-        Stream {
-            entries,
-            first,
-            count,
-        },
-        Context {
-            areas,
-            xs,
-            ys,
-            bounds: b,
-        },
-        s,
-    );
+    let n = child_stream::count_child(stream, context, s);
     tally_of(n)
 }
 
@@ -93,54 +68,37 @@ pub fn no_tallies() -> [Tally; 4]
 fn count_next(
     mut ts: [Tally; 4],
     q: u32,
-    entries: &[u32],
-    first: usize,
-    count: usize,
-    areas: &[u32],
-    xs: &[u32],
-    ys: &[u32],
-    b: Bounds,
+    stream: Stream,
+    context: Context,
     w: CellWords,
 ) -> [Tally; 4]
     requires q_bound { q < 4 }
-    requires passed { Passed entries.now first count (env areas.now xs.now ys.now b) }
+    requires passed { Passed stream.entries.now stream.first stream.count (env_of context) }
     requires w_value { square_range w ≡ true }
     requires lt_side { 1 < w.side }
-    requires ts_value { ts ≡ worked_to (lent areas.now xs.now ys.now b) (cell_of w) (words_from entries.now first count) q }
+    requires ts_value { ts ≡ worked_to (drawing_of context) (cell_of w) (words_of stream) q }
     ensures answer { result ≡ worked_to
-        (lent areas.now xs.now ys.now b) (cell_of w) (words_from entries.now first count) (q + 1) }
+        (drawing_of context.entry) (cell_of w) (words_of stream.entry) (q + 1) }
 {
-    let t = count_one(entries, first, count, areas, xs, ys, b, w, q);
-    let k = q as usize;
-    ts[k] = t;
+    let t = count_one(stream, context, w, q);
+    ts[q as usize] = t;
     ts
 }
 
 // The tallies after the passes of the first n children, one child after another.
-pub fn count_to(
-    entries: &[u32],
-    first: usize,
-    count: usize,
-    areas: &[u32],
-    xs: &[u32],
-    ys: &[u32],
-    b: Bounds,
-    w: CellWords,
-    n: u32,
-) -> [Tally; 4]
-    requires passed { Passed entries.now first count (env areas.now xs.now ys.now b) }
+pub fn count_to(stream: Stream, context: Context, w: CellWords, n: u32) -> [Tally; 4]
+    requires passed { Passed stream.entries.now stream.first stream.count (env_of context) }
     requires w_value { square_range w ≡ true }
     requires lt_side { 1 < w.side }
     requires n_bound { n ≤ 4 }
     ensures answer { result ≡ worked_to
-        (lent areas.now xs.now ys.now b) (cell_of w) (words_from entries.now first count) n }
+        (drawing_of context.entry) (cell_of w) (words_of stream.entry) n }
 {
     let mut ts = no_tallies();
-    let mut q: u32 = 0;
-    while q < n {
-        let next = count_next(ts, q, entries, first, count, areas, xs, ys, b, w);
+    for q in 0..n {
+        // the check does not cover a call's result that is laid in an array at once
+        let next = count_next(ts, q, stream, context, w);
         ts = next;
-        q += 1;
     }
     ts
 }
@@ -152,37 +110,21 @@ fn write_child(
     count: usize,
     free: usize,
     made: usize,
-    areas: &[u32],
-    xs: &[u32],
-    ys: &[u32],
-    b: Bounds,
+    context: Context,
     w: CellWords,
     q: u32,
 )
-    requires passed { Passed entries.old first count (env areas.now xs.now ys.now b) }
+    requires passed { Passed entries.old first count (env_of context) }
     requires w_value { square_range w ≡ true }
     requires lt_side { 1 < w.side }
     requires count_bound { first + count ≤ free }
     requires made_in_bounds { (free + made) * 4 ≤ length entries.old }
-    requires made_value { made ≡ entries_of_child (lent areas.now xs.now ys.now b) (cell_of w) (words_from entries.old first count) q }
+    requires made_value { made ≡ entries_of_child (drawing_of context) (cell_of w) (words_from entries.old first count) q }
     ensures entries { entries.new ≡ written entries.old free (words_of_child
-        (lent areas.now xs.now ys.now b) (cell_of w) (words_from entries.old first count) q) }
+        (drawing_of context.entry) (cell_of w) (words_from entries.old first count) q) }
 {
     let s = celltable::quarter_of(w, q);
-    child_stream::write_child(
-        entries,
-        first,
-        count,
-        free,
-        made,
-        Context {
-            areas,
-            xs,
-            ys,
-            bounds: b,
-        },
-        s,
-    );
+    child_stream::write_child(entries, first, count, free, made, context, s);
 }
 
 // Writes the streams of all four children, child by child, from entry `free` on.
@@ -191,31 +133,25 @@ pub fn write_four(
     first: usize,
     count: usize,
     free: usize,
-    areas: &[u32],
-    xs: &[u32],
-    ys: &[u32],
-    b: Bounds,
+    context: Context,
     w: CellWords,
     ts: [Tally; 4],
 )
-    requires passed { Passed entries.old first count (env areas.now xs.now ys.now b) }
+    requires passed { Passed entries.old first count (env_of context) }
     requires w_value { square_range w ≡ true }
     requires lt_side { 1 < w.side }
     requires count_bound { first + count ≤ free }
-    requires ts_value { ts ≡ worked_to (lent areas.now xs.now ys.now b) (cell_of w) (words_from entries.old first count) 4 }
-    requires count_in_bounds { (free + length (streams_to (lent areas.now xs.now ys.now b) (cell_of w) (words_from entries.old first count) 4)) * 4
+    requires ts_value { ts ≡ worked_to (drawing_of context) (cell_of w) (words_from entries.old first count) 4 }
+    requires count_in_bounds { (free + length (streams_to (drawing_of context) (cell_of w) (words_from entries.old first count) 4)) * 4
         ≤ length entries.old }
     ensures entries { entries.new ≡ written entries.old free (streams_to
-        (lent areas.now xs.now ys.now b) (cell_of w) (words_from entries.old first count) 4) }
+        (drawing_of context.entry) (cell_of w) (words_from entries.old first count) 4) }
 {
     let mut at = free;
-    let mut q: u32 = 0;
-    while q < celltable::CHILDREN {
-        let k = q as usize;
-        let t = ts[k];
-        write_child(entries, first, count, at, t.entries, areas, xs, ys, b, w, q);
+    for q in 0..celltable::CHILDREN {
+        let t = ts[q as usize];
+        write_child(entries, first, count, at, t.entries, context, w, q);
         at += t.entries;
-        q += 1;
     }
 }
 
@@ -232,7 +168,7 @@ fn child_words(w: CellWords, i: u32, q: u32, first: u32, t: Tally) -> CellWords
         y: s.y,
         side: s.side,
         child: 0,
-        first: first,
+        first,
         count: t.entries as u32,
         lines: t.lines as u32,
         parent: i,
@@ -249,14 +185,11 @@ pub fn put_four(cells: &mut [u32], i: u32, used: u32, free: u32, w: CellWords, t
     ensures cells { cells.new ≡ cells_by (cell_of w) ts cells.old i used free 4 }
 {
     let mut at = free;
-    let mut n: u32 = 0;
-    while n < celltable::CHILDREN {
-        let k = n as usize;
-        let t = ts[k];
+    for n in 0..celltable::CHILDREN {
+        let t = ts[n as usize];
         let c = child_words(w, i, n, at, t);
         let new = (used + n) as usize;
         celltable::put_cell(cells, new, c);
         at += t.entries as u32;
-        n += 1;
     }
 }

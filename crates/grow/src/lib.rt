@@ -14,6 +14,7 @@ ghost use Rattle.grow.specs.code.Numbers.{past_n, split_n, stop_if, turn_by, tre
 
 use drawing::Drawing;
 use refusals::Refusal;
+use tables::Tree;
 
 // Growing's answer, with the splits made: done, or full.
 #[derive(Clone, Copy)]
@@ -238,15 +239,13 @@ pub fn grow(
     if celltable::DEEPEST < limits.depth {
         return Err(Refusal::Argument);
     }
-    if !tables::counts_fit(
-        drawing.plan,
-        drawing.areas,
-        drawing.xs,
-        drawing.ys,
+    let tree = Tree {
+        drawing,
         head,
         cells,
         entries,
-    ) {
+    };
+    if !tree.counts_fit() {
         return Err(Refusal::Broken);
     }
     sweep_up(drawing, head, cells, entries, limits)

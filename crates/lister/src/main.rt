@@ -189,7 +189,7 @@ fn print_drawing<W: Write>(
 {
     let mut head = [0u32; celltable::HEAD_WORDS];
     let mut cells = [0u32; CELLS * celltable::CELL_WORDS];
-    let mut entries = [0u32; ENTRIES * celltable::ENTRY_WORDS];
+    let mut entries = [0u32; ENTRIES * stream::ENTRY_WORDS];
     let mut rows = [0u32; listing::LIST_WORDS];
     let a = list_drawing(
         plan,

@@ -15,8 +15,7 @@ use Rattle.geometry.specs.Keys.{spread, key_of}
 use Rattle.cells.specs.Cells.{at}
 use Rattle.celltable.specs.declared.CellWords.{CellWords}
 use Rattle.celltable.specs.declared.Leaf.{Leaf}
-use Rattle.celltable.specs.declared.Found.{Found}
-use Rattle.celltable.specs.declared.Found.TheVariants.{At, Broken}
+use Rattle.std.specs.Prelude.{Option, None, Some}
 use Rattle.celltable.specs.Table.{cell_at}
 use Rattle.celltable.proofs.Ranges.{SquareFits, square_fits_law, passes_range}
 use Rattle.celltable.proofs.Landing.{LeafFound}
@@ -85,7 +84,7 @@ module _ (t : Tree) (x y : ℕ) (f : FoundLeaf) where
   pub record Behind (l : Leaf) : Type 0 where
     pub paired : eqb (length t.xs) (length t.ys) ≡ true
     pub within : position_range x y ≡ true
-    pub found : leaf_in t x y ≡ At l
+    pub found : leaf_in t x y ≡ Some l
     pub reported : report_of t.entries l ≡ f
 
   not_found : {A : Type 0} (r : _) → Answers.Not r ≡ Answers.Found f → A
@@ -94,12 +93,12 @@ module _ (t : Tree) (x y : ℕ) (f : FoundLeaf) where
   behind : find_answer t x y ≡ Answers.Found f → (l : Leaf) × Behind l
   behind e = go (eqb (length t.xs) (length t.ys)) (position_range x y) (leaf_in t x y) refl refl refl e
     where
-      go : (a b : Bool) (w : Found) → eqb (length t.xs) (length t.ys) ≡ a → position_range x y ≡ b → leaf_in t x y ≡ w
+      go : (a b : Bool) (w : Option Leaf) → eqb (length t.xs) (length t.ys) ≡ a → position_range x y ≡ b → leaf_in t x y ≡ w
           → cond a (cond b (found_by t w) (Answers.Not Refusals.Argument)) (Answers.Not Refusals.Argument) ≡ Answers.Found f → (l : Leaf) × Behind l
-      go true true (At l) p q r e =
+      go true true (Some l) p q r e =
           let s : report_of t.entries l ≡ f = cc in
           (l, record { paired = p; within = q; found = r; reported = s })
-      go true true Broken p q r e = not_found Refusals.Broken e
+      go true true None p q r e = not_found Refusals.Broken e
       go true false w p q r e = not_found Refusals.Argument e
       go false b w p q r e = not_found Refusals.Argument e
 
@@ -138,7 +137,7 @@ module _ (t : Tree) (x y : ℕ) (f : FoundLeaf) where
     low_corner h = corner_of_law l.x l.y x_below y_below (x_grid h) (y_grid h)
 
     -- the same leaf is found from its low corner
-    found_low : leaf_in t l.x l.y ≡ At l
+    found_low : leaf_in t l.x l.y ≡ Some l
     found_low =
         let s : 0 < l.side = rw side_is_words fits.some_side in
         leaf_same t x y l.x l.y l (record { west = omega arith; east = omega arith; south = omega arith; north = omega arith }) b.found

@@ -12,8 +12,7 @@ use Rattle.cells.specs.Cells.{at}
 use Rattle.stream.specs.Entry.{is_uniform}
 use Rattle.stream.specs.Grammar.{env, Passed}
 use Rattle.celltable.specs.declared.Leaf.{Leaf}
-use Rattle.celltable.specs.declared.Found.{Found}
-use Rattle.celltable.specs.declared.Found.TheVariants.{At, Broken}
+use Rattle.std.specs.Prelude.{Option, None, Some}
 use Rattle.evaluate.specs.Reading.{set_at}
 use Rattle.evaluate.proofs.Uniform.{set_uniform}
 use Rattle.making.proofs.Meaning.{lent_meaning}
@@ -56,7 +55,7 @@ inside_holds l x y h = go (between l.x l.side x) (between l.y l.side y) refl ref
 
 module _ (t : Tree) where
   module _ (x y : ℕ) where
-    module _ (l : Leaf) (e : leaf_in t x y ≡ At l) where
+    module _ (l : Leaf) (e : leaf_in t x y ≡ Some l) where
       pub leaf_plan : 3 ≤ length t.plan
       leaf_plan = (counts_fit t (leaf_landed t x y l e).counts).plan_long
 
@@ -83,13 +82,13 @@ module _ (t : Tree) where
     -- ---- what is read there
     module _ (f : LeafRead) (h : f ≡ leaf_read t x y) where
       -- the leaf that the code has found
-      pub read_leaf : (l : Leaf) (n : ℕ) (u : Bool) → f ≡ Reads.At l n u → (leaf_in t x y ≡ At l) × (u ≡ is_uniform (leaf_stream t l))
+      pub read_leaf : (l : Leaf) (n : ℕ) (u : Bool) → f ≡ Reads.At l n u → (leaf_in t x y ≡ Some l) × (u ≡ is_uniform (leaf_stream t l))
       read_leaf l n u e = go (leaf_in t x y) refl (sym h ∙ e)
         where
-          go : (g : Found) → leaf_in t x y ≡ g → read_by t g ≡ Reads.At l n u → (leaf_in t x y ≡ At l) × (u ≡ is_uniform (leaf_stream t l))
-          go (At m) k q = let z : m ≡ l = cc in let w : is_uniform (leaf_stream t m) ≡ u = cc in
-              (k ∙ ap At z, sym w ∙ ap (λ (j : Leaf). is_uniform (leaf_stream t j)) z)
-          go Broken k q = absurd (let z : ◌≡◌ {A = ℕ} 0 1 = cc in omega arith)
+          go : (g : Option Leaf) → leaf_in t x y ≡ g → read_by t g ≡ Reads.At l n u → (leaf_in t x y ≡ Some l) × (u ≡ is_uniform (leaf_stream t l))
+          go (Some m) k q = let z : m ≡ l = cc in let w : is_uniform (leaf_stream t m) ≡ u = cc in
+              (k ∙ ap Some z, sym w ∙ ap (λ (j : Leaf). is_uniform (leaf_stream t j)) z)
+          go None k q = absurd (let z : ◌≡◌ {A = ℕ} 0 1 = cc in omega arith)
 
       pub anew_uniform : (l : Leaf) (n : ℕ) (u : Bool) (s : ℕ)
           → f ≡ Reads.At l n u
@@ -114,13 +113,13 @@ module _ (t : Tree) where
       unfolding shown_there
       anew_broken e = go (leaf_in t x y) (sym h ∙ e)
         where
-          go : (g : Found) → read_by t g ≡ Reads.Broken → Seen.Broken ≡ shown_by t x y g
-          go (At m) q = absurd (let z : ◌≡◌ {A = ℕ} 0 1 = cc in omega arith)
-          go Broken q = refl
+          go : (g : Option Leaf) → read_by t g ≡ Reads.Broken → Seen.Broken ≡ shown_by t x y g
+          go (Some m) q = absurd (let z : ◌≡◌ {A = ℕ} 0 1 = cc in omega arith)
+          go None q = refl
 
     -- what a shown set says of the leaf
     pub record ShownIn (l : Leaf) (u : Bool) (s : ℕ) : Type 0 where
-      pub is_leaf_law : leaf_in t x y ≡ At l
+      pub is_leaf_law : leaf_in t x y ≡ Some l
       pub is_flag : u ≡ is_uniform (leaf_stream t l)
       pub is_read : u ≡ true → s ≡ set_at t.areas t.xs t.ys x y (leaf_stream t l)
 
@@ -128,13 +127,13 @@ module _ (t : Tree) where
     unfolding shown_there
     shown_in_law l u s e = go (leaf_in t x y) refl (sym e)
       where
-        go : (g : Found) → leaf_in t x y ≡ g → shown_by t x y g ≡ In l u s → ShownIn l u s
-        go (At m) k q =
+        go : (g : Option Leaf) → leaf_in t x y ≡ g → shown_by t x y g ≡ In l u s → ShownIn l u s
+        go (Some m) k q =
             let z : m ≡ l = cc in
             let v : is_uniform (leaf_stream t m) ≡ u = cc in
             let w : cond (is_uniform (leaf_stream t m)) (set_at t.areas t.xs t.ys x y (leaf_stream t m)) 0 ≡ s = cc in
             record {
-              is_leaf_law = k ∙ ap At z;
+              is_leaf_law = k ∙ ap Some z;
               is_flag = sym v ∙ ap (λ (j : Leaf). is_uniform (leaf_stream t j)) z;
               is_read = λ h.
                   sym w
@@ -142,7 +141,7 @@ module _ (t : Tree) where
                   (pick_true (is_uniform (leaf_stream t m)) (set_at t.areas t.xs t.ys x y (leaf_stream t m)) 0 (v ∙ h))
                   ∙ ap (λ (j : Leaf). set_at t.areas t.xs t.ys x y (leaf_stream t j)) z);
             }
-        go Broken k q = absurd (let z : ◌≡◌ {A = ℕ} 0 1 = cc in omega arith)
+        go None k q = absurd (let z : ◌≡◌ {A = ℕ} 0 1 = cc in omega arith)
 
     pub last_in : (r : Shown) → r ≡ shown_there t x y → LastIn t r
     last_in (In l u s) e = record { x = x; y = y; was = e }
@@ -163,9 +162,9 @@ module _ (t : Tree) where
     unfolding shown_there
     spot_broken r e g = go (leaf_in t x y) (sym e ∙ g)
       where
-        go : (f : Found) → shown_by t x y f ≡ Seen.Broken → Answers.Not Refusals.Broken ≡ spot_by t x y f
-        go (At m) q = absurd (let z : ◌≡◌ {A = ℕ} 0 1 = cc in omega arith)
-        go Broken q = refl
+        go : (f : Option Leaf) → shown_by t x y f ≡ Seen.Broken → Answers.Not Refusals.Broken ≡ spot_by t x y f
+        go (Some m) q = absurd (let z : ◌≡◌ {A = ℕ} 0 1 = cc in omega arith)
+        go None q = refl
 
     -- what a shown set, or 12, says
     pub record Known (s : ℕ) (r : Shown) : Type 0 where
@@ -199,15 +198,15 @@ module _ (t : Tree) where
     unfolding shown_there known
     unknown_set r e g = go (leaf_in t x y) (sym e ∙ g)
       where
-        go : (f : Found) → shown_by t x y f ≡ Seen.Broken → is_found f ≡ false
-        go (At m) q = absurd (let z : ◌≡◌ {A = ℕ} 0 1 = cc in omega arith)
-        go Broken q = refl
+        go : (f : Option Leaf) → shown_by t x y f ≡ Seen.Broken → is_found f ≡ false
+        go (Some m) q = absurd (let z : ◌≡◌ {A = ℕ} 0 1 = cc in omega arith)
+        go None q = refl
 
     -- a position in range, of a leaf that was found
     pub position_accepted : (l : Leaf) (s : ℕ)
         → length t.xs ≡ length t.ys
         → position_range x y ≡ true
-        → leaf_in t x y ≡ At l
+        → leaf_in t x y ≡ Some l
         → set_in t x y ≡ s
         → position_answer t x y ≡ Answers.At (spot_of t.areas l (is_uniform (leaf_stream t l)) s)
     position_accepted l s e r k z =
@@ -223,7 +222,7 @@ module _ (t : Tree) where
 
   -- a leaf that was read serves each position of its square: it is found there, and where it is uniform the same set is read
   module _ (x y : ℕ) (l : Leaf) (u : Bool) (s : ℕ) (e : In l u s ≡ shown_there t x y) (x' y' : ℕ) (h : LeafHolds l (at x' y')) where
-    pub leaf_again : leaf_in t x' y' ≡ At l
+    pub leaf_again : leaf_in t x' y' ≡ Some l
     leaf_again = leaf_same t x y x' y' l h (shown_in_law x y l u s e).is_leaf_law
 
     same_set : (b : Bool)

@@ -11,8 +11,7 @@ use Rattle.cells.specs.Cells.{at}
 use Rattle.stream.specs.Entry.{HoldsSegment, is_uniform}
 use Rattle.stream.proofs.Uniform.{no_holds, holds_no}
 use Rattle.celltable.specs.declared.Leaf.{Leaf}
-use Rattle.celltable.specs.declared.Found.{Found}
-use Rattle.celltable.specs.declared.Found.TheVariants.{At, Broken}
+use Rattle.std.specs.Prelude.{Option, None, Some}
 use Rattle.evaluate.proofs.Uniform.{set_uniform}
 use Rattle.tables.specs.Tables.{Tree}
 use Rattle.find_leaf.specs.Leaf.{position_range, leaf_stream, leaf_in}
@@ -29,20 +28,20 @@ module _ (t : Tree) (x y : ℕ) where
     pub even : length t.xs ≡ length t.ys
     pub in_range_law : position_range x y ≡ true
     pub leaf : Leaf
-    pub found : leaf_in t x y ≡ At leaf
+    pub found : leaf_in t x y ≡ Some leaf
     pub spot : s ≡ spot_of t.areas leaf (is_uniform (leaf_stream t leaf)) (set_in t x y)
 
   pub accepted : (s : Spot) → position_answer t x y ≡ Answers.At s → Accepted s
   accepted s h = go (eqb (length t.xs) (length t.ys)) (position_range x y) (leaf_in t x y) refl refl refl h
     where
-      go : (a b : Bool) (f : Found)
+      go : (a b : Bool) (f : Option Leaf)
           → eqb (length t.xs) (length t.ys) ≡ a
           → position_range x y ≡ b
           → leaf_in t x y ≡ f
           → cond a (cond b (spot_by t x y f) (Answers.Not Refusals.Argument)) (Answers.Not Refusals.Argument) ≡ Answers.At s
           → Accepted s
-      go true true (At l) e r k q =
-          let z : spot_of t.areas l (is_uniform (leaf_stream t l)) (set_by t x y (At l)) ≡ s = cc in
+      go true true (Some l) e r k q =
+          let z : spot_of t.areas l (is_uniform (leaf_stream t l)) (set_by t x y (Some l)) ≡ s = cc in
           record {
             even = eqb-true (length t.xs) (length t.ys) e;
             in_range_law = r;
@@ -50,7 +49,7 @@ module _ (t : Tree) (x y : ℕ) where
             found = k;
             spot = sym z ∙ ap (spot_of t.areas l (is_uniform (leaf_stream t l))) (leaf_set t x y l k);
           }
-      go true true Broken e r k q = absurd (let z : ◌≡◌ {A = ℕ} 0 1 = cc in omega arith)
+      go true true None e r k q = absurd (let z : ◌≡◌ {A = ℕ} 0 1 = cc in omega arith)
       go true false f e r k q = absurd (let z : ◌≡◌ {A = ℕ} 0 1 = cc in omega arith)
       go false b f e r k q = absurd (let z : ◌≡◌ {A = ℕ} 0 1 = cc in omega arith)
 

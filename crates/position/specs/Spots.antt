@@ -8,8 +8,7 @@ use Rattle.paint.specs.Areas.{paint_at, material_of}
 use Rattle.paint.specs.Colours.{sums_of, colour_of}
 use Rattle.stream.specs.Entry.{is_uniform}
 use Rattle.celltable.specs.declared.Leaf.{Leaf}
-use Rattle.celltable.specs.declared.Found.{Found}
-use Rattle.celltable.specs.declared.Found.TheVariants.{At, Broken}
+use Rattle.std.specs.Prelude.{Option, None, Some}
 use Rattle.cells.specs.Cells.{at}
 use Rattle.cells.specs.Drawings.{Drawing}
 use Rattle.cells.specs.Streams.{shown_in}
@@ -23,9 +22,9 @@ use Rattle.position.specs.declared.Answer.{Answer}
 use Rattle.position.specs.declared.Answer.TheVariants as Answers
 
 -- 12 is not met: "the path down and the whole leaf when answering"
-abbrev pub is_found : Found → Bool
-is_found (At l) = true
-is_found Broken = false
+abbrev pub is_found : Option Leaf → Bool
+is_found (Some l) = true
+is_found None = false
 
 -- a set, its material and its colour; document 02: "Positions hand it on, together with the leaf's low corner and side."
 abbrev pub spot_of : (areas : List ℕ) → Leaf → (uniform : Bool) → (set : ℕ) → Spot
@@ -44,14 +43,14 @@ spot_of areas l uniform set =
 
 module _ (t : Tree) where
   -- "A stream is read in one pass as in document 000's flat clipping"; where 12 is met there is no leaf, and nothing is read
-  abbrev pub set_by : (x y : ℕ) → Found → ℕ
-  set_by x y (At l) = set_at t.areas t.xs t.ys x y (leaf_stream t l)
-  set_by x y Broken = 0
+  abbrev pub set_by : (x y : ℕ) → Option Leaf → ℕ
+  set_by x y (Some l) = set_at t.areas t.xs t.ys x y (leaf_stream t l)
+  set_by x y None = 0
 
   -- what shows in the leaf, or 12
-  abbrev pub spot_by : (x y : ℕ) → Found → Answer
-  spot_by x y (At l) = Answers.At (spot_of t.areas l (is_uniform (leaf_stream t l)) (set_by x y (At l)))
-  spot_by x y Broken = Answers.Not Refusals.Broken
+  abbrev pub spot_by : (x y : ℕ) → Option Leaf → Answer
+  spot_by x y (Some l) = Answers.At (spot_of t.areas l (is_uniform (leaf_stream t l)) (set_by x y (Some l)))
+  spot_by x y None = Answers.Not Refusals.Broken
 
   -- the areas and corners in use, against which the stream of a leaf is read
   abbrev pub lent_to : Leaf → Drawing

@@ -193,7 +193,7 @@ fn write_if_room(
         entries.old first count used (env areas.now xs.now ys.now b) s }
 {
     let n = entries_made(entries, first, count, areas, xs, ys, b, s);
-    if used + n <= entries.len() / celltable::ENTRY_WORDS {
+    if used + n <= entries.len() / stream::ENTRY_WORDS {
         child_stream::write_child(
             entries,
             first,
@@ -309,10 +309,19 @@ fn tally_number(
         tally_number entries.now first count (env areas.now xs.now ys.now b) s q k number }
 {
     let w = leaf_on(s);
-    let ts = four_children::count_to(entries, first, count, areas, xs, ys, b, w, q);
-    let i = k as usize;
-    let t = ts[i];
-    number_in(t, number)
+    let stream = Stream {
+        entries,
+        first,
+        count,
+    };
+    let context = Context {
+        areas,
+        xs,
+        ys,
+        bounds: b,
+    };
+    let ts = four_children::count_to(stream, context, w, q);
+    number_in(ts[k as usize], number)
 }
 
 // A number of the tally of child k of the stream's cell, after the passes of the first q children. 0 if the stream does not pass the check, the square

@@ -77,17 +77,18 @@ fn judge_children(
         (worked_to (lent t.areas t.xs t.ys bounds) (cell_of w) (words_from t.entries w.first w.count) 4) }
 {
     let drawing = tree.drawing;
-    let children = four_children::count_to(
-        tree.entries,
-        w.first as usize,
-        w.count as usize,
-        drawing.areas,
-        drawing.xs,
-        drawing.ys,
+    let stream = Stream {
+        entries: tree.entries,
+        first: w.first as usize,
+        count: w.count as usize,
+    };
+    let context = Context {
+        areas: drawing.areas,
+        xs: drawing.xs,
+        ys: drawing.ys,
         bounds,
-        w,
-        celltable::CHILDREN,
-    );
+    };
+    let children = four_children::count_to(stream, context, w, celltable::CHILDREN);
     let made = entries_of(children);
     let child = judge_room(tree.cells.len(), tree.entries.len(), used, free, made)?;
     Ok(Planned { child, children })
@@ -165,19 +166,11 @@ pub fn judge(tree: Tree, i: u32) -> Result<Planned, Refusal>
     if drawing.xs.len() != drawing.ys.len() {
         return Err(Refusal::Argument);
     }
-    let used = tables::cells_used(tree.head);
+    let used = tree.cells_used();
     if used <= i {
         return Err(Refusal::NoCell);
     }
-    if !tables::counts_fit(
-        drawing.plan,
-        drawing.areas,
-        drawing.xs,
-        drawing.ys,
-        tree.head,
-        tree.cells,
-        tree.entries,
-    ) {
+    if !tree.counts_fit() {
         return Err(Refusal::Broken);
     }
     let free = tree.head[celltable::ENTRIES];
@@ -233,18 +226,15 @@ fn put_split(
     ensures entries { let d = drawing.entry in entries.new ≡ written entries.old free
         (streams_to (lent d.areas.now d.xs.now d.ys.now bounds) (cell_of w) (words_from entries.old w.first w.count) 4) }
 {
-    four_children::write_four(
-        entries,
-        w.first as usize,
-        w.count as usize,
-        free as usize,
-        drawing.areas,
-        drawing.xs,
-        drawing.ys,
+    let first = w.first as usize;
+    let count = w.count as usize;
+    let context = Context {
+        areas: drawing.areas,
+        xs: drawing.xs,
+        ys: drawing.ys,
         bounds,
-        w,
-        ts,
-    );
+    };
+    four_children::write_four(entries, first, count, free as usize, context, w, ts);
     put_cells(cells, i, used, free, w, ts);
     let n = entries_of(ts);
     tables::put_head(head, used + celltable::CHILDREN, free + (n as u32));

@@ -5,7 +5,7 @@
 ghost use Rattle.std.specs.Prelude.{◌≡◌, ◌≤◌, length, get_or, set};
 ghost use Rattle.stream.specs.Grammar.{bounds};
 ghost use Rattle.celltable.specs.Ranges.{cells_held, entries_held};
-ghost use Rattle.tables.specs.Tables.{tree_lent, cells_used, counts_in};
+ghost use Rattle.tables.specs.Tables.{tree_passed, cells_used, counts_in};
 
 use drawing::Drawing;
 use stream::Bounds;
@@ -22,15 +22,6 @@ pub struct Tree<'a> {
     pub entries: &'a [u32],
 }
 
-pub fn cells_used(head: &[u32]) -> u32
-    ensures answer { result ≡ cells_used head.now }
-{
-    if celltable::HEAD_WORDS <= head.len() {
-        return head[celltable::CELLS];
-    }
-    0
-}
-
 pub fn cells_held(n: u32, len: usize) -> bool
     ensures answer { result ≡ cells_held n len }
 {
@@ -40,7 +31,7 @@ pub fn cells_held(n: u32, len: usize) -> bool
 pub fn entries_held(n: usize, len: usize) -> bool
     ensures answer { result ≡ entries_held n len }
 {
-    (n <= len / celltable::ENTRY_WORDS) & (n <= celltable::MOST_ENTRIES)
+    (n <= len / stream::ENTRY_WORDS) & (n <= stream::MOST_ENTRIES)
 }
 
 // The numbers in use.
@@ -60,31 +51,36 @@ pub fn bounds_in(plan: &[u32], low: u32, side: u32) -> Bounds
     Bounds {
         areas: laws::wide(plan[read::AREAS]),
         corners: laws::wide(plan[read::CORNERS]),
-        low: low,
-        side: side,
+        low,
+        side,
     }
 }
 
-// 12 over the numbers in use.
-pub fn counts_fit(
-    plan: &[u32],
-    areas: &[u32],
-    xs: &[u32],
-    ys: &[u32],
-    head: &[u32],
-    cells: &[u32],
-    entries: &[u32],
-) -> bool
-    ensures answer { result ≡ counts_in (tree_lent plan areas xs ys head cells entries) }
-{
-    let n = entries.len();
-    if celltable::head_fits(head, cells.len(), n) {
-        if read::PLAN_COUNTS <= plan.len() {
-            let free = laws::wide(head[celltable::ENTRIES]);
-            let b = bounds_in(plan, 0, 0);
-            return stream::used_range(n, free, areas.len(), xs.len(), ys.len(), b);
+impl Tree<'_> {
+    // The cells in use.
+    pub fn cells_used(self) -> u32
+        ensures answer { result ≡ cells_used (tree_passed self).head }
+    {
+        if self.head.len() < celltable::HEAD_WORDS {
+            return 0;
         }
-        return false;
+        self.head[celltable::CELLS]
     }
-    false
+
+    // 12 over the numbers in use.
+    pub fn counts_fit(self) -> bool
+        ensures answer { result ≡ counts_in (tree_passed self) }
+    {
+        let d = self.drawing;
+        let n = self.entries.len();
+        if !celltable::head_fits(self.head, self.cells.len(), n) {
+            return false;
+        }
+        if d.plan.len() < read::PLAN_COUNTS {
+            return false;
+        }
+        let free = laws::wide(self.head[celltable::ENTRIES]);
+        let b = bounds_in(d.plan, 0, 0);
+        stream::used_range(n, free, d.areas.len(), d.xs.len(), d.ys.len(), b)
+    }
 }

@@ -6,11 +6,11 @@ unfolding cell_range
 returns c =
     record {
       answer = rw (
-        c.parent_fits-parent.ensures.answer,
-        c.root_fits-root.ensures.answer,
-        c.entries_fit-run.ensures.answer,
-        c.children_fit-children.ensures.answer,
-        c.square_fits-square.ensures.answer,
+        c.parent_fits.ensures.answer,
+        c.root_fits.ensures.answer,
+        c.entries_fit.ensures.answer,
+        c.children_fit.ensures.answer,
+        c.square_fits.ensures.answer,
         c.read_cell-w.ensures.answer,
       );
     }

@@ -1,22 +1,48 @@
-use borrow.Author.Rules.{rules}
+use mathlib.Core.Path.{◌≡◌, refl, ap, ◌∙◌}
+use Prim.Native.Nat.{◌-◌, ◌+◌, ◌<◌, ◌≤◌}
+use native.Mathlib.Omega.{arith}
+use Rattle.std.specs.Prelude.{Some}
 use Rattle.celltable.proofs.Meaning.{walk_is}
 use Rattle.celltable.proofs.Walk.{walk_deeper, walk_landed, walk_bad, walk_done, going_start, going_in, going_on}
 use Rattle.celltable.proofs.descend.Goals as goal
 
-pub loop-left-init : goal.loop-left-init
-loop-left-init c = (search going_start, search walk_is)
+pub loop-k-init : goal.loop-k-init
+loop-k-init c = let a = c.args in record {
+  going = going_start a.used c.requires.some;
+  left = walk_is a.cells.now a.used a.entries a.x a.y c.requires.some;
+}
 
-pub step-d-requires : goal.step-d-requires
-step-d-requires c = record { cells_in = search rules; cursor_in = search going_in }
+pub returns-in_err-next : goal.returns-in_err-next
+returns-in_err-next c =
+    let a = c.args in
+    record {
+      answer = c.from_residual.ensures
+          ∙ walk_bad a.cells.now a.used a.entries a.x a.y (17 - c.loop-k.k) c.loop-k.c _ _ (omega arith) c.in_err-next.ensures.answer refl
+          c.loop-k.invariant.left;
+    }
 
 pub returns-in-AtLeaf : goal.returns-in-AtLeaf
-returns-in-AtLeaf c = record { answer = search walk_landed }
+returns-in-AtLeaf c =
+    let a = c.args in
+    record {
+      answer = walk_landed a.cells.now a.used a.entries a.x a.y (17 - c.loop-k.k) c.loop-k.c _ _ c.in-AtLeaf.leaf (omega arith)
+          c.in_ok-next.ensures.answer (ap Some c.in-AtLeaf.is) c.loop-k.invariant.left;
+    }
 
-pub returns-in-Bad : goal.returns-in-Bad
-returns-in-Bad c = record { answer = search walk_bad }
-
-pub loop-left-preserved : goal.loop-left-preserved
-loop-left-preserved c = (search going_on, search walk_deeper)
+pub loop-k-preserved : goal.loop-k-preserved
+loop-k-preserved c =
+    let a = c.args in
+    let next : 17 - c.loop-k.k - 1 ≡ 17 - (c.loop-k.k + 1) = omega arith in
+    record {
+      going = rw next at
+          (going_on a.cells.now a.used a.entries a.x a.y (17 - c.loop-k.k) c.loop-k.c c.in-Deeper.next _ (omega arith) c.in_ok-next.ensures.answer
+          (ap Some c.in-Deeper.is) c.loop-k.invariant.going);
+      left = rw next at
+          (walk_deeper a.cells.now a.used a.entries a.x a.y (17 - c.loop-k.k) c.loop-k.c _ _ c.in-Deeper.next (omega arith)
+          c.in_ok-next.ensures.answer (ap Some c.in-Deeper.is) c.loop-k.invariant.left);
+    }
 
 pub returns : goal.returns
-returns c = record { answer = search walk_done }
+returns c =
+    let a = c.args in
+    record { answer = walk_done a.cells.now a.used a.entries a.x a.y (17 - c.loop-k.k) c.loop-k.c _ (omega arith) c.loop-k.invariant.left }

@@ -7,9 +7,3 @@ nonzero_rem-result c = side_some _ (sym c.side_fits.ensures.answer ∙ c.if-side
 
 pub nonzero_rem-result-then-side_fits : goal.nonzero_rem-result-then-side_fits
 nonzero_rem-result-then-side_fits c = side_some _ (sym c.side_fits.ensures.answer ∙ c.if-side_fits.true)
-
-pub returns-then-side_fits : goal.returns-then-side_fits
-returns-then-side_fits c = record { answer = rw (sym c.side_fits.ensures.answer ∙ c.if-side_fits.true) }
-
-pub returns : goal.returns
-returns c = record { answer = rw (sym c.side_fits.ensures.answer ∙ c.if-side_fits.false) }

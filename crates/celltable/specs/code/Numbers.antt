@@ -1,12 +1,11 @@
 -- The path down over the numbers that the code holds. `Rattle.celltable.proofs.Meaning` says that it is `descend_in`.
-use Rattle.std.specs.Prelude.{ℕ, zero, suc, ◌+◌, ◌*◌, ◌/◌, ◌≤◌, ◌<◌, Bool, cond, ◌&&◌, ◌||◌, List, eqb, leb}
+use Rattle.std.specs.Prelude.{ℕ, zero, suc, ◌+◌, ◌*◌, ◌/◌, ◌≤◌, ◌<◌, Bool, cond, ◌&&◌, ◌||◌, List, eqb, leb, Option, None, Some}
 use Rattle.celltable.specs.declared.CellWords.{CellWords}
 use Rattle.celltable.specs.declared.Half.{Half}
 use Rattle.celltable.specs.declared.Cursor.{Cursor}
 use Rattle.celltable.specs.declared.Down.{Down}
-use Rattle.celltable.specs.declared.Down.TheVariants.{Deeper, AtLeaf, Bad}
-use Rattle.celltable.specs.declared.Found.{Found}
-use Rattle.celltable.specs.declared.Found.TheVariants.{At, Broken}
+use Rattle.celltable.specs.declared.Down.TheVariants.{Deeper, AtLeaf}
+use Rattle.celltable.specs.declared.Leaf.{Leaf}
 use Rattle.celltable.specs.Table.{cell_at}
 use Rattle.celltable.specs.Ranges.{child_range, entry_range, parent_range}
 use Rattle.celltable.specs.Descent.{leaf_of}
@@ -39,26 +38,26 @@ abbrev pub numbers_n : List ℕ → (used entries : ℕ) → Cursor → CellWord
 numbers_n t used entries c w = child_range w.child used && (entry_range w.first w.count entries && parent_n t used c w)
 
 -- what a cell with the words w gives
-unfoldable pub met_n : List ℕ → CellWords → (used entries : ℕ) → Cursor → (px py : ℕ) → Down
+unfoldable pub met_n : List ℕ → CellWords → (used entries : ℕ) → Cursor → (px py : ℕ) → Option Down
 met_n t w used entries c px py =
     cond (stands_n c w)
     (cond (numbers_n t used entries c w)
-    (cond (eqb w.child 0) (AtLeaf (leaf_of c.cell c.steps w)) (Deeper (deeper_n c w.child px py)))
-    Bad)
-    Bad
+    (cond (eqb w.child 0) (Some (AtLeaf (leaf_of c.cell c.steps w))) (Some (Deeper (deeper_n c w.child px py))))
+    None)
+    None
 
 -- "Each step down picks one quarter and gives the next cell"
-abbrev pub step_n : List ℕ → (used entries : ℕ) → Cursor → (px py : ℕ) → Down
+abbrev pub step_n : List ℕ → (used entries : ℕ) → Cursor → (px py : ℕ) → Option Down
 step_n t used entries c px py = met_n t (cell_at t c.cell) used entries c px py
 
-abbrev pub go_on : Down → (Cursor → Found) → Found
-go_on (Deeper c) f = f c
-go_on (AtLeaf l) f = At l
-go_on Bad f = Broken
+abbrev pub go_on : Option Down → (Cursor → Option Leaf) → Option Leaf
+go_on (Some (Deeper c)) f = f c
+go_on (Some (AtLeaf l)) f = Some l
+go_on None f = None
 
 -- over at most n cells
-unfoldable pub walk_n : List ℕ → (used entries px py n : ℕ) → Cursor → Found
-walk_n t used entries px py zero c = Broken
+unfoldable pub walk_n : List ℕ → (used entries px py n : ℕ) → Cursor → Option Leaf
+walk_n t used entries px py zero c = None
 walk_n t used entries px py (suc n) c = go_on (step_n t used entries c px py) (walk_n t used entries px py n)
 
 abbrev pub start_n : Cursor

@@ -2,8 +2,7 @@
 use Rattle.std.specs.Prelude.{Bool, ℕ}
 use Rattle.stream.specs.Entry.{lines_in, is_uniform}
 use Rattle.celltable.specs.declared.Leaf.{Leaf}
-use Rattle.celltable.specs.declared.Found.{Found}
-use Rattle.celltable.specs.declared.Found.TheVariants as Founds
+use Rattle.std.specs.Prelude.{Option, None, Some}
 use Rattle.tables.specs.Tables.{Tree}
 use Rattle.find_leaf.specs.declared.FoundLeaf.{FoundLeaf}
 use Rattle.find_leaf.specs.declared.LeafRead.{LeafRead}
@@ -15,9 +14,9 @@ abbrev pub report_n : Leaf → (lines : ℕ) → (uniform : Bool) → FoundLeaf
 report_n l n u =
     record { cell = l.cell; x = l.x; y = l.y; side = l.side; steps = l.steps; entries = l.count; lines = n; uniform = u }
 
-abbrev pub read_by : Tree → Found → LeafRead
-read_by t (Founds.At l) = At l (lines_in (leaf_stream t l)) (is_uniform (leaf_stream t l))
-read_by t Founds.Broken = Broken
+abbrev pub read_by : Tree → Option Leaf → LeafRead
+read_by t (Some l) = At l (lines_in (leaf_stream t l)) (is_uniform (leaf_stream t l))
+read_by t None = Broken
 
 -- the leaf that holds (x, y)
 abbrev pub leaf_read : Tree → (x y : ℕ) → LeafRead

@@ -11,8 +11,8 @@ use Rattle.four_children.proofs.count_next.Goals as goal
 pub returns : goal.returns
 returns c =
     let a = c.args in
-    let D = lent a.areas.now a.xs.now a.ys.now a.b in
-    let ws = words_from a.entries.now a.first a.count in
+    let D = lent a.context.areas.now a.context.xs.now a.context.ys.now a.context.bounds in
+    let ws = words_from a.stream.entries.now a.stream.first a.stream.count in
     record {
       answer = ap₂ (λ (ts : List Tally) (t : Tally). set ts a.q t) c.requires.ts_value c.count_one-t.ensures.answer
           ∙ worked_next D (cell_of a.w) ws a.q c.requires.q_bound;

@@ -24,11 +24,11 @@ count_child-n-requires c = let a = c.args in
 pub returns : goal.returns
 returns c =
     let a = c.args in
-    let D = lent a.areas.now a.xs.now a.ys.now a.b in
-    let ws = words_from a.entries.now a.first a.count in record {
+    let D = lent a.context.areas.now a.context.xs.now a.context.ys.now a.context.bounds in
+    let ws = words_from a.stream.entries.now a.stream.first a.stream.count in record {
       answer = c.tally_of.ensures.answer
           ∙ tally_is (elements_of_child D (cell_of a.w) ws a.q) c.count_child-n.result
-          (few_elements a.entries.now a.areas.now a.xs.now a.ys.now a.b a.first a.count _ c.requires.passed)
+          (few_elements a.stream.entries.now a.context.areas.now a.context.xs.now a.context.ys.now a.context.bounds a.stream.first a.stream.count _ c.requires.passed)
           (c.count_child-n.ensures.weight
           ∙ ap (λ (k : Cell). total element_size (elements_made D k ws))
           (kid_in a.w c.requires.w_value a.q c.quarter_of-s.result c.quarter_of-s.ensures.answer))

@@ -17,15 +17,12 @@ count_next-next-requires c = record {
   ts_value = c.loop-q.invariant.tallies;
 }
 
-pub overflow_add-q : goal.overflow_add-q
-overflow_add-q c = record { fits = omega (arith, c.loop-q-test.true, c.requires.n_bound) }
-
 pub loop-q-preserved : goal.loop-q-preserved
 loop-q-preserved c = record { low = omega (arith, c.loop-q-test.true); tallies = c.count_next-next.ensures.answer }
 
 pub returns : goal.returns
 returns c =
     let a = c.args in record {
-      answer = working_end (lent a.areas.now a.xs.now a.ys.now a.b) (cell_of a.w) (words_from a.entries.now a.first a.count) a.n
+      answer = working_end (lent a.context.areas.now a.context.xs.now a.context.ys.now a.context.bounds) (cell_of a.w) (words_from a.stream.entries.now a.stream.first a.stream.count) a.n
           c.loop-q.q c.loop-q.ts c.loop-q.invariant (omega (arith, c.loop-q-test.false));
     }

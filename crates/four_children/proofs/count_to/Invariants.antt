@@ -1,12 +1,7 @@
-use Prim.Native.Nat.{◌-◌}
-use Rattle.stream.specs.Table.{words_from}
 use Rattle.celltable.specs.Ranges.{cell_of}
-use Rattle.ranges.specs.Held.{lent}
+use Rattle.four_children.specs.code.Numbers.{drawing_of, words_of}
 use Rattle.four_children.proofs.Worked.{Working}
 use Rattle.four_children.proofs.count_to.Given as goal
 
 abbrev pub invariant-loop-q : goal.invariant-loop-q
-invariant-loop-q l = Working (lent l.areas l.xs l.ys l.b) (cell_of l.w) (words_from l.entries l.first l.count) l.n l.q l.ts
-
-abbrev pub decreases-loop-q : goal.decreases-loop-q
-decreases-loop-q l = l.n - l.q
+invariant-loop-q l = Working (drawing_of l.context) (cell_of l.w) (words_of l.stream) l.n l.q l.ts

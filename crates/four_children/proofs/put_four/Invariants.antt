@@ -1,10 +1,6 @@
-use Prim.Native.Nat.{◌-◌}
 use Rattle.celltable.specs.Ranges.{cell_of}
 use Rattle.four_children.proofs.Placed.{Placed}
 use Rattle.four_children.proofs.put_four.Given as goal
 
 abbrev pub invariant-loop-n : goal.invariant-loop-n
 invariant-loop-n l = Placed (cell_of l.w) l.ts l.initial.cells l.i l.used l.free l.n l.at l.cells
-
-abbrev pub decreases-loop-n : goal.decreases-loop-n
-decreases-loop-n l = 4 - l.n

@@ -11,7 +11,7 @@ use Rattle.four_children.proofs.write_child.Goals as goal
 pub write_child-requires : goal.write_child-requires
 write_child-requires c =
     let a = c.args in
-    let D = lent a.areas.now a.xs.now a.ys.now a.b in
+    let D = lent a.context.areas.now a.context.xs.now a.context.ys.now a.context.bounds in
     let ws = words_from a.entries.now a.first a.count in
     let s = c.quarter_of-s.result in record {
       passed = c.requires.passed;
@@ -26,7 +26,7 @@ write_child-requires c =
 pub returns : goal.returns
 returns c =
     let a = c.args in
-    let D = lent a.areas.now a.xs.now a.ys.now a.b in
+    let D = lent a.context.areas.now a.context.xs.now a.context.ys.now a.context.bounds in
     let ws = words_from a.entries.now a.first a.count in
     let s = c.quarter_of-s.result in record {
       entries = c.write_child.ensures.entries

@@ -9,15 +9,15 @@ use Rattle.four_children.proofs.write_four.Goals as goal
 pub loop-q-init : goal.loop-q-init
 loop-q-init c =
     let a = c.args in
-    let v = env a.areas.now a.xs.now a.ys.now a.b in
-    let D = lent a.areas.now a.xs.now a.ys.now a.b in
+    let v = env a.context.areas.now a.context.xs.now a.context.ys.now a.context.bounds in
+    let D = lent a.context.areas.now a.context.xs.now a.context.ys.now a.context.bounds in
     filled_begin v D (cell_of a.w) a.entries.now a.first a.count a.free c.requires.passed c.requires.count_bound c.requires.count_in_bounds
 
 pub write_child-requires : goal.write_child-requires
 write_child-requires c =
     let a = c.args in
-    let v = env a.areas.now a.xs.now a.ys.now a.b in
-    let D = lent a.areas.now a.xs.now a.ys.now a.b in
+    let v = env a.context.areas.now a.context.xs.now a.context.ys.now a.context.bounds in
+    let D = lent a.context.areas.now a.context.xs.now a.context.ys.now a.context.bounds in
     let ws = words_from a.entries.now a.first a.count in record {
       passed = still_passed v D (cell_of a.w) a.entries.now a.first a.count a.free c.requires.passed c.requires.count_bound c.requires.count_in_bounds
           c.loop-q.q c.loop-q.at c.loop-q.entries c.loop-q.invariant;
@@ -40,8 +40,8 @@ write_child-requires c =
 pub overflow_add-at : goal.overflow_add-at
 overflow_add-at c =
     let a = c.args in
-    let v = env a.areas.now a.xs.now a.ys.now a.b in
-    let D = lent a.areas.now a.xs.now a.ys.now a.b in
+    let v = env a.context.areas.now a.context.xs.now a.context.ys.now a.context.bounds in
+    let D = lent a.context.areas.now a.context.xs.now a.context.ys.now a.context.bounds in
     let ws = words_from a.entries.now a.first a.count in
     record {
       fits = omega (
@@ -58,8 +58,8 @@ overflow_add-at c =
 pub loop-q-preserved : goal.loop-q-preserved
 loop-q-preserved c =
     let a = c.args in
-    let v = env a.areas.now a.xs.now a.ys.now a.b in
-    let D = lent a.areas.now a.xs.now a.ys.now a.b in
+    let v = env a.context.areas.now a.context.xs.now a.context.ys.now a.context.bounds in
+    let D = lent a.context.areas.now a.context.xs.now a.context.ys.now a.context.bounds in
     let ws = words_from a.entries.now a.first a.count in
     rw (entries_at D (cell_of a.w) ws a.ts c.loop-q.q (omega (arith, c.loop-q-test.true)) c.requires.ts_value)
     (filled_turn v D (cell_of a.w) a.entries.now a.first a.count a.free c.requires.passed c.requires.count_bound c.requires.count_in_bounds
@@ -72,8 +72,8 @@ shape_of-entries c = c.loop-q.invariant.size
 pub returns : goal.returns
 returns c =
     let a = c.args in
-    let v = env a.areas.now a.xs.now a.ys.now a.b in
-    let D = lent a.areas.now a.xs.now a.ys.now a.b in record {
+    let v = env a.context.areas.now a.context.xs.now a.context.ys.now a.context.bounds in
+    let D = lent a.context.areas.now a.context.xs.now a.context.ys.now a.context.bounds in record {
       entries = filled_end v D (cell_of a.w) a.entries.now a.first a.count a.free c.requires.passed c.requires.count_bound c.requires.count_in_bounds
           c.loop-q.q c.loop-q.at c.loop-q.entries c.loop-q.invariant c.loop-q-test.false;
     }

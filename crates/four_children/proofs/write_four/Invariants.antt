@@ -1,11 +1,7 @@
-use Prim.Native.Nat.{◌-◌}
 use Rattle.celltable.specs.Ranges.{cell_of}
-use Rattle.ranges.specs.Held.{lent}
+use Rattle.four_children.specs.code.Numbers.{drawing_of}
 use Rattle.four_children.proofs.Filled.{Filled}
 use Rattle.four_children.proofs.write_four.Given as goal
 
 abbrev pub invariant-loop-q : goal.invariant-loop-q
-invariant-loop-q l = Filled (lent l.areas l.xs l.ys l.b) (cell_of l.w) l.initial.entries l.first l.count l.free l.q l.at l.entries
-
-abbrev pub decreases-loop-q : goal.decreases-loop-q
-decreases-loop-q l = 4 - l.q
+invariant-loop-q l = Filled (drawing_of l.context) (cell_of l.w) l.initial.entries l.first l.count l.free l.q l.at l.entries

@@ -2,8 +2,7 @@
 use Rattle.std.specs.Prelude.{◌≡◌, Bool, false, cond, ℕ, ◌-◌, ltb, leb}
 use Rattle.stream.specs.Entry.{is_uniform}
 use Rattle.celltable.specs.declared.Leaf.{Leaf}
-use Rattle.celltable.specs.declared.Found.{Found}
-use Rattle.celltable.specs.declared.Found.TheVariants.{At, Broken}
+use Rattle.std.specs.Prelude.{Option, None, Some}
 use Rattle.tables.specs.Tables.{Tree}
 use Rattle.find_leaf.specs.Leaf.{leaf_stream, leaf_in}
 use Rattle.position.specs.declared.Shown.{Shown}
@@ -20,9 +19,9 @@ abbrev pub in_square : Leaf → (x y : ℕ) → Bool
 in_square l x y = cond (between l.x l.side x) (between l.y l.side y) false
 
 -- the leaf, whether it is uniform, and the set that is read there where it is, else 0; or 12
-abbrev pub shown_by : Tree → (x y : ℕ) → Found → Shown
-shown_by t x y (At l) = In l (is_uniform (leaf_stream t l)) (cond (is_uniform (leaf_stream t l)) (set_by t x y (At l)) 0)
-shown_by t x y Broken = Seen.Broken
+abbrev pub shown_by : Tree → (x y : ℕ) → Option Leaf → Shown
+shown_by t x y (Some l) = In l (is_uniform (leaf_stream t l)) (cond (is_uniform (leaf_stream t l)) (set_by t x y (Some l)) 0)
+shown_by t x y None = Seen.Broken
 
 unfoldable pub shown_there : Tree → (x y : ℕ) → Shown
 shown_there t x y = shown_by t x y (leaf_in t x y)
