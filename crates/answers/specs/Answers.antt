@@ -8,8 +8,6 @@ use Rattle.drawing.specs.Tables.{Written}
 use Rattle.grow.specs.declared.Growth.{Growth}
 use Rattle.grow.specs.declared.Growth.TheVariants as Growths
 use Rattle.find_leaf.specs.declared.FoundLeaf.{FoundLeaf}
-use Rattle.find_leaf.specs.declared.Answer as leaf-answer
-use Rattle.find_leaf.specs.declared.Answer.TheVariants as leaf
 
 abbrev pub packed : (number low : ℕ) → ℕ
 packed number low = number * 4294967296 + low
@@ -41,14 +39,14 @@ grow_number (Ok (Growths.Full splits)) = packed 0 (2147483648 + splits)
 grow_number (Err r) = packed (number_of r) 0
 
 -- finding a leaf: 11, "another output table too short for the whole result", which is eight words; out is how many words the table has
-abbrev pub find_room : leaf-answer.Answer → (out : ℕ) → leaf-answer.Answer
-find_room (leaf.Found l) out = cond (leb 8 out) (leaf.Found l) (leaf.Not Room)
-find_room (leaf.Not r) out = leaf.Not r
+abbrev pub find_room : Result FoundLeaf Refusal → (out : ℕ) → Result FoundLeaf Refusal
+find_room (Ok l) out = cond (leb 8 out) (Ok l) (Err Room)
+find_room (Err r) out = Err r
 
 -- the number of the leaf; document 01 leaves free which number of the leaf is the result
-abbrev pub find_number : leaf-answer.Answer → ℕ
-find_number (leaf.Found l) = packed 0 l.cell
-find_number (leaf.Not r) = packed (number_of r) 0
+abbrev pub find_number : Result FoundLeaf Refusal → ℕ
+find_number (Ok l) = packed 0 l.cell
+find_number (Err r) = packed (number_of r) 0
 
 -- document 02: "yes or no", as a word: 1 or 0
 abbrev pub word_of : Bool → ℕ
@@ -61,12 +59,12 @@ leaf_put l out =
     (word_of l.uniform)
 
 -- "nothing lent changed" on a refusal; "An accepted call leaves the rest of a longer output untouched."
-abbrev pub out_found : leaf-answer.Answer → List ℕ → List ℕ
-out_found (leaf.Found l) out = leaf_put l out
-out_found (leaf.Not r) out = out
+abbrev pub out_found : Result FoundLeaf Refusal → List ℕ → List ℕ
+out_found (Ok l) out = leaf_put l out
+out_found (Err r) out = out
 
 -- the output table after the call
-abbrev pub leaf_written : leaf-answer.Answer → (out : List ℕ) → List ℕ
+abbrev pub leaf_written : Result FoundLeaf Refusal → (out : List ℕ) → List ℕ
 leaf_written a out = out_found (find_room a (length out)) out
 
 -- the low halves

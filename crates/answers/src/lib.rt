@@ -8,16 +8,14 @@
 ghost use Rattle.std.specs.Prelude.{◌≡◌, ◌≤◌, length};
 ghost use Rattle.refusals.specs.Refusals.{number_of};
 ghost use Rattle.answers.specs.Answers.{packed, read_number, write_number, read_low, write_low, open_number, split_number, grow_splits, grow_number};
-ghost use Rattle.answers.specs.Answers.{word_of, leaf_put, find_room, find_number, leaf_written};
+ghost use Rattle.answers.specs.Answers.{leaf_put, find_room, find_number, leaf_written};
 ghost use Rattle.answers.specs.Readings.{spot_put, spot_room, spot_number, spot_written, low_half, log_number, row_place, row_number};
 
 use find_leaf::FoundLeaf;
 use grammar::Counts;
 use grow::Growth;
-use pixel_row::RowAnswer;
 use position::Spot;
 use refusals::{Refusal, Refused};
-use zone_log::LogAnswer;
 
 // The words of a leaf that is found.
 const LEAF_WORDS: usize = 8;
@@ -91,16 +89,6 @@ pub fn pack_grow(a: Result<Growth, Refusal>) -> u64
     }
 }
 
-// Yes or no as a word: 1 or 0.
-fn word_of(yes: bool) -> u32
-    ensures answer { result ≡ word_of yes }
-{
-    if yes {
-        return 1;
-    }
-    0
-}
-
 // Writes the eight words of a leaf.
 fn put_leaf(out: &mut [u32], l: FoundLeaf)
     requires { 8 ≤ length out.old }
@@ -113,25 +101,23 @@ fn put_leaf(out: &mut [u32], l: FoundLeaf)
     out[4] = l.steps;
     out[5] = l.entries;
     out[6] = l.lines;
-    out[7] = word_of(l.uniform);
+    out[7] = u32::from(l.uniform);
 }
 
 // A leaf that was found, or 11.
-pub fn put_found(out: &mut [u32], a: find_leaf::Answer) -> u64
+pub fn put_found(out: &mut [u32], a: Result<FoundLeaf, Refusal>) -> u64
     ensures answer { result ≡ find_number (find_room a (length out.old)) }
     ensures out { out.new ≡ leaf_written a out.old }
 {
     match a {
-        find_leaf::Answer::Found(l) => {
-            if LEAF_WORDS <= out.len() {
-                put_leaf(out, l);
-                return pack(0, l.cell as usize);
+        Ok(leaf) => {
+            if out.len() < LEAF_WORDS {
+                return refused(Refusal::Room);
             }
-            return refused(Refusal::Room);
+            put_leaf(out, leaf);
+            pack(0, leaf.cell as usize)
         }
-        find_leaf::Answer::Not(r) => {
-            return refused(r);
-        }
+        Err(r) => refused(r),
     }
 }
 
@@ -147,28 +133,26 @@ fn put_spot(out: &mut [u32], s: Spot)
     out[3] = s.red;
     out[4] = s.green;
     out[5] = s.blue;
-    out[6] = word_of(s.uniform);
+    out[6] = u32::from(s.uniform);
     out[7] = s.x;
     out[8] = s.y;
     out[9] = s.side;
 }
 
 // What shows, or 11.
-pub fn put_shown(out: &mut [u32], a: position::Answer) -> u64
+pub fn put_shown(out: &mut [u32], a: Result<Spot, Refusal>) -> u64
     ensures answer { result ≡ spot_number (spot_room a (length out.old)) }
     ensures out { out.new ≡ spot_written a out.old }
 {
     match a {
-        position::Answer::At(s) => {
-            if SPOT_WORDS <= out.len() {
-                put_spot(out, s);
-                return pack(0, s.material as usize);
+        Ok(spot) => {
+            if out.len() < SPOT_WORDS {
+                return refused(Refusal::Room);
             }
-            return refused(Refusal::Room);
+            put_spot(out, spot);
+            pack(0, spot.material as usize)
         }
-        position::Answer::Not(r) => {
-            return refused(r);
-        }
+        Err(r) => refused(r),
     }
 }
 
@@ -178,38 +162,25 @@ fn low_half(n: usize) -> usize
     ensures answer { result ≡ low_half n }
     ensures range { result ≤ 4294967295 }
 {
-    if n <= 4294967295 {
-        return n;
-    }
-    4294967295
+    n.min(4294967295)
 }
 
-pub fn pack_log(a: LogAnswer) -> u64
+pub fn pack_log(a: Result<usize, Refused>) -> u64
     ensures answer { result ≡ log_number a }
 {
     match a {
-        LogAnswer::Indices(count) => {
-            let low = low_half(count);
-            pack(0, low)
-        }
-        LogAnswer::Not(r, place) => {
-            let n = u32::from(r);
-            let low = low_half(place);
-            pack(n, low)
-        }
+        Ok(count) => pack(0, low_half(count)),
+        Err(r) => pack(u32::from(r.refusal), low_half(r.place)),
     }
 }
 
 // ---- a row of pixels
-pub fn pack_row(a: RowAnswer) -> u64
+pub fn pack_row(a: Result<(), Refused>) -> u64
     requires { row_place a ≤ 4096 }
     ensures answer { result ≡ row_number a }
 {
     match a {
-        RowAnswer::Done => pack(0, 0),
-        RowAnswer::Not(r, place) => {
-            let n = u32::from(r);
-            pack(n, place)
-        }
+        Ok(()) => pack(0, 0),
+        Err(r) => pack(u32::from(r.refusal), r.place),
     }
 }

@@ -1,4 +1,7 @@
 -- The answers of the calls on sound tables.
+use Rattle.std.proofs.Common.{Result, Ok, Err}
+use Rattle.refusals.specs.declared.Refused.{Refused}
+use Rattle.refusals.specs.Refusals.{at_place}
 use mathlib.Core.Path.{◌≡◌, refl, sym, ap, ◌∙◌, subst}
 use mathlib.Core.Bool.{Bool, true, false, cond, ◌&&◌}
 use mathlib.Core.List.{List, []}
@@ -26,18 +29,11 @@ use Rattle.split_laws.proofs.Trees.{tree_refused}
 use Rattle.grow.specs.declared.Growth.{Growth}
 use Rattle.grow.specs.Grow.{Ending, none_left, no_room, not_passed, grown, answer_by, answer_of, grow_answer, grow_tree}
 use Rattle.find_leaf.specs.declared.FoundLeaf.{FoundLeaf}
-use Rattle.find_leaf.specs.declared.Answer as Finding
-use Rattle.find_leaf.specs.declared.Answer.TheVariants as Finds
 use Rattle.find_leaf.specs.Leaf.{position_range, report_of, found_by, leaf_in, find_answer}
 use Rattle.find_leaf.proofs.Landing.{on_grid}
 use Rattle.position.specs.declared.Spot.{Spot}
-use Rattle.position.specs.declared.Answer as Reading
-use Rattle.position.specs.declared.Answer.TheVariants as Reads
 use Rattle.position.specs.Spots.{position_answer}
-use Rattle.pixel_row.specs.declared.RowAnswer.TheVariants as Rows
 use Rattle.pixel_row.specs.Rows.{Filled, filled}
-use Rattle.zone_log.specs.declared.LogAnswer.{LogAnswer}
-use Rattle.zone_log.specs.declared.LogAnswer.TheVariants as Logs
 use Rattle.zone_log.specs.Logs.{outside_from, each_word}
 use Rattle.answers.specs.Answers.{find_room}
 use Rattle.answers.specs.Readings.{spot_room}
@@ -118,9 +114,9 @@ module _ (t : Tree) (H : List Node) (n l : ℕ) (s : Sound t H) where
 
 -- ---- finding
 -- the leaf that holds the position, with no output
-pub record Lands (D : Drawing) (H : List Node) (x y : ℕ) (a : Finding.Answer) : Type 0 where
-  pub inside : position_range x y ≡ true → (i : ℕ) × LeafAt H (at x y) i × (a ≡ Finds.Found (report_shown D H i))
-  pub outside : position_range x y ≡ false → a ≡ Finds.Not Refusals.Argument
+pub record Lands (D : Drawing) (H : List Node) (x y : ℕ) (a : Result FoundLeaf Refusal) : Type 0 where
+  pub inside : position_range x y ≡ true → (i : ℕ) × LeafAt H (at x y) i × (a ≡ Ok (report_shown D H i))
+  pub outside : position_range x y ≡ false → a ≡ Err Refusals.Argument
 
 module _ (t : Tree) (H : List Node) (s : Sound t H) (x y : ℕ) where
   report_is : (i : ℕ) → Leaf H i → report_of t.entries (leaf_of i (16 - level (cell_in H i)) (words t i)) ≡ report_shown (drawing_of t) H i
@@ -141,23 +137,23 @@ module _ (t : Tree) (H : List Node) (s : Sound t H) (x y : ℕ) where
         uniform = is_uniform (ws d);
       }
 
-  abbrev found : Finding.Answer
+  abbrev found : Result FoundLeaf Refusal
   found = found_by t (leaf_in t x y)
 
-  find_is : find_answer t x y ≡ cond (position_range x y) found (Finds.Not Refusals.Argument)
+  find_is : find_answer t x y ≡ cond (position_range x y) found (Err Refusals.Argument)
   find_is =
-      ap (λ (b : Bool). cond b (cond (position_range x y) found (Finds.Not Refusals.Argument)) (Finds.Not Refusals.Argument))
+      ap (λ (b : Bool). cond b (cond (position_range x y) found (Err Refusals.Argument)) (Err Refusals.Argument))
       (eq-eqb (length t.xs) (length t.ys) s.drawn.pair)
 
-  chosen : (b : Bool) → position_range x y ≡ b → find_answer t x y ≡ cond b found (Finds.Not Refusals.Argument)
-  chosen b e = find_is ∙ ap (λ (c : Bool). cond c found (Finds.Not Refusals.Argument)) e
+  chosen : (b : Bool) → position_range x y ≡ b → find_answer t x y ≡ cond b found (Err Refusals.Argument)
+  chosen b e = find_is ∙ ap (λ (c : Bool). cond c found (Err Refusals.Argument)) e
 
   pub find_right : Lands (drawing_of t) H x y (find_answer t x y)
   find_right =
       record {
         inside = λ e.
             let r = lands t H s x y (on_grid x y e) in
-            (r.leaf, r.holds, chosen true e ∙ (ap (found_by t) r.found ∙ ap Finds.Found (report_is r.leaf r.holds.leaf)));
+            (r.leaf, r.holds, chosen true e ∙ (ap (found_by t) r.found ∙ ap Ok (report_is r.leaf r.holds.leaf)));
         outside = λ e. chosen false e;
       }
 
@@ -165,11 +161,11 @@ module _ (t : Tree) (H : List Node) (s : Sound t H) (x y : ℕ) where
     pub find_given : FindRight (drawing_of t) H x y out (given (finds x y out) t)
     find_given =
         record {
-          inside = λ e. let r = find_right.inside e in (r.0, r.1, ap (λ (a : Finding.Answer). found_given a out) r.2);
-          outside = λ e. ap (λ (a : Finding.Answer). found_given a out) (find_right.outside e);
+          inside = λ e. let r = find_right.inside e in (r.0, r.1, ap (λ (a : Result FoundLeaf Refusal). found_given a out) r.2);
+          outside = λ e. ap (λ (a : Result FoundLeaf Refusal). found_given a out) (find_right.outside e);
         }
 
-    roomed : (b : Bool) (l : FoundLeaf) → refusal (finding (cond b (Finds.Found l) (Finds.Not Refusals.Room))) ≡ 12 → ⊥
+    roomed : (b : Bool) (l : FoundLeaf) → refusal (finding (cond b (Ok l) (Err Refusals.Room))) ≡ 12 → ⊥
     roomed true l z = omega arith
     roomed false l z = omega arith
 
@@ -177,9 +173,9 @@ module _ (t : Tree) (H : List Node) (s : Sound t H) (x y : ℕ) where
     find_by true e z =
         let r = find_right.inside e in
         roomed (leb 8 (length out)) (report_shown (drawing_of t) H r.0)
-        (sym (ap (λ (a : Finding.Answer). refusal (finding (find_room a (length out)))) r.2) ∙ z)
+        (sym (ap (λ (a : Result FoundLeaf Refusal). refusal (finding (find_room a (length out)))) r.2) ∙ z)
     find_by false e z =
-        let o : ◌≡◌ {A = ℕ} 7 12 = sym (ap (λ (a : Finding.Answer). refusal (finding (find_room a (length out)))) (find_right.outside e)) ∙ z in
+        let o : ◌≡◌ {A = ℕ} 7 12 = sym (ap (λ (a : Result FoundLeaf Refusal). refusal (finding (find_room a (length out)))) (find_right.outside e)) ∙ z in
         omega arith
 
     pub find_unmet : refusal (finding (find_room (find_answer t x y) (length out))) ≡ 12 → ⊥
@@ -187,7 +183,7 @@ module _ (t : Tree) (H : List Node) (s : Sound t H) (x y : ℕ) where
 
 -- ---- a position
 module _ (t : Tree) (H : List Node) (s : Sound t H) (x y : ℕ) (out : List ℕ) where
-  roomed_spot : (b : Bool) (r : Spot) → refusal (reading (cond b (Reads.At r) (Reads.Not Refusals.Room))) ≡ 12 → ⊥
+  roomed_spot : (b : Bool) (r : Spot) → refusal (reading (cond b (Ok r) (Err Refusals.Room))) ≡ 12 → ⊥
   roomed_spot true r z = omega arith
   roomed_spot false r z = omega arith
 
@@ -198,14 +194,14 @@ module _ (t : Tree) (H : List Node) (s : Sound t H) (x y : ℕ) (out : List ℕ)
       go true e z =
           let r = position_inside t H s x y e in
           roomed_spot (leb 10 (length out)) (spot_there (drawing_of t) H r.0 (at x y))
-          (sym (ap (λ (a : Reading.Answer). refusal (reading (spot_room a (length out)))) r.2) ∙ z)
+          (sym (ap (λ (a : Result Spot Refusal). refusal (reading (spot_room a (length out)))) r.2) ∙ z)
       go false e z =
           let o : ◌≡◌ {A = ℕ} 7 12 =
-          sym (ap (λ (a : Reading.Answer). refusal (reading (spot_room a (length out)))) (position_outside t H s x y e)) ∙ z in
+          sym (ap (λ (a : Result Spot Refusal). refusal (reading (spot_room a (length out)))) (position_outside t H s x y e)) ∙ z in
           omega arith
 
   -- an answer that has room is the one that was made
-  spot_roomed : (b : Bool) (r r' : Spot) → reading (cond b (Reads.At r) (Reads.Not Refusals.Room)) ≡ reading (Reads.At r') → r ≡ r'
+  spot_roomed : (b : Bool) (r r' : Spot) → reading (cond b (Ok r) (Err Refusals.Room)) ≡ reading (Ok r') → r ≡ r'
   spot_roomed true r r' e = cc
   spot_roomed false r r' e = cc
 
@@ -235,21 +231,21 @@ module _ (t : Tree) (H : List Node) (s : Sound t H) (x y : ℕ) (out : List ℕ)
   pub position_given_law : ReadRight (drawing_of t) H x y out (given (reads x y out) t)
   position_given_law =
       record {
-        inside = λ e. let r = position_inside t H s x y e in (r.0, r.1, ap (λ (a : Reading.Answer). position_given a out) r.2);
-        outside = λ e. ap (λ (a : Reading.Answer). position_given a out) (position_outside t H s x y e);
+        inside = λ e. let r = position_inside t H s x y e in (r.0, r.1, ap (λ (a : Result Spot Refusal). position_given a out) r.2);
+        outside = λ e. ap (λ (a : Result Spot Refusal). position_given a out) (position_outside t H s x y e);
         reach = λ r e u q h. go r u q h (position_range x y) refl e;
       }
     where
       go : (r : Spot) → r.uniform ≡ true → (q : Position) → Inside r.x r.y r.side (col q) (row q) → (b : Bool) → position_range x y ≡ b
-          → reading (spot_room (position_answer t x y) (length out)) ≡ reading (Reads.At r) → SaysShown (drawing_of t) r q
+          → reading (spot_room (position_answer t x y) (length out)) ≡ reading (Ok r) → SaysShown (drawing_of t) r q
       go r u (at x' y') h true k e =
           let w = position_inside t H s x y k in
           let z = spot_roomed (leb 10 (length out)) (spot_there (drawing_of t) H w.0 (at x y)) r
-          (sym (ap (λ (a : Reading.Answer). reading (spot_room a (length out))) w.2) ∙ e) in
+          (sym (ap (λ (a : Result Spot Refusal). reading (spot_room a (length out))) w.2) ∙ e) in
           alike w.0 r w.1 (sym z) u x' y' h
       go r u q h false k e =
-          let z : reading (Reads.Not Refusals.Argument) ≡ reading (Reads.At r) =
-          sym (ap (λ (a : Reading.Answer). reading (spot_room a (length out))) (position_outside t H s x y k)) ∙ e in
+          let z : reading (Err Refusals.Argument) ≡ reading (Ok r) =
+          sym (ap (λ (a : Result Spot Refusal). reading (spot_room a (length out))) (position_outside t H s x y k)) ∙ e in
           absurd (let o : ◌≡◌ {A = ℕ} 0 1 = cc in omega arith)
 
 -- ---- a row
@@ -258,8 +254,8 @@ module _ (D : Drawing) (row first : ℕ) (out : List ℕ) where
       → refusal
       (rowing
       (cond p
-      (cond q (cond r (filled Rows.Done bytes) (filled (Rows.Not Refusals.Argument 0) out)) (filled (Rows.Not Refusals.Argument 0) out))
-      (filled (Rows.Not Refusals.Argument 0) out)).answer)
+      (cond q (cond r (filled (Ok tt) bytes) (filled (Err (at_place Refusals.Argument 0)) out)) (filled (Err (at_place Refusals.Argument 0)) out))
+      (filled (Err (at_place Refusals.Argument 0)) out)).answer)
       ≡ 12
       → ⊥
   row_shown_by true true true bytes z = omega arith
@@ -277,8 +273,8 @@ module _ (D : Drawing) (px py : List ℕ) (n : ℕ) where
   log_shown_by : (p q r : Bool) (place : ℕ) (l : List ℕ)
       → refusal
       (logging
-      (cond p (cond q (Logs.Not Refusals.Argument place) (cond r (Logs.Indices (length l)) (Logs.Not Refusals.Room 0)))
-      (Logs.Not Refusals.Argument 0)))
+      (cond p (cond q (Err (at_place Refusals.Argument place)) (cond r (Ok (length l)) (Err (at_place Refusals.Room 0))))
+      (Err (at_place Refusals.Argument 0))))
       ≡ 12
       → ⊥
   log_shown_by true true r place l z = omega arith
@@ -286,8 +282,8 @@ module _ (D : Drawing) (px py : List ℕ) (n : ℕ) where
   log_shown_by true false false place l z = omega arith
   log_shown_by false q r place l z = omega arith
 
-  pub log_unmet : (a : LogAnswer) → a ≡ log_answer_shown D px py n → refusal (logging a) ≡ 12 → ⊥
+  pub log_unmet : (a : Result ℕ Refused) → a ≡ log_answer_shown D px py n → refusal (logging a) ≡ 12 → ⊥
   log_unmet a e z =
       log_shown_by (eqb (length px) (length py)) (ltb (outside_from px py 0 (length px)) (length px))
       (leb (length (log_shown D px py)) n && each_word (log_shown D px py)) (outside_from px py 0 (length px)) (log_shown D px py)
-      (sym (ap (λ (r : LogAnswer). refusal (logging r)) e) ∙ z)
+      (sym (ap (λ (r : Result ℕ Refused). refusal (logging r)) e) ∙ z)

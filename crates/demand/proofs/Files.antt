@@ -1,5 +1,8 @@
 -- From the file to the answer: the drawing of demand 3 is the file's, and what an accepted reading gives is what the records of the file show.
-use Rattle.std.specs.Prelude.{Ok}
+use Rattle.std.proofs.Common.{Result, Ok, Err}
+use Rattle.refusals.specs.declared.Refused.{Refused}
+use Rattle.refusals.specs.Refusals.{at_place}
+use Rattle.refusals.specs.declared.Refusal.{Refusal}
 use mathlib.Core.Path.{◌≡◌, refl, sym, ap, ◌∙◌}
 use mathlib.Core.Bool.{Bool, true, false, cond, ◌&&◌}
 use mathlib.Core.List.{List, [], ◌∷◌, ◌++◌}
@@ -21,12 +24,7 @@ use Rattle.tables.specs.Tables.{Tree}
 use Rattle.open.specs.Open.{drawing_tables}
 use Rattle.find_leaf.specs.Leaf.{position_range}
 use Rattle.position.specs.declared.Spot.{Spot}
-use Rattle.position.specs.declared.Answer as Reading
-use Rattle.position.specs.declared.Answer.TheVariants as Reads
-use Rattle.pixel_row.specs.declared.RowAnswer.TheVariants as Rows
 use Rattle.pixel_row.specs.Rows.{Filled, filled}
-use Rattle.zone_log.specs.declared.LogAnswer.{LogAnswer}
-use Rattle.zone_log.specs.declared.LogAnswer.TheVariants as Logs
 use Rattle.zone_log.specs.Logs.{outside_from, each_word}
 use Rattle.answers.specs.Answers.{packed}
 use Rattle.answers.specs.Readings.{spot_number, out_spot, low_half, row_number, log_number}
@@ -80,17 +78,17 @@ number_is n = omega arith
 module _ (D : Drawing) where
   -- at a position
   spot_roomed : (b : Bool) (s : Spot)
-      → refusal (reading (cond b (Reads.At s) (Reads.Not Refusals.Room))) ≡ 0
-      → cond b (Reads.At s) (Reads.Not Refusals.Room) ≡ Reads.At s
+      → refusal (reading (cond b (Ok s) (Err Refusals.Room))) ≡ 0
+      → cond b (Ok s) (Err Refusals.Room) ≡ Ok s
   spot_roomed true s e = refl
   spot_roomed false s e = absurd (omega arith)
 
   -- in a row
   row_accepted : (a b c : Bool) (bytes out : List ℕ)
       → let f : Filled = cond a
-      (cond b (cond c (filled Rows.Done bytes) (filled (Rows.Not Refusals.Argument 0) out)) (filled (Rows.Not Refusals.Argument 0) out))
-      (filled (Rows.Not Refusals.Argument 0) out) in
-      refusal (rowing f.answer) ≡ 0 → f ≡ filled Rows.Done bytes
+      (cond b (cond c (filled (Ok tt) bytes) (filled (Err (at_place Refusals.Argument 0)) out)) (filled (Err (at_place Refusals.Argument 0)) out))
+      (filled (Err (at_place Refusals.Argument 0)) out) in
+      refusal (rowing f.answer) ≡ 0 → f ≡ filled (Ok tt) bytes
   row_accepted true true true bytes out e = refl
   row_accepted true true false bytes out e = absurd (omega arith)
   row_accepted true false c bytes out e = absurd (omega arith)
@@ -100,12 +98,12 @@ module _ (D : Drawing) where
   log_accepted : (a b c : Bool) (place n : ℕ)
       → refusal
       (logging
-      (cond a (cond b (Logs.Not Refusals.Argument place) (cond c (Logs.Indices n) (Logs.Not Refusals.Room 0)))
-      (Logs.Not Refusals.Argument 0)))
+      (cond a (cond b (Err (at_place Refusals.Argument place)) (cond c (Ok n) (Err (at_place Refusals.Room 0))))
+      (Err (at_place Refusals.Argument 0))))
       ≡ 0
-      → cond a (cond b (Logs.Not Refusals.Argument place) (cond c (Logs.Indices n) (Logs.Not Refusals.Room 0)))
-      (Logs.Not Refusals.Argument 0)
-      ≡ Logs.Indices n
+      → cond a (cond b (Err (at_place Refusals.Argument place)) (cond c (Ok n) (Err (at_place Refusals.Room 0))))
+      (Err (at_place Refusals.Argument 0))
+      ≡ Ok n
   log_accepted true true c place n e = absurd (omega arith)
   log_accepted true false true place n e = refl
   log_accepted true false false place n e = absurd (omega arith)
@@ -129,8 +127,8 @@ module _ (D : Drawing) where
           let w = q.inside e in
           let s = spot_there D H w.0 (at x y) in
           let a = spot_roomed (leb 10 (length out)) s (sym (ap (λ (g : Given). refusal g.answer) w.2) ∙ h) in
-          shows_accepted H (position x y out) t (position_given (Reads.At s) out) w.0 w.2 w.1 (ap spot_number a ∙ number_is s.material)
-          (ap (λ (r : Reading.Answer). out_spot r out) a)
+          shows_accepted H (position x y out) t (position_given (Ok s) out) w.0 w.2 w.1 (ap spot_number a ∙ number_is s.material)
+          (ap (λ (r : Result Spot Refusal). out_spot r out) a)
       go false e =
           let z : ◌≡◌ {A = ℕ} 7 0 = sym (ap (λ (g : Given). refusal g.answer) (q.outside e)) ∙ h in
           absurd (omega arith)
@@ -145,7 +143,7 @@ module _ (D : Drawing) where
       (leb (length l) (length out) && each_word l) (outside_from px py 0 (length px)) (length l)
       (sym (ap (λ (g : Given). refusal g.answer) q) ∙ h) in
       shows_accepted H (run px py out) t (log_given D px py out) 0 q tt (ap log_number a ∙ number_is (low_half (length l)))
-      (ap (λ (w : LogAnswer). log_out_shown D px py w out) a)
+      (ap (λ (w : Result ℕ Refused). log_out_shown D px py w out) a)
 
   allowed : (r : Shows) (t : Tree) → Allowed (own (call_of r)) t
   allowed (position x y out) t = λ e. clash e

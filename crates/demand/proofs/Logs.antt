@@ -1,4 +1,7 @@
 -- Zone logs over sound tables are those worked out with no tree, and 12 meets none.
+use Rattle.std.proofs.Common.{Result, Ok, Err}
+use Rattle.refusals.specs.declared.Refused.{Refused}
+use Rattle.refusals.specs.Refusals.{at_place}
 use mathlib.Core.Path.{◌≡◌, refl, sym, ap, ◌∙◌}
 use mathlib.Core.Bool.{Bool, true, false, cond, not, ◌&&◌, ◌||◌}
 use mathlib.Core.List.{List, ◌∷◌}
@@ -15,8 +18,6 @@ use Rattle.cells.specs.Cells.{at}
 use Rattle.tables.specs.Tables.{Tree}
 use Rattle.find_leaf.specs.Leaf.{position_range}
 use Rattle.find_leaf.proofs.Landing.{on_grid}
-use Rattle.zone_log.specs.declared.LogAnswer.{LogAnswer}
-use Rattle.zone_log.specs.declared.LogAnswer.TheVariants.{Indices, Not}
 use Rattle.zone_log.specs.Logs.{log_from, outside_from, each_word, material_at, known_from, zone_log, log_room, log_known, log_range, log_answer, out_after}
 use Rattle.demand.specs.History.{Node}
 use Rattle.demand.specs.NoTree.{material_shown}
@@ -75,47 +76,47 @@ module _ (t : Tree) (H : List Node) (s : Sound t H) (px py : List ℕ) where
         (λ j h. material_there t H s (get_or px j 0) (get_or py j 0) (on_grid (get_or px j 0) (get_or py j 0) (in_range_law j h))) 0 (length px) (omega arith)
 
   -- the checks of the call, each with what it leaves in the output
-  record Logged (out : List ℕ) (a b : LogAnswer) : Type 0 where
+  record Logged (out : List ℕ) (a b : Result ℕ Refused) : Type 0 where
     pub answer : a ≡ b
     pub output : out_after t px py a out ≡ log_out_shown (drawing_of t) px py b out
 
   abbrev outside : ℕ
   outside = outside_from px py 0 (length px)
 
-  abbrev room_of : List ℕ → ℕ → LogAnswer
-  room_of l n = cond (leb (length l) n && each_word l) (Indices (length l)) (Not Room 0)
+  abbrev room_of : List ℕ → ℕ → Result ℕ Refused
+  room_of l n = cond (leb (length l) n && each_word l) (Ok (length l)) (Err (at_place Room 0))
 
   roomed : (out : List ℕ) → zone_log t px py ≡ log_shown (drawing_of t) px py → (b : Bool) (l : List ℕ)
-      → Logged out (cond b (Indices (length l)) (Not Room 0)) (cond b (Indices (length l)) (Not Room 0))
+      → Logged out (cond b (Ok (length l)) (Err (at_place Room 0))) (cond b (Ok (length l)) (Err (at_place Room 0)))
   roomed out e true l = record { answer = refl; output = ap (sets out 0) e }
   roomed out e false l = record { answer = refl; output = refl }
 
   ranged_by : (out : List ℕ) (b : Bool)
       → ltb outside (length px) ≡ b
-      → Logged out (cond b (Not Argument outside) (log_known t px py (length out)))
-      (cond b (Not Argument outside) (room_of (log_shown (drawing_of t) px py) (length out)))
+      → Logged out (cond b (Err (at_place Argument outside)) (log_known t px py (length out)))
+      (cond b (Err (at_place Argument outside)) (room_of (log_shown (drawing_of t) px py) (length out)))
   ranged_by out true z = record { answer = refl; output = refl }
   ranged_by out false z =
       let l = log_shown (drawing_of t) px py in
       let e : log_known t px py (length out) ≡ room_of l (length out) = ap
-      (λ (b : Bool). cond b (log_room t px py (length out)) (Not Broken 0)) (known_all z 0 (length px) (omega arith))
+      (λ (b : Bool). cond b (log_room t px py (length out)) (Err (at_place Broken 0))) (known_all z 0 (length px) (omega arith))
       ∙ ap (λ (x : List ℕ). room_of x (length out)) (log_is z) in
       let r = roomed out (log_is z) (leb (length l) (length out) && each_word l) l in
-      record { answer = e; output = ap (λ (a : LogAnswer). out_after t px py a out) e ∙ r.output }
+      record { answer = e; output = ap (λ (a : Result ℕ Refused). out_after t px py a out) e ∙ r.output }
 
   paired_by : (out : List ℕ) (b : Bool)
-      → Logged out (cond b (log_range t px py (length out)) (Not Argument 0))
-      (cond b (cond (ltb outside (length px)) (Not Argument outside) (room_of (log_shown (drawing_of t) px py) (length out))) (Not Argument 0))
+      → Logged out (cond b (log_range t px py (length out)) (Err (at_place Argument 0)))
+      (cond b (cond (ltb outside (length px)) (Err (at_place Argument outside)) (room_of (log_shown (drawing_of t) px py) (length out))) (Err (at_place Argument 0)))
   paired_by out true = ranged_by out (ltb outside (length px)) refl
   paired_by out false = record { answer = refl; output = refl }
 
   logged : (out : List ℕ) → Logged out (log_answer t px py (length out)) (log_answer_shown (drawing_of t) px py (length out))
   logged out =
-      let e : log_answer t px py (length out) ≡ cond (eqb (length px) (length py)) (log_range t px py (length out)) (Not Argument 0) = ap
-      (λ (b : Bool). cond b (cond (eqb (length px) (length py)) (log_range t px py (length out)) (Not Argument 0)) (Not Argument 0))
+      let e : log_answer t px py (length out) ≡ cond (eqb (length px) (length py)) (log_range t px py (length out)) (Err (at_place Argument 0)) = ap
+      (λ (b : Bool). cond b (cond (eqb (length px) (length py)) (log_range t px py (length out)) (Err (at_place Argument 0))) (Err (at_place Argument 0)))
       (eq-eqb (length t.xs) (length t.ys) s.drawn.pair) in
       let r = paired_by out (eqb (length px) (length py)) in
-      record { answer = e ∙ r.answer; output = ap (λ (a : LogAnswer). out_after t px py a out) e ∙ r.output }
+      record { answer = e ∙ r.answer; output = ap (λ (a : Result ℕ Refused). out_after t px py a out) e ∙ r.output }
 
   pub log_right : (out : List ℕ) → log_answer t px py (length out) ≡ log_answer_shown (drawing_of t) px py (length out)
   log_right out = (logged out).answer

@@ -1,4 +1,5 @@
 -- What is read from sound tables at a position is what the drawing shows there: the set, the material, the colour.
+use Rattle.std.proofs.Common.{Result, Ok, Err}
 use mathlib.Core.Path.{◌≡◌, sym, ap, ◌∙◌}
 use mathlib.Core.Bool.{Bool, true, false, cond}
 use mathlib.Core.List.{List}
@@ -21,7 +22,6 @@ use Rattle.tables.specs.Tables.{Tree}
 use Rattle.split.specs.Split.{words}
 use Rattle.find_leaf.specs.Leaf.{position_range, leaf_stream}
 use Rattle.find_leaf.proofs.Landing.{on_grid}
-use Rattle.position.specs.declared.Answer.TheVariants as Answers
 use Rattle.position.specs.Spots.{is_found, set_by, spot_of, spot_by, known, set_in, material_in, sums_in, spot_in, position_answer}
 use Rattle.position.proofs.Known.{leaf_set}
 use Rattle.pixel_row.proofs.Sampling.{offset_small}
@@ -64,7 +64,7 @@ module _ (t : Tree) (H : List Node) (s : Sound t H) where
     pub record SpotLands : Type 0 where
       pub leaf : ℕ
       pub holds : LeafAt H (at x y) leaf
-      pub answer : spot_in t x y ≡ Answers.At (spot_there (drawing_of t) H leaf (at x y))
+      pub answer : spot_in t x y ≡ Ok (spot_there (drawing_of t) H leaf (at x y))
 
     pub spot_lands : SpotLands
     spot_lands =
@@ -90,7 +90,7 @@ module _ (t : Tree) (H : List Node) (s : Sound t H) where
           leaf = i;
           holds = r.holds;
           answer = ap (spot_by t x y) r.found
-              ∙ ap Answers.At (ap (spot_of t.areas l (is_uniform (leaf_stream t l))) (leaf_set t x y l r.found) ∙ same);
+              ∙ ap Ok (ap (spot_of t.areas l (is_uniform (leaf_stream t l))) (leaf_set t x y l r.found) ∙ same);
         }
 
   -- what shows at one position of a uniform leaf shows at all of them
@@ -106,17 +106,17 @@ module _ (t : Tree) (H : List Node) (s : Sound t H) where
 
   -- the call: refused with 7 where the position is out of range
   module _ (x y : ℕ) where
-    chosen : (b : Bool) → position_range x y ≡ b → position_answer t x y ≡ cond b (spot_in t x y) (Answers.Not Refusals.Argument)
+    chosen : (b : Bool) → position_range x y ≡ b → position_answer t x y ≡ cond b (spot_in t x y) (Err Refusals.Argument)
     chosen b e =
-        ap (λ (p : Bool). cond p (cond (position_range x y) (spot_in t x y) (Answers.Not Refusals.Argument)) (Answers.Not Refusals.Argument))
+        ap (λ (p : Bool). cond p (cond (position_range x y) (spot_in t x y) (Err Refusals.Argument)) (Err Refusals.Argument))
         (eq-eqb (length t.xs) (length t.ys) s.drawn.pair)
-        ∙ ap (λ (p : Bool). cond p (spot_in t x y) (Answers.Not Refusals.Argument)) e
+        ∙ ap (λ (p : Bool). cond p (spot_in t x y) (Err Refusals.Argument)) e
 
     pub position_inside : position_range x y ≡ true
-        → (i : ℕ) × LeafAt H (at x y) i × (position_answer t x y ≡ Answers.At (spot_there (drawing_of t) H i (at x y)))
+        → (i : ℕ) × LeafAt H (at x y) i × (position_answer t x y ≡ Ok (spot_there (drawing_of t) H i (at x y)))
     position_inside e = let r = spot_lands x y (on_grid x y e) in (r.leaf, r.holds, chosen true e ∙ r.answer)
 
-    pub position_outside : position_range x y ≡ false → position_answer t x y ≡ Answers.Not Refusals.Argument
+    pub position_outside : position_range x y ≡ false → position_answer t x y ≡ Err Refusals.Argument
     position_outside e = chosen false e
 
 -- ---- a pixel

@@ -1,4 +1,6 @@
 -- Rows of pixels over sound tables are those worked out with no tree, and 12 meets no pixel.
+use Rattle.std.proofs.Common.{Result, Ok, Err}
+use Rattle.refusals.specs.Refusals.{at_place}
 use mathlib.Core.Path.{◌≡◌, refl, ap, ◌∙◌}
 use mathlib.Core.Bool.{Bool, true, false, cond}
 use mathlib.Core.List.{List}
@@ -13,7 +15,6 @@ use Rattle.paint.specs.Pixels.{sample_x, sample_y}
 use Rattle.cells.specs.Cells.{at}
 use Rattle.tables.specs.Tables.{Tree}
 use Rattle.position.specs.Spots.{sums_in}
-use Rattle.pixel_row.specs.declared.RowAnswer.TheVariants.{Done, Not}
 use Rattle.pixel_row.specs.Rows.{Filled, filled, put_pixel, samples_known, pixel_known, pixel_in, fill_from, row_span, row_filled}
 use Rattle.demand.specs.History.{Node}
 use Rattle.demand.specs.NoTree.{sums_shown, pixel_shown}
@@ -39,27 +40,27 @@ module _ (t : Tree) (H : List Node) (s : Sound t H) (row first : ℕ) where
     pixel_is : (pixel : ℕ) → pixel ≤ 4095 → pixel_in t row pixel ≡ pixel_shown (drawing_of t) row pixel
     pixel_is pixel k = pixel_same (sums_in t) (λ x y. sums_shown (drawing_of t) (at x y)) (sums_there t H s) row pixel h k
 
-    fill_is : (i n : ℕ) (out : List ℕ) → first + (i + n) ≤ 4096 → fill_from t row first i n out ≡ filled Done (fill_shown (drawing_of t) row first i n out)
+    fill_is : (i n : ℕ) (out : List ℕ) → first + (i + n) ≤ 4096 → fill_from t row first i n out ≡ filled (Ok tt) (fill_shown (drawing_of t) row first i n out)
     unfolding fill_from
     fill_is i zero out k = refl
     fill_is i (suc n) out k =
-        ap (λ (b : Bool). cond b (fill_from t row first (i + 1) n (put_pixel out i (pixel_in t row (first + i)))) (filled (Not Broken i) out))
+        ap (λ (b : Bool). cond b (fill_from t row first (i + 1) n (put_pixel out i (pixel_in t row (first + i)))) (filled (Err (at_place Broken i)) out))
         (pixel_known_law (first + i) (omega arith))
         ∙ (ap (λ (c : Colour). fill_from t row first (i + 1) n (put_pixel out i c)) (pixel_is (first + i) (omega arith))
         ∙ fill_is (i + 1) n (put_pixel out i (pixel_shown (drawing_of t) row (first + i))) (omega arith))
 
   module _ (out : List ℕ) where
     abbrev refused : Filled
-    refused = filled (Not Argument 0) out
+    refused = filled (Err (at_place Argument 0)) out
 
     spanned : row ≤ 4095 → (b : Bool) → leb (first + length out / 3) 4096 ≡ b
-        → cond b (fill_from t row first 0 (length out / 3) out) refused ≡ cond b (filled Done (fill_shown (drawing_of t) row first 0 (length out / 3) out))
+        → cond b (fill_from t row first 0 (length out / 3) out) refused ≡ cond b (filled (Ok tt) (fill_shown (drawing_of t) row first 0 (length out / 3) out))
         refused
     spanned h true e = fill_is h 0 (length out / 3) out (omega (arith, leb-true (first + length out / 3) 4096 e))
     spanned h false e = refl
 
     abbrev span : Filled
-    span = cond (leb (first + length out / 3) 4096) (filled Done (fill_shown (drawing_of t) row first 0 (length out / 3) out)) refused
+    span = cond (leb (first + length out / 3) 4096) (filled (Ok tt) (fill_shown (drawing_of t) row first 0 (length out / 3) out)) refused
 
     rowed : (b : Bool)
         → leb row 4095 ≡ b

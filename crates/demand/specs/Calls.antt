@@ -3,6 +3,9 @@
 -- `zones_position`, `zones_pixel_row`, `zones_zone_log`).
 use Rattle.std.specs.Prelude.{Bool, true, false, cond, List, [], ℕ, eqb, leb, length, Result, Ok, Err}
 use Rattle.refusals.specs.declared.Refusal.{Refusal}
+use Rattle.find_leaf.specs.declared.FoundLeaf.{FoundLeaf}
+use Rattle.position.specs.declared.Spot.{Spot}
+use Rattle.refusals.specs.declared.Refused.{Refused}
 use Rattle.refusals.specs.Refusals.{number_of}
 use Rattle.tables.specs.Tables.{Tree}
 use Rattle.split.specs.Split.{split_answer}
@@ -11,17 +14,9 @@ use Rattle.open.specs.Open.{open_answer, open_tree}
 use Rattle.grow.specs.declared.Growth.{Growth}
 use Rattle.grow.specs.declared.Growth.TheVariants as Growths
 use Rattle.grow.specs.Grow.{grown, grow_answer, grow_tree}
-use Rattle.find_leaf.specs.declared.Answer as Finding
-use Rattle.find_leaf.specs.declared.Answer.TheVariants as Finds
 use Rattle.find_leaf.specs.Leaf.{find_answer}
-use Rattle.position.specs.declared.Answer as Reading
-use Rattle.position.specs.declared.Answer.TheVariants as Reads
 use Rattle.position.specs.Spots.{position_answer}
-use Rattle.pixel_row.specs.declared.RowAnswer.{RowAnswer}
-use Rattle.pixel_row.specs.declared.RowAnswer.TheVariants as Rows
 use Rattle.pixel_row.specs.Rows.{row_filled}
-use Rattle.zone_log.specs.declared.LogAnswer.{LogAnswer}
-use Rattle.zone_log.specs.declared.LogAnswer.TheVariants as Logs
 use Rattle.zone_log.specs.Logs.{log_answer, out_after}
 use Rattle.answers.specs.Answers.{open_number, split_number, grow_number, find_room, find_number, out_found}
 use Rattle.answers.specs.Readings.{spot_room, spot_number, out_spot, row_number, log_number}
@@ -65,10 +60,10 @@ pub data Answer : Type 0 where
   opening : Result ℕ Refusal → Answer
   splitting : Result ℕ Refusal → Answer
   growing : Result Growth Refusal → Answer
-  finding : Finding.Answer → Answer
-  reading : Reading.Answer → Answer
-  rowing : RowAnswer → Answer
-  logging : LogAnswer → Answer
+  finding : Result FoundLeaf Refusal → Answer
+  reading : Result Spot Refusal → Answer
+  rowing : Result (Unit {0}) Refused → Answer
+  logging : Result ℕ Refused → Answer
 
 -- to a call that is lent these tables
 abbrev pub answer_to : Call → Tree → Answer
@@ -99,14 +94,14 @@ refusal (splitting (Err r)) = number_of r
 refusal (growing (Ok (Growths.Done k))) = 0
 refusal (growing (Ok (Growths.Full k))) = 0
 refusal (growing (Err r)) = number_of r
-refusal (finding (Finds.Found l)) = 0
-refusal (finding (Finds.Not r)) = number_of r
-refusal (reading (Reads.At s)) = 0
-refusal (reading (Reads.Not r)) = number_of r
-refusal (rowing Rows.Done) = 0
-refusal (rowing (Rows.Not r place)) = number_of r
-refusal (logging (Logs.Indices n)) = 0
-refusal (logging (Logs.Not r place)) = number_of r
+refusal (finding (Ok l)) = 0
+refusal (finding (Err r)) = number_of r
+refusal (reading (Ok s)) = 0
+refusal (reading (Err r)) = number_of r
+refusal (rowing (Ok u)) = 0
+refusal (rowing (Err r)) = number_of r.refusal
+refusal (logging (Ok n)) = 0
+refusal (logging (Err r)) = number_of r.refusal
 
 -- ---- the tables
 -- the output that a call is lent, as it leaves it

@@ -13,12 +13,8 @@ use Rattle.grow.specs.declared.Growth.{Growth}
 use Rattle.grow.specs.declared.Growth.TheVariants as Growths
 use Rattle.grow.specs.Grow.{grow_answer, grow_tree}
 use Rattle.find_leaf.specs.declared.FoundLeaf.{FoundLeaf}
-use Rattle.find_leaf.specs.declared.Answer as Finding
-use Rattle.find_leaf.specs.declared.Answer.TheVariants as Finds
 use Rattle.find_leaf.specs.Leaf.{position_range}
 use Rattle.position.specs.declared.Spot.{Spot}
-use Rattle.position.specs.declared.Answer as Reading
-use Rattle.position.specs.declared.Answer.TheVariants as Reads
 use Rattle.answers.specs.Answers.{find_room, out_found}
 use Rattle.answers.specs.Readings.{spot_room, out_spot}
 use Rattle.demand.specs.History.{Node, begun, after_splits, cell_in, Leaf, LeafAt}
@@ -75,20 +71,20 @@ report_shown D H i =
     }
 
 -- a leaf as it is found, in a table of words: 11 where that is too short
-abbrev pub found_given : Finding.Answer → List ℕ → Given
+abbrev pub found_given : Result FoundLeaf Refusal → List ℕ → Given
 found_given a out = gives (finding (find_room a (length out))) (out_found (find_room a (length out)) out)
 
 -- the leaf that holds the position; 7 where the position is out of range
 pub record FindRight (D : Drawing) (H : List Node) (x y : ℕ) (out : List ℕ) (g : Given) : Type 0 where
-  pub inside : position_range x y ≡ true → (i : ℕ) × LeafAt H (at x y) i × (g ≡ found_given (Finds.Found (report_shown D H i)) out)
-  pub outside : position_range x y ≡ false → g ≡ found_given (Finds.Not Refusals.Argument) out
+  pub inside : position_range x y ≡ true → (i : ℕ) × LeafAt H (at x y) i × (g ≡ found_given (Ok (report_shown D H i)) out)
+  pub outside : position_range x y ≡ false → g ≡ found_given (Err Refusals.Argument) out
 
 -- what shows at a position of leaf i of the history, and how far that reaches
 abbrev pub spot_there : Drawing → List Node → (i : ℕ) → Position → Spot
 spot_there D H i p = spot_shown D p (cell_in H i) (is_uniform (words_of_cell D (cell_in H i)))
 
 -- an answer at a position, in a table of words: 11 where that is too short
-abbrev pub position_given : Reading.Answer → List ℕ → Given
+abbrev pub position_given : Result Spot Refusal → List ℕ → Given
 position_given a out = gives (reading (spot_room a (length out))) (out_spot (spot_room a (length out)) out)
 
 -- what an answer says is what the drawing shows at q, worked out with no tree
@@ -101,10 +97,10 @@ pub record SaysShown (D : Drawing) (s : Spot) (q : Position) : Type 0 where
 
 -- what the drawing shows at the position, with the leaf that holds it; 7 where the position is out of range
 pub record ReadRight (D : Drawing) (H : List Node) (x y : ℕ) (out : List ℕ) (g : Given) : Type 0 where
-  pub inside : position_range x y ≡ true → (i : ℕ) × LeafAt H (at x y) i × (g ≡ position_given (Reads.At (spot_there D H i (at x y))) out)
-  pub outside : position_range x y ≡ false → g ≡ position_given (Reads.Not Refusals.Argument) out
+  pub inside : position_range x y ≡ true → (i : ℕ) × LeafAt H (at x y) i × (g ≡ position_given (Ok (spot_there D H i (at x y))) out)
+  pub outside : position_range x y ≡ false → g ≡ position_given (Err Refusals.Argument) out
   -- document 02: "A yes means that each position of the leaf has this shown set, material and colour.": of the leaf whose square the answer names
-  pub reach : (s : Spot) → g.answer ≡ reading (Reads.At s) → s.uniform ≡ true → (q : Position) → Inside s.x s.y s.side (col q) (row q)
+  pub reach : (s : Spot) → g.answer ≡ reading (Ok s) → s.uniform ≡ true → (q : Position) → Inside s.x s.y s.side (col q) (row q)
       → SaysShown D s q
 
 -- what a call gives that is lent the tables of a tree with the history H, over the drawing D

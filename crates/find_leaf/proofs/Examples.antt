@@ -1,8 +1,10 @@
 -- Small trees, and the answers of finding a leaf in them, computed from the definitions.
+use Rattle.std.proofs.Common.{Result, Ok, Err}
 use mathlib.Core.Path.{◌≡◌, refl}
 use mathlib.Core.Bool.{Bool, true, false}
 use mathlib.Core.List.{List, [], ◌∷◌, ◌++◌}
 use Prim.Native.Nat.{ℕ}
+use Rattle.refusals.specs.declared.Refusal.{Refusal}
 use Rattle.refusals.specs.declared.Refusal.TheVariants.{Argument, Broken}
 use Rattle.records.specs.Record.{area_range}
 use Rattle.drawing.specs.Tables.{area_row}
@@ -11,8 +13,7 @@ use Rattle.stream.specs.Grammar.{course, accepts, used_range}
 use Rattle.celltable.specs.Ranges.{power_up_to, parent_range, cell_range, head_range}
 use Rattle.celltable.specs.Descent.{down_from, descend_in}
 use Rattle.tables.specs.Tables.{Tree, tree, counts_in}
-use Rattle.find_leaf.specs.declared.Answer.{Answer}
-use Rattle.find_leaf.specs.declared.Answer.TheVariants.{Found, Not}
+use Rattle.find_leaf.specs.declared.FoundLeaf.{FoundLeaf}
 use Rattle.find_leaf.specs.Leaf.{leaf_in, find_answer}
 
 -- one area that paints, and three corners
@@ -26,9 +27,9 @@ corners = 0 ∷ 0 ∷ 10 ∷ []
 abbrev row : (x y side child first count lines : ℕ) → List ℕ
 row x y side child first count lines = x ∷ y ∷ side ∷ child ∷ first ∷ count ∷ lines ∷ 0 ∷ []
 
-abbrev report : (cell x y side steps entries lines : ℕ) → (uniform : Bool) → Answer
+abbrev report : (cell x y side steps entries lines : ℕ) → (uniform : Bool) → Result FoundLeaf Refusal
 report cell x y side steps entries lines uniform =
-    Found (record { cell = cell; x = x; y = y; side = side; steps = steps; entries = entries; lines = lines; uniform = uniform })
+    Ok (record { cell = cell; x = x; y = y; side = side; steps = steps; entries = entries; lines = lines; uniform = uniform })
 
 -- an area, two lines and a shortcut
 abbrev stream : List ℕ
@@ -43,13 +44,13 @@ unfolding leaf_in counts_in head_range used_range descend_in down_from cell_rang
 found_root = refl
 
 -- 7 comes before 12
-outside : find_answer (drawn corners [] [] []) 65536 0 ≡ Not Argument
+outside : find_answer (drawn corners [] [] []) 65536 0 ≡ Err Argument
 outside = refl
 
-uneven : find_answer (drawn [] [] [] []) 0 0 ≡ Not Argument
+uneven : find_answer (drawn [] [] [] []) 0 0 ≡ Err Argument
 uneven = refl
 
-no_head : find_answer (drawn corners [] [] []) 0 0 ≡ Not Broken
+no_head : find_answer (drawn corners [] [] []) 0 0 ≡ Err Broken
 unfolding leaf_in counts_in head_range
 no_head = refl
 
@@ -69,11 +70,11 @@ unfolding leaf_in counts_in head_range used_range descend_in down_from cell_rang
 high_low_law = refl
 
 -- a line that stands after no area
-low_high_law : find_answer split 0 32768 ≡ Not Broken
+low_high_law : find_answer split 0 32768 ≡ Err Broken
 unfolding leaf_in counts_in head_range used_range descend_in down_from cell_range parent_range power_up_to area_range area_row words_from course accepts
 low_high_law = refl
 
 -- a line count that differs
-high_high_law : find_answer split 32768 32768 ≡ Not Broken
+high_high_law : find_answer split 32768 32768 ≡ Err Broken
 unfolding leaf_in counts_in head_range used_range descend_in down_from cell_range parent_range power_up_to area_range area_row words_from course accepts
 high_high_law = refl

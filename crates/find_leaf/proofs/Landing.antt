@@ -1,6 +1,7 @@
 -- The way to a leaf, test by test; and what the leaf that is found says: 12 has passed over it, and it holds the position.
+use Rattle.std.proofs.Common.{Option, Some, None, Ok, Err}
 use mathlib.Core.Path.{◌≡◌, refl, sym, ap, ap₂, subst, ◌∙◌}
-use mathlib.Core.Bool.{Bool, true, false, cond, ◌&&◌}
+use mathlib.Core.Bool.{Bool, true, false, cond}
 use Prim.Native.Nat.{ℕ, ◌+◌, ◌≤◌}
 use lib.Dec.{eqb, ltb}
 use lib.ListN.{get_or}
@@ -13,7 +14,6 @@ use Rattle.stream.specs.code.Checks.{checked}
 use Rattle.stream.proofs.Passed.{passed}
 use Rattle.stream.proofs.Uniform.{lines_is, uniform_is}
 use Rattle.celltable.specs.declared.Leaf.{Leaf}
-use Rattle.std.specs.Prelude.{Option, None, Some}
 use Rattle.celltable.specs.Table.{cell_at}
 use Rattle.celltable.specs.Descent.{descend_in}
 use Rattle.celltable.proofs.Ranges.{passes_range}
@@ -21,9 +21,9 @@ use Rattle.celltable.proofs.Grid.{passes_east, passes_north}
 use Rattle.celltable.proofs.Landing.{LeafFound, leaf_found, broken_not}
 use Rattle.tables.specs.Tables.{Tree, cells_used, entries_used, counts_in, leaf_passes}
 use Rattle.laws.proofs.Choices.{pick_true, pick_false}
-use Rattle.find_leaf.specs.declared.LeafRead.TheVariants as Reads
+use Rattle.refusals.specs.declared.Refusal.TheVariants as Refusals
 use Rattle.find_leaf.specs.Leaf.{position_range, leaf_bounds, stream_found, leaf_in}
-use Rattle.find_leaf.specs.code.Numbers.{read_by, leaf_read}
+use Rattle.find_leaf.specs.code.Numbers.{read_n, read_by, leaf_read}
 use Rattle.tables.proofs.Counts.{counts_fit}
 use Rattle.tables.proofs.Leaves.{leaf_told, leaf_none, leaf_stream_law}
 
@@ -107,7 +107,7 @@ module _ (t : Tree) where
         subst (λ (k : Leaf). (k.x + k.side ≤ 65536) × (k.y + k.side ≤ 65536)) (sym m.words) (passes_east w r, passes_north w r)
 
     -- ---- with the numbers in use as the code reads them
-    pub read_uncounted : counts_in t ≡ false → Reads.Broken ≡ leaf_read t x y
+    pub read_uncounted : counts_in t ≡ false → Err Refusals.Broken ≡ leaf_read t x y
     read_uncounted h = ap (read_by t) (leaf_uncounted h)
 
     module _ (used free : ℕ) (f : Option Leaf) (h : counts_in t ≡ true) (eu : used ≡ get_or t.head 0 0) (ef : free ≡ get_or t.head 1 0)
@@ -117,12 +117,12 @@ module _ (t : Tree) where
           let u : used ≡ cells_used t.head = eu ∙ (counts_fit t h).cells_are in
           rw (u, ef) at w
 
-      pub read_astray : f ≡ None → Reads.Broken ≡ leaf_read t x y
+      pub read_astray : f ≡ None → Err Refusals.Broken ≡ leaf_read t x y
       read_astray e = ap (read_by t) (leaf_astray h (sym e ∙ way_is))
 
       pub read_stopped : (l : Leaf) → f ≡ Some l
           → None ≡ checked t.entries l.first l.count free (env t.areas t.xs t.ys (leaf_bounds t l))
-          → Reads.Broken ≡ leaf_read t x y
+          → Err Refusals.Broken ≡ leaf_read t x y
       read_stopped l e q =
           ap (read_by t)
           (leaf_unfit l h (sym e ∙ way_is)
@@ -139,11 +139,11 @@ module _ (t : Tree) where
         passes_is : eqb c.lines l.lines ≡ passes_in l
         passes_is = leaf_told t.entries l.first l.count l.lines (entries_used t.head) v c checked_is
 
-        pub read_unfit : eqb c.lines l.lines ≡ false → Reads.Broken ≡ leaf_read t x y
+        pub read_unfit : eqb c.lines l.lines ≡ false → Err Refusals.Broken ≡ leaf_read t x y
         read_unfit g = ap (read_by t) (leaf_unfit l h (sym e ∙ way_is) (sym passes_is ∙ g))
 
-        pub read_met : eqb c.lines l.lines ≡ true → Reads.At l c.lines (eqb c.segments 0) ≡ leaf_read t x y
+        pub read_met : eqb c.lines l.lines ≡ true → Ok (read_n l c.lines (eqb c.segments 0)) ≡ leaf_read t x y
         read_met g =
-            ap₂ (Reads.At l) (lines_is t.entries l.first l.count (entries_used t.head) v c checked_is)
+            ap₂ (λ (n : ℕ) (u : Bool). Ok (read_n l n u)) (lines_is t.entries l.first l.count (entries_used t.head) v c checked_is)
             (uniform_is t.entries l.first l.count (entries_used t.head) v c checked_is)
             ∙ ap (read_by t) (leaf_met l h (sym e ∙ way_is) (sym passes_is ∙ g))

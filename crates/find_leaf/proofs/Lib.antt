@@ -1,5 +1,4 @@
--- Laws of finding a leaf: what the leaf that is found says; that it is found from each of its positions; the answer; examples.
+-- Laws of finding a leaf: what the leaf that is found says; that it is found from each of its positions; examples.
 pub mod Landing
 pub mod Same
-pub mod Answers
 mod Examples

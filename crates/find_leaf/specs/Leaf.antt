@@ -1,5 +1,6 @@
 -- Document 01, "Cells" and "From the state", and document 02, Items 4 and 5: the leaf that holds a position, in a tree in lent tables.
-use Rattle.std.specs.Prelude.{Bool, cond, ◌&&◌, List, ℕ, eqb, ltb, length, get_or}
+use Rattle.std.specs.Prelude.{Option, Some, None, Bool, cond, ◌&&◌, List, ℕ, Result, Ok, Err, eqb, ltb, length, get_or}
+use Rattle.refusals.specs.declared.Refusal.{Refusal}
 use Rattle.refusals.specs.declared.Refusal.TheVariants as Refusals
 use Rattle.stream.specs.declared.Bounds.{Bounds}
 use Rattle.stream.specs.declared.Words.{Words}
@@ -7,12 +8,9 @@ use Rattle.stream.specs.Entry.{lines_in, is_uniform}
 use Rattle.stream.specs.Table.{words_from}
 use Rattle.stream.specs.Grammar.{env, bounds}
 use Rattle.celltable.specs.declared.Leaf.{Leaf}
-use Rattle.std.specs.Prelude.{Option, None, Some}
 use Rattle.celltable.specs.Descent.{descend_in}
 use Rattle.tables.specs.Tables.{Tree, cells_used, entries_used, counts_in, leaf_passes}
 use Rattle.find_leaf.specs.declared.FoundLeaf.{FoundLeaf}
-use Rattle.find_leaf.specs.declared.Answer.{Answer}
-use Rattle.find_leaf.specs.declared.Answer.TheVariants as Answers
 
 -- "Positions are whole x, y from 0 to 65,535."; 7: "position ... out of range"
 abbrev pub position_range : (x y : ℕ) → Bool
@@ -52,13 +50,13 @@ module _ (t : Tree) where
   leaf_in x y = cond (counts_in t) (stream_found (descend_in t.cells (cells_used t.head) (entries_used t.head) x y)) None
 
   -- the leaf as it is reported, or 12
-  abbrev pub found_by : Option Leaf → Answer
-  found_by (Some l) = Answers.Found (report_of t.entries l)
-  found_by None = Answers.Not Refusals.Broken
+  abbrev pub found_by : Option Leaf → Result FoundLeaf Refusal
+  found_by (Some l) = Ok (report_of t.entries l)
+  found_by None = Err Refusals.Broken
 
   -- 7: "a lent pair of x and y tables of unequal length (tried before all other checks ...); position ... out of range"; then 12
-  abbrev pub find_answer : (x y : ℕ) → Answer
+  abbrev pub find_answer : (x y : ℕ) → Result FoundLeaf Refusal
   find_answer x y =
       cond (eqb (length t.xs) (length t.ys))
-      (cond (position_range x y) (found_by (leaf_in x y)) (Answers.Not Refusals.Argument))
-      (Answers.Not Refusals.Argument)
+      (cond (position_range x y) (found_by (leaf_in x y)) (Err Refusals.Argument))
+      (Err Refusals.Argument)

@@ -47,7 +47,7 @@ use Rattle.grow.specs.Grow.{
   grow_tree,
 }
 use Rattle.find_leaf.specs.declared.FoundLeaf.{FoundLeaf}
-use Rattle.find_leaf.specs.declared.Answer.TheVariants.{Found}
+use Rattle.std.proofs.Common.{Ok}
 use Rattle.find_leaf.specs.Leaf.{find_answer}
 use Rattle.listing.specs.Listed.{line_of, listed, Among}
 use Rattle.listing.proofs.Every.{every_leaf, found_cell}
@@ -194,7 +194,7 @@ steps_few s h = go (ltb 4 s) refl
     go false p = ltb-false 4 s p
 
 -- "prints each leaf": of every position
-pub each_leaf : (t : Tree) (n : ℕ) → open_answer t ≡ Ok n → (x y : ℕ) (f : FoundLeaf) → find_answer (grown_tree (open_tree t)) x y ≡ Found f
+pub each_leaf : (t : Tree) (n : ℕ) → open_answer t ≡ Ok n → (x y : ℕ) (f : FoundLeaf) → find_answer (grown_tree (open_tree t)) x y ≡ Ok f
     → Among (line_of f) (listed (grown_tree (open_tree t)))
 each_leaf t n e x y f p =
     let u = grown_tree (open_tree t) in

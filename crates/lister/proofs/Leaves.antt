@@ -20,7 +20,7 @@ use Rattle.grow.specs.declared.Growth.{Growth}
 use Rattle.grow.specs.declared.Growth.TheVariants as Growths
 use Rattle.grow.specs.Grow.{Ending, none_left, no_room, not_passed, grown, answer_by, answer_of}
 use Rattle.find_leaf.specs.declared.FoundLeaf.{FoundLeaf}
-use Rattle.find_leaf.specs.declared.Answer.TheVariants as Finds
+use Rattle.std.proofs.Common.{Ok, Err}
 use Rattle.find_leaf.specs.Leaf.{position_range, report_of, found_by, find_answer}
 use Rattle.listing.specs.declared.Line.{Line}
 use Rattle.listing.specs.Listed.{line_of, listed, Among, IsLeaf, leaf_line}
@@ -79,7 +79,7 @@ module _ (t : Tree) (H : List Node) (s : Sound t H) (i : ℕ) (o : IsLeaf t i) w
   in_range_law : position_range x y ≡ true
   in_range_law = and_both (ltb x 65536) (ltb y 65536) (lt-ltb x 65536 on_grid.x_below) (lt-ltb y 65536 on_grid.y_below)
 
-  found_corner : (f : FoundLeaf) × (find_answer t x y ≡ Finds.Found f) × (line_of f ≡ leaf_line t i)
+  found_corner : (f : FoundLeaf) × (find_answer t x y ≡ Ok f) × (line_of f ≡ leaf_line t i)
   found_corner =
       let r = lands t H s x y on_grid in
       let same : r.leaf ≡ i = s.grown.tiled.one_leaf (at x y) r.leaf i r.holds holds_corner in

@@ -17,6 +17,7 @@ use listing::Line;
 use refusals::Refusal;
 use std::io;
 use std::io::{ErrorKind, Read, Write};
+use tables::Tree;
 
 // "Its tables hold 1,024 cells and 4,096 entries"
 const CELLS: usize = 1024;
@@ -124,7 +125,18 @@ fn list_grown(
             depth: DEPTH_LIMIT,
         },
     );
-    let n = listing::list_leaves(plan, areas, xs, ys, head, cells, entries, rows);
+    let tree = Tree {
+        drawing: Drawing {
+            plan,
+            areas,
+            xs,
+            ys,
+        },
+        head,
+        cells,
+        entries,
+    };
+    let n = listing::list_leaves(tree, rows);
     outcome_of(a, n)
 }
 

@@ -1,4 +1,6 @@
 -- Every leaf that is found at a depth of at most 4 is listed.
+use Rattle.std.proofs.Common.{Option, Some, None, Result, Ok, Err}
+use Rattle.refusals.specs.declared.Refusal.{Refusal}
 use mathlib.Core.Path.{◌≡◌, refl, sym, subst, ap, ◌∙◌}
 use mathlib.Core.Bool.{Bool, true, false, cond, ◌&&◌}
 use mathlib.Core.List.{List, [], ◌∷◌}
@@ -15,19 +17,15 @@ use Rattle.geometry.specs.Keys.{spread, key_of}
 use Rattle.cells.specs.Cells.{at}
 use Rattle.celltable.specs.declared.CellWords.{CellWords}
 use Rattle.celltable.specs.declared.Leaf.{Leaf}
-use Rattle.std.specs.Prelude.{Option, None, Some}
 use Rattle.celltable.specs.Table.{cell_at}
 use Rattle.celltable.proofs.Ranges.{SquareFits, square_fits_law, passes_range}
 use Rattle.celltable.proofs.Landing.{LeafFound}
 use Rattle.tables.specs.Tables.{Tree, cells_used, entries_used}
 use Rattle.find_leaf.specs.declared.FoundLeaf.{FoundLeaf}
-use Rattle.find_leaf.specs.declared.Answer.TheVariants as Answers
 use Rattle.find_leaf.specs.Leaf.{position_range, report_of, leaf_in, found_by, find_answer}
 use Rattle.find_leaf.proofs.Landing.{leaf_holds}
 use Rattle.find_leaf.proofs.Same.{leaf_same}
 use Rattle.listing.specs.declared.Line.{Line}
-use Rattle.listing.specs.declared.Corner.{Corner}
-use Rattle.listing.specs.declared.Corner.TheVariants.{Low, Other}
 use Rattle.listing.specs.Listed.{corner_x, corner_y, line_of, of_answer, corner_at, with_corner, lines_from, listed, Among, IsLeaf, leaf_line}
 use Rattle.listing.proofs.Order.{corner_is}
 
@@ -87,14 +85,14 @@ module _ (t : Tree) (x y : ℕ) (f : FoundLeaf) where
     pub found : leaf_in t x y ≡ Some l
     pub reported : report_of t.entries l ≡ f
 
-  not_found : {A : Type 0} (r : _) → Answers.Not r ≡ Answers.Found f → A
+  not_found : {A : Type 0} (r : Refusal) → Err r ≡ Ok f → A
   not_found r e = absurd (let z : ◌≡◌ {A = ℕ} 0 1 = cc in omega arith)
 
-  behind : find_answer t x y ≡ Answers.Found f → (l : Leaf) × Behind l
+  behind : find_answer t x y ≡ Ok f → (l : Leaf) × Behind l
   behind e = go (eqb (length t.xs) (length t.ys)) (position_range x y) (leaf_in t x y) refl refl refl e
     where
       go : (a b : Bool) (w : Option Leaf) → eqb (length t.xs) (length t.ys) ≡ a → position_range x y ≡ b → leaf_in t x y ≡ w
-          → cond a (cond b (found_by t w) (Answers.Not Refusals.Argument)) (Answers.Not Refusals.Argument) ≡ Answers.Found f → (l : Leaf) × Behind l
+          → cond a (cond b (found_by t w) (Err Refusals.Argument)) (Err Refusals.Argument) ≡ Ok f → (l : Leaf) × Behind l
       go true true (Some l) p q r e =
           let s : report_of t.entries l ≡ f = cc in
           (l, record { paired = p; within = q; found = r; reported = s })
@@ -145,22 +143,22 @@ module _ (t : Tree) (x y : ℕ) (f : FoundLeaf) where
     low_within : position_range l.x l.y ≡ true
     low_within = and_both (ltb l.x 65536) (ltb l.y 65536) (lt-ltb l.x 65536 x_below) (lt-ltb l.y 65536 y_below)
 
-    answer_low : find_answer t l.x l.y ≡ Answers.Found f
-    answer_low = rw (b.paired, low_within, found_low) (ap Answers.Found b.reported)
+    answer_low : find_answer t l.x l.y ≡ Ok f
+    answer_low = rw (b.paired, low_within, found_low) (ap Ok b.reported)
 
 -- ---- a corner's line is listed
-at_corner : (t : Tree) (x y k : ℕ) (f : FoundLeaf) → IsCorner x y k → find_answer t x y ≡ Answers.Found f → f.x ≡ x → f.y ≡ y → corner_at t k ≡ Low (line_of f)
+at_corner : (t : Tree) (x y k : ℕ) (f : FoundLeaf) → IsCorner x y k → find_answer t x y ≡ Ok f → f.x ≡ x → f.y ≡ y → corner_at t k ≡ Some (line_of f)
 at_corner t x y k f c e p q =
-    sym (corner_is t k x y (Answers.Found f) (sym c.same_x) (sym c.same_y) (sym e)) ∙ low
+    sym (corner_is t k x y (Ok f) (sym c.same_x) (sym c.same_y) (sym e)) ∙ low
   where
-    low : of_answer x y (Answers.Found f) ≡ Low (line_of f)
+    low : of_answer x y (Ok f) ≡ Some (line_of f)
     low = rw (eq-eqb f.x x p, eq-eqb f.y y q)
 
-with_among : (c : Corner) (l : Line) (ls : List Line) → Among l ls → Among l (with_corner c ls)
-with_among (Low m) l ls a = (m ∷ a.0, a.1, ap (λ (k : List Line). m ∷ k) a.2)
-with_among Other l ls a = a
+with_among : (c : Option Line) (l : Line) (ls : List Line) → Among l ls → Among l (with_corner c ls)
+with_among (Some m) l ls a = (m ∷ a.0, a.1, ap (λ (k : List Line). m ∷ k) a.2)
+with_among None l ls a = a
 
-lines_hold : (t : Tree) (n k j : ℕ) (l : Line) → corner_at t j ≡ Low l → k ≤ j → j < k + n → Among l (lines_from t k n)
+lines_hold : (t : Tree) (n k j : ℕ) (l : Line) → corner_at t j ≡ Some l → k ≤ j → j < k + n → Among l (lines_from t k n)
 unfolding lines_from
 lines_hold t zero k j l e h g = absurd (none k j h g)
   where
@@ -175,11 +173,11 @@ lines_hold t (suc n) k j l e h g = go (eqb k j) refl (λ i. lines_hold t n (k + 
     further d = omega arith
 
     go : (b : Bool) → eqb k j ≡ b → (k < j → Among l ls) → Among l (with_corner (corner_at t k) ls)
-    go true p rest = ([], ls, ap (λ (c : Corner). with_corner c ls) (subst (λ (i : ℕ). corner_at t i ≡ Low l) (sym (eqb-true k j p)) e))
+    go true p rest = ([], ls, ap (λ (c : Option Line). with_corner c ls) (subst (λ (i : ℕ). corner_at t i ≡ Some l) (sym (eqb-true k j p)) e))
     go false p rest = with_among (corner_at t k) l ls (rest (further (eqb-false k j p)))
 
 -- "prints each leaf": the leaf of every position, if its depth is at most 4
-pub every_leaf : (t : Tree) (x y : ℕ) (f : FoundLeaf) → find_answer t x y ≡ Answers.Found f → f.steps ≤ 4 → Among (line_of f) (listed t)
+pub every_leaf : (t : Tree) (x y : ℕ) (f : FoundLeaf) → find_answer t x y ≡ Ok f → f.steps ≤ 4 → Among (line_of f) (listed t)
 every_leaf t x y f e h = go (behind t x y f e)
   where
     go : (l : Leaf) × Behind t x y f l → Among (line_of f) (listed t)
@@ -197,7 +195,7 @@ pub record FoundCell (t : Tree) (f : FoundLeaf) : Type 0 where
   pub line : line_of f ≡ leaf_line t f.cell
   pub side_is : 2 ^ (16 - f.steps) ≡ (cell_at t.cells f.cell).side
 
-pub found_cell : (t : Tree) (x y : ℕ) (f : FoundLeaf) → find_answer t x y ≡ Answers.Found f → FoundCell t f
+pub found_cell : (t : Tree) (x y : ℕ) (f : FoundLeaf) → find_answer t x y ≡ Ok f → FoundCell t f
 found_cell t x y f e = go (behind t x y f e)
   where
     go : (l : Leaf) × Behind t x y f l → FoundCell t f

@@ -1,4 +1,6 @@
 -- Lines written to a table one after the other, the loop over the corners, and the lines read back.
+use Rattle.std.proofs.Common.{Option, Some, None, Result, Ok, Err}
+use Rattle.refusals.specs.declared.Refusal.{Refusal}
 use mathlib.Core.Path.{◌≡◌, refl, sym, ap, subst, ◌∙◌}
 use mathlib.Core.List.{List, [], ◌∷◌, ◌++◌}
 use Prim.Native.Nat.{ℕ, zero, suc, ◌+◌, ◌*◌, ◌-◌, ◌≤◌, ◌<◌}
@@ -9,8 +11,6 @@ use lib.ListN.{length, get_or, take, set, length-set}
 use lib.Seq.{get_or-set_same, get_or-set_other, get_or-take, take-set-le, sets, length-sets}
 use Rattle.tables.specs.Tables.{Tree}
 use Rattle.listing.specs.declared.Line.{Line}
-use Rattle.listing.specs.declared.Corner.{Corner}
-use Rattle.listing.specs.declared.Corner.TheVariants.{Low, Other}
 use Rattle.listing.specs.Listed.{corner_at, with_corner, lines_from, listed}
 use Rattle.listing.specs.Numbers.{flat, line_at, lines_in, put_at, written}
 
@@ -38,29 +38,20 @@ length_written t i ls = length-sets t (i * 5) (flat ls)
 pub written_one : (t : List ℕ) (i : ℕ) (l : Line) → put_at t i l ≡ written t i (l ∷ [])
 written_one t i l = rw (← written_cons t i l []) (rw (written_nil (put_at t i l) (i + 1)))
 
-pub one_count : (n : ℕ) (p : Corner) (l : Line) → p ≡ Low l → n + 1 ≡ n + length (with_corner p [])
-one_count n p l e = rw e
+pub written_none : (t : List ℕ) (i : ℕ) → t ≡ written t i []
+written_none t i = rw (written_nil t i)
 
-pub one_table : (t t' : List ℕ) (n : ℕ) (p : Corner) (l : Line) → p ≡ Low l → t' ≡ put_at t n l → t' ≡ written t n (with_corner p [])
-one_table t t' n p l e h = rw e (h ∙ written_one t n l)
+with_append : (p : Option Line) (ls : List Line) → with_corner p [] ++ ls ≡ with_corner p ls
+with_append (Some l) ls = refl
+with_append None ls = refl
 
-pub none_count : (n : ℕ) (p : Corner) → p ≡ Other → n ≡ n + length (with_corner p [])
-none_count n p e = rw e (omega arith)
+with_length : (p : Option Line) (ls : List Line) → length (with_corner p ls) ≡ length (with_corner p []) + length ls
+with_length (Some l) ls = omega arith
+with_length None ls = omega arith
 
-pub none_table : (t : List ℕ) (n : ℕ) (p : Corner) → p ≡ Other → t ≡ written t n (with_corner p [])
-none_table t n p e = rw (e, written_nil t n)
-
-with_append : (p : Corner) (ls : List Line) → with_corner p [] ++ ls ≡ with_corner p ls
-with_append (Low l) ls = refl
-with_append Other ls = refl
-
-with_length : (p : Corner) (ls : List Line) → length (with_corner p ls) ≡ length (with_corner p []) + length ls
-with_length (Low l) ls = omega arith
-with_length Other ls = omega arith
-
-with_few : (p : Corner) → length (with_corner p []) ≤ 1
-with_few (Low l) = omega arith
-with_few Other = omega arith
+with_few : (p : Option Line) → length (with_corner p []) ≤ 1
+with_few (Some l) = omega arith
+with_few None = omega arith
 
 few_from : (t : Tree) (n k : ℕ) → length (lines_from t k n) ≤ n
 unfolding lines_from
@@ -93,7 +84,7 @@ pub record Listing (t : Tree) (r₀ r : List ℕ) (k n : ℕ) : Type 0 where
 pub list_begin : (t : Tree) (r : List ℕ) → Listing t r r 0 0
 list_begin t r = record { size = refl; few = omega arith; low = omega arith; count = omega arith; rest = refl }
 
-pub list_turn : (t : Tree) (r₀ r r' : List ℕ) (k n n' : ℕ) (p : Corner)
+pub list_turn : (t : Tree) (r₀ r r' : List ℕ) (k n n' : ℕ) (p : Option Line)
     → k < 256
     → p ≡ corner_at t k
     → n' ≡ n + length (with_corner p [])

@@ -1,4 +1,6 @@
 -- Each line that is listed is that of a leaf, and no cell has two.
+use Rattle.std.proofs.Common.{Option, Some, None, Result, Ok, Err}
+use Rattle.refusals.specs.declared.Refusal.{Refusal}
 use mathlib.Core.Path.{◌≡◌, refl, sym, subst, ap, ◌∙◌}
 use mathlib.Core.Bool.{Bool, true, false, cond, ◌&&◌}
 use mathlib.Core.List.{List, [], ◌∷◌, ◌++◌, append_assoc}
@@ -7,12 +9,8 @@ use native.Mathlib.Omega.{arith}
 use lib.Dec.{eqb}
 use Rattle.tables.specs.Tables.{Tree}
 use Rattle.find_leaf.specs.declared.FoundLeaf.{FoundLeaf}
-use Rattle.find_leaf.specs.declared.Answer.{Answer}
-use Rattle.find_leaf.specs.declared.Answer.TheVariants.{Found, Not}
 use Rattle.find_leaf.specs.Leaf.{find_answer}
 use Rattle.listing.specs.declared.Line.{Line}
-use Rattle.listing.specs.declared.Corner.{Corner}
-use Rattle.listing.specs.declared.Corner.TheVariants.{Low, Other}
 use Rattle.listing.specs.Listed.{corner_x, corner_y, line_of, of_answer, corner_at, with_corner, lines_from, listed, keys_from, Among, IsLeaf, leaf_line}
 use Rattle.listing.proofs.Order.{in_key_order}
 use Rattle.listing.proofs.Every.{found_cell}
@@ -20,16 +18,16 @@ use Rattle.listing.proofs.Every.{found_cell}
 -- ---- a line that is listed is that of a corner
 module _ (t : Tree) (l : Line) where
   abbrev OfCorner : Type 0
-  OfCorner = (k : ℕ) × (corner_at t k ≡ Low l)
+  OfCorner = (k : ℕ) × (corner_at t k ≡ Some l)
 
   no_lines : Among l [] → OfCorner
   no_lines ([], after, e) = absurd (let z : ◌≡◌ {A = ℕ} 0 1 = cc in omega arith)
   no_lines (m ∷ before, after, e) = absurd (let z : ◌≡◌ {A = ℕ} 0 1 = cc in omega arith)
 
-  with_corner_law : (k : ℕ) (c : Corner) (ls : List Line) → corner_at t k ≡ c → (Among l ls → OfCorner) → Among l (with_corner c ls) → OfCorner
-  with_corner_law k (Low m) ls p next ([], after, e) = (k, p ∙ ap Low cc)
-  with_corner_law k (Low m) ls p next (b ∷ before, after, e) = next (before, after, cc)
-  with_corner_law k Other ls p next a = next a
+  with_corner_law : (k : ℕ) (c : Option Line) (ls : List Line) → corner_at t k ≡ c → (Among l ls → OfCorner) → Among l (with_corner c ls) → OfCorner
+  with_corner_law k (Some m) ls p next ([], after, e) = (k, p ∙ ap Some cc)
+  with_corner_law k (Some m) ls p next (b ∷ before, after, e) = next (before, after, cc)
+  with_corner_law k None ls p next a = next a
 
   of_corner : (n k : ℕ) → Among l (lines_from t k n) → OfCorner
   unfolding lines_from
@@ -37,13 +35,14 @@ module _ (t : Tree) (l : Line) where
   of_corner (suc n) k a = with_corner_law k (corner_at t k) (lines_from t (k + 1) n) refl (of_corner n (k + 1)) a
 
 -- and so of a leaf that is found
-of_found : (x y : ℕ) (a : Answer) (l : Line) → of_answer x y a ≡ Low l → (f : FoundLeaf) × (a ≡ Found f) × (l ≡ line_of f)
-of_found x y (Found f) l e = go (eqb f.x x && eqb f.y y) e
+of_found : (x y : ℕ) (a : Result FoundLeaf Refusal) (l : Line) → of_answer x y a ≡ Some l → (f : FoundLeaf) × (a ≡ Ok f) × (l ≡ line_of f)
+of_found x y (Ok f) l e = go (Ok f) refl (eqb f.x x && eqb f.y y) e
   where
-    go : (b : Bool) → cond b (Low (line_of f)) Other ≡ Low l → (g : FoundLeaf) × (Found f ≡ Found g) × (l ≡ line_of g)
-    go true p = (f, refl, cc)
-    go false p = absurd (let z : ◌≡◌ {A = ℕ} 0 1 = cc in omega arith)
-of_found x y (Not r) l e = absurd (let z : ◌≡◌ {A = ℕ} 0 1 = cc in omega arith)
+    go : (a : Result FoundLeaf Refusal) → a ≡ Ok f → (b : Bool) → cond b (Some (line_of f)) None ≡ Some l
+        → (g : FoundLeaf) × (a ≡ Ok g) × (l ≡ line_of g)
+    go a q true p = (f, q, cc)
+    go a q false p = absurd (let z : ◌≡◌ {A = ℕ} 0 1 = cc in omega arith)
+of_found x y (Err r) l e = absurd (let z : ◌≡◌ {A = ℕ} 0 1 = cc in omega arith)
 
 -- each line is that of a leaf, whatever the tables hold
 pub only_leaves : (t : Tree) (l : Line) → Among l (listed t) → (i : ℕ) × IsLeaf t i × (l ≡ leaf_line t i)

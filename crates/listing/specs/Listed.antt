@@ -1,17 +1,14 @@
 -- Document 01, "Spots to try": the lines of the leaves of a tree. Leaves of a depth above 4 are left out: the leaf lister grows to depth limit 4, so it
 -- has none (`PrintsEachLeaf`, `Rattle.lister.specs`).
-use Rattle.std.specs.Prelude.{◌≡◌, cond, ◌&&◌, List, [], ◌∷◌, ◌++◌, ℕ, zero, suc, ◌+◌, ◌*◌, ◌/◌, ◌%◌, ◌≤◌, ◌<◌, eqb}
+use Rattle.std.specs.Prelude.{◌≡◌, Option, Some, None, Result, Ok, Err, cond, ◌&&◌, List, [], ◌∷◌, ◌++◌, ℕ, zero, suc, ◌+◌, ◌*◌, ◌/◌, ◌%◌, ◌≤◌, ◌<◌, eqb}
 use Rattle.geometry.specs.Keys.{key_of}
 use Rattle.stream.specs.Entry.{lines_in}
+use Rattle.refusals.specs.declared.Refusal.{Refusal}
 use Rattle.tables.specs.Tables.{Tree, cells_used}
 use Rattle.split.specs.Split.{words, stream}
 use Rattle.find_leaf.specs.declared.FoundLeaf.{FoundLeaf}
-use Rattle.find_leaf.specs.declared.Answer.{Answer}
-use Rattle.find_leaf.specs.declared.Answer.TheVariants.{Found, Not}
 use Rattle.find_leaf.specs.Leaf.{find_answer}
 use Rattle.listing.specs.declared.Line.{Line}
-use Rattle.listing.specs.declared.Corner.{Corner}
-use Rattle.listing.specs.declared.Corner.TheVariants.{Low, Other}
 
 -- bits 0, 2, 4 and 6 of k, side by side
 abbrev pub every_other : ℕ → ℕ
@@ -30,19 +27,19 @@ abbrev pub line_of : FoundLeaf → Line
 line_of f = record { cell = f.cell; key = key_of f.x f.y; side = f.side; entries = f.entries; lines = f.lines }
 
 -- the leaf that holds (x, y), if that is its low corner: so each leaf comes once
-abbrev pub if_low : (x y : ℕ) → FoundLeaf → Corner
-if_low x y f = cond (eqb f.x x && eqb f.y y) (Low (line_of f)) Other
+abbrev pub if_low : (x y : ℕ) → FoundLeaf → Option Line
+if_low x y f = cond (eqb f.x x && eqb f.y y) (Some (line_of f)) None
 
-abbrev pub of_answer : (x y : ℕ) → Answer → Corner
-of_answer x y (Found f) = if_low x y f
-of_answer x y (Not r) = Other
+abbrev pub of_answer : (x y : ℕ) → Result FoundLeaf Refusal → Option Line
+of_answer x y (Ok f) = if_low x y f
+of_answer x y (Err r) = None
 
-abbrev pub corner_at : Tree → ℕ → Corner
+abbrev pub corner_at : Tree → ℕ → Option Line
 corner_at t k = of_answer (corner_x k) (corner_y k) (find_answer t (corner_x k) (corner_y k))
 
-abbrev pub with_corner : Corner → List Line → List Line
-with_corner (Low l) ls = l ∷ ls
-with_corner Other ls = ls
+abbrev pub with_corner : Option Line → List Line → List Line
+with_corner (Some l) ls = l ∷ ls
+with_corner None ls = ls
 
 -- the lines of n corners from corner k on
 unfoldable pub lines_from : Tree → (k n : ℕ) → List Line

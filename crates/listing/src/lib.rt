@@ -3,12 +3,13 @@
 
 #![tactic(auto)]
 
-ghost use Rattle.std.specs.Prelude.{◌≡◌, [], ◌+◌, ◌*◌, ◌≤◌, ◌<◌, length};
-ghost use Rattle.tables.specs.Tables.{tree_lent};
-ghost use Rattle.listing.specs.Listed.{every_other, corner_x, corner_y, if_low, of_answer, corner_at, with_corner, listed};
+ghost use Rattle.std.specs.Prelude.{◌≡◌, ◌+◌, ◌*◌, ◌≤◌, ◌<◌, length};
+ghost use Rattle.tables.specs.Tables.{tree_passed};
+ghost use Rattle.listing.specs.Listed.{every_other, corner_x, corner_y, if_low, corner_at, listed};
 ghost use Rattle.listing.specs.Numbers.{put_at, written, line_at};
 
 use find_leaf::FoundLeaf;
+use tables::Tree;
 
 // The places that a low corner can have at a depth of at most 4.
 const CORNERS: u32 = 256;
@@ -40,12 +41,6 @@ pub struct Line {
     pub lines: u32,
 }
 
-#[derive(Clone, Copy)]
-pub enum Corner {
-    Low(Line),
-    Other,
-}
-
 // Corner k of the 256 places that a low corner can have at a depth of at most 4, in steps of 4,096. The bits of k are taken apart as a key puts
 // those of x and y together, so the key of corner k is k * 2^24, and counting k upward goes through the corners in key order.
 fn every_other(k: u32) -> u32
@@ -73,50 +68,33 @@ fn corner_y(k: u32) -> u32
 }
 
 // The line of a leaf, if (x, y) is its low corner.
-fn if_low(f: FoundLeaf, x: u32, y: u32) -> Corner
+fn if_low(leaf: FoundLeaf, x: u32, y: u32) -> Option<Line>
     requires { (x < 65536) × (y < 65536) }
-    ensures answer { result ≡ if_low x y f }
+    ensures answer { result ≡ if_low x y leaf }
 {
-    if (f.x == x) & (f.y == y) {
-        return Corner::Low(Line {
-            cell: f.cell,
+    if (leaf.x == x) & (leaf.y == y) {
+        return Some(Line {
+            cell: leaf.cell,
             key: geometry::morton::key(x, y),
-            side: f.side,
-            entries: f.entries,
-            lines: f.lines,
+            side: leaf.side,
+            entries: leaf.entries,
+            lines: leaf.lines,
         });
     }
-    Corner::Other
-}
-
-fn of_answer(a: find_leaf::Answer, x: u32, y: u32) -> Corner
-    requires { (x < 65536) × (y < 65536) }
-    ensures answer { result ≡ of_answer x y a }
-{
-    match a {
-        find_leaf::Answer::Found(f) => if_low(f, x, y),
-        find_leaf::Answer::Not(_) => Corner::Other,
-    }
+    None
 }
 
 // The line of corner k, if it is a leaf's low corner.
-fn corner_at(
-    plan: &[u32],
-    areas: &[u32],
-    xs: &[u32],
-    ys: &[u32],
-    head: &[u32],
-    cells: &[u32],
-    entries: &[u32],
-    k: u32,
-) -> Corner
+fn corner_at(tree: Tree, k: u32) -> Option<Line>
     requires { k < 256 }
-    ensures answer { result ≡ corner_at (tree_lent plan areas xs ys head cells entries) k }
+    ensures answer { result ≡ corner_at (tree_passed tree) k }
 {
     let x = corner_x(k);
     let y = corner_y(k);
-    let a = find_leaf::find_leaf(plan, areas, xs, ys, head, cells, entries, x, y);
-    of_answer(a, x, y)
+    match find_leaf::find_leaf(tree, x, y) {
+        Ok(leaf) => if_low(leaf, x, y),
+        Err(_) => None,
+    }
 }
 
 fn put_line(rows: &mut [u32], n: usize, l: Line)
@@ -130,44 +108,20 @@ fn put_line(rows: &mut [u32], n: usize, l: Line)
     rows[n * LINE_WORDS + LINES] = l.lines;
 }
 
-// One line more, or none.
-fn put_corner(rows: &mut [u32], n: usize, p: Corner) -> usize
-    requires { n * 5 + 5 ≤ length rows.old }
-    ensures answer { result ≡ n + length (with_corner p []) }
-    ensures rows { rows.new ≡ written rows.old n (with_corner p []) }
-{
-    match p {
-        Corner::Low(l) => {
-            put_line(rows, n, l);
-            n + 1
-        }
-        Corner::Other => n,
-    }
-}
-
 // Writes the lines of all leaves of a depth of at most 4, in key order, and gives how many there are; deeper leaves are left out. Any tables may be
 // handed in: a corner whose leaf would be refused has no line.
-pub fn list_leaves(
-    plan: &[u32],
-    areas: &[u32],
-    xs: &[u32],
-    ys: &[u32],
-    head: &[u32],
-    cells: &[u32],
-    entries: &[u32],
-    rows: &mut [u32],
-) -> usize
+pub fn list_leaves(tree: Tree, rows: &mut [u32]) -> usize
     requires { 1280 ≤ length rows.old }
-    ensures answer { result ≡ length (listed (tree_lent plan areas xs ys head cells entries)) }
-    ensures rows { rows.new ≡ written rows.old 0 (listed (tree_lent plan areas xs ys head cells entries)) }
+    ensures answer { result ≡ length (listed (tree_passed tree)) }
+    ensures rows { rows.new ≡ written rows.old 0 (listed (tree_passed tree)) }
     ensures most { result ≤ 256 }
 {
     let mut n = 0;
-    let mut k = 0;
-    while k < CORNERS {
-        let p = corner_at(plan, areas, xs, ys, head, cells, entries, k);
-        n = put_corner(rows, n, p);
-        k += 1;
+    for k in 0..CORNERS {
+        if let Some(line) = corner_at(tree, k) {
+            put_line(rows, n, line);
+            n += 1;
+        }
     }
     n
 }

@@ -1,4 +1,6 @@
 -- What the definition of a row says: which pixels stand, and that a row is decided by the channel sums at its samples.
+use Rattle.std.proofs.Common.{Ok, Err}
+use Rattle.refusals.specs.Refusals.{at_place}
 use mathlib.Core.Path.{◌≡◌, refl, sym, ap, subst, ◌∙◌}
 use mathlib.Core.Bool.{Bool, true, false, cond}
 use mathlib.Core.List.{List, []}
@@ -15,7 +17,6 @@ use Rattle.paint.proofs.Pixels.{pixel_agrees}
 use Rattle.tables.specs.Tables.{Tree}
 use Rattle.laws.proofs.Choices.{pick_true}
 use Rattle.position.specs.Spots.{known, sums_in}
-use Rattle.pixel_row.specs.declared.RowAnswer.TheVariants.{Done, Not}
 use Rattle.pixel_row.specs.Rows.{Filled, filled, put_pixel, row_bytes, samples_known, pixel_known, pixel_in, fill_from, row_span, row_filled}
 
 -- ---- the bytes of a row
@@ -59,27 +60,27 @@ module _ (t : Tree) (row : ℕ) where
 
     -- what a filling from pixel i on says: all n pixels are written, or those before pixel k, which 12 meets
     pub data Stands (i n : ℕ) (out : List ℕ) : Filled → Type 0 where
-      all : (bytes : List ℕ) → bytes ≡ sets out (i * 3) (row_bytes (sums_in t) row (first + i) n) → Stands i n out (filled Done bytes)
+      all : (bytes : List ℕ) → bytes ≡ sets out (i * 3) (row_bytes (sums_in t) row (first + i) n) → Stands i n out (filled (Ok tt) bytes)
       up_to : (k : ℕ) (bytes : List ℕ)
           → k < n
           → pixel_known t row (first + i + k) ≡ false
           → bytes ≡ sets out (i * 3) (row_bytes (sums_in t) row (first + i) k)
-          → Stands i n out (filled (Not Refusals.Broken (i + k)) bytes)
+          → Stands i n out (filled (Err (at_place Refusals.Broken (i + k))) bytes)
 
     stands_more : (i n : ℕ) (out : List ℕ) {F : Filled} → Stands (i + 1) n (put_pixel out i (pixel_in t row (first + i))) F → Stands i (suc n) out F
     stands_more i n out (all bytes e) = all bytes (e ∙ put_bytes (sums_in t) row first i n out)
     stands_more i n out (up_to k bytes l g e) =
         let a : i + suc k ≡ i + 1 + k = omega arith in
         let b : first + i + suc k ≡ first + (i + 1) + k = omega arith in
-        subst (λ (j : ℕ). Stands i (suc n) out (filled (Not Refusals.Broken j) bytes)) a
+        subst (λ (j : ℕ). Stands i (suc n) out (filled (Err (at_place Refusals.Broken j)) bytes)) a
         (up_to (suc k) bytes (omega (arith, l)) (ap (pixel_known t row) b ∙ g) (e ∙ put_bytes (sums_in t) row first i k out))
 
-    stands_none : (i n : ℕ) (out : List ℕ) → pixel_known t row (first + i) ≡ false → Stands i (suc n) out (filled (Not Refusals.Broken i) out)
+    stands_none : (i n : ℕ) (out : List ℕ) → pixel_known t row (first + i) ≡ false → Stands i (suc n) out (filled (Err (at_place Refusals.Broken i)) out)
     unfolding row_bytes
     stands_none i n out g =
         let a : i + 0 ≡ i = omega arith in
         let b : first + i + 0 ≡ first + i = omega arith in
-        subst (λ (j : ℕ). Stands i (suc n) out (filled (Not Refusals.Broken j) out)) a (up_to 0 out (omega arith) (ap (pixel_known t row) b ∙ g) refl)
+        subst (λ (j : ℕ). Stands i (suc n) out (filled (Err (at_place Refusals.Broken j)) out)) a (up_to 0 out (omega arith) (ap (pixel_known t row) b ∙ g) refl)
 
     pub fill_stands : (i n : ℕ) (out : List ℕ) → Stands i n out (fill_from t row first i n out)
     unfolding fill_from row_bytes
@@ -91,20 +92,20 @@ module _ (t : Tree) (row : ℕ) where
             → Stands (i + 1) n (put_pixel out i (pixel_in t row (first + i)))
             (fill_from t row first (i + 1) n (put_pixel out i (pixel_in t row (first + i))))
             → Stands i (suc n) out
-            (cond b (fill_from t row first (i + 1) n (put_pixel out i (pixel_in t row (first + i)))) (filled (Not Refusals.Broken i) out))
+            (cond b (fill_from t row first (i + 1) n (put_pixel out i (pixel_in t row (first + i)))) (filled (Err (at_place Refusals.Broken i)) out))
         go true e h = stands_more i n out h
         go false e h = stands_none i n out e
 
     -- ---- a row at whose pixels 12 is not met
     fill_all : (i n : ℕ) (out : List ℕ)
         → ((k : ℕ) → k < i + n → pixel_known t row (first + k) ≡ true)
-        → fill_from t row first i n out ≡ filled Done (sets out (i * 3) (row_bytes (sums_in t) row (first + i) n))
+        → fill_from t row first i n out ≡ filled (Ok tt) (sets out (i * 3) (row_bytes (sums_in t) row (first + i) n))
     unfolding fill_from
-    fill_all i zero out h = ap (filled Done) (bytes_none (sums_in t) row (first + i) (i * 3) out)
+    fill_all i zero out h = ap (filled (Ok tt)) (bytes_none (sums_in t) row (first + i) (i * 3) out)
     fill_all i (suc n) out h =
         rw (h i (omega arith))
         (fill_all (i + 1) n (put_pixel out i (pixel_in t row (first + i))) (λ k l. h k (omega (arith, l)))
-        ∙ ap (filled Done) (put_bytes (sums_in t) row first i n out))
+        ∙ ap (filled (Ok tt)) (put_bytes (sums_in t) row first i n out))
 
     -- pixel p of the row is one of the call
     pixel_from : (at : ℕ → ℕ → Channels) (n p : ℕ)
@@ -125,10 +126,10 @@ module _ (t : Tree) (row : ℕ) where
         → first + length out / 3 ≤ 4096
         → ((p i : ℕ) → p < length out / 3 → i < 16 → known t (sample_x (first + p) i) (sample_y row i) ≡ true)
         → ((p i : ℕ) → p < length out / 3 → i < 16 → sums_in t (sample_x (first + p) i) (sample_y row i) ≡ at (sample_x (first + p) i) (sample_y row i))
-        → row_filled t row first out ≡ filled Done (sets out 0 (row_bytes at row first (length out / 3)))
+        → row_filled t row first out ≡ filled (Ok tt) (sets out 0 (row_bytes at row first (length out / 3)))
     row_accepted at out e r m s k h =
         let n = length out / 3 in
-        let no = filled (Not Refusals.Argument 0) out in
+        let no = filled (Err (at_place Refusals.Argument 0)) out in
         let z : first + 0 ≡ first = omega arith in
         let f = fill_all 0 n out (λ p l. pixel_known_law (first + p) (λ i g. k p i (omega (arith, l)) g)) in
         let b = bytes_agree (sums_in t) at row first n (λ p g l. pixel_from at n p g l h) in
@@ -139,9 +140,9 @@ module _ (t : Tree) (row : ℕ) where
         (cond (leb row 4095) (cond (eqb (length out % 3) 0) (row_span t row first out) no) no) no
         (eq-eqb (length t.xs) (length t.ys) e) in
         sym (a₁ ∙ (a₂ ∙ (a₃ ∙ a₄)))
-        ∙ (f ∙ ap (λ (v : List ℕ). filled Done (sets out 0 v)) (ap (λ (j : ℕ). row_bytes (sums_in t) row j n) z ∙ b))
+        ∙ (f ∙ ap (λ (v : List ℕ). filled (Ok tt) (sets out 0 v)) (ap (λ (j : ℕ). row_bytes (sums_in t) row j n) z ∙ b))
 
 -- no pixel meets no number: the call is accepted over any tree
-pub row_empty : (t : Tree) (row first : ℕ) → length t.xs ≡ length t.ys → row ≤ 4095 → first ≤ 4096 → row_filled t row first [] ≡ filled Done []
+pub row_empty : (t : Tree) (row first : ℕ) → length t.xs ≡ length t.ys → row ≤ 4095 → first ≤ 4096 → row_filled t row first [] ≡ filled (Ok tt) []
 unfolding row_bytes
 row_empty t row first e r s = row_accepted t row first (sums_in t) [] e r refl (omega (arith, s)) (λ p i l g. absurd (omega (arith, l))) (λ p i l g. refl)

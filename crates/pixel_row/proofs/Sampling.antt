@@ -1,4 +1,8 @@
 -- The samples of a pixel, one after the other; and the pixel that a uniform leaf holds.
+use Rattle.std.specs.Option.{is_some}
+use Rattle.std.proofs.Common.{Option, Some, None, Ok, Err}
+use Rattle.refusals.specs.declared.Refusal.{Refusal}
+use Rattle.refusals.specs.declared.Refusal.TheVariants.{Broken}
 use mathlib.Core.Path.{◌≡◌, refl, sym, ap, ap₂, subst, ◌∙◌}
 use mathlib.Core.Bool.{Bool, true, false, ◌&&◌}
 use mathlib.Core.List.{List, [], ◌∷◌}
@@ -8,7 +12,7 @@ use native.Mathlib.Numerals.{add-one}
 use lib.Dec.{ltb}
 use lib.ListN.{get_or}
 use borrow.Author.Tests.{ltb-true}
-use Rattle.laws.proofs.Booleans.{and_left, and_right}
+use Rattle.laws.proofs.Booleans.{and_left, and_right, clash}
 use Rattle.paint.specs.declared.colour.Channels.{Channels}
 use Rattle.paint.specs.declared.colour.Colour.{Colour}
 use Rattle.paint.specs.Areas.{paint_at}
@@ -17,20 +21,15 @@ use Rattle.paint.specs.Pixels.{row_offsets, row_offset, sample_x, sample_y, plus
 use Rattle.paint.proofs.Pixels.{one_colour}
 use Rattle.cells.specs.Cells.{at}
 use Rattle.celltable.specs.declared.Leaf.{Leaf}
-use Rattle.evaluate.specs.Reading.{set_at}
 use Rattle.tables.specs.Tables.{Tree}
-use Rattle.laws.proofs.Choices.{pick_true, pick_false}
-use Rattle.find_leaf.specs.Leaf.{leaf_stream}
 use Rattle.find_leaf.proofs.Same.{LeafHolds}
 use Rattle.position.specs.declared.Shown.{Shown}
-use Rattle.position.specs.declared.Shown.TheVariants.{In}
-use Rattle.position.specs.Spots.{known, sums_in}
+use Rattle.position.specs.Spots.{set_read, known, sums_in}
 use Rattle.position.specs.code.Numbers.{in_square, shown_there, LastIn}
 use Rattle.position.proofs.Known.{Known, known_set, shown_in_law, inside_holds, shown_again}
-use Rattle.pixel_row.specs.declared.Pixel.TheVariants as Pixels
 use Rattle.pixel_row.specs.Rows.{samples_known, pixel_known, pixel_in}
 use Rattle.pixel_row.proofs.Agree.{pixel_known_law}
-use Rattle.pixel_row.specs.code.Numbers.{holds_pixel, pixel_told, no_channels, sampled, Sampling}
+use Rattle.pixel_row.specs.code.Numbers.{holds_pixel, pixel_n, pixel_told, no_channels, sampled, Sampling}
 
 less_one : (e i : ℕ) → i < e → e - i ≡ suc (e - (i + 1))
 less_one e i h = omega arith
@@ -66,18 +65,15 @@ offset_small i = below_small row_offsets i refl
 pub known_at : (t : Tree) (x y x' y' s : ℕ) (f : Shown) → x ≡ x' → y ≡ y' → Known t x y s f → Known t x' y' s f
 known_at t x y x' y' s f p q k = subst (λ (v : ℕ). Known t v y' s f) p (subst (λ (w : ℕ). Known t x w s f) q k)
 
-pub shown_named : (t : Tree) (x y x' y' : ℕ) (r : Shown) → x ≡ x' → y ≡ y' → r ≡ shown_there t x y → r ≡ shown_there t x' y'
+pub shown_named : (t : Tree) (x y x' y' : ℕ) (r : Shown) → x ≡ x' → y ≡ y' → Ok r ≡ shown_there t x y → Ok r ≡ shown_there t x' y'
 shown_named t x y x' y' r p q e = e ∙ ap₂ (shown_there t) p q
 
-pub set_named : (t : Tree) (l : Leaf) (x y x' y' s : ℕ)
-    → x ≡ x'
-    → y ≡ y'
-    → s ≡ set_at t.areas t.xs t.ys x y (leaf_stream t l)
-    → s ≡ set_at t.areas t.xs t.ys x' y' (leaf_stream t l)
-set_named t l x y x' y' s p q e = e ∙ ap₂ (λ (v w : ℕ). set_at t.areas t.xs t.ys v w (leaf_stream t l)) p q
+pub set_named : (t : Tree) (l : Leaf) (x y x' y' s : ℕ) → x ≡ x' → y ≡ y' → s ≡ set_read t l x y → s ≡ set_read t l x' y'
+set_named t l x y x' y' s p q e = e ∙ ap₂ (set_read t l) p q
 
-pub unknown_at : (t : Tree) (x y x' y' : ℕ) → x ≡ x' → y ≡ y' → known t x y ≡ false → known t x' y' ≡ false
-unknown_at t x y x' y' p q k = sym (ap₂ (known t) p q) ∙ k
+pub unknown_at : (t : Tree) (x y x' y' : ℕ) (e : Refusal) → x ≡ x' → y ≡ y' → (known t x y ≡ false) × (e ≡ Broken)
+    → (known t x' y' ≡ false) × (e ≡ Broken)
+unknown_at t x y x' y' e p q k = (sym (ap₂ (known t) p q) ∙ k.0, k.1)
 
 module _ (t : Tree) (row pixel : ℕ) where
   sampled_step : (e i : ℕ) (s : Channels)
@@ -105,7 +101,7 @@ module _ (t : Tree) (row pixel : ℕ) where
   unfolding samples_known
   known_end e i h = let z : e - i ≡ 0 = omega arith in rw z
 
-  pub sampling_begin : (e : ℕ) (last : Shown) → LastIn t last → Sampling t row pixel e 0 last no_channels
+  pub sampling_begin : (e : ℕ) (last : Option Shown) → LastIn t last → Sampling t row pixel e 0 last no_channels
   sampling_begin e last h =
       let z : e - 0 ≡ e = omega arith in
       record {
@@ -117,14 +113,14 @@ module _ (t : Tree) (row pixel : ℕ) where
         rest = ap (λ (k : ℕ). sampled t row pixel 0 k no_channels) z;
       }
 
-  pub sampling_turn : (e i set : ℕ) (last f : Shown) (sum sum' c : Channels)
+  pub sampling_turn : (e i set : ℕ) (last : Option Shown) (f : Shown) (sum sum' c : Channels)
       → i < e
       → Sampling t row pixel e i last sum
       → Known t (sample_x pixel i) (sample_y row i) set f
       → c ≡ sums_of (paint_at t.areas) set
       → ChannelsIn c
       → sum' ≡ plus sum c
-      → Sampling t row pixel e (i + 1) f sum'
+      → Sampling t row pixel e (i + 1) (Some f) sum'
   sampling_turn e i set last f sum sum' c h p k g b r =
       let z : i + 1 - 1 ≡ i = omega arith in
       let v : c ≡ sums_in t (sample_x pixel i) (sample_y row i) = g ∙ ap (sums_of (paint_at t.areas)) k.is_set in
@@ -141,35 +137,33 @@ module _ (t : Tree) (row pixel : ℕ) where
   unfolding sampled pixel_of
   pixel_is = refl
 
-  pub sampling_done : (i : ℕ) (last : Shown) (sum : Channels) (c : Colour)
-      → 16 ≤ i
-      → Sampling t row pixel 16 i last sum
+  pub sampling_done : (last : Shown) (sum : Channels) (c : Colour)
+      → Sampling t row pixel 16 16 (Some last) sum
       → c ≡ mean sum
-      → Pixels.Known c last ≡ pixel_told t row pixel
+      → Ok (pixel_n c last) ≡ pixel_told t row pixel
   unfolding pixel_known
-  sampling_done i last sum c h p r =
-      let z : i - 1 ≡ 15 = omega (arith, p.to, h) in
-      let k : samples_known t row pixel 0 16 ≡ true = sym p.knows ∙ known_end 16 i h in
-      let s : c ≡ pixel_in t row pixel = r ∙ (ap mean (sym (sampled_none 16 i sum h) ∙ p.rest) ∙ pixel_is) in
-      let f : last ≡ shown_there t (sample_x pixel 15) (sample_y row 15) =
-      p.prior (λ q. omega (arith, q, h)) ∙ ap (λ (j : ℕ). shown_there t (sample_x pixel j) (sample_y row j)) z in
-      ap₂ Pixels.Known s f
-      ∙ pick_true (samples_known t row pixel 0 16) (Pixels.Known (pixel_in t row pixel) (shown_there t (sample_x pixel 15) (sample_y row 15)))
-      Pixels.Broken k
+  sampling_done last sum c p r =
+      let k : samples_known t row pixel 0 16 ≡ true = sym p.knows ∙ known_end 16 16 (omega arith) in
+      let s : c ≡ pixel_in t row pixel = r ∙ (ap mean (sym (sampled_none 16 16 sum (omega arith)) ∙ p.rest) ∙ pixel_is) in
+      let f : Ok last ≡ shown_there t (sample_x pixel 15) (sample_y row 15) = p.prior (λ q. omega (arith, q)) in
+      rw (k, ← s, ← f)
 
-  pub sampling_broken : (i : ℕ) (last : Shown) (sum : Channels)
+  pub sampling_broken : (i : ℕ) (last : Option Shown) (sum : Channels) (e : Refusal)
       → i < 16
       → Sampling t row pixel 16 i last sum
-      → known t (sample_x pixel i) (sample_y row i) ≡ false
-      → Pixels.Broken ≡ pixel_told t row pixel
+      → (known t (sample_x pixel i) (sample_y row i) ≡ false) × (e ≡ Broken)
+      → Err e ≡ pixel_told t row pixel
   unfolding pixel_known
-  sampling_broken i last sum h p g =
-      pick_false (samples_known t row pixel 0 16) (Pixels.Known (pixel_in t row pixel) (shown_there t (sample_x pixel 15) (sample_y row 15)))
-      Pixels.Broken (sym p.knows ∙ known_off 16 i h g)
+  sampling_broken i last sum e h p g =
+      let k : samples_known t row pixel 0 16 ≡ false = sym p.knows ∙ known_off 16 i h g.0 in
+      rw (k, g.1)
 
   -- ---- a pixel that a uniform leaf holds
-  module _ (l : Leaf) (u : Bool) (set : ℕ) (e : In l u set ≡ shown_there t (sample_x pixel 0) (sample_y row 0)) (q : u ≡ true)
-      (h : holds_pixel l row pixel ≡ true) where
+  module _ (s : Shown) (set : ℕ) (e : Ok s ≡ shown_there t (sample_x pixel 0) (sample_y row 0)) (q : s.set ≡ Some set)
+      (h : holds_pixel s.leaf row pixel ≡ true) where
+    abbrev l : Leaf
+    l = s.leaf
+
     -- the leaf holds each of its samples
     sample_held : (k : ℕ) → k < 16 → LeafHolds l (at (sample_x pixel k) (sample_y row k))
     sample_held k g =
@@ -185,20 +179,34 @@ module _ (t : Tree) (row pixel : ℕ) where
         }
 
     -- so the same set shows at each
-    sample_shown : (k : ℕ) → k < 16 → In l u set ≡ shown_there t (sample_x pixel k) (sample_y row k)
-    sample_shown k g =
-        shown_again t (sample_x pixel 0) (sample_y row 0) l u set e (sample_x pixel k) (sample_y row k) (sample_held k g)
+    sample_shown : (k : ℕ) → k < 16 → Ok s ≡ shown_there t (sample_x pixel k) (sample_y row k)
+    sample_shown k g = shown_again t (sample_x pixel 0) (sample_y row 0) s e (sample_x pixel k) (sample_y row k) (sample_held k g)
 
-    sample_known : (k : ℕ) → k < 16 → Known t (sample_x pixel k) (sample_y row k) set (In l u set)
+    sample_known : (k : ℕ) → k < 16 → Known t (sample_x pixel k) (sample_y row k) set s
     sample_known k g =
         let r = sample_shown k g in
-        known_set t (sample_x pixel k) (sample_y row k) (In l u set) l u set set r refl
-        ((shown_in_law t (sample_x pixel k) (sample_y row k) l u set r).is_read q)
+        known_set t (sample_x pixel k) (sample_y row k) s set r ((shown_in_law t (sample_x pixel k) (sample_y row k) s r).is_read set q)
 
-    pub uniform_told : (c : Colour) → c ≡ colour_of (paint_at t.areas) set → Pixels.Known c (In l u set) ≡ pixel_told t row pixel
+    pub uniform_told : (c : Colour) → c ≡ colour_of (paint_at t.areas) set → Ok (pixel_n c s) ≡ pixel_told t row pixel
     uniform_told c g =
         let k = pixel_known_law t row pixel (λ k f. (sample_known k f).is_known) in
         let p = one_colour (sums_in t) row pixel (colour_of (paint_at t.areas) set)
         (λ k f. ap (λ (s : ℕ). colour_of (paint_at t.areas) s) (sym (sample_known k f).is_set)) in
-        ap₂ Pixels.Known (g ∙ sym p) (sample_shown 15 (omega arith))
-        ∙ pick_true (pixel_known t row pixel) (Pixels.Known (pixel_in t row pixel) (shown_there t (sample_x pixel 15) (sample_y row 15))) Pixels.Broken k
+        let d : c ≡ pixel_in t row pixel = g ∙ sym p in
+        rw (k, ← d, ← sample_shown 15 (omega arith))
+
+  -- the same where the set was read again
+  pub uniform_read : (s : Shown) (set : ℕ) (c : Colour)
+      → Ok s ≡ shown_there t (sample_x pixel 0) (sample_y row 0)
+      → is_some s.set ≡ true
+      → holds_pixel s.leaf row pixel ≡ true
+      → set ≡ set_read t s.leaf (sample_x pixel 0) (sample_y row 0)
+      → c ≡ colour_of (paint_at t.areas) set
+      → Ok (pixel_n c s) ≡ pixel_told t row pixel
+  uniform_read s set c e u h r g = go s.set refl u
+    where
+      go : (o : Option ℕ) → s.set ≡ o → is_some o ≡ true → Ok (pixel_n c s) ≡ pixel_told t row pixel
+      go (Some v) q d =
+          let w = (shown_in_law t (sample_x pixel 0) (sample_y row 0) s e).is_read v q in
+          uniform_told s v e q h c (g ∙ ap (colour_of (paint_at t.areas)) (r ∙ sym w))
+      go None q d = clash d

@@ -1,20 +1,20 @@
 -- Document 01, "Winding and meaning", "From the input" and "From the state", and document 02, Item 1: a row of pixels.
-use Rattle.std.specs.Prelude.{Bool, true, false, cond, List, [], ◌∷◌, ℕ, zero, suc, ◌+◌, ◌*◌, ◌/◌, ◌%◌, eqb, leb, length, set}
+use Rattle.std.specs.Prelude.{Bool, true, false, cond, Result, Ok, Err, List, [], ◌∷◌, ℕ, zero, suc, ◌+◌, ◌*◌, ◌/◌, ◌%◌, eqb, leb, length, set}
+use Rattle.refusals.specs.declared.Refused.{Refused}
+use Rattle.refusals.specs.Refusals.{at_place}
 use Rattle.refusals.specs.declared.Refusal.TheVariants.{Argument, Broken}
 use Rattle.paint.specs.declared.colour.Channels.{Channels}
 use Rattle.paint.specs.declared.colour.Colour.{Colour}
 use Rattle.paint.specs.Pixels.{sample_x, sample_y, pixel_of}
 use Rattle.tables.specs.Tables.{Tree}
 use Rattle.position.specs.Spots.{known, sums_in}
-use Rattle.pixel_row.specs.declared.RowAnswer.{RowAnswer}
-use Rattle.pixel_row.specs.declared.RowAnswer.TheVariants.{Done, Not}
 
 -- what a row call answers, and its buffer afterwards
 pub record Filled : Type 0 where
-  pub answer : RowAnswer
+  pub answer : Result (Unit {0}) Refused
   pub bytes : List ℕ
 
-abbrev pub filled : RowAnswer → List ℕ → Filled
+abbrev pub filled : Result (Unit {0}) Refused → List ℕ → Filled
 filled r out = record { answer = r; bytes = out }
 
 -- "A row call fills red, green, blue per pixel."
@@ -45,18 +45,18 @@ module _ (t : Tree) (row : ℕ) where
   -- the n pixels of the call from index i on. "... a pixel row met by 12: place is the pixel's index in the call, earlier pixels stand, the
   -- rest are untouched."
   unfoldable pub fill_from : (first i n : ℕ) → List ℕ → Filled
-  fill_from first i zero out = filled Done out
+  fill_from first i zero out = filled (Ok tt) out
   fill_from first i (suc n) out =
-      cond (pixel_known (first + i)) (fill_from first (i + 1) n (put_pixel out i (pixel_in (first + i)))) (filled (Not Broken i) out)
+      cond (pixel_known (first + i)) (fill_from first (i + 1) n (put_pixel out i (pixel_in (first + i)))) (filled (Err (at_place Broken i)) out)
 
   -- 7: "first pixel plus pixels over 4,096", then the pixels
   abbrev pub row_span : (first : ℕ) → List ℕ → Filled
-  row_span first out = cond (leb (first + length out / 3) 4096) (fill_from first 0 (length out / 3) out) (filled (Not Argument 0) out)
+  row_span first out = cond (leb (first + length out / 3) 4096) (fill_from first 0 (length out / 3) out) (filled (Err (at_place Argument 0)) out)
 
   -- 7: "a lent pair of x and y tables of unequal length (tried before all other checks ...); ... pixel row over 4,095; ... pixel buffer no
   -- multiple of 3"
   abbrev pub row_filled : (first : ℕ) → List ℕ → Filled
   row_filled first out =
       cond (eqb (length t.xs) (length t.ys))
-      (cond (leb row 4095) (cond (eqb (length out % 3) 0) (row_span first out) (filled (Not Argument 0) out)) (filled (Not Argument 0) out))
-      (filled (Not Argument 0) out)
+      (cond (leb row 4095) (cond (eqb (length out % 3) 0) (row_span first out) (filled (Err (at_place Argument 0)) out)) (filled (Err (at_place Argument 0)) out))
+      (filled (Err (at_place Argument 0)) out)

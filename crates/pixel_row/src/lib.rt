@@ -2,17 +2,18 @@
 
 #![tactic(auto)]
 
-ghost use Rattle.std.specs.Prelude.{◌≡◌, ◌+◌, ◌*◌, ◌/◌, ◌≤◌, length};
-ghost use Rattle.tables.specs.Tables.{tree, tree_lent};
+ghost use Rattle.std.specs.Prelude.{◌≡◌, ◌+◌, ◌*◌, ◌/◌, ◌≤◌, length, Some};
+ghost use Rattle.tables.specs.Tables.{tree_of, tree_passed};
 ghost use Rattle.position.specs.code.Numbers.{LastIn};
-ghost use Rattle.pixel_row.specs.Rows.{put_pixel, fill_from, row_span, row_filled};
+ghost use Rattle.pixel_row.specs.Rows.{put_pixel, fill_from, row_filled};
 ghost use Rattle.pixel_row.specs.code.Numbers.{holds_pixel, Sampling, pixel_told};
 
 use celltable::Leaf;
 use paint::colour::{Channels, Colour};
 use paint::{colour, pixel};
 use position::Shown;
-use refusals::Refusal;
+use refusals::{Refusal, Refused};
+use tables::Tree;
 
 // The last row of pixels.
 const LAST_ROW: u32 = 4095;
@@ -26,111 +27,70 @@ const PIXEL_END: u32 = pixel::PIXEL_SIDE - 1;
 // The bytes of a pixel: red, green, blue.
 const CHANNELS: usize = 3;
 
-// The row is filled, or why the call was refused and where.
+// A pixel, with what was read at its last sample.
 #[derive(Clone, Copy)]
-pub enum RowAnswer {
-    Done,
-    Not(Refusal, usize),
-}
-
-// A pixel, with what was read at its last sample; or 12.
-#[derive(Clone, Copy)]
-pub enum Pixel {
-    Known(Colour, Shown),
-    Broken,
+pub struct Pixel {
+    pub colour: Colour,
+    pub last: Shown,
 }
 
 // ---- one pixel
 // Whether the square of a leaf holds the whole pixel.
-fn holds_pixel(l: Leaf, row: u32, column: u32) -> bool
+fn holds_pixel(leaf: Leaf, row: u32, column: u32) -> bool
     requires { (row ≤ 4095) × (column ≤ 4095) }
-    ensures answer { result ≡ holds_pixel l row column }
+    ensures answer { result ≡ holds_pixel leaf row column }
 {
     let x = pixel::PIXEL_SIDE * column;
     let y = pixel::PIXEL_SIDE * row;
-    let low = position::is_inside(l, x, y);
-    let high = position::is_inside(l, x + PIXEL_END, y + PIXEL_END);
+    let low = position::is_inside(leaf, x, y);
+    let high = position::is_inside(leaf, x + PIXEL_END, y + PIXEL_END);
     low & high
 }
 
 // The pixel of a row whose first sample is `first`, with these channel sums: the other fifteen samples.
 fn pixel_from(
-    plan: &[u32],
-    areas: &[u32],
-    xs: &[u32],
-    ys: &[u32],
-    head: &[u32],
-    cells: &[u32],
-    entries: &[u32],
+    tree: Tree,
     first: Shown,
     sums: Channels,
     row: u32,
     column: u32,
-) -> Pixel
-    requires sampling { Sampling (tree plan.now areas.now xs.now ys.now head.now cells.now entries.now) row column 16 1 first sums }
+) -> Result<Pixel, Refusal>
+    requires sampling { Sampling (tree_of tree) row column 16 1 (Some first) sums }
     requires row_bound { (row ≤ 4095) × (column ≤ 4095) }
-    ensures answer { result ≡ pixel_told (tree_lent plan areas xs ys head cells entries) row column }
+    ensures answer { result ≡ pixel_told (tree_passed tree) row column }
 {
     let mut last = first;
     let mut sum = sums;
-    let mut i: u32 = 1;
-    while i < pixel::SAMPLES {
+    for i in 1..pixel::SAMPLES {
         let p = pixel::sample_at(row, column, i);
-        let s = position::leaf_for(plan, areas, xs, ys, head, cells, entries, last, p.x, p.y);
-        match s {
-            Shown::In(l, uniform, set) => {
-                let shown = position::set_for(
-                    plan, areas, xs, ys, entries, l, uniform, set, p.x, p.y,
-                );
-                let c = colour::channel_sums(areas, shown);
-                sum = sum.plus(c);
-                last = s;
-                i += 1;
-            }
-            Shown::Broken => {
-                return Pixel::Broken;
-            }
-        }
+        let shown = position::leaf_for(tree, Some(last), p.x, p.y)?;
+        let set = position::set_for(tree, shown, p.x, p.y);
+        let c = colour::channel_sums(tree.drawing.areas, set);
+        sum = sum.plus(c);
+        last = shown;
     }
-    Pixel::Known(sum.mean(), last)
+    let colour = sum.mean();
+    Ok(Pixel { colour, last })
 }
 
 // The pixel of a row, where `before` was read last. One sample is enough for a pixel that lies in a uniform leaf.
-fn pixel_at(
-    plan: &[u32],
-    areas: &[u32],
-    xs: &[u32],
-    ys: &[u32],
-    head: &[u32],
-    cells: &[u32],
-    entries: &[u32],
-    before: Shown,
-    row: u32,
-    column: u32,
-) -> Pixel
-    requires last_in { LastIn (tree plan.now areas.now xs.now ys.now head.now cells.now entries.now) before }
+fn pixel_at(tree: Tree, before: Option<Shown>, row: u32, column: u32) -> Result<Pixel, Refusal>
+    requires last_in { LastIn (tree_of tree) before }
     requires row_bound { (row ≤ 4095) × (column ≤ 4095) }
-    ensures answer { result ≡ pixel_told (tree_lent plan areas xs ys head cells entries) row column }
+    ensures answer { result ≡ pixel_told (tree_passed tree) row column }
 {
     let p = pixel::sample_at(row, column, 0);
-    let s = position::leaf_for(plan, areas, xs, ys, head, cells, entries, before, p.x, p.y);
-    match s {
-        Shown::In(l, uniform, set) => {
-            let shown = position::set_for(plan, areas, xs, ys, entries, l, uniform, set, p.x, p.y);
-            let inside = holds_pixel(l, row, column);
-            if uniform & inside {
-                let c = colour::colour_of(areas, shown);
-                return Pixel::Known(c, s);
-            }
-            let sums = colour::channel_sums(areas, shown);
-            return pixel_from(
-                plan, areas, xs, ys, head, cells, entries, s, sums, row, column,
-            );
-        }
-        Shown::Broken => {
-            return Pixel::Broken;
-        }
+    let shown = position::leaf_for(tree, before, p.x, p.y)?;
+    let set = position::set_for(tree, shown, p.x, p.y);
+    if shown.set.is_some() && holds_pixel(shown.leaf, row, column) {
+        let colour = colour::colour_of(tree.drawing.areas, set);
+        return Ok(Pixel {
+            colour,
+            last: shown,
+        });
     }
+    let sums = colour::channel_sums(tree.drawing.areas, set);
+    pixel_from(tree, shown, sums, row, column)
 }
 
 // Writes the three bytes of pixel i.
@@ -146,92 +106,42 @@ fn put_pixel(out: &mut [u8], i: usize, c: Colour)
 
 // ---- the call
 // The pixels of a row, one after the other, up to the first that 12 meets. They are in range.
-fn fill_row(
-    plan: &[u32],
-    areas: &[u32],
-    xs: &[u32],
-    ys: &[u32],
-    head: &[u32],
-    cells: &[u32],
-    entries: &[u32],
-    row: u32,
-    first: u32,
-    out: &mut [u8],
-) -> RowAnswer
+fn fill_row(tree: Tree, row: u32, first: u32, out: &mut [u8]) -> Result<(), Refused>
     requires { (row ≤ 4095) × (first + length out.old / 3 ≤ 4096) }
-    ensures answer { result ≡
-        (fill_from (tree_lent plan areas xs ys head cells entries) row first 0 (length out.old / 3) out.old).answer }
-    ensures out { out.new ≡
-        (fill_from (tree_lent plan areas xs ys head cells entries) row first 0 (length out.old / 3) out.old).bytes }
+    ensures answer { result ≡ (fill_from (tree_passed tree) row first 0 (length out.old / 3) out.old).answer }
+    ensures out { out.new ≡ (fill_from (tree_passed tree) row first 0 (length out.old / 3) out.old).bytes }
 {
     let n = out.len() / CHANNELS;
-    let mut last = Shown::Broken;
-    let mut i: usize = 0;
-    while i < n {
-        let column = first + (i as u32);
-        let p = pixel_at(plan, areas, xs, ys, head, cells, entries, last, row, column);
-        match p {
-            Pixel::Known(c, f) => {
-                put_pixel(out, i, c);
-                last = f;
-                i += 1;
+    let mut last = None;
+    for i in 0..n {
+        match pixel_at(tree, last, row, first + (i as u32)) {
+            Ok(pixel) => {
+                put_pixel(out, i, pixel.colour);
+                last = Some(pixel.last);
             }
-            Pixel::Broken => {
-                return RowAnswer::Not(Refusal::Broken, i);
-            }
+            Err(refusal) => return Err(Refused { refusal, place: i }),
         }
     }
-    RowAnswer::Done
-}
-
-// 7 over the pixels, and then the pixels. The row is in range.
-fn row_spanned(
-    plan: &[u32],
-    areas: &[u32],
-    xs: &[u32],
-    ys: &[u32],
-    head: &[u32],
-    cells: &[u32],
-    entries: &[u32],
-    row: u32,
-    first: u32,
-    out: &mut [u8],
-) -> RowAnswer
-    requires { row ≤ 4095 }
-    ensures answer { result ≡ (row_span (tree_lent plan areas xs ys head cells entries) row first out.old).answer }
-    ensures out { out.new ≡ (row_span (tree_lent plan areas xs ys head cells entries) row first out.old).bytes }
-{
-    if (first as usize) + out.len() / CHANNELS <= PIXELS {
-        return fill_row(plan, areas, xs, ys, head, cells, entries, row, first, out);
-    }
-    RowAnswer::Not(Refusal::Argument, 0)
+    Ok(())
 }
 
 // Fills the buffer with the pixels of a row from `first` on, three bytes each: red, green, blue. Any tables may be handed in.
 // Refusals, in this order: 7, which changes nothing; 12 at a pixel, before which the pixels stand, and from which on the buffer is untouched.
-pub fn pixel_row(
-    plan: &[u32],
-    areas: &[u32],
-    xs: &[u32],
-    ys: &[u32],
-    head: &[u32],
-    cells: &[u32],
-    entries: &[u32],
-    row: u32,
-    first: u32,
-    out: &mut [u8],
-) -> RowAnswer
-    ensures answer { result ≡ (row_filled (tree_lent plan areas xs ys head cells entries) row first out.old).answer }
-    ensures out { out.new ≡ (row_filled (tree_lent plan areas xs ys head cells entries) row first out.old).bytes }
+pub fn pixel_row(tree: Tree, row: u32, first: u32, out: &mut [u8]) -> Result<(), Refused>
+    ensures answer { result ≡ (row_filled (tree_passed tree) row first out.old).answer }
+    ensures out { out.new ≡ (row_filled (tree_passed tree) row first out.old).bytes }
 {
-    if xs.len() == ys.len() {
-        if row <= LAST_ROW {
-            if out.len() % CHANNELS == 0 {
-                return row_spanned(plan, areas, xs, ys, head, cells, entries, row, first, out);
-            }
-            return RowAnswer::Not(Refusal::Argument, 0);
-        }
-        return RowAnswer::Not(Refusal::Argument, 0);
+    if tree.drawing.xs.len() != tree.drawing.ys.len() {
+        return Err(Refused::from(Refusal::Argument));
     }
-    RowAnswer::Not(Refusal::Argument, 0)
+    if row > LAST_ROW {
+        return Err(Refused::from(Refusal::Argument));
+    }
+    if out.len() % CHANNELS != 0 {
+        return Err(Refused::from(Refusal::Argument));
+    }
+    if (first as usize) + out.len() / CHANNELS > PIXELS {
+        return Err(Refused::from(Refusal::Argument));
+    }
+    fill_row(tree, row, first, out)
 }

@@ -1,4 +1,5 @@
 -- How far an answer reaches: yes gives each position of the leaf the same answer, and no comes exactly with a line, a curve or a shortcut.
+use Rattle.std.proofs.Common.{Ok, Err}
 use mathlib.Core.Path.{◌≡◌, refl, sym, ap, ◌∙◌}
 use mathlib.Core.Bool.{Bool, true, false, cond, ◌&&◌}
 use Prim.Native.Nat.{ℕ}
@@ -18,7 +19,6 @@ use Rattle.find_leaf.specs.Leaf.{position_range, leaf_stream, leaf_in}
 use Rattle.find_leaf.proofs.Landing.{leaf_square}
 use Rattle.find_leaf.proofs.Same.{LeafHolds, leaf_same}
 use Rattle.position.specs.declared.Spot.{Spot}
-use Rattle.position.specs.declared.Answer.TheVariants as Answers
 use Rattle.position.specs.Spots.{spot_of, set_by, spot_by, set_in, position_answer, Reaches}
 use Rattle.position.proofs.Known.{leaf_set, position_accepted}
 
@@ -31,14 +31,14 @@ module _ (t : Tree) (x y : ℕ) where
     pub found : leaf_in t x y ≡ Some leaf
     pub spot : s ≡ spot_of t.areas leaf (is_uniform (leaf_stream t leaf)) (set_in t x y)
 
-  pub accepted : (s : Spot) → position_answer t x y ≡ Answers.At s → Accepted s
+  pub accepted : (s : Spot) → position_answer t x y ≡ Ok s → Accepted s
   accepted s h = go (eqb (length t.xs) (length t.ys)) (position_range x y) (leaf_in t x y) refl refl refl h
     where
       go : (a b : Bool) (f : Option Leaf)
           → eqb (length t.xs) (length t.ys) ≡ a
           → position_range x y ≡ b
           → leaf_in t x y ≡ f
-          → cond a (cond b (spot_by t x y f) (Answers.Not Refusals.Argument)) (Answers.Not Refusals.Argument) ≡ Answers.At s
+          → cond a (cond b (spot_by t x y f) (Err Refusals.Argument)) (Err Refusals.Argument) ≡ Ok s
           → Accepted s
       go true true (Some l) e r k q =
           let z : spot_of t.areas l (is_uniform (leaf_stream t l)) (set_by t x y (Some l)) ≡ s = cc in
@@ -53,7 +53,7 @@ module _ (t : Tree) (x y : ℕ) where
       go true false f e r k q = absurd (let z : ◌≡◌ {A = ℕ} 0 1 = cc in omega arith)
       go false b f e r k q = absurd (let z : ◌≡◌ {A = ℕ} 0 1 = cc in omega arith)
 
-  module _ (s : Spot) (h : position_answer t x y ≡ Answers.At s) where
+  module _ (s : Spot) (h : position_answer t x y ≡ Ok s) where
     -- no comes with a line, a curve or a shortcut
     pub no_reach : s.uniform ≡ false → HoldsSegment (leaf_stream t (accepted s h).leaf)
     no_reach u = no_holds (leaf_stream t (accepted s h).leaf) (sym (ap (λ (r : Spot). r.uniform) (accepted s h).spot) ∙ u)
@@ -84,7 +84,7 @@ reaches t x y s h u x' y' i =
     ∙ (set_uniform t.areas t.xs t.ys x' y' x y (leaf_stream t l) flag ∙ leaf_set t x y l a.found) in
     let grid : position_range x' y' ≡ true =
     both (ltb x' 65536) (ltb y' 65536) (lt-ltb x' 65536 (omega (arith, holds.east, square.0))) (lt-ltb y' 65536 (omega (arith, holds.north, square.1))) in
-    position_accepted t x' y' l (set_in t x y) a.even grid found set ∙ ap Answers.At (sym a.spot)
+    position_accepted t x' y' l (set_in t x y) a.even grid found set ∙ ap Ok (sym a.spot)
   where
     both : (a b : Bool) → a ≡ true → b ≡ true → (a && b) ≡ true
     both a b p q = rw (p, q)

@@ -1,5 +1,6 @@
 -- Document 01, "Winding and meaning" and "The list of demand 3", and document 02, Item 4: what is read from a tree at a position.
-use Rattle.std.specs.Prelude.{◌≡◌, Bool, true, false, cond, List, ℕ, eqb, length}
+use Rattle.std.specs.Prelude.{Option, Some, None, ◌≡◌, Bool, true, false, cond, List, ℕ, Result, Ok, Err, eqb, length}
+use Rattle.refusals.specs.declared.Refusal.{Refusal}
 use Rattle.refusals.specs.declared.Refusal.TheVariants as Refusals
 use Rattle.geometry.specs.Classes.{Inside}
 use Rattle.paint.specs.declared.colour.Channels.{Channels}
@@ -8,7 +9,6 @@ use Rattle.paint.specs.Areas.{paint_at, material_of}
 use Rattle.paint.specs.Colours.{sums_of, colour_of}
 use Rattle.stream.specs.Entry.{is_uniform}
 use Rattle.celltable.specs.declared.Leaf.{Leaf}
-use Rattle.std.specs.Prelude.{Option, None, Some}
 use Rattle.cells.specs.Cells.{at}
 use Rattle.cells.specs.Drawings.{Drawing}
 use Rattle.cells.specs.Streams.{shown_in}
@@ -18,8 +18,6 @@ use Rattle.ranges.specs.Held.{lent}
 use Rattle.tables.specs.Tables.{Tree}
 use Rattle.find_leaf.specs.Leaf.{position_range, leaf_bounds, leaf_stream, leaf_in}
 use Rattle.position.specs.declared.Spot.{Spot}
-use Rattle.position.specs.declared.Answer.{Answer}
-use Rattle.position.specs.declared.Answer.TheVariants as Answers
 
 -- 12 is not met: "the path down and the whole leaf when answering"
 abbrev pub is_found : Option Leaf → Bool
@@ -43,14 +41,17 @@ spot_of areas l uniform set =
 
 module _ (t : Tree) where
   -- "A stream is read in one pass as in document 000's flat clipping"; where 12 is met there is no leaf, and nothing is read
+  abbrev pub set_read : Leaf → (x y : ℕ) → ℕ
+  set_read l x y = set_at t.areas t.xs t.ys x y (leaf_stream t l)
+
   abbrev pub set_by : (x y : ℕ) → Option Leaf → ℕ
-  set_by x y (Some l) = set_at t.areas t.xs t.ys x y (leaf_stream t l)
+  set_by x y (Some l) = set_read l x y
   set_by x y None = 0
 
   -- what shows in the leaf, or 12
-  abbrev pub spot_by : (x y : ℕ) → Option Leaf → Answer
-  spot_by x y (Some l) = Answers.At (spot_of t.areas l (is_uniform (leaf_stream t l)) (set_by x y (Some l)))
-  spot_by x y None = Answers.Not Refusals.Broken
+  abbrev pub spot_by : (x y : ℕ) → Option Leaf → Result Spot Refusal
+  spot_by x y (Some l) = Ok (spot_of t.areas l (is_uniform (leaf_stream t l)) (set_by x y (Some l)))
+  spot_by x y None = Err Refusals.Broken
 
   -- the areas and corners in use, against which the stream of a leaf is read
   abbrev pub lent_to : Leaf → Drawing
@@ -77,16 +78,16 @@ module _ (t : Tree) where
     abbrev pub sums_in : Channels
     sums_in = sums_of (paint_at t.areas) set_in
 
-    abbrev pub spot_in : Answer
+    abbrev pub spot_in : Result Spot Refusal
     spot_in = spot_by x y (leaf_in t x y)
 
     -- 7: "a lent pair of x and y tables of unequal length (tried before all other checks ...); position ... out of range"; then 12
-    abbrev pub position_answer : Answer
+    abbrev pub position_answer : Result Spot Refusal
     position_answer =
-        cond (eqb (length t.xs) (length t.ys)) (cond (position_range x y) spot_in (Answers.Not Refusals.Argument)) (Answers.Not Refusals.Argument)
+        cond (eqb (length t.xs) (length t.ys)) (cond (position_range x y) spot_in (Err Refusals.Argument)) (Err Refusals.Argument)
 
   -- document 02: "A yes means that each position of the leaf has this shown set, material and colour.", whoever wrote the tables: each position of the
   -- square that an answer with "yes" names is given the same answer. `Rattle.position.proofs.Reach` has the proof.
   abbrev pub Reaches : Type 0
-  Reaches = (x y : ℕ) (s : Spot) → position_answer x y ≡ Answers.At s → s.uniform ≡ true → (x' y' : ℕ) → Inside s.x s.y s.side x' y'
-      → position_answer x' y' ≡ Answers.At s
+  Reaches = (x y : ℕ) (s : Spot) → position_answer x y ≡ Ok s → s.uniform ≡ true → (x' y' : ℕ) → Inside s.x s.y s.side x' y'
+      → position_answer x' y' ≡ Ok s

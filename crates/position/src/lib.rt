@@ -2,19 +2,19 @@
 
 #![tactic(auto)]
 
-ghost use Rattle.std.specs.Prelude.{◌≡◌, true, ◌≤◌, ◌<◌, length, get_or};
+ghost use Rattle.std.specs.Prelude.{◌≡◌, ℕ, ◌≤◌, ◌<◌, length, Some, Ok};
 ghost use Rattle.paint.specs.Areas.{Painted};
-ghost use Rattle.stream.specs.Table.{words_from};
-ghost use Rattle.stream.specs.Grammar.{env, bounds, Passed};
-ghost use Rattle.evaluate.specs.Reading.{set_at};
-ghost use Rattle.tables.specs.Tables.{tree, tree_lent};
-ghost use Rattle.position.specs.Spots.{spot_of, spot_in, position_answer};
-ghost use Rattle.position.specs.code.Numbers.{between, in_square, serves_n, LastIn, shown_there};
+ghost use Rattle.stream.specs.Grammar.{Passed};
+ghost use Rattle.tables.specs.Tables.{tree_of, tree_passed};
+ghost use Rattle.find_leaf.specs.code.Numbers.{leaf_env};
+ghost use Rattle.position.specs.Spots.{spot_of, set_read, position_answer};
+ghost use Rattle.position.specs.code.Numbers.{between, in_square, LastIn, shown_there};
 
 use celltable::Leaf;
-use find_leaf::LeafRead;
+use drawing::Drawing;
 use paint::{area, colour};
 use refusals::Refusal;
+use tables::Tree;
 
 // What shows at a position: the set of areas, the material of the front one, and the colour. And how far that reaches: whether the leaf's stream holds no
 // line, curve or shortcut, and the leaf's low corner and its side.
@@ -31,62 +31,50 @@ pub struct Spot {
     pub side: u32,
 }
 
-// What shows, or why the call was refused.
+// A leaf, and the set that shows at all its positions where it is uniform.
 #[derive(Clone, Copy)]
-pub enum Answer {
-    At(Spot),
-    Not(Refusal),
-}
-
-// A leaf, whether it is uniform, and the set that shows at all its positions where it is, else 0; or 12.
-#[derive(Clone, Copy)]
-pub enum Shown {
-    In(Leaf, bool, u64),
-    Broken,
+pub struct Shown {
+    pub leaf: Leaf,
+    pub set: Option<u64>,
 }
 
 // ---- a leaf that was found
 // The shown set at (x, y), read from the stream of a leaf.
-fn set_in(
-    plan: &[u32],
-    areas: &[u32],
-    xs: &[u32],
-    ys: &[u32],
-    entries: &[u32],
-    l: Leaf,
-    x: u32,
-    y: u32,
-) -> u64
-    requires in_bounds { 3 ≤ length plan.now }
-    requires passed { Passed entries.now l.first l.count
-        (env areas.now xs.now ys.now (bounds (get_or plan.now 1 0) (get_or plan.now 2 0) l.y l.side)) }
+fn set_in(tree: Tree, leaf: Leaf, x: u32, y: u32) -> u64
+    requires in_bounds { 3 ≤ length tree.drawing.plan.now }
+    requires passed { Passed tree.entries.now leaf.first leaf.count (leaf_env (tree_of tree) leaf) }
     requires x_bound { (x < 65536) × (y < 65536) }
-    ensures answer { result ≡ set_at areas.now xs.now ys.now x y (words_from entries.now l.first l.count) }
-    ensures painted { Painted areas.now result }
+    ensures answer { result ≡ set_read (tree_passed tree) leaf x y }
+    ensures painted { Painted (tree_passed tree).areas result }
 {
-    let b = tables::bounds_in(plan, l.y, l.side);
-    let first = l.first as usize;
-    let count = l.count as usize;
-    evaluate::read_stream(entries, first, count, areas, xs, ys, b, x, y)
+    let Drawing {
+        plan,
+        areas,
+        xs,
+        ys,
+    } = tree.drawing;
+    let b = tables::bounds_in(plan, leaf.y, leaf.side);
+    let first = leaf.first as usize;
+    let count = leaf.count as usize;
+    evaluate::read_stream(tree.entries, first, count, areas, xs, ys, b, x, y)
 }
 
 // A set with its material and its colour, and the leaf from which it was read.
-fn spot_of(areas: &[u32], l: Leaf, uniform: bool, set: u64) -> Spot
+fn spot_of(areas: &[u32], leaf: Leaf, uniform: bool, set: u64) -> Spot
     requires { Painted areas.now set }
-    ensures answer { result ≡ spot_of areas.now l uniform set }
+    ensures answer { result ≡ spot_of areas.now leaf uniform set }
 {
-    let material = area::material_of(areas, set);
     let c = colour::colour_of(areas, set);
     Spot {
-        set: set,
-        material: material,
+        set,
+        material: area::material_of(areas, set),
         red: u32::from(c.red),
         green: u32::from(c.green),
         blue: u32::from(c.blue),
-        uniform: uniform,
-        x: l.x,
-        y: l.y,
-        side: l.side,
+        uniform,
+        x: leaf.x,
+        y: leaf.y,
+        side: leaf.side,
     }
 }
 
@@ -94,160 +82,76 @@ fn spot_of(areas: &[u32], l: Leaf, uniform: bool, set: u64) -> Spot
 fn is_between(low: u32, side: u32, v: u32) -> bool
     ensures answer { result ≡ between low side v }
 {
-    if low <= v {
-        return v - low < side;
-    }
-    false
+    low <= v && v - low < side
 }
 
 // Whether (x, y) lies in the square of a leaf.
-pub fn is_inside(l: Leaf, x: u32, y: u32) -> bool
-    ensures answer { result ≡ in_square l x y }
+pub fn is_inside(leaf: Leaf, x: u32, y: u32) -> bool
+    ensures answer { result ≡ in_square leaf x y }
 {
-    if is_between(l.x, l.side, x) {
-        return is_between(l.y, l.side, y);
-    }
-    false
+    is_between(leaf.x, leaf.side, x) && is_between(leaf.y, leaf.side, y)
 }
 
 // The leaf that holds (x, y), with the set that shows in it where it is uniform, or 12: it is looked for and its stream is tried.
-pub fn leaf_anew(
-    plan: &[u32],
-    areas: &[u32],
-    xs: &[u32],
-    ys: &[u32],
-    head: &[u32],
-    cells: &[u32],
-    entries: &[u32],
-    x: u32,
-    y: u32,
-) -> Shown
+fn leaf_anew(tree: Tree, x: u32, y: u32) -> Result<Shown, Refusal>
     requires { (x < 65536) × (y < 65536) }
-    ensures answer { result ≡ shown_there (tree_lent plan areas xs ys head cells entries) x y }
+    ensures answer { result ≡ shown_there (tree_passed tree) x y }
 {
-    let f = find_leaf::read_leaf(plan, areas, xs, ys, head, cells, entries, x, y);
-    match f {
-        LeafRead::At(l, lines, uniform) => {
-            if uniform {
-                let set = set_in(plan, areas, xs, ys, entries, l, x, y);
-                return Shown::In(l, uniform, set);
-            }
-            return Shown::In(l, uniform, 0);
-        }
-        LeafRead::Broken => {
-            return Shown::Broken;
-        }
-    }
-}
-
-// Whether a leaf was read last, and (x, y) lies in its square.
-pub fn serves(last: Shown, x: u32, y: u32) -> bool
-    ensures answer { result ≡ serves_n last x y }
-{
-    match last {
-        Shown::In(l, uniform, set) => is_inside(l, x, y),
-        Shown::Broken => false,
+    let read = find_leaf::read_leaf(tree, x, y)?;
+    let leaf = read.leaf;
+    if read.uniform {
+        let set = set_in(tree, leaf, x, y);
+        Ok(Shown {
+            leaf,
+            set: Some(set),
+        })
+    } else {
+        Ok(Shown { leaf, set: None })
     }
 }
 
 // The leaf that holds (x, y), or 12, where `last` was read last: it serves all positions of its square.
-pub fn leaf_for(
-    plan: &[u32],
-    areas: &[u32],
-    xs: &[u32],
-    ys: &[u32],
-    head: &[u32],
-    cells: &[u32],
-    entries: &[u32],
-    last: Shown,
-    x: u32,
-    y: u32,
-) -> Shown
-    requires last_in { LastIn (tree plan.now areas.now xs.now ys.now head.now cells.now entries.now) last }
+pub fn leaf_for(tree: Tree, last: Option<Shown>, x: u32, y: u32) -> Result<Shown, Refusal>
+    requires last_in { LastIn (tree_of tree) last }
     requires x_bound { (x < 65536) × (y < 65536) }
-    ensures answer { result ≡ shown_there (tree_lent plan areas xs ys head cells entries) x y }
+    ensures answer { result ≡ shown_there (tree_passed tree) x y }
 {
-    if serves(last, x, y) {
-        return last;
+    match last {
+        Some(shown) if is_inside(shown.leaf, x, y) => Ok(shown),
+        _ => leaf_anew(tree, x, y),
     }
-    leaf_anew(plan, areas, xs, ys, head, cells, entries, x, y)
 }
 
 // The shown set at (x, y) in the leaf that holds it: a stream is read only where the leaf is not uniform.
-pub fn set_for(
-    plan: &[u32],
-    areas: &[u32],
-    xs: &[u32],
-    ys: &[u32],
-    entries: &[u32],
-    l: Leaf,
-    uniform: bool,
-    set: u64,
-    x: u32,
-    y: u32,
-) -> u64
-    requires in_bounds { 3 ≤ length plan.now }
-    requires passed { Passed entries.now l.first l.count
-        (env areas.now xs.now ys.now (bounds (get_or plan.now 1 0) (get_or plan.now 2 0) l.y l.side)) }
+pub fn set_for(tree: Tree, shown: Shown, x: u32, y: u32) -> u64
+    requires in_bounds { 3 ≤ length tree.drawing.plan.now }
+    requires passed { Passed tree.entries.now shown.leaf.first shown.leaf.count (leaf_env (tree_of tree) shown.leaf) }
     requires x_bound { (x < 65536) × (y < 65536) }
-    requires set_value { uniform ≡ true → set ≡ set_at areas.now xs.now ys.now x y (words_from entries.now l.first l.count) }
-    ensures answer { result ≡ set_at areas.now xs.now ys.now x y (words_from entries.now l.first l.count) }
-    ensures painted { Painted areas.now result }
+    requires set_value { (s : ℕ) → shown.set ≡ Some s → s ≡ set_read (tree_of tree) shown.leaf x y }
+    ensures answer { result ≡ set_read (tree_passed tree) shown.leaf x y }
+    ensures painted { Painted (tree_passed tree).areas result }
 {
-    if uniform {
-        return set;
+    match shown.set {
+        Some(set) => set,
+        None => set_in(tree, shown.leaf, x, y),
     }
-    set_in(plan, areas, xs, ys, entries, l, x, y)
 }
 
 // ---- the call
-// What shows at (x, y), or 12. The position is in range.
-fn spot_at(
-    plan: &[u32],
-    areas: &[u32],
-    xs: &[u32],
-    ys: &[u32],
-    head: &[u32],
-    cells: &[u32],
-    entries: &[u32],
-    x: u32,
-    y: u32,
-) -> Answer
-    requires { (x < 65536) × (y < 65536) }
-    ensures answer { result ≡ spot_in (tree_lent plan areas xs ys head cells entries) x y }
-{
-    let s = leaf_anew(plan, areas, xs, ys, head, cells, entries, x, y);
-    match s {
-        Shown::In(l, uniform, set) => {
-            let shown = set_for(plan, areas, xs, ys, entries, l, uniform, set, x, y);
-            let spot = spot_of(areas, l, uniform, shown);
-            Answer::At(spot)
-        }
-        Shown::Broken => Answer::Not(Refusal::Broken),
-    }
-}
-
 // What shows at (x, y): the set of areas, the material of the front one, and the colour; and how far that reaches. Any tables may be handed in, and none
 // is changed.
 // Refusals, in this order: 7, 12.
-pub fn position(
-    plan: &[u32],
-    areas: &[u32],
-    xs: &[u32],
-    ys: &[u32],
-    head: &[u32],
-    cells: &[u32],
-    entries: &[u32],
-    x: u32,
-    y: u32,
-) -> Answer
-    ensures answer { result ≡ position_answer (tree_lent plan areas xs ys head cells entries) x y }
+pub fn position(tree: Tree, x: u32, y: u32) -> Result<Spot, Refusal>
+    ensures answer { result ≡ position_answer (tree_passed tree) x y }
 {
-    if xs.len() == ys.len() {
-        if find_leaf::is_position(x, y) {
-            return spot_at(plan, areas, xs, ys, head, cells, entries, x, y);
-        }
-        return Answer::Not(Refusal::Argument);
+    if tree.drawing.xs.len() != tree.drawing.ys.len() {
+        return Err(Refusal::Argument);
     }
-    Answer::Not(Refusal::Argument)
+    if !find_leaf::is_position(x, y) {
+        return Err(Refusal::Argument);
+    }
+    let shown = leaf_anew(tree, x, y)?;
+    let set = set_for(tree, shown, x, y);
+    let spot = spot_of(tree.drawing.areas, shown.leaf, shown.set.is_some(), set);
+    Ok(spot)
 }

@@ -1,34 +1,19 @@
 -- A log is decided by the materials at its positions: where 12 is met at none of them and the materials are those of another reading, so is the log.
+use Rattle.std.proofs.Common.{Result, Ok}
+use Rattle.refusals.specs.declared.Refused.{Refused}
 use mathlib.Core.Path.{◌≡◌, refl, sym, ap, ap₂, ◌∙◌}
-use mathlib.Core.Bool.{Bool, true, cond, not, ◌&&◌, ◌||◌}
+use mathlib.Core.Bool.{Bool, true, not, ◌&&◌, ◌||◌}
 use mathlib.Core.List.{List, []}
 use Prim.Native.Nat.{ℕ, zero, suc, ◌+◌, ◌-◌, ◌≤◌, ◌<◌}
 use native.Mathlib.Omega.{arith}
-use lib.Dec.{eqb, ltb, leb}
+use lib.Dec.{eqb, leb}
 use lib.ListN.{length, get_or}
 use lib.Seq.{sets}
 use borrow.Author.Tests.{eq-eqb, le-leb, le-ltb, lt-ltb}
-use Rattle.refusals.specs.declared.Refusal.TheVariants as Refusals
 use Rattle.tables.specs.Tables.{Tree}
-use Rattle.laws.proofs.Choices.{pick_true, pick_false}
 use Rattle.find_leaf.specs.Leaf.{position_range}
 use Rattle.position.specs.Spots.{known}
-use Rattle.zone_log.specs.declared.LogAnswer.{LogAnswer}
-use Rattle.zone_log.specs.declared.LogAnswer.TheVariants.{Indices, Not}
-use Rattle.zone_log.specs.Logs.{
-  is_logged,
-  log_from,
-  outside_from,
-  each_word,
-  material_at,
-  known_from,
-  zone_log,
-  log_room,
-  log_known,
-  log_range,
-  log_answer,
-  out_after,
-}
+use Rattle.zone_log.specs.Logs.{is_logged, log_from, outside_from, each_word, material_at, known_from, zone_log, log_answer, out_after}
 use Rattle.zone_log.specs.code.Numbers.{RunIn}
 
 pub logged_agrees : (m m' : ℕ → ℕ) (i : ℕ) → m i ≡ m' i → m (i - 1) ≡ m' (i - 1) → is_logged m i ≡ is_logged m' i
@@ -67,30 +52,26 @@ module _ (t : Tree) (px py : List ℕ) where
       → ((k : ℕ) → k < length px → material_at t px py k ≡ m k)
       → length (log_from m 0 (length px)) ≤ length out
       → each_word (log_from m 0 (length px)) ≡ true
-      → (log_answer t px py (length out) ≡ Indices (length (log_from m 0 (length px))))
+      → (log_answer t px py (length out) ≡ Ok (length (log_from m 0 (length px))))
       × (out_after t px py (log_answer t px py (length out)) out ≡ sets out 0 (log_from m 0 (length px)))
   log_accepted m out e r k h l w =
       let z = log_is m h in
       let o : outside_from px py 0 (length px) ≡ length px = none_outside 0 (length px) (λ i g. range_true i r (omega (arith, g))) ∙ omega arith in
       let room : (leb (length (zone_log t px py)) (length out) && each_word (zone_log t px py)) ≡ true =
       rw z (ap₂ (λ (a b : Bool). a && b) (le-leb (length (log_from m 0 (length px))) (length out) l) w) in
-      let a₁ : Indices (length (zone_log t px py)) ≡ log_room t px py (length out) = pick_true
-      (leb (length (zone_log t px py)) (length out) && each_word (zone_log t px py)) (Indices (length (zone_log t px py))) (Not Refusals.Room 0)
-      room in
-      let a₂ = pick_true (known_from t px py 0 (length px)) (log_room t px py (length out)) (Not Refusals.Broken 0)
-      (known_all 0 (length px) (λ i g. k i (omega (arith, g)))) in
-      let a₃ = pick_false (ltb (outside_from px py 0 (length px)) (length px)) (Not Refusals.Argument (outside_from px py 0 (length px)))
-      (log_known t px py (length out)) (le-ltb (outside_from px py 0 (length px)) (length px) (omega (arith, o))) in
-      let a₄ = pick_true (eqb (length px) (length py)) (log_range t px py (length out)) (Not Refusals.Argument 0) (eq-eqb (length px) (length py) r.same) in
-      let a₅ = pick_true (eqb (length t.xs) (length t.ys))
-      (cond (eqb (length px) (length py)) (log_range t px py (length out)) (Not Refusals.Argument 0)) (Not Refusals.Argument 0)
-      (eq-eqb (length t.xs) (length t.ys) e) in
-      let whole : Indices (length (zone_log t px py)) ≡ log_answer t px py (length out) = a₁ ∙ (a₂ ∙ (a₃ ∙ (a₄ ∙ a₅))) in (
-        sym whole ∙ ap (λ (v : List ℕ). Indices (length v)) z,
-        ap (λ (v : LogAnswer). out_after t px py v out) (sym whole) ∙ ap (sets out 0) z,
+      let whole : Ok (length (zone_log t px py)) ≡ log_answer t px py (length out) =
+      rw (
+        eq-eqb (length t.xs) (length t.ys) e,
+        eq-eqb (length px) (length py) r.same,
+        le-ltb (outside_from px py 0 (length px)) (length px) (omega (arith, o)),
+        known_all 0 (length px) (λ i g. k i (omega (arith, g))),
+        room,
+      ) in (
+        sym whole ∙ ap (λ (v : List ℕ). Ok (length v)) z,
+        ap (λ (v : Result ℕ Refused). out_after t px py v out) (sym whole) ∙ ap (sets out 0) z,
       )
 
 -- an empty run meets no number: it is accepted over any tree
-pub log_empty : (t : Tree) (out : ℕ) → length t.xs ≡ length t.ys → log_answer t [] [] out ≡ Indices 0
+pub log_empty : (t : Tree) (out : ℕ) → length t.xs ≡ length t.ys → log_answer t [] [] out ≡ Ok 0
 unfolding outside_from known_from zone_log log_from each_word
 log_empty t out e = rw (eq-eqb (length t.xs) (length t.ys) e, le-leb 0 out (omega arith))

@@ -1,4 +1,7 @@
 -- The pass over a run: what it counts of the log, and what it writes.
+use Rattle.std.proofs.Common.{Option, Some, Ok, Err}
+use Rattle.refusals.specs.declared.Refusal.{Refusal}
+use Rattle.refusals.specs.declared.Refusal.TheVariants as Refusals
 use mathlib.Core.Path.{◌≡◌, refl, sym, ap, ap₂, subst, ◌∙◌}
 use mathlib.Core.Bool.{Bool, true, false, cond, not, ◌&&◌, ◌||◌}
 use mathlib.Core.List.{List, [], ◌∷◌}
@@ -13,13 +16,11 @@ use Rattle.laws.proofs.Booleans.{clash, and_true}
 use Rattle.evaluate.proofs.Laws.{both}
 use Rattle.paint.specs.Areas.{paint_at, material_of}
 use Rattle.tables.specs.Tables.{Tree}
-use Rattle.laws.proofs.Choices.{pick_true, pick_false}
 use Rattle.position.specs.declared.Shown.{Shown}
 use Rattle.position.specs.Spots.{known}
 use Rattle.position.specs.code.Numbers.{LastIn}
 use Rattle.position.proofs.Known.{Known}
 use Rattle.zone_log.specs.declared.Tally.{Tally}
-use Rattle.zone_log.specs.declared.Count.TheVariants as Counts
 use Rattle.zone_log.specs.Logs.{is_logged, log_from, each_word, material_at, known_from, zone_log}
 use Rattle.zone_log.specs.code.Numbers.{Accepted, logged_n, tally, tallied_n, count_in}
 use Rattle.zone_log.proofs.Runs.{less_one, less_none}
@@ -107,7 +108,7 @@ module _ (t : Tree) (px py : List ℕ) where
 
     -- where a pass stands: what was read last, the material of the index before; what is counted and what is left make the whole,
     -- and so do what is written and what is left
-    pub record Passing (i : ℕ) (last : Shown) (before : ℕ) (c : Tally) (out : List ℕ) : Type 0 where
+    pub record Passing (i : ℕ) (last : Option Shown) (before : ℕ) (c : Tally) (out : List ℕ) : Type 0 where
       pub prior_read : LastIn t last
       pub prior : (i ≡ 0 → ⊥) → before ≡ at (i - 1)
       pub few : c.count ≤ i
@@ -117,7 +118,7 @@ module _ (t : Tree) (px py : List ℕ) where
       pub size : length out ≡ length out₀
       pub rest : cond written (sets out c.count (left i)) out ≡ after
 
-    pub passing_begin : (before : ℕ) (last : Shown) → LastIn t last → Passing 0 last before (tally 0 true) out₀
+    pub passing_begin : (before : ℕ) (last : Option Shown) → LastIn t last → Passing 0 last before (tally 0 true) out₀
     unfolding zone_log
     passing_begin before last h =
         let z = less_none (length px) in
@@ -132,18 +133,17 @@ module _ (t : Tree) (px py : List ℕ) where
           rest = rw z;
         }
 
-    pub passing_done : (i : ℕ) (last : Shown) (before : ℕ) (c : Tally) (out : List ℕ)
+    pub passing_done : (i : ℕ) (last : Option Shown) (before : ℕ) (c : Tally) (out : List ℕ)
         → length px ≤ i
         → Passing i last before c out
-        → (Counts.Known c.count c.fits ≡ count_in t px py) × (out ≡ after)
+        → (Ok c ≡ count_in t px py) × (out ≡ after)
     unfolding each_word
     passing_done i last before c out h p =
         let l = left_none i h in
+        let k : known_from t px py 0 (length px) ≡ true = sym p.knows ∙ known_none i h in
         let s : c.count ≡ length (zone_log t px py) = omega (arith, p.sum, ap length l) in
         let w : c.fits ≡ each_word (zone_log t px py) = sym (and_true c.fits) ∙ (sym (ap (λ (v : List ℕ). c.fits && each_word v) l) ∙ p.words) in (
-          ap₂ Counts.Known s w
-              ∙ pick_true (known_from t px py 0 (length px)) (Counts.Known (length (zone_log t px py)) (each_word (zone_log t px py))) Counts.Broken
-              (sym p.knows ∙ known_none i h),
+          rw (k, ← s, ← w),
           same written ∙ (sym (ap (λ (v : List ℕ). cond written (sets out c.count v) out) l) ∙ p.rest),
         )
       where
@@ -152,17 +152,14 @@ module _ (t : Tree) (px py : List ℕ) where
         same false = refl
 
     -- no position of a run that is written is met by 12
-    pub passing_broken : (i : ℕ) (last : Shown) (before : ℕ) (c : Tally) (out : List ℕ)
+    pub passing_broken : (i : ℕ) (last : Option Shown) (before : ℕ) (c : Tally) (out : List ℕ) (e : Refusal)
         → i < length px
         → (written ≡ true → Accepted t px py (length out₀))
         → Passing i last before c out
-        → known t (get_or px i 0) (get_or py i 0) ≡ false
-        → (Counts.Broken ≡ count_in t px py) × (out ≡ after)
-    passing_broken i last before c out h a p g =
-        let k : known_from t px py 0 (length px) ≡ false = sym p.knows ∙ known_turn i false h g in (
-          pick_false (known_from t px py 0 (length px)) (Counts.Known (length (zone_log t px py)) (each_word (zone_log t px py))) Counts.Broken k,
-          go k written refl p.rest,
-        )
+        → (known t (get_or px i 0) (get_or py i 0) ≡ false) × (e ≡ Refusals.Broken)
+        → (Err e ≡ count_in t px py) × (out ≡ after)
+    passing_broken i last before c out e h a p g =
+        let k : known_from t px py 0 (length px) ≡ false = sym p.knows ∙ known_turn i false h g.0 in (rw (k, g.1), go k written refl p.rest)
       where
         go : known_from t px py 0 (length px) ≡ false
             → (w : Bool)
@@ -173,7 +170,7 @@ module _ (t : Tree) (px py : List ℕ) where
         go k false e r = r
 
     -- ---- one index
-    module _ (i set : ℕ) (last f : Shown) (before now : ℕ) (b : Bool) (c : Tally) (out : List ℕ) (h : i < length px)
+    module _ (i set : ℕ) (last : Option Shown) (f : Shown) (before now : ℕ) (b : Bool) (c : Tally) (out : List ℕ) (h : i < length px)
         (p : Passing i last before c out) (g : Known t (get_or px i 0) (get_or py i 0) set f)
         (e : now ≡ material_of (paint_at t.areas) set) (q : b ≡ logged_n i before now) where
       next : left i ≡ cond b (i ∷ left (i + 1)) (left (i + 1))
@@ -195,11 +192,11 @@ module _ (t : Tree) (px py : List ℕ) where
       pub passing_turn : (d : Tally) (out' : List ℕ)
           → out' ≡ cond (b && written) (ListN.set out c.count i) out
           → d ≡ tallied_n c i b
-          → Passing (i + 1) f now d out'
+          → Passing (i + 1) (Some f) now d out'
       passing_turn d out' s r =
           let z : i ≡ i + 1 - 1 = omega arith in
           let u = tally_turn c i b (left i) (left (i + 1)) next in
-          subst (λ (d : Tally). Passing (i + 1) f now d out') (sym r)
+          subst (λ (d : Tally). Passing (i + 1) (Some f) now d out') (sym r)
           (record {
             prior_read = g.is_last;
             prior = λ _. e ∙ (ap (material_of (paint_at t.areas)) g.is_set ∙ ap at z);

@@ -1,12 +1,12 @@
 -- Document 01, "Winding and meaning", "From the input" and "From the state": a zone log over a run of positions.
-use Rattle.std.specs.Prelude.{Bool, true, false, cond, not, ◌&&◌, ◌||◌, List, [], ◌∷◌, ℕ, zero, suc, ◌+◌, ◌-◌, eqb, ltb, leb, length, get_or}
+use Rattle.std.specs.Prelude.{Bool, true, false, cond, not, ◌&&◌, ◌||◌, List, [], ◌∷◌, Result, Ok, Err, ℕ, zero, suc, ◌+◌, ◌-◌, eqb, ltb, leb, length, get_or}
 use Rattle.std.proofs.lemmas.List.Edits.{sets}
+use Rattle.refusals.specs.declared.Refused.{Refused}
+use Rattle.refusals.specs.Refusals.{at_place}
 use Rattle.refusals.specs.declared.Refusal.TheVariants.{Argument, Room, Broken}
 use Rattle.tables.specs.Tables.{Tree}
 use Rattle.find_leaf.specs.Leaf.{position_range}
 use Rattle.position.specs.Spots.{known, material_in}
-use Rattle.zone_log.specs.declared.LogAnswer.{LogAnswer}
-use Rattle.zone_log.specs.declared.LogAnswer.TheVariants.{Indices, Not}
 
 -- "A zone log over a run of positions gives index 0 (if there is one) and each index whose material differs from the one before."
 abbrev pub is_logged : (material : ℕ → ℕ) → (i : ℕ) → Bool
@@ -41,25 +41,25 @@ module _ (t : Tree) (px py : List ℕ) where
   zone_log = log_from material_at 0 (length px)
 
   -- 11: "... another output table too short for the whole result"; a table of so many words
-  abbrev pub log_room : (out : ℕ) → LogAnswer
-  log_room out = cond (leb (length zone_log) out && each_word zone_log) (Indices (length zone_log)) (Not Room 0)
+  abbrev pub log_room : (out : ℕ) → Result ℕ Refused
+  log_room out = cond (leb (length zone_log) out && each_word zone_log) (Ok (length zone_log)) (Err (at_place Room 0))
 
   -- 12 over every position of the run: "Number and place 0"
-  abbrev pub log_known : (out : ℕ) → LogAnswer
-  log_known out = cond (known_from 0 (length px)) (log_room out) (Not Broken 0)
+  abbrev pub log_known : (out : ℕ) → Result ℕ Refused
+  log_known out = cond (known_from 0 (length px)) (log_room out) (Err (at_place Broken 0))
 
   -- 7 at a position: "index of the position in a run"
-  abbrev pub log_range : (out : ℕ) → LogAnswer
-  log_range out = cond (ltb (outside_from px py 0 (length px)) (length px)) (Not Argument (outside_from px py 0 (length px))) (log_known out)
+  abbrev pub log_range : (out : ℕ) → Result ℕ Refused
+  log_range out = cond (ltb (outside_from px py 0 (length px)) (length px)) (Err (at_place Argument (outside_from px py 0 (length px)))) (log_known out)
 
   -- 7: "a lent pair of x and y tables of unequal length (tried before all other checks ...)": place 0
-  abbrev pub log_answer : (out : ℕ) → LogAnswer
-  log_answer out = cond (eqb (length t.xs) (length t.ys)) (cond (eqb (length px) (length py)) (log_range out) (Not Argument 0)) (Not Argument 0)
+  abbrev pub log_answer : (out : ℕ) → Result ℕ Refused
+  log_answer out = cond (eqb (length t.xs) (length t.ys)) (cond (eqb (length px) (length py)) (log_range out) (Err (at_place Argument 0))) (Err (at_place Argument 0))
 
   -- the output table afterwards: "An accepted call leaves the rest of a longer output untouched"; on a refusal nothing changes
-  abbrev pub out_after : LogAnswer → List ℕ → List ℕ
-  out_after (Indices n) out = sets out 0 zone_log
-  out_after (Not r place) out = out
+  abbrev pub out_after : Result ℕ Refused → List ℕ → List ℕ
+  out_after (Ok n) out = sets out 0 zone_log
+  out_after (Err r) out = out
 
   -- the output table after the call
   abbrev pub out_logged : List ℕ → List ℕ

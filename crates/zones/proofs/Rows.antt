@@ -9,7 +9,8 @@ use lib.Dec.{eqb, leb}
 use borrow.Author.Tests.{leb-true}
 use Rattle.refusals.specs.declared.Refusal.TheVariants.{Argument, Broken}
 use Rattle.tables.specs.Tables.{Tree}
-use Rattle.pixel_row.specs.declared.RowAnswer.TheVariants.{Not}
+use Rattle.refusals.specs.Refusals.{at_place}
+use Rattle.std.proofs.Common.{Ok, Err}
 use Rattle.pixel_row.specs.Rows.{filled, Filled, put_pixel, pixel_known, pixel_in, fill_from, row_filled}
 use Rattle.answers.specs.Readings.{row_place}
 
@@ -21,7 +22,7 @@ module _ (t : Tree) (row first : ℕ) where
       go (pixel_known t row (first + i)) (fill_from t row first (i + 1) n (put_pixel out i (pixel_in t row (first + i))))
       (fill_place (i + 1) n (put_pixel out i (pixel_in t row (first + i))))
     where
-      go : (b : Bool) (f : Filled) → row_place f.answer ≤ i + 1 + n → row_place (cond b f (filled (Not Broken i) out)).answer ≤ i + suc n
+      go : (b : Bool) (f : Filled) → row_place f.answer ≤ i + 1 + n → row_place (cond b f (filled (Err (at_place Broken i)) out)).answer ≤ i + suc n
       go true f h = omega (arith, h)
       go false f h = omega arith
 
@@ -33,9 +34,9 @@ module _ (t : Tree) (row first : ℕ) where
           → row_place
           (cond a
           (cond b
-          (cond c (cond d (fill_from t row first 0 (length out / 3) out) (filled (Not Argument 0) out)) (filled (Not Argument 0) out))
-          (filled (Not Argument 0) out))
-          (filled (Not Argument 0) out)).answer
+          (cond c (cond d (fill_from t row first 0 (length out / 3) out) (filled (Err (at_place Argument 0)) out)) (filled (Err (at_place Argument 0)) out))
+          (filled (Err (at_place Argument 0)) out))
+          (filled (Err (at_place Argument 0)) out)).answer
           ≤ 4096
       go true true true true e = omega (arith, fill_place 0 (length out / 3) out, leb-true (first + length out / 3) 4096 e)
       go true true true false e = omega arith

@@ -25,6 +25,7 @@ ghost use Rattle.answers.specs.Answers.{read_number, write_number, open_number, 
 
 use drawing::Drawing;
 use grow::Limits;
+use tables::Tree;
 
 // Reads a file of records into the four tables of a drawing. The result is the number of records.
 // Refusals, in this order: 7 (tables of x and y of unequal length), 1, each record by 2 to 6, the end by 4 and 5, 11.
@@ -190,6 +191,18 @@ pub extern "C" fn zones_find_leaf(
     ensures answer { result ≡ find_number (find_room (find_answer (tree_lent plan areas xs ys head cells entries) x y) (length out.old)) }
     ensures out { out.new ≡ leaf_written (find_answer (tree_lent plan areas xs ys head cells entries) x y) out.old }
 {
-    let a = find_leaf::find_leaf(plan, areas, xs, ys, head, cells, entries, x, y);
+    let drawing = Drawing {
+        plan,
+        areas,
+        xs,
+        ys,
+    };
+    let tree = Tree {
+        drawing,
+        head,
+        cells,
+        entries,
+    };
+    let a = find_leaf::find_leaf(tree, x, y);
     answers::put_found(out, a)
 }

@@ -6,6 +6,9 @@ ghost use Rattle.zone_log.specs.Logs.{log_answer, out_logged};
 ghost use Rattle.pixel_row.specs.Rows.{row_filled};
 ghost use Rattle.answers.specs.Readings.{spot_room, spot_number, spot_written, log_number, row_number};
 
+use drawing::Drawing;
+use tables::Tree;
+
 // What shows at (x, y), and how far that reaches, written as ten words: the low and the high half of the set, material, red, green, blue; 1 where the
 // leaf has no line, curve or shortcut, so that each of its positions has this answer, else 0; the leaf's low corner x, y and its side. The result is the
 // material.
@@ -26,7 +29,19 @@ pub extern "C" fn zones_position(
     ensures answer { result ≡ spot_number (spot_room (position_answer (tree_lent plan areas xs ys head cells entries) x y) (length out.old)) }
     ensures out { out.new ≡ spot_written (position_answer (tree_lent plan areas xs ys head cells entries) x y) out.old }
 {
-    let a = position::position(plan, areas, xs, ys, head, cells, entries, x, y);
+    let drawing = Drawing {
+        plan,
+        areas,
+        xs,
+        ys,
+    };
+    let tree = Tree {
+        drawing,
+        head,
+        cells,
+        entries,
+    };
+    let a = position::position(tree, x, y);
     answers::put_shown(out, a)
 }
 
@@ -49,7 +64,19 @@ pub extern "C" fn zones_zone_log(
         log_number (log_answer (tree_lent plan areas xs ys head cells entries) px.now py.now (length out.old)) }
     ensures out { out.new ≡ out_logged (tree_lent plan areas xs ys head cells entries) px.now py.now out.old }
 {
-    let a = zone_log::zone_log(plan, areas, xs, ys, head, cells, entries, px, py, out);
+    let drawing = Drawing {
+        plan,
+        areas,
+        xs,
+        ys,
+    };
+    let tree = Tree {
+        drawing,
+        head,
+        cells,
+        entries,
+    };
+    let a = zone_log::zone_log(tree, px, py, out);
     answers::pack_log(a)
 }
 
@@ -72,6 +99,18 @@ pub extern "C" fn zones_pixel_row(
     ensures answer { result ≡ row_number (row_filled (tree_lent plan areas xs ys head cells entries) row first out.old).answer }
     ensures out { out.new ≡ (row_filled (tree_lent plan areas xs ys head cells entries) row first out.old).bytes }
 {
-    let a = pixel_row::pixel_row(plan, areas, xs, ys, head, cells, entries, row, first, out);
+    let drawing = Drawing {
+        plan,
+        areas,
+        xs,
+        ys,
+    };
+    let tree = Tree {
+        drawing,
+        head,
+        cells,
+        entries,
+    };
+    let a = pixel_row::pixel_row(tree, row, first, out);
     answers::pack_row(a)
 }

@@ -1,22 +1,22 @@
+use Rattle.std.proofs.Common.{Some, None}
 use native.Mathlib.Omega.{arith}
-use Rattle.listing.proofs.Listing.{list_begin, list_turn, list_count, list_done}
+use mathlib.Core.Path.{◌∙◌}
+use Rattle.tables.specs.Tables.{tree_of}
+use Rattle.listing.proofs.Listing.{written_one, written_none, list_turn, list_count, list_done}
 use Rattle.listing.proofs.list_leaves.Goals as goal
-
-pub loop-k-init : goal.loop-k-init
-loop-k-init c = list_begin _ _
-
-pub put_corner-n-requires : goal.put_corner-n-requires
-put_corner-n-requires c =
-    let i = c.loop-k.invariant in
-    omega (arith, i.size, i.few, c.loop-k-test.true, c.requires)
+use Rattle.listing.proofs.list_leaves.Goals.{in-Some, in_default}
 
 pub loop-k-preserved : goal.loop-k-preserved
 loop-k-preserved c =
-    list_turn _ _ _ _ _ _ _ _ c.loop-k-test.true c.corner_at-p.ensures.answer
-    c.put_corner-n.ensures.answer c.put_corner-n.ensures.rows c.loop-k.invariant
-
-pub shape_of-rows : goal.shape_of-rows
-shape_of-rows c = c.loop-k.invariant.size
+    let t = tree_of c.args.tree in
+    elim c.match-corner_at.branch [
+      | in-Some w ↦
+          list_turn t _ _ _ c.loop-k.k c.loop-k.n _ (Some w.in-Some.line) c.loop-k-test.true w.in-Some.ensures.answer w.n-is
+          (w.rows-is ∙ (w.put_line.ensures.rows ∙ written_one _ _ _)) c.loop-k.invariant
+      | in_default w ↦
+          list_turn t _ _ _ c.loop-k.k c.loop-k.n _ None c.loop-k-test.true w.in_default.ensures.answer (omega (arith, w.n-is))
+          (w.rows-is ∙ written_none _ _) c.loop-k.invariant
+    ]
 
 pub returns : goal.returns
 returns c =

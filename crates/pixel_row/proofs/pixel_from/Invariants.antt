@@ -1,10 +1,7 @@
-use Rattle.tables.specs.Tables.{tree}
+use Rattle.std.proofs.Common.{Some}
+use Rattle.tables.specs.Tables.{tree_of}
 use Rattle.pixel_row.specs.code.Numbers.{Sampling}
-use Prim.Native.Nat.{◌-◌}
 use Rattle.pixel_row.proofs.pixel_from.Given as goal
 
 abbrev pub invariant-loop-i : goal.invariant-loop-i
-invariant-loop-i l = Sampling (tree l.plan l.areas l.xs l.ys l.head l.cells l.entries) l.row l.column 16 l.i l.last l.sum
-
-abbrev pub decreases-loop-i : goal.decreases-loop-i
-decreases-loop-i l = 16 - l.i
+invariant-loop-i l = Sampling (tree_of l.tree) l.row l.column 16 l.i (Some l.last) l.sum

@@ -1,10 +1,9 @@
+use mathlib.Core.Path.{sym}
+use Rattle.tables.specs.Tables.{tree_of}
 use Rattle.position.proofs.Known.{last_serves}
-use mathlib.Core.Path.{sym, ◌∙◌}
-use Rattle.tables.specs.Tables.{tree}
 use Rattle.position.proofs.leaf_for.Goals as goal
 
-pub returns-then-serves : goal.returns-then-serves
-returns-then-serves c =
-    let a = c.args in
-    let T = tree a.plan.now a.areas.now a.xs.now a.ys.now a.head.now a.cells.now a.entries.now in
-    record { answer = last_serves T a.last a.x a.y c.requires.last_in (sym c.serves.ensures.answer ∙ c.if-serves.true) }
+pub returns-in-Some : goal.returns-in-Some
+returns-in-Some c =
+    let last = rw c.in-Some.is at c.requires.last_in in
+    record { answer = last_serves (tree_of c.args.tree) c.in-Some.shown c.args.x c.args.y last (sym c.if-is_inside.ensures.answer) }

@@ -1,51 +1,27 @@
-use Rattle.find_leaf.specs.Leaf.{position_range}
-use Rattle.position.specs.Spots.{spot_in}
-use Rattle.position.specs.declared.Answer.TheVariants.{Not}
-use Rattle.laws.proofs.Choices.{pick_true, pick_false}
-use Rattle.evaluate.proofs.Laws.{both}
-use Rattle.refusals.specs.declared.Refusal.TheVariants.{Argument}
-use borrow.Author.Tests.{ltb-true, eq-eqb, ne_eqb}
-use lib.ListN.{length}
-use lib.Dec.{eqb, ltb}
-use mathlib.Core.Bool.{cond}
-use mathlib.Core.Path.{sym, ◌∙◌}
-use Rattle.tables.specs.Tables.{tree}
+use mathlib.Core.Path.{sym}
+use Rattle.std.proofs.lemmas.Result.{err_from_is_err_and}
+use Rattle.tables.specs.Tables.{tree_of}
+use Rattle.position.proofs.Known.{readable, position_tested, spot_known, spot_broken}
 use Rattle.position.proofs.position.Goals as goal
 
-pub spot_at-requires : goal.spot_at-requires
-spot_at-requires c =
-    let a = c.args in
-    let b = both (ltb a.x 65536) (ltb a.y 65536) (sym c.is_position.ensures.answer ∙ c.if-is_position.true) in
-    (ltb-true a.x 65536 b.0, ltb-true a.y 65536 b.1)
+pub returns-in_err-shown : goal.returns-in_err-shown
+returns-in_err-shown c =
+    let p = err_from_is_err_and c.from_residual.result c.from_residual.ensures.1 in
+    let e = spot_broken (tree_of c.args.tree) c.args.x c.args.y _ c.in_err-shown.ensures.answer in
+    record { answer = rw (p.1, p.2) (position_tested (tree_of c.args.tree) c.args.x c.args.y _ c.if-tree.false (sym c.if-not-is_position.ensures.answer) e) }
 
-pub returns-then-is_position : goal.returns-then-is_position
-returns-then-is_position c =
-    let a = c.args in
-    let T = tree a.plan.now a.areas.now a.xs.now a.ys.now a.head.now a.cells.now a.entries.now in record {
-      answer = c.spot_at.ensures.answer
-          ∙ (pick_true (position_range a.x a.y) (spot_in T a.x a.y) (Not Argument)
-          (sym c.is_position.ensures.answer ∙ c.if-is_position.true)
-          ∙ pick_true (eqb (length a.xs.now) (length a.ys.now))
-          (cond (position_range a.x a.y) (spot_in T a.x a.y) (Not Argument)) (Not Argument)
-          (eq-eqb (length a.xs.now) (length a.ys.now) c.if-xs-ys.true));
-    }
+pub set_for-set-requires-clause-in_bounds : goal.set_for-set-requires-clause-in_bounds
+set_for-set-requires-clause-in_bounds c = (readable (tree_of c.args.tree) c.args.x c.args.y _ c.in_ok-shown.ensures.answer).plan_long
 
-pub returns-then-xs-ys : goal.returns-then-xs-ys
-returns-then-xs-ys c =
-    let a = c.args in
-    let T = tree a.plan.now a.areas.now a.xs.now a.ys.now a.head.now a.cells.now a.entries.now in record {
-      answer = pick_false (position_range a.x a.y) (spot_in T a.x a.y) (Not Argument)
-          (sym c.is_position.ensures.answer ∙ c.if-is_position.false)
-          ∙ pick_true (eqb (length a.xs.now) (length a.ys.now))
-          (cond (position_range a.x a.y) (spot_in T a.x a.y) (Not Argument)) (Not Argument)
-          (eq-eqb (length a.xs.now) (length a.ys.now) c.if-xs-ys.true);
-    }
+pub set_for-set-requires-clause-passed : goal.set_for-set-requires-clause-passed
+set_for-set-requires-clause-passed c = (readable (tree_of c.args.tree) c.args.x c.args.y _ c.in_ok-shown.ensures.answer).stream
+
+pub set_for-set-requires-clause-set_value : goal.set_for-set-requires-clause-set_value
+set_for-set-requires-clause-set_value c = (readable (tree_of c.args.tree) c.args.x c.args.y _ c.in_ok-shown.ensures.answer).read
 
 pub returns : goal.returns
 returns c =
-    let a = c.args in
-    let T = tree a.plan.now a.areas.now a.xs.now a.ys.now a.head.now a.cells.now a.entries.now in record {
-      answer = pick_false (eqb (length a.xs.now) (length a.ys.now))
-          (cond (position_range a.x a.y) (spot_in T a.x a.y) (Not Argument)) (Not Argument)
-          (ne_eqb (length a.xs.now) (length a.ys.now) c.if-xs-ys.false);
+    let e = spot_known (tree_of c.args.tree) c.args.x c.args.y _ _ c.in_ok-shown.ensures.answer c.set_for-set.ensures.answer in record {
+      answer = position_tested (tree_of c.args.tree) c.args.x c.args.y _ c.if-tree.false (sym c.if-not-is_position.ensures.answer)
+          (rw (c.spot_of-spot.ensures.answer, c.is_some.ensures) e);
     }

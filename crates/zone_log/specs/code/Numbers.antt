@@ -1,9 +1,9 @@
 -- A zone log as the numbers that the code holds.
-use Rattle.std.specs.Prelude.{◌≡◌, Bool, true, cond, not, ◌&&◌, ◌||◌, List, ℕ, ◌+◌, ◌≤◌, ◌<◌, eqb, ltb, length, get_or}
+use Rattle.std.specs.Prelude.{◌≡◌, Bool, true, cond, not, ◌&&◌, ◌||◌, List, Result, Ok, Err, ℕ, ◌+◌, ◌≤◌, ◌<◌, eqb, ltb, length, get_or}
+use Rattle.refusals.specs.declared.Refusal.{Refusal}
+use Rattle.refusals.specs.declared.Refusal.TheVariants.{Broken}
 use Rattle.tables.specs.Tables.{Tree}
 use Rattle.zone_log.specs.declared.Tally.{Tally}
-use Rattle.zone_log.specs.declared.Count.{Count}
-use Rattle.zone_log.specs.declared.Count.TheVariants.{Known, Broken}
 use Rattle.zone_log.specs.Logs.{each_word, known_from, zone_log}
 
 -- a run whose positions are all in range
@@ -29,5 +29,5 @@ abbrev pub tallied_n : Tally → ℕ → Bool → Tally
 tallied_n c i logged = cond logged (tally (c.count + 1) (c.fits && ltb i 4294967296)) c
 
 -- how many indices the log has and whether a word holds each, or 12
-abbrev pub count_in : Tree → (px py : List ℕ) → Count
-count_in t px py = cond (known_from t px py 0 (length px)) (Known (length (zone_log t px py)) (each_word (zone_log t px py))) Broken
+abbrev pub count_in : Tree → (px py : List ℕ) → Result Tally Refusal
+count_in t px py = cond (known_from t px py 0 (length px)) (Ok (tally (length (zone_log t px py)) (each_word (zone_log t px py)))) (Err Broken)
