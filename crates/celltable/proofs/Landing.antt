@@ -10,7 +10,7 @@ use Rattle.cells.specs.Cells.{Position, at, OnGrid, Cell, cell, level, root, Hol
 use Rattle.cells.proofs.Cells.{root_holds, child_holds}
 use Rattle.celltable.specs.declared.CellWords.{CellWords}
 use Rattle.celltable.specs.declared.Leaf.{Leaf}
-use Rattle.std.specs.Prelude.{Option, None, Some}
+use Rattle.std.specs.Prelude.{None, Some}
 use Rattle.celltable.specs.Table.{cell_at}
 use Rattle.celltable.specs.Ranges.{cell_range, level_of}
 use Rattle.celltable.specs.Descent.{place_of, on_square, leaf_of, down_from, descend_in}

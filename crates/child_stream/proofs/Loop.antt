@@ -4,8 +4,7 @@ use mathlib.Core.List.{List, [], ◌∷◌}
 use Prim.Native.Nat.{ℕ, ◌+◌, ◌-◌, ◌^◌, ◌≤◌, ◌<◌}
 use native.Mathlib.Omega.{arith}
 use lib.ListN.{length}
-use lib.IntN.{ℤ, nat_abs}
-use Rattle.std.specs.Prelude.{Option, Some, None}
+use lib.IntN.{ℤ}
 use Rattle.geometry.specs.declared.class.Class.{Class}
 use Rattle.geometry.specs.declared.class.Square.{Square}
 use Rattle.pruning.specs.code.Pruner.{going}
@@ -20,9 +19,8 @@ use Rattle.stream.specs.Grammar.{Env, Passed}
 use Rattle.stream.proofs.Table.{words_step, words_none}
 use Rattle.pruner.specs.code.Numbers.{counted}
 use Rattle.making.specs.declared.Maker.{Maker}
-use Rattle.making.specs.declared.Waiting.{Waiting}
 use Rattle.making.specs.Made.{elements_made}
-use Rattle.making.specs.code.Numbers.{resting, left_sign, left_class, start_in, weight_in, waiting_n, settled_n, pruned_n, Inside, Asks}
+use Rattle.making.specs.code.Numbers.{resting, left_sign, left_class, weight_in, waiting_n, settled_n, pruned_n, Inside, Asks}
 use Rattle.making.proofs.Standing.{Reads, Standing}
 use Rattle.making.proofs.Turn.{waits_small, standing_weight, standing_base, standing_inside, standing_room, standing_start, standing_left, standing_sign, standing_next}
 use Rattle.making.proofs.Whole.{all_of, standing_begin, weight_end}

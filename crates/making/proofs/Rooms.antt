@@ -1,15 +1,13 @@
 -- The numbers of a pruner after an area has settled are still far from their ends.
 use mathlib.Core.Path.{◌≡◌, refl, sym, ap, ◌∙◌}
-use mathlib.Core.Bool.{Bool, true, false, cond}
+use mathlib.Core.Bool.{Bool, false}
 use mathlib.Core.List.{List}
 use Prim.Native.Nat.{ℕ, ◌^◌, ◌≤◌, ◌<◌}
 use native.Mathlib.Omega.{arith}
 use lib.IntN.{ℤ, nat_abs}
 use mir.Syntax.{w64}
 use mir.Val.{to_z, of_z}
-use Rattle.pruning.specs.Sides.{item}
-use Rattle.pruning.specs.code.Counters.{Count, count_step}
-use Rattle.pruning.specs.code.Weights.{sized, sized_items, size_of}
+use Rattle.pruning.specs.code.Counters.{Count}
 use Rattle.pruner.specs.declared.Pruner.{Pruner}
 use Rattle.std.specs.Prelude.{Option, Some, None}
 use Rattle.pruner.specs.code.Numbers.{counted, class_of, skip_of, skip_number}

@@ -2,14 +2,14 @@
 use mathlib.Core.Path.{◌≡◌, refl, sym, ap, ap₂, ◌∙◌}
 use mathlib.Core.Bool.{true, false, cond, ◌||◌}
 use mathlib.Core.List.{List, [], ◌∷◌}
-use Prim.Native.Nat.{ℕ, zero, suc, ◌+◌, ◌-◌, ◌/◌, ◌%◌, ◌^◌, ◌≤◌, ◌<◌, max}
+use Prim.Native.Nat.{ℕ, zero, suc, ◌+◌, ◌-◌, ◌/◌, ◌%◌, ◌^◌, ◌<◌, max}
 use native.Mathlib.Nat.{pow-suc, pow-succ', zero-add, add-zero, add-suc, suc-add, div-div-eq-div-mul}
 use native.Mathlib.Omega.{arith}
 use lib.Dec.{eqb, ltb, leb-suc-suc, eqb-zero-suc, eqb-suc-zero, eqb-suc-suc}
 use lib.Pow.{shr_lt}
 use lib.Bits.{bit_or, or_step}
 use lib.Count.{count_trailing_zeros, under}
-use borrow.Author.Tests.{eq-eqb, ne_eqb, lt-ltb, le-ltb}
+use borrow.Author.Tests.{eq-eqb, ne_eqb, lt-ltb}
 use Rattle.laws.proofs.Booleans.{or_false, or_or}
 use Rattle.paint.specs.Sets.{has, with_area, with_areas, set_of, among, each_from, each}
 use Rattle.paint.specs.Areas.{material_from, material_of}

@@ -5,7 +5,6 @@ use mathlib.Core.List.{List, [], ◌∷◌, map}
 use Prim.Native.Nat.{ℕ, zero, suc, ◌≤◌, ◌<◌}
 use native.Mathlib.Omega.{arith}
 use lib.ListN.{length, get_or}
-use Rattle.laws.proofs.Booleans.{clash}
 use Rattle.curves.specs.Curves.{curve_fits}
 use Rattle.geometry.specs.Windings.{contour, straight, bent}
 use Rattle.records.specs.declared.Record.TheVariants.{Area}

@@ -12,10 +12,8 @@ use borrow.Author.Tests.{lt-ltb, le-leb, lt-leb, eq-eqb}
 use mir.Syntax.{w32}
 use mir.Val.{of_z}
 use Rattle.laws.proofs.Booleans.{clash, and_both}
-use Rattle.curves.specs.Curves.{curve_fits}
 use Rattle.geometry.specs.Windings.{Line, line, curve, edge_of}
 use Rattle.geometry.specs.code.Reach.{CurveIn, LineBelow}
-use Rattle.geometry.specs.declared.edge.Edge.{Edge}
 use Rattle.records.specs.declared.Fields.{Fields}
 use Rattle.records.specs.declared.Record.TheVariants.{Area}
 use Rattle.records.specs.Record.{area_range, paint_range, clip_range, corner_range}

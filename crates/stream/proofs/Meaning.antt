@@ -6,7 +6,7 @@ use mathlib.Core.List.{List, [], ◌∷◌}
 use Rattle.std.proofs.Common.{Option, None, Some}
 use lib.ListN.{length}
 use lib.Dec.{eqb, ltb}
-use Rattle.groups.specs.Sides.{Frame, is_paint, on_left, on_right, to_outer}
+use Rattle.groups.specs.Sides.{is_paint, on_left, on_right, to_outer}
 use Rattle.groups.specs.code.Stack.{num, close_n}
 use Rattle.groups.proofs.Stack.{paint_is, left_is, right_is, room_is, bar_is, close_is, open_is, empty_is}
 use Rattle.records.specs.Record.{Decoded}
@@ -15,7 +15,7 @@ use Rattle.stream.specs.declared.Words.{Words}
 use Rattle.stream.specs.declared.Scan.{Scan}
 use Rattle.stream.specs.Entry.{Entry, opens, bar, closes, area, line, curve, shortcut, passes, decode, is_curve, is_line, is_segment, start_range}
 use Rattle.records.specs.Record.{is_good}
-use Rattle.stream.specs.Grammar.{Env, area_met, role_fits, in_range, Place, place, Course, at, off, next, met, course, begin, is_whole, accepts}
+use Rattle.stream.specs.Grammar.{Env, area_met, role_fits, in_range, Place, place, Course, at, off, next, course, begin, is_whole, accepts}
 use Rattle.stream.specs.code.Machine.{
   mk,
   start_n,

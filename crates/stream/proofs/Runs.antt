@@ -7,7 +7,7 @@ use native.Mathlib.Omega.{arith}
 use Rattle.std.proofs.Common.{Option, None, Some, MatchOption}
 use lib.Dec.{eqb, ltb, leb}
 use borrow.Author.Tests.{eq-eqb, ne_eqb, ltb-true, ltb-false, leb-true, leb-false}
-use Rattle.laws.proofs.Booleans.{clash, and_left, and_right, and_true}
+use Rattle.laws.proofs.Booleans.{clash, and_left, and_right}
 use Rattle.stream.specs.declared.Words.{Words}
 use Rattle.stream.specs.declared.Bounds.{Bounds}
 use Rattle.stream.specs.declared.Run.{Run}

@@ -9,8 +9,6 @@ use lib.Dec.{eqb, ltb}
 use lib.ListN.{length, get_or, take, length-map}
 use lib.Seq.{length-take-le}
 use lib.IntN.{ℤ, ◌+ℤ◌}
-use mir.Syntax.{w32}
-use mir.Val.{of_z}
 use borrow.Author.Tests.{lt-ltb, le-ltb, ne_eqb}
 use Rattle.laws.proofs.Booleans.{clash}
 use Rattle.geometry.specs.declared.class.Class.{Class}
@@ -42,7 +40,7 @@ use Rattle.evaluate.specs.code.Numbers.{line_of}
 use Rattle.making.specs.declared.Maker.{Maker}
 use Rattle.making.specs.declared.Waiting as Declared
 use Rattle.making.specs.code.Numbers.{waiting_as, class_n}
-use Rattle.making.proofs.Follows.{state_of, waiting_of, waiting_for, Follows, class_is}
+use Rattle.making.proofs.Follows.{state_of, waiting_of, Follows, class_is}
 use Rattle.making.proofs.Turn.{before_most}
 use Rattle.writing.specs.code.Numbers.{put_below, place_of, kept_put, segment_put, class_put, settled_put}
 use Rattle.writing.proofs.Marks.{none_is}

@@ -1,9 +1,9 @@
 use mathlib.Core.Path.{◌≡◌, refl, ap, ◌∙◌}
-use Prim.Native.Nat.{◌-◌, ◌+◌, ◌<◌, ◌≤◌}
+use Prim.Native.Nat.{◌-◌, ◌+◌}
 use native.Mathlib.Omega.{arith}
 use Rattle.std.specs.Prelude.{Some}
 use Rattle.celltable.proofs.Meaning.{walk_is}
-use Rattle.celltable.proofs.Walk.{walk_deeper, walk_landed, walk_bad, walk_done, going_start, going_in, going_on}
+use Rattle.celltable.proofs.Walk.{walk_deeper, walk_landed, walk_bad, walk_done, going_start, going_on}
 use Rattle.celltable.proofs.descend.Goals as goal
 
 pub loop-k-init : goal.loop-k-init

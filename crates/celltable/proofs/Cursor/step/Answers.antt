@@ -1,6 +1,4 @@
-use Rattle.std.proofs.lemmas.Bool.{not-true, not-false}
-use Rattle.celltable.proofs.Ranges.{child_few}
-use Rattle.celltable.proofs.Walk.{step_astray, step_unfit, step_landed, step_deeper, numbers_child}
+use Rattle.celltable.proofs.Walk.{step_astray, step_unfit, step_landed, step_deeper}
 use Rattle.celltable.proofs.Cursor.step.Goals as goal
 
 pub returns-then-not-stands_on : goal.returns-then-not-stands_on

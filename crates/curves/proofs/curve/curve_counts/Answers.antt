@@ -1,7 +1,7 @@
 -- `curves::curve::curve_counts` meets its contract: no row, right of the box, left of it, and within it by the form.
 use mathlib.Core.Path.{◌∙◌}
 use native.Mathlib.Omega.{arith}
-use Rattle.curves.proofs.Boxes.{Fits, fits_says, off_row, right_of_box, left_of_box, on_row, in_box, control_in}
+use Rattle.curves.proofs.Boxes.{fits_says, off_row, right_of_box, left_of_box, on_row, in_box, control_in}
 use Rattle.curves.proofs.curve.curve_counts.Goals as goal
 
 pub returns-then-at-low : goal.returns-then-at-low

@@ -1,11 +1,10 @@
 -- `geometry::winding::area_winding` meets its contract: the running sum and the contours that are left make the whole.
 use mathlib.Core.Path.{refl}
-use Prim.Native.Nat.{◌+◌, ◌-◌, ◌≤◌}
+use Prim.Native.Nat.{◌-◌}
 use native.Mathlib.Omega.{arith}
-use lib.Dec.{T}
-use lib.ListN.{length, drop, get_or}
+use lib.ListN.{length, get_or}
 use Rattle.laws.proofs.Signed.{running_start, running_fits, running_more}
-use Rattle.geometry.specs.Windings.{straight_lines, sum_of, follow}
+use Rattle.geometry.specs.Windings.{straight_lines, sum_of}
 use Rattle.geometry.proofs.Windings.{follow_step, area_step, area_done, contour_abs}
 use Rattle.geometry.proofs.winding.area_winding.Goals as goal
 

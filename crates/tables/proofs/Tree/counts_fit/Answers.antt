@@ -1,6 +1,5 @@
 use mathlib.Core.Path.{sym, ◌∙◌}
 use lib.ListN.{length}
-use Rattle.std.proofs.lemmas.Bool.{not-true, not-false}
 use Rattle.celltable.proofs.Ranges.{head_long}
 use Rattle.tables.specs.Tables.{tree_of}
 use Rattle.tables.proofs.Counts.{counts_yes, counts_short, counts_no}
