@@ -35,6 +35,7 @@ pub fn bent_counts(from: Point, control: Point, to: Point, at: Point) -> bool
 impl Edge {
     // Whether an edge counts at `at`.
     #[tactic(auto, unfolding(crate::specs::Edges::counts))]
+    #[inline(always)]
     pub fn counts(self, at: Point) -> bool
         requires edge_in { EdgeIn self }
         requires position_in { PositionIn at.x at.y }

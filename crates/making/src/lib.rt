@@ -202,6 +202,7 @@ impl Maker {
     }
 
     // The pruner after the area that waits, if one does.
+    #[inline(always)]
     pub fn settled(self, areas: &[u32]) -> Pruner
         requires inside { Inside (length areas.now) self.waiting }
         requires weight_bound { (self.pruner.weight + weight_in self.waiting < 2 ^ 60) × (self.pruner.base < 2 ^ 60) }
@@ -229,6 +230,7 @@ impl Maker {
     }
 
     // Goes on to the next entry, w.
+    #[inline(always)]
     pub fn go_on(&mut self, context: Context, s: Square, w: Words)
         requires corners_in_bounds { (context.bounds.corners ≤ length context.xs.now)
             × (context.bounds.corners ≤ length context.ys.now) }

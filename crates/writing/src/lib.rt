@@ -203,6 +203,7 @@ fn put_mark(out: &mut [u32], limit: usize, q: Pruner, weight: u64, kind: u32)
 }
 
 // An entry more that is no line, curve or shortcut: what it makes is written, and the pruner goes on.
+#[inline(always)]
 fn write_other(out: &mut [u32], limit: usize, areas: &[u32], m: Maker, kind: u32) -> Pruner
     requires limit_in_bounds { limit * 4 ≤ length out.old }
     requires inside { Inside (length areas.now) m.waiting }
@@ -220,6 +221,7 @@ fn write_other(out: &mut [u32], limit: usize, areas: &[u32], m: Maker, kind: u32
 }
 
 // Goes on to the next entry, w, and writes what it makes.
+#[inline(always)]
 pub fn write_entry(
     out: &mut [u32],
     limit: usize,
