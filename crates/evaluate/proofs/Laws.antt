@@ -1,21 +1,18 @@
--- Signs and start numbers as words; an area on a clip side is not shown; lines, curves and shortcuts as elements, and what their ranges say.
-use mathlib.Core.Path.{◌≡◌, refl, sym, ap, ap₂, ◌∙◌}
+-- Signs and start numbers as words; lines, curves and shortcuts as elements, and what their ranges say.
+use mathlib.Core.Path.{◌≡◌, refl, sym, ap, ◌∙◌}
 use mathlib.Core.Bool.{Bool, true, false, cond, ◌&&◌, ◌||◌, true≢false}
 use mathlib.Core.List.{List, ◌∷◌}
-use Prim.Native.Nat.{ℕ, suc, ◌+◌, ◌*◌, ◌-◌, ◌≤◌, ◌<◌}
+use Prim.Native.Nat.{ℕ, ◌+◌, ◌*◌, ◌≤◌, ◌<◌}
 use native.Mathlib.Omega.{arith}
 use lib.Dec.{eqb, ltb, leb}
 use lib.ListN.{length, get_or}
-use lib.IntN.{ℤ, pos, ◌+ℤ◌, ◌-ℤ◌, nat_abs}
+use lib.IntN.{ℤ, pos, nat_abs}
 use mir.Syntax.{w32, w64}
-use mir.Val.{SFits, to_z, of_z}
+use mir.Val.{to_z, of_z}
 use mir.ValLaws.{to_z_pos}
-use borrow.Author.Tests.{ne_eqb, eq-eqb, eqb-true, lt-leb, leb-true, leb-false, ltb-true, ltb-false}
-use Rattle.laws.proofs.Differences.{pos_pos, sub_pos, sub_neg, add_sub, abs_add, mag_abs}
-use Rattle.laws.proofs.Signed.{fits_as, read_back}
-use Rattle.pruning.specs.Sides.{clip}
-use Rattle.pruning.specs.Registers.{Registers, on_item}
-use Rattle.pruning.proofs.Registers.{clip_shows}
+use borrow.Author.Tests.{ne_eqb, eq-eqb, eqb-true, lt-leb, leb-true, leb-false, ltb-true}
+use Rattle.laws.proofs.Differences.{mag_abs}
+use Rattle.laws.proofs.Signed.{read_back}
 use Rattle.laws.proofs.Booleans.{clash}
 use Rattle.curves.specs.Curves.{curve_fits}
 use Rattle.geometry.specs.code.Reach.{EdgeIn, LineBelow}
@@ -37,45 +34,19 @@ use Rattle.evaluate.specs.Reading.{element_for}
 use Rattle.evaluate.specs.code.Numbers.{line_of, line_met, segment_of, segment_range}
 
 -- a sign that is not 1 is −1
-pub other_sign : (p : ℕ) → sign_range p ≡ true → (p ≡ 1 → ⊥) → p ≡ 4294967295
+other_sign : (p : ℕ) → sign_range p ≡ true → (p ≡ 1 → ⊥) → p ≡ 4294967295
 other_sign p h g = eqb-true p 4294967295 (sym (ap (λ b. b || eqb p 4294967295) (ne_eqb p 1 g)) ∙ h)
 
-pub clip_plain : (p q : Bool) (f : ℕ → ℕ) (r : Registers ℕ) → on_item clip p q f r ≡ on_item clip p true (λ s. s) r
-clip_plain p q f r = clip_shows p q true f (λ s. s) r
-
 -- ---- start numbers as words
-
-pub start_up : (q : ℕ) → q ≤ 2048 → pos q -ℤ pos 0 ≡ to_z w32 q
-start_up q h = pos_pos q 0 ∙ (sub_pos q 0 q (omega arith) ∙ sym (to_z_pos w32 q (omega arith)))
 
 -- a start number above 2,048 is one below 0
 start_other : (q : ℕ) → start_range q ≡ true → 2048 < q → 4294965248 ≤ q
 start_other q h g = leb-true 4294965248 q (sym (ap (λ b. b || leb 4294965248 q) (lt-leb q 2048 g)) ∙ h)
 
-pub start_down : (q : ℕ) → start_range q ≡ true → 2048 < q → q < 4294967296 → (pos q -ℤ pos 4294967295) +ℤ (pos 0 -ℤ pos 1) ≡ to_z w32 q
-start_down q h g k =
-    let l = start_other q h g in
-    ap₂ ◌+ℤ◌ (pos_pos q 4294967295) (pos_pos 0 1)
-    ∙ (add_sub q 4294967295 0 1 ∙ (sub_neg (q + 0) (4294967295 + 1) (4294967296 - suc q) (omega arith) ∙ sym (upper q (omega arith))))
-
--- and it fits
-pub start_fits : (q : ℕ) → q < 4294967296 → SFits w64 (to_z w32 q)
-start_fits q h = go (ltb q 2147483648) refl
-  where
-    go : (b : Bool) → ltb q 2147483648 ≡ b → SFits w64 (to_z w32 q)
-    go true e = let l = ltb-true q 2147483648 e in fits_as (to_z_pos w32 q l) (record { sfits = omega arith })
-    go false e = let l = ltb-false q 2147483648 e in fits_as (upper q l) (record { sfits = omega arith })
-
 -- ---- sums that are small
 
 pub small_back : (s : ℤ) → nat_abs s ≤ 8192 → to_z w64 (of_z w64 s) ≡ s
 small_back s h = read_back s (mag_abs s (omega arith))
-
-pub sum_is : (s a : ℤ) → nat_abs s ≤ 8192 → nat_abs a ≤ 1 → to_z w64 (of_z w64 s) +ℤ to_z w64 (of_z w64 a) ≡ s +ℤ a
-sum_is s a h g = ap₂ ◌+ℤ◌ (small_back s h) (small_back a (omega arith))
-
-pub sum_fits : (s a : ℤ) → nat_abs s ≤ 8192 → nat_abs a ≤ 1 → SFits w64 (s +ℤ a)
-sum_fits s a h g = record { sfits = mag_abs (s +ℤ a) (omega (arith, abs_add s a)) }
 
 -- ---- corners in range
 

@@ -12,10 +12,9 @@ ghost use Rattle.geometry.specs.Windings.{edge_of, adds};
 ghost use Rattle.paint.specs.Sets.{with_area};
 ghost use Rattle.pruning.specs.Registers.{on_item};
 ghost use Rattle.machine.specs.code.Registers.{meant};
-ghost use Rattle.stream.specs.Entry.{start_range, sign_range};
-ghost use Rattle.stream.specs.Table.{words_at, words_from};
-ghost use Rattle.stream.specs.Grammar.{env, Passed};
-ghost use Rattle.stream.specs.code.Machine.{run_length};
+ghost use Rattle.stream.specs.Table.{words_at, words_from, words_passed};
+ghost use Rattle.stream.specs.Grammar.{env_of, env_passed, Passed};
+ghost use Rattle.stream.specs.code.Machine.{run_length, end_passed};
 ghost use Rattle.evaluate.specs.Reading.{role_at, pass_at, opaque_at, set_at};
 ghost use Rattle.evaluate.specs.code.Numbers.{line_of, segment_range, segment_adds, segments_sum, moved_by, SegmentsIn, Ranged, Onward};
 
@@ -25,20 +24,17 @@ use geometry::fill::FillRule;
 use geometry::{fill, winding};
 use machine::Machine;
 use records::AREA_WORDS;
-use stream::{Bounds, Words};
+use stream::{Context, Stream, Words};
 
 // What a shortcut adds in row y.
 fn shortcut_adds(w: Words, y: u32) -> i64
-    requires { sign_range w.p ≡ true }
     ensures answer { result ≡ cond (is_row w.q w.r y) (to_z w32 w.p) (pos 0) }
 {
     if (w.q <= y) & (y < w.r) {
-        if w.p == stream::PLUS_ONE {
-            return 1;
-        }
-        return -1;
+        i64::from(w.p.cast_signed())
+    } else {
+        0
     }
-    0
 }
 
 // The edge of the line or the curve that an entry names.
@@ -47,19 +43,20 @@ pub fn edge_of(xs: &[u32], ys: &[u32], w: Words) -> Edge
     ensures answer { result ≡ edge_of xs.now ys.now (line_of w) }
 {
     if stream::is_curve(w.kind) {
-        return winding::curve_from(xs, ys, w.p as usize);
+        winding::curve_from(xs, ys, w.p as usize)
+    } else {
+        winding::edge_between(xs, ys, w.p as usize, w.q as usize)
     }
-    winding::edge_between(xs, ys, w.p as usize, w.q as usize)
 }
 
-// What a line or a curve adds at (x, y).
-fn line_adds(xs: &[u32], ys: &[u32], w: Words, x: u32, y: u32) -> i64
+// What a line or a curve adds at a position.
+fn line_adds(xs: &[u32], ys: &[u32], w: Words, at: Point) -> i64
     requires line_below { LineBelow (length xs.now) (line_of w) × LineBelow (length ys.now) (line_of w) }
     requires edge_in { EdgeIn (edge_of xs.now ys.now (line_of w)) }
-    requires position_in { PositionIn x y }
-    ensures answer { result ≡ adds (edge_of xs.now ys.now (line_of w)) x y }
+    requires position_in { PositionIn at.x at.y }
+    ensures answer { result ≡ adds (edge_of xs.now ys.now (line_of w)) at.x at.y }
 {
-    edge_of(xs, ys, w).adds(Point { x, y })
+    edge_of(xs, ys, w).adds(at)
 }
 
 // Whether an area with this winding passes.
@@ -67,10 +64,12 @@ pub fn area_passes(areas: &[u32], n: usize, sum: i64) -> bool
     requires { n * 8 + 8 ≤ length areas.now }
     ensures answer { result ≡ pass_at areas.now n sum }
 {
-    if areas[n * AREA_WORDS + records::RULE] == records::NON_ZERO {
-        return fill::fill_passes(FillRule::NonZero, sum);
-    }
-    fill::fill_passes(FillRule::EvenOdd, sum)
+    let rule = if areas[n * AREA_WORDS + records::RULE] == records::NON_ZERO {
+        FillRule::NonZero
+    } else {
+        FillRule::EvenOdd
+    };
+    fill::fill_passes(rule, sum)
 }
 
 // The machine after an area with this winding.
@@ -84,35 +83,33 @@ fn after_area(areas: &[u32], m: Machine, n: u32, sum: i64) -> Machine
     let at = (n as usize) * AREA_WORDS;
     let passes = area_passes(areas, n as usize, sum);
     if areas[at] == records::PAINT {
-        let opaque = areas[at + records::ALPHA] == records::OPAQUE;
-        return m.after_paint(passes, opaque, n);
+        m.after_paint(passes, areas[at + records::ALPHA] == records::OPAQUE, n)
+    } else {
+        m.after_clip(passes)
     }
-    m.after_clip(passes)
 }
 
 // The start number of an area.
 pub fn start_of(w: Words) -> i64
-    requires { start_range w.q ≡ true }
     ensures answer { result ≡ to_z w32 w.q }
 {
-    if w.q <= stream::MOST_START {
-        return laws::difference(w.q, 0);
-    }
-    laws::difference(w.q, stream::MINUS_ONE) + laws::difference(0, 1)
+    i64::from(w.q.cast_signed())
 }
 
 // ---- an area and its lines, curves and shortcuts
-// What a line, a curve or a shortcut adds at (x, y).
-fn segment_adds(xs: &[u32], ys: &[u32], corners: usize, w: Words, x: u32, y: u32) -> i64
-    requires corners_in_bounds { (corners ≤ length xs.now) × (corners ≤ length ys.now) }
-    requires w_value { segment_range xs.now ys.now corners w ≡ true }
-    requires position_in { PositionIn x y }
-    ensures answer { (result ≡ segment_adds xs.now ys.now x y w) × (nat_abs result ≤ 1) }
+// What a line, a curve or a shortcut adds at a position.
+fn segment_adds(context: Context, w: Words, at: Point) -> i64
+    requires corners_in_bounds { (context.bounds.corners ≤ length context.xs.now)
+        × (context.bounds.corners ≤ length context.ys.now) }
+    requires w_value { segment_range context.xs.now context.ys.now context.bounds.corners w ≡ true }
+    requires position_in { PositionIn at.x at.y }
+    ensures answer { (result ≡ segment_adds (env_passed context).xs (env_passed context).ys at.x at.y w) × (nat_abs result ≤ 1) }
 {
     if stream::is_line(w.kind) {
-        return line_adds(xs, ys, w, x, y);
+        line_adds(context.xs, context.ys, w, at)
+    } else {
+        shortcut_adds(w, at.y)
     }
-    shortcut_adds(w, y)
 }
 
 // The winding of an area, and the entry behind its lines, curves and shortcuts.
@@ -122,37 +119,28 @@ pub struct Winding {
     pub next: usize,
 }
 
-// The winding at (x, y) of an area with this start number, whose lines, curves and shortcuts begin at entry `from`.
-fn winding_from(
-    entries: &[u32],
-    from: usize,
-    end: usize,
-    xs: &[u32],
-    ys: &[u32],
-    b: Bounds,
-    start: i64,
-    x: u32,
-    y: u32,
-) -> Winding
-    requires segments_in { SegmentsIn entries.now from end xs.now ys.now b }
-    requires position_in { PositionIn x y }
+// The winding at a position of an area with this start number, whose lines, curves and shortcuts begin at entry `from`.
+fn winding_from(stream: Stream, from: usize, context: Context, start: i64, at: Point) -> Winding
+    requires segments_in { SegmentsIn stream.entries.now from (stream.first + stream.count)
+        context.xs.now context.ys.now context.bounds }
+    requires position_in { PositionIn at.x at.y }
     requires start_bound { nat_abs start ≤ 2048 }
-    ensures sum { result.sum ≡ start +ℤ segments_sum xs.now ys.now x y (words_from entries.now from (end - from)) }
-    ensures next { result.next ≡ from + run_length (words_from entries.now from (end - from)) }
+    ensures sum { result.sum ≡
+        start +ℤ segments_sum (env_passed context).xs (env_passed context).ys at.x at.y
+        (words_from stream.entry.entries.now from (end_passed stream - from)) }
+    ensures next { result.next ≡
+        from + run_length (words_from stream.entry.entries.now from (end_passed stream - from)) }
 {
+    let end = stream.first + stream.count;
     let mut sum = start;
-    let mut i = from;
-    while i < end {
-        let w = stream::read_entry(entries, i);
-        if stream::is_segment(w.kind) {
-            let a = segment_adds(xs, ys, b.corners, w, x, y);
-            sum += a;
-            i += 1;
-        } else {
-            return Winding { sum: sum, next: i };
+    for i in from..end {
+        let w = stream::read_entry(stream.entries, i);
+        if !stream::is_segment(w.kind) {
+            return Winding { sum, next: i };
         }
+        sum += segment_adds(context, w, at);
     }
-    Winding { sum: sum, next: i }
+    Winding { sum, next: end }
 }
 
 // ---- one entry, and a stream
@@ -172,105 +160,68 @@ fn moved(m: Machine, kind: u32) -> Machine
         stream::ENTRY_OPEN => m.after_open(),
         stream::ENTRY_BAR => m.after_bar(),
         stream::ENTRY_CLOSE => m.after_close(),
-        _ => {
-            if stream::is_segment(kind) {
-                return m;
-            }
-            m.after_clip(true)
-        }
+        _ if stream::is_segment(kind) => m,
+        _ => m.after_clip(true),
     }
 }
 
 // After the area of entry i, whose words are w. It is looked at in P only.
-fn read_area(
-    entries: &[u32],
-    i: usize,
-    end: usize,
-    areas: &[u32],
-    xs: &[u32],
-    ys: &[u32],
-    b: Bounds,
-    m: Machine,
-    w: Words,
-    x: u32,
-    y: u32,
-) -> Reading
-    requires ranged { Ranged entries.now i end (env areas.now xs.now ys.now b) }
-    requires w_value { (w ≡ words_at entries.now i) × (w.kind ≡ 4) }
-    requires position_in { PositionIn x y }
-    ensures onward { Onward areas.now xs.now ys.now x y entries.now i end m result }
+fn read_area(stream: Stream, i: usize, context: Context, m: Machine, w: Words, at: Point) -> Reading
+    requires ranged { Ranged stream.entries.now i (stream.first + stream.count) (env_of context) }
+    requires w_value { (w ≡ words_at stream.entries.now i) × (w.kind ≡ 4) }
+    requires position_in { PositionIn at.x at.y }
+    ensures onward { Onward (env_passed context).areas (env_passed context).xs (env_passed context).ys at.x at.y
+        stream.entry.entries.now i (end_passed stream) m result }
 {
-    if m.state == machine::P {
-        let z = start_of(w);
-        let s = winding_from(entries, i + 1, end, xs, ys, b, z, x, y);
-        let n = after_area(areas, m, w.p, s.sum);
+    if m.state != machine::P {
         return Reading {
-            machine: n,
-            next: s.next,
+            machine: m,
+            next: i + 1,
         };
     }
+    let winding = winding_from(stream, i + 1, context, start_of(w), at);
     Reading {
-        machine: m,
-        next: i + 1,
+        machine: after_area(context.areas, m, w.p, winding.sum),
+        next: winding.next,
     }
 }
 
 // After entry i and, if it is an area that is looked at, its lines, curves and shortcuts.
-fn read_next(
-    entries: &[u32],
-    i: usize,
-    end: usize,
-    areas: &[u32],
-    xs: &[u32],
-    ys: &[u32],
-    b: Bounds,
-    m: Machine,
-    x: u32,
-    y: u32,
-) -> Reading
-    requires ranged { Ranged entries.now i end (env areas.now xs.now ys.now b) }
+fn read_next(stream: Stream, i: usize, context: Context, m: Machine, at: Point) -> Reading
+    requires ranged { Ranged stream.entries.now i (stream.first + stream.count) (env_of context) }
     requires depth_bound { m.depth < 4096 }
-    requires position_in { PositionIn x y }
-    ensures onward { Onward areas.now xs.now ys.now x y entries.now i end m result }
+    requires position_in { PositionIn at.x at.y }
+    ensures onward { Onward (env_passed context).areas (env_passed context).xs (env_passed context).ys at.x at.y
+        stream.entry.entries.now i (end_passed stream) m result }
 {
-    let w = stream::read_entry(entries, i);
+    let w = stream::read_entry(stream.entries, i);
     if w.kind == stream::ENTRY_AREA {
-        return read_area(entries, i, end, areas, xs, ys, b, m, w, x, y);
-    }
-    let n = moved(m, w.kind);
-    Reading {
-        machine: n,
-        next: i + 1,
+        read_area(stream, i, context, m, w, at)
+    } else {
+        Reading {
+            machine: moved(m, w.kind),
+            next: i + 1,
+        }
     }
 }
 
-// The shown set at (x, y) of the stream of count entries from first on, up to the area that stops the machine. It has passed
-// `stream::check_stream`.
-pub fn read_stream(
-    entries: &[u32],
-    first: usize,
-    count: usize,
-    areas: &[u32],
-    xs: &[u32],
-    ys: &[u32],
-    b: Bounds,
-    x: u32,
-    y: u32,
-) -> u64
-    requires passed { Passed entries.now first count (env areas.now xs.now ys.now b) }
-    requires position_in { PositionIn x y }
-    ensures answer { result ≡ set_at areas.now xs.now ys.now x y (words_from entries.now first count) }
+// The shown set at a position of a stream, up to the area that stops the machine. The stream has passed `stream::check_stream`.
+pub fn read_stream(stream: Stream, context: Context, at: Point) -> u64
+    requires passed { Passed stream.entries.now stream.first stream.count (env_of context) }
+    requires position_in { PositionIn at.x at.y }
+    ensures answer { result ≡
+        set_at (env_passed context).areas (env_passed context).xs (env_passed context).ys at.x at.y (words_passed stream) }
 {
-    let end = first + count;
+    let end = stream.first + stream.count;
     let mut m = Machine::begun();
-    let mut i = first;
+    let mut i = stream.first;
+    // a `while`: an iterator has no step that goes on behind an area's run
     while i < end {
         if m.state == machine::STOPPED {
             return m.set;
         }
-        let r = read_next(entries, i, end, areas, xs, ys, b, m, x, y);
-        let n = r.machine;
-        m = n;
+        let r = read_next(stream, i, context, m, at);
+        m = r.machine;
         i = r.next;
     }
     m.set

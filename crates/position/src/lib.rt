@@ -11,9 +11,10 @@ ghost use Rattle.position.specs.Spots.{spot_of, set_read, position_answer};
 ghost use Rattle.position.specs.code.Numbers.{between, in_square, LastIn, shown_there};
 
 use celltable::Leaf;
-use drawing::Drawing;
+use curves::Point;
 use paint::{area, colour};
 use refusals::Refusal;
+use stream::{Context, Stream};
 use tables::Tree;
 
 // What shows at a position: the set of areas, the material of the front one, and the colour. And how far that reaches: whether the leaf's stream holds no
@@ -47,16 +48,19 @@ fn set_in(tree: Tree, leaf: Leaf, x: u32, y: u32) -> u64
     ensures answer { result ≡ set_read (tree_passed tree) leaf x y }
     ensures painted { Painted (tree_passed tree).areas result }
 {
-    let Drawing {
-        plan,
-        areas,
-        xs,
-        ys,
-    } = tree.drawing;
-    let b = tables::bounds_in(plan, leaf.y, leaf.side);
-    let first = leaf.first as usize;
-    let count = leaf.count as usize;
-    evaluate::read_stream(tree.entries, first, count, areas, xs, ys, b, x, y)
+    let drawing = tree.drawing;
+    let stream = Stream {
+        entries: tree.entries,
+        first: leaf.first as usize,
+        count: leaf.count as usize,
+    };
+    let context = Context {
+        areas: drawing.areas,
+        xs: drawing.xs,
+        ys: drawing.ys,
+        bounds: tables::bounds_in(drawing.plan, leaf.y, leaf.side),
+    };
+    evaluate::read_stream(stream, context, Point { x, y })
 }
 
 // A set with its material and its colour, and the leaf from which it was read.

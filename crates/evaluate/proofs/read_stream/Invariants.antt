@@ -9,11 +9,14 @@ use Rattle.evaluate.proofs.read_stream.Given as goal
 
 abbrev pub invariant-loop-i : goal.invariant-loop-i
 invariant-loop-i l =
-    (l.first ≤ l.i)
-    × (l.i ≤ l.end)
-    × (l.m.depth ≤ l.i - l.first)
-    × (set_from l.areas l.xs l.ys l.x l.y (state (meant l.m) settled) (words_from l.entries l.i (l.end - l.i))
-    ≡ set_at l.areas l.xs l.ys l.x l.y (words_from l.entries l.first l.count))
+    let v = l.context in
+    record {
+      above : l.stream.first ≤ l.i;
+      below : l.i ≤ l.end;
+      deep : l.m.depth ≤ l.i - l.stream.first;
+      same : set_from v.areas.now v.xs.now v.ys.now l.at.x l.at.y (state (meant l.m) settled) (words_from l.stream.entries.now l.i (l.end - l.i))
+          ≡ set_at v.areas.now v.xs.now v.ys.now l.at.x l.at.y (words_from l.stream.entries.now l.stream.first l.stream.count);
+    }
 
 abbrev pub decreases-loop-i : goal.decreases-loop-i
 decreases-loop-i l = l.end - l.i

@@ -1,9 +1,9 @@
 -- `evaluate::winding_from` meets its contract: the running sum and the lines, curves and shortcuts that are left make the winding.
-use mathlib.Core.Path.{refl, sym, ap, subst, ◌∙◌}
-use Prim.Native.Nat.{◌+◌, ◌-◌, ◌≤◌}
+use mathlib.Core.Path.{sym, ap, subst, ◌∙◌}
+use Prim.Native.Nat.{◌+◌, ◌-◌, ◌≤◌, ◌<◌}
 use native.Mathlib.Omega.{arith}
 use lib.IntN.{◌+ℤ◌, nat_abs}
-use Rattle.laws.proofs.Signed.{running_fits, running_more, running_from, running_done}
+use Rattle.laws.proofs.Signed.{running_more, running_done}
 use Rattle.stream.specs.Table.{words_from}
 use Rattle.evaluate.specs.code.Numbers.{segment_adds, segments_sum}
 use Rattle.stream.proofs.Runs.{count_more, count_stop, count_last}
@@ -11,64 +11,60 @@ use Rattle.evaluate.proofs.Laws.{small_back}
 use Rattle.evaluate.proofs.Loop.{sum_more, sum_stop, sum_last}
 use Rattle.evaluate.proofs.winding_from.Goals as goal
 
-pub loop-i-init : goal.loop-i-init
-loop-i-init c = (omega arith, c.requires.segments_in.ordered, running_from _ c.args.start _ (omega (arith, c.requires.start_bound)) (omega arith), refl)
-
-pub read_entry-w-requires : goal.read_entry-w-requires
-read_entry-w-requires c = omega (arith, c.requires.segments_in.within, c.loop-i-test.true)
-
-pub segment_adds-a-requires : goal.segment_adds-a-requires
-segment_adds-a-requires c =
-    record {
-      corners_in_bounds = (c.requires.segments_in.corners_x, c.requires.segments_in.corners_y);
-      w_value = rw c.read_entry-w.ensures.answer
-          (c.requires.segments_in.range c.loop-i.i c.loop-i.invariant.0 c.loop-i-test.true
-          (rw c.read_entry-w.ensures.answer at (sym c.is_segment.ensures.answer ∙ c.if-is_segment.true)));
-      position_in = c.requires.position_in;
-    }
-
-pub overflow_add-sum : goal.overflow_add-sum
-overflow_add-sum c =
-    let a = c.args in
-    let t = c.loop-i-test.true in
-    running_fits c.loop-i.invariant.2 (segment_adds a.xs.now a.ys.now a.x a.y c.read_entry-w.result) _ _ (2048 + (c.loop-i.i + 1 - a.from)) 1
-    (sum_more a.entries.now a.xs.now a.ys.now a.x a.y c.loop-i.i a.end c.read_entry-w.result c.read_entry-w.ensures.answer t
-    (sym c.is_segment.ensures.answer ∙ c.if-is_segment.true))
-    c.segment_adds-a.ensures.answer.0 (subst (λ z. nat_abs z ≤ 1) c.segment_adds-a.ensures.answer.0 c.segment_adds-a.ensures.answer.1)
-    (omega (arith, c.loop-i.invariant.0)) (omega (arith, c.requires.segments_in.few, t))
-
 pub loop-i-preserved : goal.loop-i-preserved
 loop-i-preserved c =
     let a = c.args in
-    let t = c.loop-i-test.true in
-    let s = sym c.is_segment.ensures.answer ∙ c.if-is_segment.true in (
-      omega arith,
-      omega (arith, t),
-      running_more c.loop-i.invariant.2 (segment_adds a.xs.now a.ys.now a.x a.y c.read_entry-w.result) _ _ (2048 + (c.loop-i.i + 1 - a.from)) 1
-          (sum_more a.entries.now a.xs.now a.ys.now a.x a.y c.loop-i.i a.end c.read_entry-w.result c.read_entry-w.ensures.answer t s)
-          c.segment_adds-a.ensures.answer.0 (subst (λ z. nat_abs z ≤ 1) c.segment_adds-a.ensures.answer.0 c.segment_adds-a.ensures.answer.1)
-          (omega (arith, c.loop-i.invariant.0)) (omega (arith, c.requires.segments_in.few, t)),
-      omega (arith, count_more a.entries.now c.loop-i.i a.end c.read_entry-w.result c.read_entry-w.ensures.answer t s, c.loop-i.invariant.3),
-    )
-
-pub returns-else-is_segment : goal.returns-else-is_segment
-returns-else-is_segment c =
-    let a = c.args in
-    let t = c.loop-i-test.true in
-    let s = sym c.is_segment.ensures.answer ∙ c.if-is_segment.false in record {
-      sum = running_done (sum_stop a.entries.now a.xs.now a.ys.now a.x a.y c.loop-i.i a.end c.read_entry-w.result c.read_entry-w.ensures.answer t s)
-          c.loop-i.invariant.2
-          ∙ ap (λ z. z +ℤ segments_sum a.xs.now a.ys.now a.x a.y (words_from a.entries.now a.from (a.end - a.from)))
-          (small_back a.start (omega (arith, c.requires.start_bound)));
-      next = omega (arith, count_stop a.entries.now c.loop-i.i a.end c.read_entry-w.result c.read_entry-w.ensures.answer t s, c.loop-i.invariant.3);
+    let v = a.context in
+    let t = a.stream.entries.now in
+    let e = a.stream.first + a.stream.count in
+    let i = c.loop-i.i in
+    let w = c.read_entry-w in
+    let lt : i < e = omega arith in
+    let s = sym c.is_segment.ensures.answer ∙ c.if-not-is_segment.false in
+    let z = c.segment_adds-sum.ensures.answer in
+    record {
+      above = omega arith;
+      sum = running_more c.loop-i.invariant.sum (segment_adds v.xs.now v.ys.now a.at.x a.at.y w.result) _ _ (2048 + (i + 1 - a.from)) 1
+          (sum_more t v.xs.now v.ys.now a.at.x a.at.y i e w.result w.ensures.answer lt s)
+          z.0 (subst (λ z. nat_abs z ≤ 1) z.0 z.1) (omega arith) (omega (arith, c.requires.segments_in.few));
+      next = omega (arith, count_more t i e w.result w.ensures.answer lt s);
     }
 
-pub returns : goal.returns
-returns c =
+pub returns-then-not-is_segment-clause-sum : goal.returns-then-not-is_segment-clause-sum
+returns-then-not-is_segment-clause-sum c =
     let a = c.args in
-    let t = c.loop-i-test.false in record {
-      sum = running_done (sum_last a.entries.now a.xs.now a.ys.now a.x a.y c.loop-i.i a.end t) c.loop-i.invariant.2
-          ∙ ap (λ z. z +ℤ segments_sum a.xs.now a.ys.now a.x a.y (words_from a.entries.now a.from (a.end - a.from)))
-          (small_back a.start (omega (arith, c.requires.start_bound)));
-      next = omega (arith, count_last a.entries.now c.loop-i.i a.end t, c.loop-i.invariant.3);
-    }
+    let v = a.context in
+    let t = a.stream.entries.now in
+    let e = a.stream.first + a.stream.count in
+    let w = c.read_entry-w in
+    let lt : c.loop-i.i < e = omega arith in
+    running_done
+    (sum_stop t v.xs.now v.ys.now a.at.x a.at.y c.loop-i.i e w.result w.ensures.answer lt (sym c.is_segment.ensures.answer ∙ c.if-not-is_segment.true))
+    c.loop-i.invariant.sum
+    ∙ ap (λ z. z +ℤ segments_sum v.xs.now v.ys.now a.at.x a.at.y (words_from t a.from (e - a.from)))
+    (small_back a.start (omega (arith, c.requires.start_bound)))
+
+pub returns-then-not-is_segment-clause-next : goal.returns-then-not-is_segment-clause-next
+returns-then-not-is_segment-clause-next c =
+    let t = c.args.stream.entries.now in
+    let e = c.args.stream.first + c.args.stream.count in
+    let w = c.read_entry-w in
+    let lt : c.loop-i.i < e = omega arith in
+    omega (arith, count_stop t c.loop-i.i e w.result w.ensures.answer lt (sym c.is_segment.ensures.answer ∙ c.if-not-is_segment.true))
+
+pub returns-clause-sum : goal.returns-clause-sum
+returns-clause-sum c =
+    let a = c.args in
+    let v = a.context in
+    let t = a.stream.entries.now in
+    let e = a.stream.first + a.stream.count in
+    running_done (sum_last t v.xs.now v.ys.now a.at.x a.at.y c.loop-i.i e (omega arith)) c.loop-i.invariant.sum
+    ∙ ap (λ z. z +ℤ segments_sum v.xs.now v.ys.now a.at.x a.at.y (words_from t a.from (e - a.from)))
+    (small_back a.start (omega (arith, c.requires.start_bound)))
+
+pub returns-clause-next : goal.returns-clause-next
+returns-clause-next c =
+    let t = c.args.stream.entries.now in
+    let e = c.args.stream.first + c.args.stream.count in
+    let le : e ≤ c.loop-i.i = omega arith in
+    omega (arith, count_last t c.loop-i.i e le)

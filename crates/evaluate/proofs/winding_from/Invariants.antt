@@ -9,11 +9,11 @@ use Rattle.evaluate.proofs.winding_from.Given as goal
 
 abbrev pub invariant-loop-i : goal.invariant-loop-i
 invariant-loop-i l =
-    (l.from ≤ l.i)
-    × (l.i ≤ l.end)
-    × Running (2048 + (l.i - l.from)) l.sum (segments_sum l.xs l.ys l.x l.y (words_from l.entries l.i (l.end - l.i)))
-    (l.start +ℤ segments_sum l.xs l.ys l.x l.y (words_from l.entries l.from (l.end - l.from)))
-    × (l.i + run_length (words_from l.entries l.i (l.end - l.i)) ≡ l.from + run_length (words_from l.entries l.from (l.end - l.from)))
-
-abbrev pub decreases-loop-i : goal.decreases-loop-i
-decreases-loop-i l = l.end - l.i
+    let t = l.stream.entries.now in
+    let v = l.context in
+    record {
+      above : l.from ≤ l.i;
+      sum : Running (2048 + (l.i - l.from)) l.sum (segments_sum v.xs.now v.ys.now l.at.x l.at.y (words_from t l.i (l.end - l.i)))
+          (l.start +ℤ segments_sum v.xs.now v.ys.now l.at.x l.at.y (words_from t l.from (l.end - l.from)));
+      next : l.i + run_length (words_from t l.i (l.end - l.i)) ≡ l.from + run_length (words_from t l.from (l.end - l.from));
+    }
