@@ -5,11 +5,12 @@
 #![tactic(auto)]
 
 ghost use Rattle.std.specs.Prelude.{◌≡◌, true, cond, ◌≤◌, ◌<◌, length};
-ghost use Rattle.stream.specs.Grammar.{env, bounds, check_stream, Passed};
+ghost use Rattle.stream.specs.Grammar.{env, env_of, env_passed, bounds, check_stream, Passed};
 ghost use Rattle.probe.specs.Answers.{read_answer, square, leaf_on, square_fits, child_elements, child_room, answer_by, table_by, child_fits};
 ghost use Rattle.probe.specs.Answers.{number_in, tally_number, tally_answer};
 
 use celltable::CellWords;
+use curves::Point;
 use four_children::Tally;
 use geometry::class::Square;
 use stream::{Bounds, Context, Stream};
@@ -18,29 +19,10 @@ use stream::{Bounds, Context, Stream};
 const LAST: u32 = celltable::GRID - 1;
 
 // Whether the stream passes the check.
-fn stream_passes(
-    entries: &[u32],
-    first: usize,
-    count: usize,
-    used: usize,
-    areas: &[u32],
-    xs: &[u32],
-    ys: &[u32],
-    b: Bounds,
-) -> bool
-    ensures answer { result ≡ check_stream entries.now first count used (env areas.now xs.now ys.now b) }
+fn stream_passes(stream: Stream, used: usize, context: Context) -> bool
+    ensures answer { result ≡
+        check_stream stream.entry.entries.now stream.entry.first stream.entry.count used (env_passed context) }
 {
-    let stream = Stream {
-        entries,
-        first,
-        count,
-    };
-    let context = Context {
-        areas,
-        xs,
-        ys,
-        bounds: b,
-    };
     stream::check_stream(stream, used, context).is_some()
 }
 
@@ -63,17 +45,27 @@ pub extern "C" fn probe_check(
         cond (check_stream entries.now first count used
         (env areas.now xs.now ys.now (bounds areas_used corners_used low side))) 1 0 }
 {
-    let b = Bounds {
-        areas: areas_used,
-        corners: corners_used,
-        low: low,
-        side: side,
+    let stream = Stream {
+        entries,
+        first,
+        count,
     };
-    let passes = stream_passes(entries, first, count, used, areas, xs, ys, b);
-    if passes {
-        return 1;
+    let context = Context {
+        areas,
+        xs,
+        ys,
+        bounds: Bounds {
+            areas: areas_used,
+            corners: corners_used,
+            low,
+            side,
+        },
+    };
+    if stream_passes(stream, used, context) {
+        1
+    } else {
+        0
     }
-    0
 }
 
 // The shown set at (x, y) of the stream, if it passes the check and (x, y) is a position; else 0.
@@ -97,20 +89,27 @@ pub extern "C" fn probe_read(
         read_answer entries.now first count used
         (env areas.now xs.now ys.now (bounds areas_used corners_used low side)) x y }
 {
-    let b = Bounds {
-        areas: areas_used,
-        corners: corners_used,
-        low: low,
-        side: side,
+    let stream = Stream {
+        entries,
+        first,
+        count,
     };
-    let passes = stream_passes(entries, first, count, used, areas, xs, ys, b);
-    if passes {
-        if (x <= LAST) & (y <= LAST) {
-            return evaluate::read_stream(entries, first, count, areas, xs, ys, b, x, y);
-        }
-        return 0;
+    let context = Context {
+        areas,
+        xs,
+        ys,
+        bounds: Bounds {
+            areas: areas_used,
+            corners: corners_used,
+            low,
+            side,
+        },
+    };
+    if stream_passes(stream, used, context) && (x <= LAST) & (y <= LAST) {
+        evaluate::read_stream(stream, context, Point { x, y })
+    } else {
+        0
     }
-    0
 }
 
 // ---- the making of a child's stream
@@ -131,44 +130,22 @@ fn leaf_on(s: Square) -> CellWords
 }
 
 // Whether this is the square of a cell: its side a power of two up to 65,536, its corner on the grid of that side, all of it below 65,536.
+#[tactic(auto, unfolding(crate::specs::Answers::square_fits))]
 fn square_fits(s: Square) -> bool
     ensures answer { result ≡ square_fits s }
 {
-    let w = leaf_on(s);
-    celltable::square_fits(w)
+    celltable::square_fits(leaf_on(s))
 }
 
 // How many entries the child's stream has.
-fn entries_made(
-    entries: &[u32],
-    first: usize,
-    count: usize,
-    areas: &[u32],
-    xs: &[u32],
-    ys: &[u32],
-    b: Bounds,
-    s: Square,
-) -> usize
-    requires passed { Passed entries.now first count (env areas.now xs.now ys.now b) }
+fn entries_made(stream: Stream, context: Context, s: Square) -> usize
+    requires passed { Passed stream.entries.now stream.first stream.count (env_of context) }
     requires s_value { square_fits s ≡ true }
-    ensures answer { result ≡ length (child_elements entries.now first count (env areas.now xs.now ys.now b) s) }
+    ensures answer { result ≡
+        length (child_elements stream.entry.entries.now stream.entry.first stream.entry.count (env_passed context) s) }
     ensures range { result < 65536 }
 {
-    let k = child_stream::count_child(
-        Stream {
-            entries,
-            first,
-            count,
-        },
-        Context {
-            areas,
-            xs,
-            ys,
-            bounds: b,
-        },
-        s,
-    );
-    (k.weight % 65536) as usize
+    (child_stream::count_child(stream, context, s).weight % 65536) as usize
 }
 
 // Writes the child's stream behind the entries in use, if it fits there: the number of its entries and 1 more, or 0.
@@ -177,40 +154,30 @@ fn write_if_room(
     first: usize,
     count: usize,
     used: usize,
-    areas: &[u32],
-    xs: &[u32],
-    ys: &[u32],
-    b: Bounds,
+    context: Context,
     s: Square,
 ) -> u64
-    requires b_value { check_stream entries.old first count used (env areas.now xs.now ys.now b) ≡ true }
+    requires b_value { check_stream entries.old first count used (env_of context) ≡ true }
     requires s_value { square_fits s ≡ true }
     ensures answer { result ≡
-        answer_by (child_room entries.old first count used (env areas.now xs.now ys.now b) s)
-        entries.old first count (env areas.now xs.now ys.now b) s }
+        answer_by (child_room entries.old first count used (env_passed context) s)
+        entries.old first count (env_passed context) s }
     ensures entries { entries.new ≡
-        table_by (child_room entries.old first count used (env areas.now xs.now ys.now b) s)
-        entries.old first count used (env areas.now xs.now ys.now b) s }
+        table_by (child_room entries.old first count used (env_passed context) s)
+        entries.old first count used (env_passed context) s }
 {
-    let n = entries_made(entries, first, count, areas, xs, ys, b, s);
+    let stream = Stream {
+        entries,
+        first,
+        count,
+    };
+    let n = entries_made(stream, context, s);
     if used + n <= entries.len() / stream::ENTRY_WORDS {
-        child_stream::write_child(
-            entries,
-            first,
-            count,
-            used,
-            n,
-            Context {
-                areas,
-                xs,
-                ys,
-                bounds: b,
-            },
-            s,
-        );
-        return (n as u64) + 1;
+        child_stream::write_child(entries, first, count, used, n, context, s);
+        (n as u64) + 1
+    } else {
+        0
     }
-    0
 }
 
 // The stream of the square (x, y, half), made of the stream that is handed in and written behind the `used` entries in use: the number of its
@@ -243,72 +210,6 @@ pub extern "C" fn probe_child(
         entries.old first count used (env areas.now xs.now ys.now
         (bounds areas_used corners_used low side)) (square x y half) }
 {
-    let b = Bounds {
-        areas: areas_used,
-        corners: corners_used,
-        low: low,
-        side: side,
-    };
-    let s = Square {
-        x: x,
-        y: y,
-        side: half,
-    };
-    let passes = stream_passes(entries, first, count, used, areas, xs, ys, b);
-    if passes {
-        let fits = square_fits(s);
-        if fits {
-            return write_if_room(entries, first, count, used, areas, xs, ys, b, s);
-        }
-        return 0;
-    }
-    0
-}
-
-// ---- the tallies of the four children
-// A number of a tally: 0 its entries, 1 its lines, 2 how many start numbers it has, 3 + j start number j.
-fn number_in(t: Tally, number: usize) -> i64
-    ensures answer { result ≡ number_in t number }
-{
-    if number == 0 {
-        return (t.entries % 65536) as i64;
-    }
-    if number == 1 {
-        return (t.lines % 65536) as i64;
-    }
-    let z = t.starts;
-    if number == 2 {
-        return (z.count % 65536) as i64;
-    }
-    let j = number - 3;
-    if j < records::MOST_AREAS {
-        let at = z.at;
-        return at[j] as i64;
-    }
-    0
-}
-
-// The number of child k after the passes of the first q children of the square.
-fn tally_number(
-    entries: &[u32],
-    first: usize,
-    count: usize,
-    areas: &[u32],
-    xs: &[u32],
-    ys: &[u32],
-    b: Bounds,
-    s: Square,
-    q: u32,
-    k: u32,
-    number: usize,
-) -> i64
-    requires passed { Passed entries.now first count (env areas.now xs.now ys.now b) }
-    requires s_value { square_fits s ≡ true }
-    requires lt_side { (1 < s.side) × (q ≤ 4) × (k < 4) }
-    ensures answer { result ≡
-        tally_number entries.now first count (env areas.now xs.now ys.now b) s q k number }
-{
-    let w = leaf_on(s);
     let stream = Stream {
         entries,
         first,
@@ -318,10 +219,45 @@ fn tally_number(
         areas,
         xs,
         ys,
-        bounds: b,
+        bounds: Bounds {
+            areas: areas_used,
+            corners: corners_used,
+            low,
+            side,
+        },
     };
-    let ts = four_children::count_to(stream, context, w, q);
-    number_in(ts[k as usize], number)
+    let s = Square { x, y, side: half };
+    if stream_passes(stream, used, context) && square_fits(s) {
+        write_if_room(entries, first, count, used, context, s)
+    } else {
+        0
+    }
+}
+
+// ---- the tallies of the four children
+// A number of a tally: 0 its entries, 1 its lines, 2 how many start numbers it has, 3 + j start number j.
+fn number_in(t: Tally, number: usize) -> i64
+    ensures answer { result ≡ number_in t number }
+{
+    match number {
+        0 => (t.entries % 65536) as i64,
+        1 => (t.lines % 65536) as i64,
+        2 => (t.starts.count % 65536) as i64,
+        _ if number - 3 < records::MOST_AREAS => i64::from(t.starts.at[number - 3]),
+        _ => 0,
+    }
+}
+
+// The number of child k after the passes of the first q children of the square.
+fn tally_number(stream: Stream, context: Context, s: Square, q: u32, k: u32, number: usize) -> i64
+    requires passed { Passed stream.entries.now stream.first stream.count (env_of context) }
+    requires s_value { square_fits s ≡ true }
+    requires lt_side { (1 < s.side) × (q ≤ 4) × (k < 4) }
+    ensures answer { result ≡
+        tally_number stream.entry.entries.now stream.entry.first stream.entry.count (env_passed context) s q k number }
+{
+    let tallies = four_children::count_to(stream, context, leaf_on(s), q);
+    number_in(tallies[k as usize], number)
 }
 
 // A number of the tally of child k of the stream's cell, after the passes of the first q children. 0 if the stream does not pass the check, the square
@@ -348,27 +284,29 @@ pub extern "C" fn probe_tally(
         tally_answer entries.now first count used
         (env areas.now xs.now ys.now (bounds areas_used corners_used low side)) (square x low side) q k number }
 {
-    let b = Bounds {
-        areas: areas_used,
-        corners: corners_used,
-        low: low,
-        side: side,
+    let stream = Stream {
+        entries,
+        first,
+        count,
     };
-    let s = Square {
-        x: x,
-        y: low,
-        side: side,
+    let context = Context {
+        areas,
+        xs,
+        ys,
+        bounds: Bounds {
+            areas: areas_used,
+            corners: corners_used,
+            low,
+            side,
+        },
     };
-    let passes = stream_passes(entries, first, count, used, areas, xs, ys, b);
-    if passes {
-        let fits = square_fits(s);
-        if fits {
-            if (1 < side) & (q <= celltable::CHILDREN) & (k < celltable::CHILDREN) {
-                return tally_number(entries, first, count, areas, xs, ys, b, s, q, k, number);
-            }
-            return 0;
-        }
-        return 0;
+    let s = Square { x, y: low, side };
+    if stream_passes(stream, used, context)
+        && square_fits(s)
+        && (1 < side) & (q <= celltable::CHILDREN) & (k < celltable::CHILDREN)
+    {
+        tally_number(stream, context, s, q, k, number)
+    } else {
+        0
     }
-    0
 }

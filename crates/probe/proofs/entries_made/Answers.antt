@@ -1,14 +1,15 @@
-use native.Mathlib.Omega.{arith}
 use Rattle.probe.proofs.Laws.{square_in_law, square_cell, made_count}
 use Rattle.probe.proofs.entries_made.Goals as goal
 
-pub count_child-k-requires : goal.count_child-k-requires
-count_child-k-requires c = record { passed = c.requires.passed; square_in = square_in_law _ c.requires.s_value; s_value = square_cell _ c.requires.s_value }
+pub count_child-requires-clause-square_in : goal.count_child-requires-clause-square_in
+count_child-requires-clause-square_in c = square_in_law _ c.requires.s_value
 
-pub returns : goal.returns
-returns c =
-    let a = c.args in record {
-      answer = made_count a.entries.now a.first a.count a.areas.now a.xs.now a.ys.now a.b a.s
-          c.count_child-k.result.weight c.requires.passed c.count_child-k.ensures.weight;
-      range = omega arith;
-    }
+pub count_child-requires-clause-s_value : goal.count_child-requires-clause-s_value
+count_child-requires-clause-s_value c = square_cell _ c.requires.s_value
+
+pub returns-clause-answer : goal.returns-clause-answer
+returns-clause-answer c =
+    let v = c.args.context in
+    let s = c.args.stream in
+    made_count s.entries.now s.first s.count v.areas.now v.xs.now v.ys.now v.bounds c.args.s
+    c.count_child.result.weight c.requires.passed c.count_child.ensures.weight

@@ -2,7 +2,7 @@ use mathlib.Core.Path.{ap, ◌∙◌}
 use mathlib.Core.List.{List}
 use lib.ListN.{get_or}
 use Rattle.laws.proofs.Signed.{read_back}
-use Rattle.stream.specs.Table.{words_from}
+use Rattle.stream.specs.Table.{words_in}
 use Rattle.celltable.specs.declared.CellWords.{CellWords}
 use Rattle.celltable.specs.Ranges.{cell_of}
 use Rattle.ranges.specs.Held.{lent}
@@ -11,18 +11,18 @@ use Rattle.four_children.specs.code.Numbers.{no_tally, worked_to}
 use Rattle.probe.specs.Answers.{square_fits, number_in}
 use Rattle.probe.proofs.tally_number.Goals as goal
 
-pub count_to-ts-requires : goal.count_to-ts-requires
+pub count_to-tallies-requires-clause-w_value : goal.count_to-tallies-requires-clause-w_value
 unfolding square_fits
-count_to-ts-requires c =
-    let e = c.leaf_on-w.ensures.answer in
-    record { passed = c.requires.passed; w_value = rw e c.requires.s_value; lt_side = rw e c.requires.lt_side.0; n_bound = c.requires.lt_side.1 }
+count_to-tallies-requires-clause-w_value c = rw c.leaf_on.ensures.answer c.requires.s_value
 
 pub returns : goal.returns
 returns c =
-    let a = c.args in record {
+    let a = c.args in
+    let v = a.context in
+    record {
       answer = read_back _ c.number_in.type_inv
           ∙ (c.number_in.ensures.answer
-          ∙ (ap (λ (ts : List Tally). number_in (get_or ts a.k no_tally) a.number) c.count_to-ts.ensures.answer
-          ∙ ap (λ (w : CellWords). number_in (get_or (worked_to (lent a.areas.now a.xs.now a.ys.now a.b) (cell_of w)
-          (words_from a.entries.now a.first a.count) a.q) a.k no_tally) a.number) c.leaf_on-w.ensures.answer));
+          ∙ (ap (λ (ts : List Tally). number_in (get_or ts a.k no_tally) a.number) c.count_to-tallies.ensures.answer
+          ∙ ap (λ (w : CellWords). number_in (get_or (worked_to (lent v.areas.now v.xs.now v.ys.now v.bounds) (cell_of w)
+          (words_in a.stream) a.q) a.k no_tally) a.number) c.leaf_on.ensures.answer));
     }
