@@ -22,7 +22,7 @@ use Rattle.making.specs.declared.Maker.{Maker}
 use Rattle.making.specs.Made.{elements_made}
 use Rattle.making.specs.code.Numbers.{resting, left_sign, left_class, weight_in, waiting_n, settled_n, pruned_n, Inside, Asks}
 use Rattle.making.proofs.Standing.{Reads, Standing}
-use Rattle.making.proofs.Turn.{waits_small, standing_weight, standing_base, standing_inside, standing_room, standing_start, standing_left, standing_sign, standing_next}
+use Rattle.making.proofs.Turn.{waits_small, standing_weight, standing_base, standing_inside, standing_room, standing_left, standing_sign, standing_next}
 use Rattle.making.proofs.Whole.{all_of, standing_begin, weight_end}
 
 -- entries i to first + count - 1 are to come
@@ -64,7 +64,6 @@ module _ (v : Env) (D : Drawing) (c : Cell) (R : Reads v D) (t : List ℕ) (firs
         record {
           inside = inside;
           room = room;
-          start = standing_start v D c R (i - first) m.pruner m.waiting all w ws s;
           left = standing_left v D c R (i - first) m.pruner m.waiting all w ws s;
           sign = standing_sign v D c R (i - first) m.pruner m.waiting all w ws s;
           small = waits_small (length v.areas) m.waiting inside;

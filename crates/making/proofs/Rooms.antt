@@ -1,22 +1,16 @@
 -- The numbers of a pruner after an area has settled are still far from their ends.
 use mathlib.Core.Path.{◌≡◌, refl, sym, ap, ◌∙◌}
-use mathlib.Core.Bool.{Bool, false}
 use mathlib.Core.List.{List}
 use Prim.Native.Nat.{ℕ, ◌^◌, ◌≤◌, ◌<◌}
 use native.Mathlib.Omega.{arith}
-use lib.IntN.{ℤ, nat_abs}
-use mir.Syntax.{w64}
-use mir.Val.{to_z, of_z}
 use Rattle.pruning.specs.code.Counters.{Count}
 use Rattle.pruner.specs.declared.Pruner.{Pruner}
 use Rattle.std.specs.Prelude.{Option, Some, None}
 use Rattle.pruner.specs.code.Numbers.{counted, class_of, skip_of, skip_number}
 use Rattle.pruner.proofs.Near.{Near, near_same, item_near, counted_weight, counted_base, counted_skip, counted_depth}
-use Rattle.stream.specs.Entry.{is_segment}
-use Rattle.evaluate.specs.Reading.{role_at, pass_at}
-use Rattle.evaluate.proofs.Laws.{small_back}
+use Rattle.evaluate.specs.Reading.{role_at}
 use Rattle.making.specs.declared.Waiting.{Waiting}
-use Rattle.making.specs.code.Numbers.{class_n, settled_n, moved_n, pruned_n, weight_in, Room}
+use Rattle.making.specs.code.Numbers.{class_n, settled_n, weight_in, Room}
 
 pub settled_near : (areas : List ℕ) (c : Count) (a : Option Waiting) → Near (weight_in a) c (settled_n areas c a)
 settled_near areas c None = near_same 0 c
@@ -39,14 +33,3 @@ room_after areas p q a kind e r =
       ),
       λ k z. rw d (r.deep k (none_by p.skip (sym (counted_skip p) ∙ n.skip_zero (counted_skip q ∙ ap (λ s. skip_number (skip_of s)) z)))),
     )
-
--- whether an area passes, by a start number that went through a word of 64 bits
-pub passes_same : (areas : List ℕ) (n : ℕ) (z : ℤ) (r b : Bool) → nat_abs z ≤ 8192 → r ≡ pass_at areas n (to_z w64 (of_z w64 z)) → r ≡ b → pass_at areas n z ≡ b
-passes_same areas n z r b h e t = ap (pass_at areas n) (sym (small_back z h)) ∙ (sym e ∙ t)
-
-pub pruned_by : (areas : List ℕ) (c : Count) (a : Option Waiting) (kind : ℕ) (d r : Count)
-    → is_segment kind ≡ false
-    → r ≡ moved_n kind d
-    → d ≡ settled_n areas c a
-    → r ≡ pruned_n areas c a kind
-pruned_by areas c a kind d r s e f = rw s (e ∙ ap (moved_n kind) f)

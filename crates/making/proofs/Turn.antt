@@ -175,9 +175,6 @@ module _ (v : Env) (D : Drawing) (c : Cell) (R : Reads v D) (k : ℕ) (p : Prune
           deep = λ e z. omega (arith, standing_depth (w ∷ ws) s, ltb-true (length s.place.groups) 8 (rw e at passes.room));
         }
 
-    pub standing_start : w.kind ≡ 4 → start_range w.q ≡ true
-    standing_start e = (both (is_good (area_met v w.p)) (start_range w.q) (rw e at passes.range)).1
-
     pub standing_left : left_range v.xs v.ys v.used.corners w ≡ true
     standing_left =
         by_kind w (λ e. in_range v e ≡ true → left_range v.xs v.ys v.used.corners w ≡ true)

@@ -9,7 +9,6 @@ ghost use Rattle.geometry.specs.Edges.{sign};
 ghost use Rattle.geometry.specs.Windings.{edge_of};
 ghost use Rattle.geometry.specs.Classes.{edge_class, cut};
 ghost use Rattle.geometry.specs.code.Reach.{EdgeIn, LineBelow, SquareIn};
-ghost use Rattle.stream.specs.Entry.{start_range, sign_range};
 ghost use Rattle.stream.specs.Grammar.{env_of};
 ghost use Rattle.evaluate.specs.code.Numbers.{line_of};
 ghost use Rattle.pruning.specs.code.Pruner.{going};
@@ -46,19 +45,21 @@ fn line_left(xs: &[u32], ys: &[u32], s: Square, w: Words) -> Left
         × (result.class ≡ edge_class (edge_of xs.now ys.now (line_of w)) s) }
 {
     let e = evaluate::edge_of(xs, ys, w);
-    let sign = e.sign();
     let class = s.classify(e);
-    Left { sign, class }
+    Left {
+        sign: e.sign(),
+        class,
+    }
 }
 
 fn shortcut_left(s: Square, w: Words) -> Left
-    requires p_value { sign_range w.p ≡ true }
     requires square_in { SquareIn s }
     ensures answer { (result.sign ≡ to_z w32 w.p) × (result.class ≡ cut w.q w.r s.y s.side) }
 {
-    let class = s.cut_rows(w.q, w.r);
-    let sign = if w.p == stream::PLUS_ONE { 1 } else { -1 };
-    Left { sign, class }
+    Left {
+        sign: i64::from(w.p.cast_signed()),
+        class: s.cut_rows(w.q, w.r),
+    }
 }
 
 // Of an entry of another kind: nothing.
@@ -144,18 +145,17 @@ pub fn with_left(a: Option<Waiting>, left: Left) -> Option<Waiting>
 
 // After an entry that is no line, curve or shortcut.
 pub fn waiting_from(w: Words) -> Option<Waiting>
-    requires { w.kind ≡ 4 → start_range w.q ≡ true }
     ensures answer { result ≡ waiting_from w }
 {
-    if w.kind != stream::ENTRY_AREA {
-        return None;
+    if w.kind == stream::ENTRY_AREA {
+        Some(Waiting {
+            number: w.p,
+            start: evaluate::start_of(w),
+            weight: AREA_ALONE,
+        })
+    } else {
+        None
     }
-    let start = evaluate::start_of(w);
-    Some(Waiting {
-        number: w.p,
-        start,
-        weight: AREA_ALONE,
-    })
 }
 
 // ---- the pruner
@@ -223,10 +223,10 @@ impl Maker {
         ensures answer { counted result ≡ pruned_n areas.now (counted self.pruner) self.waiting kind }
     {
         if stream::is_segment(kind) {
-            return self.pruner;
+            self.pruner
+        } else {
+            moved(self.settled(areas), kind)
         }
-        let q = self.settled(areas);
-        moved(q, kind)
     }
 
     // Goes on to the next entry, w.
@@ -257,7 +257,6 @@ impl Maker {
         requires weight_bound { (self.pruner.weight + weight_in self.waiting < 2 ^ 60) × (self.pruner.base < 2 ^ 60) }
         ensures answer { result ≡ length_of (settled_n areas.now (counted self.pruner) self.waiting) }
     {
-        let q = self.settled(areas);
-        q.weight
+        self.settled(areas).weight
     }
 }

@@ -22,7 +22,7 @@ use Rattle.making.specs.Made.{elements_made}
 use Rattle.making.proofs.Turn.{waits_small}
 use Rattle.making.specs.code.Numbers.{resting, left_sign, left_class, waiting_n, settled_n, pruned_n, Inside, Asks, weight_in}
 use Rattle.making.proofs.Standing.{Standing}
-use Rattle.making.proofs.Turn.{standing_weight, standing_base, standing_inside, standing_room, standing_start, standing_left, standing_sign, standing_next}
+use Rattle.making.proofs.Turn.{standing_weight, standing_base, standing_inside, standing_room, standing_left, standing_sign, standing_next}
 use Rattle.making.proofs.Whole.{all_of, standing_begin, weight_end}
 use Rattle.root_stream.specs.declared.Source.{Source}
 use Rattle.root_stream.specs.code.Numbers.{source_at, kind_n, stride_n, entry_n, after_n}
@@ -92,7 +92,6 @@ module _ (v : Env) (D : Drawing) (plan : List ℕ) (records : ℕ) (all : List W
         record {
           inside = inside;
           room = room;
-          start = standing_start v D root B.reads l.done m.pruner m.waiting all w next.0 s;
           left = standing_left v D root B.reads l.done m.pruner m.waiting all w next.0 s;
           sign = standing_sign v D root B.reads l.done m.pruner m.waiting all w next.0 s;
           small = waits_small (length v.areas) m.waiting inside;

@@ -17,7 +17,7 @@ use Rattle.pruner.specs.declared.ItemClass.{ItemClass}
 use Rattle.pruner.specs.declared.ItemClass.TheVariants.{Fails, Passes, Neither}
 use Rattle.pruner.specs.code.Numbers.{class_of, skip_of, skip_number}
 use Rattle.stream.specs.declared.Words.{Words}
-use Rattle.stream.specs.Entry.{is_segment, start_range}
+use Rattle.stream.specs.Entry.{is_segment}
 use Rattle.stream.specs.Grammar.{Env}
 use Rattle.evaluate.specs.Reading.{role_at, pass_at, opaque_at}
 use Rattle.evaluate.specs.code.Numbers.{segment_of, segment_range}
@@ -133,7 +133,6 @@ Inside words (Some a) = AreaIn words a
 pub record Asks (v : Env) (m : Maker) (w : Words) : Type 0 where
   pub inside : Inside (length v.areas) m.waiting
   pub room : Room m.pruner m.waiting w.kind
-  pub start : w.kind ≡ 4 → start_range w.q ≡ true
   pub left : left_range v.xs v.ys v.used.corners w ≡ true
   pub sign : nat_abs (left_sign v.xs v.ys w) ≤ 1
   pub small : nat_abs (start_in m.waiting) ≤ 8192
