@@ -2,6 +2,7 @@
 use Rattle.std.specs.Prelude.{Bool, cond, List, ℕ, ◌+◌, ◌*◌, leb, length, set, Result, Ok, Err}
 use Rattle.refusals.specs.declared.Refusal.{Refusal}
 use Rattle.refusals.specs.declared.Refusal.TheVariants.{Room}
+use Rattle.refusals.specs.declared.Refused.{Refused}
 use Rattle.refusals.specs.Refusals.{number_of}
 use Rattle.grammar.specs.Grammar.{Verdict}
 use Rattle.drawing.specs.Tables.{Written}
@@ -11,6 +12,15 @@ use Rattle.find_leaf.specs.declared.FoundLeaf.{FoundLeaf}
 
 abbrev pub packed : (number low : ℕ) → ℕ
 packed number low = number * 4294967296 + low
+
+-- the result with 0, or the refusal's number with its place
+abbrev pub packed_answer : Result ℕ Refused → ℕ
+packed_answer (Ok n) = packed 0 n
+packed_answer (Err e) = packed (number_of e.refusal) e.place
+
+abbrev pub packed_low : Result ℕ Refused → ℕ
+packed_low (Ok n) = n
+packed_low (Err e) = e.place
 
 -- reading: how many records; document 01 leaves this result free
 abbrev pub read_number : Verdict → ℕ

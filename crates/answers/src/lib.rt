@@ -7,7 +7,7 @@
 
 ghost use Rattle.std.specs.Prelude.{◌≡◌, ◌≤◌, length};
 ghost use Rattle.refusals.specs.Refusals.{number_of};
-ghost use Rattle.answers.specs.Answers.{packed, read_number, write_number, read_low, write_low, open_number, split_number, grow_splits, grow_number};
+ghost use Rattle.answers.specs.Answers.{packed, packed_low, packed_answer, read_number, write_number, read_low, write_low, open_number, split_number, grow_splits, grow_number};
 ghost use Rattle.answers.specs.Answers.{leaf_put, find_room, find_number, leaf_written};
 ghost use Rattle.answers.specs.Readings.{spot_put, spot_room, spot_number, spot_written, low_half, log_number, row_place, row_number};
 
@@ -23,11 +23,18 @@ const LEAF_WORDS: usize = 8;
 // The words of what shows at a position and of how far that reaches.
 const SPOT_WORDS: usize = 10;
 
-// The refusal's number, or 0, and what goes with it.
-fn pack(number: u32, low: usize) -> u64
-    requires { low ≤ 4294967295 }
-    ensures answer { result ≡ packed number low }
+// What the number of splits has more where growing is full.
+const FULL: usize = 2147483648;
+
+// The number of a refusal and its place, or 0 and the result.
+fn pack(answer: Result<usize, Refused>) -> u64
+    requires { packed_low answer ≤ 4294967295 }
+    ensures answer { result ≡ packed_answer answer }
 {
+    let (number, low) = match answer {
+        Ok(n) => (0, n),
+        Err(e) => (u32::from(e.refusal), e.place),
+    };
     (number as u64) * 4294967296 + (low as u64)
 }
 
@@ -35,46 +42,33 @@ fn pack(number: u32, low: usize) -> u64
 fn refused(r: Refusal) -> u64
     ensures answer { result ≡ packed (number_of r) 0 }
 {
-    let n = u32::from(r);
-    pack(n, 0)
+    pack(Err(r.into()))
 }
 
 pub fn pack_read(v: Result<Counts, Refused>) -> u64
     requires { read_low v ≤ 4096 }
     ensures answer { result ≡ read_number v }
 {
-    match v {
-        Ok(k) => pack(0, k.records),
-        Err(e) => pack(e.refusal.into(), e.place),
-    }
+    pack(v.map(|k| k.records))
 }
 
 pub fn pack_written(w: Result<usize, Refusal>) -> u64
     requires { write_low w ≤ 65536 }
     ensures answer { result ≡ write_number w }
 {
-    match w {
-        Ok(n) => pack(0, n),
-        Err(r) => refused(r),
-    }
+    pack(w.map_err(Refused::from))
 }
 
 pub fn pack_open(a: Result<u32, Refusal>) -> u64
     ensures answer { result ≡ open_number a }
 {
-    match a {
-        Ok(entries) => pack(0, entries as usize),
-        Err(r) => refused(r),
-    }
+    pack(a.map(|entries| entries as usize).map_err(Refused::from))
 }
 
 pub fn pack_split(a: Result<u32, Refusal>) -> u64
     ensures answer { result ≡ split_number a }
 {
-    match a {
-        Ok(child) => pack(0, child as usize),
-        Err(r) => refused(r),
-    }
+    pack(a.map(|child| child as usize).map_err(Refused::from))
 }
 
 // "full" has 2^31 more than "done".
@@ -82,11 +76,11 @@ pub fn pack_grow(a: Result<Growth, Refusal>) -> u64
     requires { grow_splits a ≤ 4096 }
     ensures answer { result ≡ grow_number a }
 {
-    match a {
-        Ok(Growth::Done(splits)) => pack(0, splits as usize),
-        Ok(Growth::Full(splits)) => pack(0, 2147483648 + (splits as usize)),
-        Err(r) => refused(r),
-    }
+    let splits = a.map(|growth| match growth {
+        Growth::Done(splits) => splits as usize,
+        Growth::Full(splits) => FULL + splits as usize,
+    });
+    pack(splits.map_err(Refused::from))
 }
 
 // Writes the eight words of a leaf.
@@ -115,7 +109,7 @@ pub fn put_found(out: &mut [u32], a: Result<FoundLeaf, Refusal>) -> u64
                 return refused(Refusal::Room);
             }
             put_leaf(out, leaf);
-            pack(0, leaf.cell as usize)
+            pack(Ok(leaf.cell as usize))
         }
         Err(r) => refused(r),
     }
@@ -150,7 +144,7 @@ pub fn put_shown(out: &mut [u32], a: Result<Spot, Refusal>) -> u64
                 return refused(Refusal::Room);
             }
             put_spot(out, spot);
-            pack(0, spot.material as usize)
+            pack(Ok(spot.material as usize))
         }
         Err(r) => refused(r),
     }
@@ -168,10 +162,12 @@ fn low_half(n: usize) -> usize
 pub fn pack_log(a: Result<usize, Refused>) -> u64
     ensures answer { result ≡ log_number a }
 {
-    match a {
-        Ok(count) => pack(0, low_half(count)),
-        Err(r) => pack(u32::from(r.refusal), low_half(r.place)),
-    }
+    pack(
+        a.map(low_half).map_err(|e| Refused {
+            place: low_half(e.place),
+            ..e
+        }),
+    )
 }
 
 // ---- a row of pixels
@@ -179,8 +175,5 @@ pub fn pack_row(a: Result<(), Refused>) -> u64
     requires { row_place a ≤ 4096 }
     ensures answer { result ≡ row_number a }
 {
-    match a {
-        Ok(()) => pack(0, 0),
-        Err(r) => pack(u32::from(r.refusal), r.place),
-    }
+    pack(a.map(|()| 0))
 }

@@ -34,7 +34,6 @@ use Rattle.demand.proofs.Sound.{Sound}
 use Rattle.demand.proofs.Opened.{open_sound}
 use Rattle.demand.proofs.Growing.{Ends, Grows, grown_sound}
 use Rattle.demand.proofs.Finding.{lands}
-use Rattle.lister.specs.declared.Outcome.TheVariants.{Not}
 use Rattle.lister.specs.Printed.{grows, grown_tree, outcome_of, lines_of, outcome_grown, rows_grown, outcome_opened, rows_opened, printed}
 use Rattle.lister.specs.Leaves.{EachLeaf, PrintsEachLeaf}
 use Rattle.lister.proofs.Depths.{each_leaf}
@@ -103,18 +102,18 @@ module _ (u : Tree) (H : List Node) (s : Sound u H) where
   grown_tables : Sound (grown_tree u) history
   grown_tables = rw paired keeps.sound
 
-  not_by : (e : Ending) (k n : ℕ) (r : Refusal) → Ends (drawing_of u) 0 4 few history (grown 0 4 u).after e → outcome_of (answer_by e k) n ≡ Not r → ⊥
+  not_by : (e : Ending) (k n : ℕ) (r : Refusal) → Ends (drawing_of u) 0 4 few history (grown 0 4 u).after e → outcome_of (answer_by e k) n ≡ Err r → ⊥
   not_by none_left k n r f e = let z : ◌≡◌ {A = ℕ} 0 1 = cc in omega arith
   not_by no_room k n r f e = let z : ◌≡◌ {A = ℕ} 0 1 = cc in omega arith
   not_by not_passed k n r f e = f
 
-  not_refused : (r : Refusal) → outcome_grown u ≡ Not r → ⊥
+  not_refused : (r : Refusal) → outcome_grown u ≡ Err r → ⊥
   not_refused r e =
       let a : grows u ≡ answer_of (grown 0 4 u) = rw paired in
       let n = length (listed (grown_tree u)) in
       not_by (grown 0 4 u).ending (length (grown 0 4 u).cells) n r keeps.ending (sym (ap (λ (b : Result Growth Refusal). outcome_of b n) a) ∙ e)
 
-lines_by : (a : Result Growth Refusal) (n : ℕ) → ((r : Refusal) → outcome_of a n ≡ Not r → ⊥) → lines_of (outcome_of a n) ≡ n
+lines_by : (a : Result Growth Refusal) (n : ℕ) → ((r : Refusal) → outcome_of a n ≡ Err r → ⊥) → lines_of (outcome_of a n) ≡ n
 lines_by (Ok (Growths.Done k)) n f = refl
 lines_by (Ok (Growths.Full k)) n f = refl
 lines_by (Err r) n f = absurd (f r refl)

@@ -12,9 +12,7 @@ use Rattle.grow.specs.declared.Growth.{Growth}
 use Rattle.listing.specs.Listed.{listed}
 use Rattle.listing.specs.Numbers.{written}
 use Rattle.demand.proofs.Growing.{tables_grown}
-use Rattle.lister.specs.declared.Outcome.{Outcome}
-use Rattle.lister.specs.declared.Outcome.TheVariants.{Not}
-use Rattle.lister.specs.Printed.{grows, grown_tree, outcome_of, outcome_grown, rows_grown, outcome_opened, outcome, rows_opened, rows_after}
+use Rattle.lister.specs.Printed.{Outcome, grows, grown_tree, outcome_of, outcome_grown, rows_grown, outcome_opened, outcome, rows_opened, rows_after}
 
 -- ---- growing
 pub handed_grown : (u : Tree) (head cells entries : List ℕ) → head ≡ (grown_tree u).head → cells ≡ (grown_tree u).cells → entries ≡ (grown_tree u).entries
@@ -62,7 +60,7 @@ module _ (t : Tree) (a : Result ℕ Refusal) (w : a ≡ open_answer t) where
   pub opened_rows : (n : ℕ) (u : Tree) (rows after : List ℕ) → a ≡ Ok n → u ≡ open_tree t → after ≡ rows_grown u rows → after ≡ rows_after t rows
   opened_rows n u rows after e g h = h ∙ (ap (λ (x : Tree). rows_grown x rows) g ∙ ap (λ (b : Result ℕ Refusal). rows_opened t b rows) (sym e ∙ w))
 
-  pub refused_outcome : (r : Refusal) → a ≡ Err r → Not r ≡ outcome t
+  pub refused_outcome : (r : Refusal) → a ≡ Err r → Err r ≡ outcome t
   refused_outcome r e = ap (outcome_opened t) (sym e ∙ w)
 
   pub refused_rows : (r : Refusal) (rows : List ℕ) → a ≡ Err r → rows ≡ rows_after t rows

@@ -23,8 +23,7 @@ use Rattle.std.proofs.Common.{
 }
 use Rattle.listing.specs.Numbers.{line_at, lines_in}
 use Rattle.tables.specs.Tables.{tree}
-use Rattle.lister.specs.declared.Outcome.{Outcome}
-use Rattle.lister.specs.Printed.{outcome, rows_after}
+use Rattle.lister.specs.Printed.{Outcome, outcome, rows_after}
 use Rattle.lister.specs.Text.{line_text, lines_text, outcome_text, zeros, begun_tree, drawing_text}
 
 pub on_ok : {A E P Q : Type 0} (r : Result A E) → (P → Q) → OnOk r P → OnOk r Q

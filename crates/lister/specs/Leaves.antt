@@ -1,5 +1,5 @@
 -- Document 01, "Spots to try": that the lister prints each leaf.
-use Rattle.std.specs.Prelude.{◌≡◌, List, [], ◌∷◌, ◌++◌, ℕ, ◌≤◌, length, Ok}
+use Rattle.std.specs.Prelude.{◌≡◌, cond, List, [], ◌∷◌, ◌++◌, ℕ, ◌≤◌, length, Ok, Err}
 use Rattle.refusals.specs.declared.Refusal.{Refusal}
 use Rattle.grammar.specs.declared.Counts.{Counts}
 use Rattle.read.specs.Reading.{verdict_of}
@@ -7,9 +7,7 @@ use Rattle.tables.specs.Tables.{Tree}
 use Rattle.open.specs.Open.{open_answer, open_tree}
 use Rattle.listing.specs.declared.Line.{Line}
 use Rattle.listing.specs.Listed.{keys_from, Among, IsLeaf, leaf_line}
-use Rattle.lister.specs.declared.Outcome.{Outcome}
-use Rattle.lister.specs.declared.Outcome.TheVariants.{Done, Full, Not}
-use Rattle.lister.specs.Printed.{grown_tree, outcome, printed}
+use Rattle.lister.specs.Printed.{Outcome, grown_tree, outcome, printed}
 use Rattle.lister.specs.Text.{lines_text, full_text, file_tree, file_text}
 
 -- the lines ls are those of the leaves of u: each leaf has its line, each line is a leaf's, no cell has two, and the keys ascend
@@ -20,7 +18,7 @@ pub record EachLeaf (u : Tree) (ls : List Line) : Type 0 where
   pub in_order : keys_from 0 ls
 
 pub record Prints (t : Tree) (rows : List ℕ) : Type 0 where
-  pub accepted : (r : Refusal) → outcome t ≡ Not r → ⊥
+  pub accepted : (r : Refusal) → outcome t ≡ Err r → ⊥
   pub leaves : EachLeaf (grown_tree (open_tree t)) (printed t rows)
 
 -- "The leaf lister reads a drawing on standard input, grows with threshold 0 and depth limit 4, and prints each leaf in key order: cell, key, side,
@@ -30,9 +28,8 @@ PrintsEachLeaf = (t : Tree) (n : ℕ) → open_answer t ≡ Ok n → (rows : Lis
 
 -- "if growing ends on "full", a last line `full` follows"
 abbrev pub last_line : Outcome → List ℕ
-last_line (Done n) = []
-last_line (Full n) = full_text
-last_line (Not r) = []
+last_line (Ok o) = cond o.full full_text []
+last_line (Err r) = []
 
 -- what is printed of a file is the line of each leaf of its tree, and maybe the last line
 pub record PrintsLeaves (file : List ℕ) : Type 0 where

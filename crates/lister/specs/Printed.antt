@@ -1,5 +1,5 @@
 -- Document 01, "Spots to try": what the leaf lister works out before it prints, in the tables t that it lends; u are those of a tree that is opened.
-use Rattle.std.specs.Prelude.{List, ℕ, length, Result, Ok, Err}
+use Rattle.std.specs.Prelude.{true, false, List, ℕ, length, Result, Ok, Err}
 use Rattle.refusals.specs.declared.Refusal.{Refusal}
 use Rattle.tables.specs.Tables.{Tree}
 use Rattle.open.specs.Open.{open_answer, open_tree}
@@ -9,8 +9,11 @@ use Rattle.grow.specs.Grow.{grow_answer, grow_tree}
 use Rattle.listing.specs.declared.Line.{Line}
 use Rattle.listing.specs.Listed.{listed}
 use Rattle.listing.specs.Numbers.{lines_in, written}
-use Rattle.lister.specs.declared.Outcome.{Outcome}
-use Rattle.lister.specs.declared.Outcome.TheVariants.{Done, Full, Not}
+use Rattle.lister.specs.declared.Listed.{Listed}
+
+-- so many lines, with `full` after them or without, or a refusal
+abbrev pub Outcome : Type 0
+Outcome = Result Listed Refusal
 
 -- "grows with threshold 0 and depth limit 4"
 abbrev pub grows : Tree → Result Growth Refusal
@@ -21,14 +24,13 @@ grown_tree u = grow_tree u 0 4
 
 -- of n lines; "if growing ends on "full", a last line `full` follows"
 abbrev pub outcome_of : Result Growth Refusal → (n : ℕ) → Outcome
-outcome_of (Ok (Growths.Done k)) n = Done n
-outcome_of (Ok (Growths.Full k)) n = Full n
-outcome_of (Err r) n = Not r
+outcome_of (Ok (Growths.Done k)) n = Ok (record { lines = n; full = false })
+outcome_of (Ok (Growths.Full k)) n = Ok (record { lines = n; full = true })
+outcome_of (Err r) n = Err r
 
 abbrev pub lines_of : Outcome → ℕ
-lines_of (Done n) = n
-lines_of (Full n) = n
-lines_of (Not r) = 0
+lines_of (Ok o) = o.lines
+lines_of (Err r) = 0
 
 abbrev pub outcome_grown : Tree → Outcome
 outcome_grown u = outcome_of (grows u) (length (listed (grown_tree u)))
@@ -40,7 +42,7 @@ rows_grown u rows = written rows 0 (listed (grown_tree u))
 -- after the opening: "A refused drawing prints only `refused N at P`."
 abbrev pub outcome_opened : Tree → Result ℕ Refusal → Outcome
 outcome_opened t (Ok n) = outcome_grown (open_tree t)
-outcome_opened t (Err r) = Not r
+outcome_opened t (Err r) = Err r
 
 abbrev pub rows_opened : Tree → Result ℕ Refusal → (rows : List ℕ) → List ℕ
 rows_opened t (Ok n) rows = rows_grown (open_tree t) rows

@@ -1,5 +1,5 @@
 -- Document 01, "Spots to try": what the leaf lister prints, byte by byte. A space is 32, a line ends with 10.
-use Rattle.std.specs.Prelude.{List, [], ◌∷◌, ◌++◌, ℕ, codes, replicate, Ok, Err}
+use Rattle.std.specs.Prelude.{cond, List, [], ◌∷◌, ◌++◌, ℕ, codes, replicate, Ok, Err}
 use Rattle.std.proofs.lemmas.List.Edits.{sets}
 use Rattle.std.specs.Fmt.{decimal}
 use Rattle.refusals.specs.declared.Refusal.{Refusal}
@@ -10,9 +10,7 @@ use Rattle.read.specs.Reading.{records_in, verdict_of}
 use Rattle.tables.specs.Tables.{Tree, tree}
 use Rattle.listing.specs.declared.Line.{Line}
 use Rattle.listing.specs.Numbers.{lines_in}
-use Rattle.lister.specs.declared.Outcome.{Outcome}
-use Rattle.lister.specs.declared.Outcome.TheVariants.{Done, Full, Not}
-use Rattle.lister.specs.Printed.{outcome, rows_after}
+use Rattle.lister.specs.Printed.{Outcome, outcome, rows_after}
 
 -- "cell, key, side, entries, lines"
 abbrev pub line_text : Line → List ℕ
@@ -32,9 +30,8 @@ full_text = codes "full" ++ 10 ∷ []
 
 -- "if growing ends on "full", a last line `full` follows"
 abbrev pub outcome_text : Outcome → (rows : List ℕ) → List ℕ
-outcome_text (Done n) rows = lines_text (lines_in rows 0 n)
-outcome_text (Full n) rows = lines_text (lines_in rows 0 n) ++ full_text
-outcome_text (Not r) rows = refused_text r 0
+outcome_text (Ok o) rows = cond o.full (lines_text (lines_in rows 0 o.lines) ++ full_text) (lines_text (lines_in rows 0 o.lines))
+outcome_text (Err r) rows = refused_text r 0
 
 unfoldable pub zeros : (n : ℕ) → List ℕ
 zeros n = replicate n 0

@@ -4,9 +4,8 @@
 
 ghost use Rattle.std.specs.Prelude.{◌≡◌, ◌*◌, ◌≤◌, length, take, OnOk, IfOk, IfSome};
 ghost use Rattle.std.specs.Io.KnownBytes.{Appends};
-ghost use Rattle.std.specs.Fmt.{decimal};
 ghost use Rattle.listing.specs.Numbers.{lines_in};
-ghost use Rattle.tables.specs.Tables.{tree_lent_mut};
+ghost use Rattle.tables.specs.Tables.{tree_passed_mut};
 ghost use Rattle.lister.specs.Printed.{lines_of, outcome_of, outcome_grown, rows_grown, outcome, rows_after};
 ghost use Rattle.lister.specs.Leaves.{PrintsEachLeaf, FilePrintsEachLeaf};
 ghost use Rattle.lister.specs.Text.{line_text, lines_text, refused_text, outcome_text, drawing_text, file_text};
@@ -29,35 +28,29 @@ const THRESHOLD: u32 = 0;
 
 const DEPTH_LIMIT: u32 = 4;
 
-fn print_number<W: Write>(out: &mut W, n: u32) -> io::Result<()>
-    ensures { OnOk result (Appends (W.contents out.old) (W.contents out.new) (decimal n)) }
-{
-    write!(out, "{n}")
+// What is printed of a drawing that is not refused: so many lines, with `full` after them or without.
+#[derive(Clone, Copy)]
+pub struct Listed {
+    pub lines: usize,
+    pub full: bool,
 }
 
 // "cell, key, side, entries, lines"
 fn print_line<W: Write>(out: &mut W, l: Line) -> io::Result<()>
     ensures { OnOk result (Appends (W.contents out.old) (W.contents out.new) (line_text l)) }
 {
-    print_number(out, l.cell)?;
-    write!(out, " ")?;
-    print_number(out, l.key)?;
-    write!(out, " ")?;
-    print_number(out, l.side)?;
-    write!(out, " ")?;
-    print_number(out, l.entries)?;
-    write!(out, " ")?;
-    print_number(out, l.lines)?;
-    writeln!(out)
+    writeln!(
+        out,
+        "{} {} {} {} {}",
+        l.cell, l.key, l.side, l.entries, l.lines
+    )
 }
 
 // "A refused drawing prints only `refused N at P`."
 fn print_refused<W: Write>(out: &mut W, r: Refusal, place: usize) -> io::Result<()>
     ensures { OnOk result (Appends (W.contents out.old) (W.contents out.new) (refused_text r place)) }
 {
-    write!(out, "refused ")?;
-    print_number(out, u32::from(r))?;
-    writeln!(out, " at {place}")
+    writeln!(out, "refused {} at {place}", u32::from(r))
 }
 
 // The first n lines of the table.
@@ -65,155 +58,100 @@ fn print_lines<W: Write>(out: &mut W, rows: &[u32], n: usize) -> io::Result<()>
     requires { n * 5 ≤ length rows.now }
     ensures { OnOk result (Appends (W.contents out.old) (W.contents out.new) (lines_text (lines_in rows.now 0 n))) }
 {
-    let mut i = 0;
-    while i < n {
-        let l = listing::read_line(rows, i);
-        print_line(out, l)?;
-        i += 1;
+    for i in 0..n {
+        print_line(out, listing::read_line(rows, i))?;
     }
     Ok(())
 }
 
-// What is printed of a drawing: so many lines, with `full` after them or without, or a refusal.
-#[derive(Clone, Copy)]
-pub enum Outcome {
-    Done(usize),
-    Full(usize),
-    Not(Refusal),
-}
-
-fn outcome_of(a: Result<Growth, Refusal>, n: usize) -> Outcome
-    requires { n ≤ 256 }
-    ensures answer { result ≡ outcome_of a n }
+// So many lines, of a tree that is grown.
+fn outcome_of(grown: Result<Growth, Refusal>, lines: usize) -> Result<Listed, Refusal>
+    requires { lines ≤ 256 }
+    ensures answer { result ≡ outcome_of grown lines }
     ensures range { lines_of result ≤ 256 }
 {
-    match a {
-        Ok(Growth::Done(_)) => Outcome::Done(n),
-        Ok(Growth::Full(_)) => Outcome::Full(n),
-        Err(r) => Outcome::Not(r),
-    }
+    let full = matches!(grown?, Growth::Full(_));
+    Ok(Listed { lines, full })
 }
 
 // "grows with threshold 0 and depth limit 4", then writes the line of each leaf.
 fn list_grown(
-    plan: &[u32],
-    areas: &[u32],
-    xs: &[u32],
-    ys: &[u32],
+    drawing: Drawing,
     head: &mut [u32],
     cells: &mut [u32],
     entries: &mut [u32],
     rows: &mut [u32],
-) -> Outcome
+) -> Result<Listed, Refusal>
     requires { 1280 ≤ length rows.old }
-    ensures answer { result ≡ outcome_grown (tree_lent_mut plan areas xs ys head cells entries) }
-    ensures rows { rows.new ≡ rows_grown (tree_lent_mut plan areas xs ys head cells entries) rows.old }
+    ensures answer { result ≡ outcome_grown (tree_passed_mut drawing head cells entries) }
+    ensures rows { rows.new ≡ rows_grown (tree_passed_mut drawing head cells entries) rows.old }
     ensures range { lines_of result ≤ 256 }
 {
-    let a = grow::grow(
-        Drawing {
-            plan,
-            areas,
-            xs,
-            ys,
-        },
-        head,
-        cells,
-        entries,
-        Limits {
-            threshold: THRESHOLD,
-            depth: DEPTH_LIMIT,
-        },
-    );
+    let limits = Limits {
+        threshold: THRESHOLD,
+        depth: DEPTH_LIMIT,
+    };
+    let grown = grow::grow(drawing, head, cells, entries, limits);
     let tree = Tree {
-        drawing: Drawing {
-            plan,
-            areas,
-            xs,
-            ys,
-        },
+        drawing,
         head,
         cells,
         entries,
     };
-    let n = listing::list_leaves(tree, rows);
-    outcome_of(a, n)
+    let lines = listing::list_leaves(tree, rows);
+    outcome_of(grown, lines)
 }
 
 // Opens the tree of a drawing, grows it and lists its leaves.
 fn list_drawing(
-    plan: &[u32],
-    areas: &[u32],
-    xs: &[u32],
-    ys: &[u32],
+    drawing: Drawing,
     head: &mut [u32],
     cells: &mut [u32],
     entries: &mut [u32],
     rows: &mut [u32],
-) -> Outcome
+) -> Result<Listed, Refusal>
     requires { 1280 ≤ length rows.old }
-    ensures answer { result ≡ outcome (tree_lent_mut plan areas xs ys head cells entries) }
-    ensures rows { rows.new ≡ rows_after (tree_lent_mut plan areas xs ys head cells entries) rows.old }
+    ensures answer { result ≡ outcome (tree_passed_mut drawing head cells entries) }
+    ensures rows { rows.new ≡ rows_after (tree_passed_mut drawing head cells entries) rows.old }
     ensures range { lines_of result ≤ 256 }
     ensures leaves { PrintsEachLeaf }
 {
-    let a = open::open(
-        Drawing {
-            plan,
-            areas,
-            xs,
-            ys,
-        },
-        head,
-        cells,
-        entries,
-    );
-    match a {
-        Ok(_) => list_grown(plan, areas, xs, ys, head, cells, entries, rows),
-        Err(r) => Outcome::Not(r),
-    }
+    open::open(drawing, head, cells, entries)?;
+    list_grown(drawing, head, cells, entries, rows)
 }
 
 // "if growing ends on "full", a last line `full` follows"
-fn print_outcome<W: Write>(out: &mut W, a: Outcome, rows: &[u32]) -> io::Result<()>
-    requires { lines_of a * 5 ≤ length rows.now }
-    ensures { OnOk result (Appends (W.contents out.old) (W.contents out.new) (outcome_text a rows.now)) }
+fn print_outcome<W: Write>(
+    out: &mut W,
+    outcome: Result<Listed, Refusal>,
+    rows: &[u32],
+) -> io::Result<()>
+    requires { lines_of outcome * 5 ≤ length rows.now }
+    ensures { OnOk result (Appends (W.contents out.old) (W.contents out.new) (outcome_text outcome rows.now)) }
 {
-    match a {
-        Outcome::Done(n) => print_lines(out, rows, n),
-        Outcome::Full(n) => {
-            print_lines(out, rows, n)?;
-            writeln!(out, "full")
+    match outcome {
+        Ok(listed) => {
+            print_lines(out, rows, listed.lines)?;
+            if listed.full {
+                writeln!(out, "full")?;
+            }
+            Ok(())
         }
-        Outcome::Not(r) => print_refused(out, r, 0),
+        Err(r) => print_refused(out, r, 0),
     }
 }
 
 // What is printed of a drawing, from tables of zeros.
-fn print_drawing<W: Write>(
-    out: &mut W,
-    plan: &[u32],
-    areas: &[u32],
-    xs: &[u32],
-    ys: &[u32],
-) -> io::Result<()>
-    ensures { OnOk result (Appends (W.contents out.old) (W.contents out.new) (drawing_text plan.now areas.now xs.now ys.now)) }
+fn print_drawing<W: Write>(out: &mut W, drawing: Drawing) -> io::Result<()>
+    ensures { OnOk result (Appends (W.contents out.old) (W.contents out.new)
+        (drawing_text drawing.entry.plan.now drawing.entry.areas.now drawing.entry.xs.now drawing.entry.ys.now)) }
 {
     let mut head = [0u32; celltable::HEAD_WORDS];
     let mut cells = [0u32; CELLS * celltable::CELL_WORDS];
     let mut entries = [0u32; ENTRIES * stream::ENTRY_WORDS];
     let mut rows = [0u32; listing::LIST_WORDS];
-    let a = list_drawing(
-        plan,
-        areas,
-        xs,
-        ys,
-        &mut head,
-        &mut cells,
-        &mut entries,
-        &mut rows,
-    );
-    print_outcome(out, a, &rows)
+    let outcome = list_drawing(drawing, &mut head, &mut cells, &mut entries, &mut rows);
+    print_outcome(out, outcome, &rows)
 }
 
 // What is printed of a file.
@@ -224,9 +162,16 @@ fn print_file<W: Write>(out: &mut W, records: &[u8]) -> io::Result<()>
     let mut areas = [0u32; records::MOST_AREAS * records::AREA_WORDS];
     let mut xs = [0u32; records::MOST_CORNERS];
     let mut ys = [0u32; records::MOST_CORNERS];
-    let v = read::read(records, &mut plan, &mut areas, &mut xs, &mut ys);
-    match v {
-        Ok(_) => print_drawing(out, &plan, &areas, &xs, &ys),
+    match read::read(records, &mut plan, &mut areas, &mut xs, &mut ys) {
+        Ok(_) => print_drawing(
+            out,
+            Drawing {
+                plan: &plan,
+                areas: &areas,
+                xs: &xs,
+                ys: &ys,
+            },
+        ),
         Err(e) => print_refused(out, e.refusal, e.place),
     }
 }

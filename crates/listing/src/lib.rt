@@ -17,15 +17,7 @@ const CORNERS: u32 = 256;
 // The step from one of them to the next, in x and in y.
 const STEP: u32 = 4096;
 
-// The words of a line behind the first, which is the cell.
-const KEY: usize = 1;
-
-const SIDE: usize = 2;
-
-const ENTRIES: usize = 3;
-
-const LINES: usize = 4;
-
+// The words of a line.
 const LINE_WORDS: usize = 5;
 
 // The words of the longest list.
@@ -51,6 +43,7 @@ fn every_other(k: u32) -> u32
     k % 2 + 2 * (k / 4 % 2) + (4 * (k / 16 % 2) + 8 * (k / 64 % 2))
 }
 
+#[tactic(auto, unfolding(crate::specs::Listed::corner_x))]
 fn corner_x(k: u32) -> u32
     requires { k < 256 }
     ensures answer { result ≡ corner_x k }
@@ -59,6 +52,7 @@ fn corner_x(k: u32) -> u32
     STEP * every_other(k)
 }
 
+#[tactic(auto, unfolding(crate::specs::Listed::corner_y))]
 fn corner_y(k: u32) -> u32
     requires { k < 256 }
     ensures answer { result ≡ corner_y k }
@@ -72,7 +66,7 @@ fn if_low(leaf: FoundLeaf, x: u32, y: u32) -> Option<Line>
     requires { (x < 65536) × (y < 65536) }
     ensures answer { result ≡ if_low x y leaf }
 {
-    if (leaf.x == x) & (leaf.y == y) {
+    if leaf.x == x && leaf.y == y {
         return Some(Line {
             cell: leaf.cell,
             key: geometry::morton::key(x, y),
@@ -91,21 +85,16 @@ fn corner_at(tree: Tree, k: u32) -> Option<Line>
 {
     let x = corner_x(k);
     let y = corner_y(k);
-    match find_leaf::find_leaf(tree, x, y) {
-        Ok(leaf) => if_low(leaf, x, y),
-        Err(_) => None,
-    }
+    let leaf = find_leaf::find_leaf(tree, x, y).ok()?;
+    if_low(leaf, x, y)
 }
 
 fn put_line(rows: &mut [u32], n: usize, l: Line)
     requires { n * 5 + 5 ≤ length rows.old }
     ensures rows { rows.new ≡ put_at rows.old n l }
 {
-    rows[n * LINE_WORDS] = l.cell;
-    rows[n * LINE_WORDS + KEY] = l.key;
-    rows[n * LINE_WORDS + SIDE] = l.side;
-    rows[n * LINE_WORDS + ENTRIES] = l.entries;
-    rows[n * LINE_WORDS + LINES] = l.lines;
+    let at = n * LINE_WORDS;
+    rows[at..at + LINE_WORDS].copy_from_slice(&[l.cell, l.key, l.side, l.entries, l.lines]);
 }
 
 // Writes the lines of all leaves of a depth of at most 4, in key order, and gives how many there are; deeper leaves are left out. Any tables may be
@@ -131,11 +120,15 @@ pub fn read_line(rows: &[u32], n: usize) -> Line
     requires { n * 5 + 5 ≤ length rows.now }
     ensures answer { result ≡ line_at rows.now n }
 {
+    let at = n * LINE_WORDS;
+    let mut words = [0; LINE_WORDS];
+    words.copy_from_slice(&rows[at..at + LINE_WORDS]);
+    let [cell, key, side, entries, lines] = words;
     Line {
-        cell: rows[n * LINE_WORDS],
-        key: rows[n * LINE_WORDS + KEY],
-        side: rows[n * LINE_WORDS + SIDE],
-        entries: rows[n * LINE_WORDS + ENTRIES],
-        lines: rows[n * LINE_WORDS + LINES],
+        cell,
+        key,
+        side,
+        entries,
+        lines,
     }
 }

@@ -1,14 +1,7 @@
-use Rattle.std.proofs.Common.{◌-◌, ◌≤◌}
 use Rattle.std.specs.Io.KnownBytes.{Appends}
 use Rattle.listing.specs.Numbers.{lines_in}
 use Rattle.lister.specs.Text.{lines_text}
 use Rattle.lister.proofs.print_lines.Given as goal
 
 abbrev pub invariant-loop-i : goal.invariant-loop-i
-invariant-loop-i g l = record {
-  within : l.i ≤ l.n;
-  text : Appends (g.W.Write.contents l.initial.out) (g.W.Write.contents l.out) (lines_text (lines_in l.rows 0 l.i));
-}
-
-abbrev pub decreases-loop-i : goal.decreases-loop-i
-decreases-loop-i g l = l.n - l.i
+invariant-loop-i g l = Appends (g.W.Write.contents l.initial.out) (g.W.Write.contents l.out) (lines_text (lines_in l.rows 0 l.i))

@@ -1,15 +1,7 @@
-use lib.ListN.{length-set}
-use native.Mathlib.Omega.{arith}
+use Rattle.std.proofs.Common.{◌∙◌, arith}
+use native.Mathlib.Numerals.{towards_suc}
+use Rattle.records.proofs.Laws.{part_sets}
 use Rattle.listing.proofs.put_line.Goals as goal
 
-pub bounds-rows-n-2 : goal.bounds-rows-n-2
-bounds-rows-n-2 c = simp length-set (omega arith)
-
-pub bounds-rows-n-3 : goal.bounds-rows-n-3
-bounds-rows-n-3 c = simp length-set (omega arith)
-
-pub bounds-rows-n-4 : goal.bounds-rows-n-4
-bounds-rows-n-4 c = simp length-set (omega arith)
-
-pub bounds-rows-n-5 : goal.bounds-rows-n-5
-bounds-rows-n-5 c = simp length-set (omega arith)
+pub returns : goal.returns
+returns c = record { rows = part_sets _ _ _ _ _ c.copy_from_slice.ensures.after (omega arith) (omega arith) ∙ simp towards_suc }
