@@ -1,4 +1,5 @@
 -- The lowest position out of range.
+use Rattle.std.proofs.Common.{Some, None}
 use mathlib.Core.Path.{◌≡◌, refl, ap, ◌∙◌}
 use mathlib.Core.Bool.{Bool, true, false, cond}
 use mathlib.Core.List.{List}
@@ -10,7 +11,7 @@ use borrow.Author.Tests.{ltb-true, ltb-false}
 use Rattle.evaluate.proofs.Laws.{both}
 use Rattle.find_leaf.specs.Leaf.{position_range}
 use Rattle.zone_log.specs.Logs.{outside_from}
-use Rattle.zone_log.specs.code.Numbers.{RunIn}
+use Rattle.zone_log.specs.code.Numbers.{RunIn, outside_n}
 
 -- n is one more than n - 1
 pub less_one : (e i : ℕ) → i < e → e - i ≡ suc (e - (i + 1))
@@ -54,8 +55,17 @@ module _ (px py : List ℕ) where
       go true e h false l r = let q : k ≡ i = omega (arith, ltb-false i k l) in ap (λ (j : ℕ). position_range (get_or px j 0) (get_or py j 0)) q ∙ e
       go false e h b l r = absurd (omega arith)
 
-  pub run_in : length px ≡ length py → length px ≤ outside_from px py 0 (length px) → RunIn px py
+  outside_past : None ≡ outside_n px py → length px ≤ outside_from px py 0 (length px)
+  outside_past = go (ltb (outside_from px py 0 (length px)) (length px)) refl
+    where
+      go : (b : Bool) → ltb (outside_from px py 0 (length px)) (length px) ≡ b → None ≡ cond b (Some (outside_from px py 0 (length px))) None
+          → length px ≤ outside_from px py 0 (length px)
+      go true e q = absurd (let z : ◌≡◌ {A = ℕ} 0 1 = cc in omega arith)
+      go false e q = ltb-false (outside_from px py 0 (length px)) (length px) e
+
+  pub run_in : length px ≡ length py → None ≡ outside_n px py → RunIn px py
   run_in s h =
+      let m = outside_past h in
       record {
         same = s;
         inside = λ i l.
