@@ -1,4 +1,4 @@
--- What the tests of the calls say: that a position is in range, that a square is the square of a cell, where the stream lies, and that the entries of
+-- What the tests of the calls say: that a square is the square of a cell, where the stream lies, and that the entries of
 -- a child are counted.
 use mathlib.Core.Path.{◌≡◌, refl, sym, ap, ◌∙◌}
 use mathlib.Core.Bool.{Bool, true, false, cond, ◌&&◌}
@@ -8,12 +8,8 @@ use native.Mathlib.Omega.{arith}
 use native.Mathlib.Nat.{one-le-pow, pow-le-pow_right}
 use lib.Dec.{eqb, leb, ltb}
 use lib.ListN.{length}
-use lib.IntN.{ℤ}
-use mir.Syntax.{w16, w64}
-use mir.Val.{SFits}
-use borrow.Author.Tests.{leb-true, ltb-true, le-leb, lt-leb}
+use borrow.Author.Tests.{leb-true, ltb-true}
 use Rattle.laws.proofs.Booleans.{clash, and_left, and_right}
-use Rattle.curves.specs.code.Reach.{PositionIn}
 use Rattle.geometry.specs.code.Reach.{SquareIn}
 use Rattle.geometry.specs.declared.class.Square.{Square}
 use Rattle.pruning.specs.code.Weights.{total}
@@ -32,14 +28,7 @@ use Rattle.making.proofs.Made.{level_from_law}
 use Rattle.making.proofs.Lent.{lent_reads}
 use Rattle.making.proofs.Shorter.{made_shorter}
 use Rattle.writing.proofs.Places.{place_is}
-use Rattle.probe.specs.Answers.{position_range, square, square_fits, child_elements}
-
-pub position_in : (x y : ℕ) → position_range x y ≡ true → PositionIn x y
-position_in x y h =
-    record {
-      position_x = omega (arith, leb-true x 65535 (and_left (leb x 65535) (leb y 65535) h));
-      position_y = omega (arith, leb-true y 65535 (and_right (leb x 65535) (leb y 65535) h));
-    }
+use Rattle.probe.specs.Answers.{square, square_fits, child_elements}
 
 -- ---- the square
 
@@ -116,26 +105,3 @@ made_count t first count a x y b s r P e = ap (λ (n : ℕ). n % 65536) e ∙ pl
           words_length t first count,
           P.few,
         )
-
--- ---- the room
-
-pub room_left : (used n made all : ℕ) → n ≡ made → used + n ≤ all → leb (used + made) all ≡ true
-room_left used n made all e h = le-leb (used + made) all (omega arith)
-
-pub room_out : (used n made all : ℕ) → n ≡ made → all < used + n → leb (used + made) all ≡ false
-room_out used n made all e h = lt-leb (used + made) all (omega arith)
-
--- ---- the tallies
-
--- a square with children, so many passes, and one of the children
-pub children_in : (side q k : ℕ) → (ltb 1 side && leb q 4) && ltb k 4 ≡ true → (1 < side) × (q ≤ 4) × (k < 4)
-children_in side q k h =
-    let a = and_left (ltb 1 side && leb q 4) (ltb k 4) h in (
-      ltb-true 1 side (and_left (ltb 1 side) (leb q 4) a),
-      leb-true q 4 (and_right (ltb 1 side) (leb q 4) a),
-      ltb-true k 4 (and_right (ltb 1 side && leb q 4) (ltb k 4) h),
-    )
-
--- a number of 16 bits in 64
-pub wider : (z : ℤ) → SFits w16 z → SFits w64 z
-wider z f = record { sfits = omega (arith, f.sfits) }

@@ -5,7 +5,7 @@
 #![tactic(auto)]
 
 ghost use Rattle.std.specs.Prelude.{◌≡◌, true, cond, ◌≤◌, ◌<◌, length};
-ghost use Rattle.stream.specs.Grammar.{env, bounds, check_stream, Passed};
+ghost use Rattle.stream.specs.Grammar.{env, env_of, env_passed, bounds, check_stream, Passed};
 ghost use Rattle.probe.specs.Answers.{read_answer, square, leaf_on, square_fits, child_elements, child_room, answer_by, table_by, child_fits};
 ghost use Rattle.probe.specs.Answers.{number_in, tally_number, tally_answer};
 
@@ -17,30 +17,36 @@ use stream::{Bounds, Context, Stream};
 // The last position, in x and in y.
 const LAST: u32 = celltable::GRID - 1;
 
-// Whether the stream passes the check.
-fn stream_passes(
-    entries: &[u32],
-    first: usize,
-    count: usize,
-    used: usize,
-    areas: &[u32],
-    xs: &[u32],
-    ys: &[u32],
-    b: Bounds,
-) -> bool
-    ensures answer { result ≡ check_stream entries.now first count used (env areas.now xs.now ys.now b) }
+// What a stream is read against: the tables with what is in use of them, and the low row and the side of the cell.
+fn context<'a>(
+    areas: &'a [u32],
+    xs: &'a [u32],
+    ys: &'a [u32],
+    areas_used: usize,
+    corners_used: usize,
+    low: u32,
+    side: u32,
+) -> Context<'a>
+    ensures answer { env_of result ≡ env areas.now xs.now ys.now (bounds areas_used corners_used low side) }
 {
-    let stream = Stream {
-        entries,
-        first,
-        count,
-    };
-    let context = Context {
+    Context {
         areas,
         xs,
         ys,
-        bounds: b,
-    };
+        bounds: Bounds {
+            areas: areas_used,
+            corners: corners_used,
+            low,
+            side,
+        },
+    }
+}
+
+// Whether the stream passes the check.
+fn stream_passes(stream: Stream, used: usize, context: Context) -> bool
+    ensures answer { result ≡
+        check_stream stream.entry.entries.now stream.entry.first stream.entry.count used (env_passed context) }
+{
     stream::check_stream(stream, used, context).is_some()
 }
 
@@ -63,17 +69,13 @@ pub extern "C" fn probe_check(
         cond (check_stream entries.now first count used
         (env areas.now xs.now ys.now (bounds areas_used corners_used low side))) 1 0 }
 {
-    let b = Bounds {
-        areas: areas_used,
-        corners: corners_used,
-        low: low,
-        side: side,
+    let stream = Stream {
+        entries,
+        first,
+        count,
     };
-    let passes = stream_passes(entries, first, count, used, areas, xs, ys, b);
-    if passes {
-        return 1;
-    }
-    0
+    let context = context(areas, xs, ys, areas_used, corners_used, low, side);
+    u32::from(stream_passes(stream, used, context))
 }
 
 // The shown set at (x, y) of the stream, if it passes the check and (x, y) is a position; else 0.
@@ -97,20 +99,16 @@ pub extern "C" fn probe_read(
         read_answer entries.now first count used
         (env areas.now xs.now ys.now (bounds areas_used corners_used low side)) x y }
 {
-    let b = Bounds {
-        areas: areas_used,
-        corners: corners_used,
-        low: low,
-        side: side,
+    let stream = Stream {
+        entries,
+        first,
+        count,
     };
-    let passes = stream_passes(entries, first, count, used, areas, xs, ys, b);
-    if passes {
-        if (x <= LAST) & (y <= LAST) {
-            return evaluate::read_stream(entries, first, count, areas, xs, ys, b, x, y);
-        }
+    let context = context(areas, xs, ys, areas_used, corners_used, low, side);
+    if !stream_passes(stream, used, context) || x > LAST || y > LAST {
         return 0;
     }
-    0
+    evaluate::read_stream(entries, first, count, areas, xs, ys, context.bounds, x, y)
 }
 
 // ---- the making of a child's stream
@@ -134,40 +132,18 @@ fn leaf_on(s: Square) -> CellWords
 fn square_fits(s: Square) -> bool
     ensures answer { result ≡ square_fits s }
 {
-    let w = leaf_on(s);
-    celltable::square_fits(w)
+    celltable::square_fits(leaf_on(s))
 }
 
 // How many entries the child's stream has.
-fn entries_made(
-    entries: &[u32],
-    first: usize,
-    count: usize,
-    areas: &[u32],
-    xs: &[u32],
-    ys: &[u32],
-    b: Bounds,
-    s: Square,
-) -> usize
-    requires passed { Passed entries.now first count (env areas.now xs.now ys.now b) }
+fn entries_made(stream: Stream, context: Context, s: Square) -> usize
+    requires passed { Passed stream.entries.now stream.first stream.count (env_of context) }
     requires s_value { square_fits s ≡ true }
-    ensures answer { result ≡ length (child_elements entries.now first count (env areas.now xs.now ys.now b) s) }
+    ensures answer { result ≡
+        length (child_elements stream.entry.entries.now stream.entry.first stream.entry.count (env_passed context) s) }
     ensures range { result < 65536 }
 {
-    let k = child_stream::count_child(
-        Stream {
-            entries,
-            first,
-            count,
-        },
-        Context {
-            areas,
-            xs,
-            ys,
-            bounds: b,
-        },
-        s,
-    );
+    let k = child_stream::count_child(stream, context, s);
     (k.weight % 65536) as usize
 }
 
@@ -177,40 +153,27 @@ fn write_if_room(
     first: usize,
     count: usize,
     used: usize,
-    areas: &[u32],
-    xs: &[u32],
-    ys: &[u32],
-    b: Bounds,
+    context: Context,
     s: Square,
 ) -> u64
-    requires b_value { check_stream entries.old first count used (env areas.now xs.now ys.now b) ≡ true }
+    requires b_value { check_stream entries.old first count used (env_of context) ≡ true }
     requires s_value { square_fits s ≡ true }
     ensures answer { result ≡
-        answer_by (child_room entries.old first count used (env areas.now xs.now ys.now b) s)
-        entries.old first count (env areas.now xs.now ys.now b) s }
+        answer_by (child_room entries.old first count used (env_passed context) s) entries.old first count (env_passed context) s }
     ensures entries { entries.new ≡
-        table_by (child_room entries.old first count used (env areas.now xs.now ys.now b) s)
-        entries.old first count used (env areas.now xs.now ys.now b) s }
+        table_by (child_room entries.old first count used (env_passed context) s) entries.old first count used (env_passed context) s }
 {
-    let n = entries_made(entries, first, count, areas, xs, ys, b, s);
-    if used + n <= entries.len() / stream::ENTRY_WORDS {
-        child_stream::write_child(
-            entries,
-            first,
-            count,
-            used,
-            n,
-            Context {
-                areas,
-                xs,
-                ys,
-                bounds: b,
-            },
-            s,
-        );
-        return (n as u64) + 1;
+    let stream = Stream {
+        entries,
+        first,
+        count,
+    };
+    let n = entries_made(stream, context, s);
+    if used + n > entries.len() / stream::ENTRY_WORDS {
+        return 0;
     }
-    0
+    child_stream::write_child(entries, first, count, used, n, context, s);
+    n as u64 + 1
 }
 
 // The stream of the square (x, y, half), made of the stream that is handed in and written behind the `used` entries in use: the number of its
@@ -243,26 +206,17 @@ pub extern "C" fn probe_child(
         entries.old first count used (env areas.now xs.now ys.now
         (bounds areas_used corners_used low side)) (square x y half) }
 {
-    let b = Bounds {
-        areas: areas_used,
-        corners: corners_used,
-        low: low,
-        side: side,
+    let stream = Stream {
+        entries,
+        first,
+        count,
     };
-    let s = Square {
-        x: x,
-        y: y,
-        side: half,
-    };
-    let passes = stream_passes(entries, first, count, used, areas, xs, ys, b);
-    if passes {
-        let fits = square_fits(s);
-        if fits {
-            return write_if_room(entries, first, count, used, areas, xs, ys, b, s);
-        }
+    let context = context(areas, xs, ys, areas_used, corners_used, low, side);
+    let s = Square { x, y, side: half };
+    if !stream_passes(stream, used, context) || !square_fits(s) {
         return 0;
     }
-    0
+    write_if_room(entries, first, count, used, context, s)
 }
 
 // ---- the tallies of the four children
@@ -270,57 +224,27 @@ pub extern "C" fn probe_child(
 fn number_in(t: Tally, number: usize) -> i64
     ensures answer { result ≡ number_in t number }
 {
-    if number == 0 {
-        return (t.entries % 65536) as i64;
+    match number {
+        0 => (t.entries % 65536) as i64,
+        1 => (t.lines % 65536) as i64,
+        2 => (t.starts.count % 65536) as i64,
+        _ => t
+            .starts
+            .at
+            .get(number - 3)
+            .map_or(0, |start| i64::from(*start)),
     }
-    if number == 1 {
-        return (t.lines % 65536) as i64;
-    }
-    let z = t.starts;
-    if number == 2 {
-        return (z.count % 65536) as i64;
-    }
-    let j = number - 3;
-    if j < records::MOST_AREAS {
-        let at = z.at;
-        return at[j] as i64;
-    }
-    0
 }
 
 // The number of child k after the passes of the first q children of the square.
-fn tally_number(
-    entries: &[u32],
-    first: usize,
-    count: usize,
-    areas: &[u32],
-    xs: &[u32],
-    ys: &[u32],
-    b: Bounds,
-    s: Square,
-    q: u32,
-    k: u32,
-    number: usize,
-) -> i64
-    requires passed { Passed entries.now first count (env areas.now xs.now ys.now b) }
+fn tally_number(stream: Stream, context: Context, s: Square, q: u32, k: u32, number: usize) -> i64
+    requires passed { Passed stream.entries.now stream.first stream.count (env_of context) }
     requires s_value { square_fits s ≡ true }
     requires lt_side { (1 < s.side) × (q ≤ 4) × (k < 4) }
     ensures answer { result ≡
-        tally_number entries.now first count (env areas.now xs.now ys.now b) s q k number }
+        tally_number stream.entry.entries.now stream.entry.first stream.entry.count (env_passed context) s q k number }
 {
-    let w = leaf_on(s);
-    let stream = Stream {
-        entries,
-        first,
-        count,
-    };
-    let context = Context {
-        areas,
-        xs,
-        ys,
-        bounds: b,
-    };
-    let ts = four_children::count_to(stream, context, w, q);
+    let ts = four_children::count_to(stream, context, leaf_on(s), q);
     number_in(ts[k as usize], number)
 }
 
@@ -348,27 +272,18 @@ pub extern "C" fn probe_tally(
         tally_answer entries.now first count used
         (env areas.now xs.now ys.now (bounds areas_used corners_used low side)) (square x low side) q k number }
 {
-    let b = Bounds {
-        areas: areas_used,
-        corners: corners_used,
-        low: low,
-        side: side,
+    let stream = Stream {
+        entries,
+        first,
+        count,
     };
-    let s = Square {
-        x: x,
-        y: low,
-        side: side,
-    };
-    let passes = stream_passes(entries, first, count, used, areas, xs, ys, b);
-    if passes {
-        let fits = square_fits(s);
-        if fits {
-            if (1 < side) & (q <= celltable::CHILDREN) & (k < celltable::CHILDREN) {
-                return tally_number(entries, first, count, areas, xs, ys, b, s, q, k, number);
-            }
-            return 0;
-        }
+    let context = context(areas, xs, ys, areas_used, corners_used, low, side);
+    let s = Square { x, y: low, side };
+    if !stream_passes(stream, used, context) || !square_fits(s) {
         return 0;
     }
-    0
+    if side <= 1 || q > celltable::CHILDREN || k >= celltable::CHILDREN {
+        return 0;
+    }
+    tally_number(stream, context, s, q, k, number)
 }

@@ -7,8 +7,10 @@ count_child-k-requires c = record { passed = c.requires.passed; square_in = squa
 
 pub returns : goal.returns
 returns c =
-    let a = c.args in record {
-      answer = made_count a.entries.now a.first a.count a.areas.now a.xs.now a.ys.now a.b a.s
+    let t = c.args.stream in
+    let v = c.args.context in
+    record {
+      answer = made_count t.entries.now t.first t.count v.areas.now v.xs.now v.ys.now v.bounds c.args.s
           c.count_child-k.result.weight c.requires.passed c.count_child-k.ensures.weight;
       range = omega arith;
     }

@@ -5,4 +5,4 @@ use Rattle.probe.proofs.square_fits.Goals as goal
 
 pub returns : goal.returns
 unfolding square_fits
-returns c = record { answer = c.square_fits.ensures.answer ∙ ap square_range c.leaf_on-w.ensures.answer }
+returns c = record { answer = c.square_fits.ensures.answer ∙ ap square_range c.leaf_on.ensures.answer }

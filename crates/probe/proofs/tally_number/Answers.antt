@@ -14,15 +14,17 @@ use Rattle.probe.proofs.tally_number.Goals as goal
 pub count_to-ts-requires : goal.count_to-ts-requires
 unfolding square_fits
 count_to-ts-requires c =
-    let e = c.leaf_on-w.ensures.answer in
+    let e = c.leaf_on.ensures.answer in
     record { passed = c.requires.passed; w_value = rw e c.requires.s_value; lt_side = rw e c.requires.lt_side.0; n_bound = c.requires.lt_side.1 }
 
 pub returns : goal.returns
 returns c =
-    let a = c.args in record {
+    let a = c.args in
+    let v = a.context in
+    record {
       answer = read_back _ c.number_in.type_inv
           ∙ (c.number_in.ensures.answer
           ∙ (ap (λ (ts : List Tally). number_in (get_or ts a.k no_tally) a.number) c.count_to-ts.ensures.answer
-          ∙ ap (λ (w : CellWords). number_in (get_or (worked_to (lent a.areas.now a.xs.now a.ys.now a.b) (cell_of w)
-          (words_from a.entries.now a.first a.count) a.q) a.k no_tally) a.number) c.leaf_on-w.ensures.answer));
+          ∙ ap (λ (w : CellWords). number_in (get_or (worked_to (lent v.areas.now v.xs.now v.ys.now v.bounds) (cell_of w)
+          (words_from a.stream.entries.now a.stream.first a.stream.count) a.q) a.k no_tally) a.number) c.leaf_on.ensures.answer));
     }
