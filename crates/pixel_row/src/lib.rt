@@ -99,9 +99,7 @@ fn put_pixel(out: &mut [u8], i: usize, c: Colour)
     ensures out { out.new ≡ put_pixel out.old i c }
 {
     let at = i * CHANNELS;
-    out[at] = c.red;
-    out[at + 1] = c.green;
-    out[at + 2] = c.blue;
+    out[at..at + CHANNELS].copy_from_slice(&[c.red, c.green, c.blue]);
 }
 
 // ---- the call
@@ -114,6 +112,7 @@ fn fill_row(tree: Tree, row: u32, first: u32, out: &mut [u8]) -> Result<(), Refu
     let n = out.len() / CHANNELS;
     let mut last = None;
     for i in 0..n {
+        // A match: the check tells a caller of `map_err` nothing plain of the place that a closure adds.
         match pixel_at(tree, last, row, first + (i as u32)) {
             Ok(pixel) => {
                 put_pixel(out, i, pixel.colour);
@@ -131,16 +130,11 @@ pub fn pixel_row(tree: Tree, row: u32, first: u32, out: &mut [u8]) -> Result<(),
     ensures answer { result ≡ (row_filled (tree_passed tree) row first out.old).answer }
     ensures out { out.new ≡ (row_filled (tree_passed tree) row first out.old).bytes }
 {
-    if tree.drawing.xs.len() != tree.drawing.ys.len() {
-        return Err(Refused::from(Refusal::Argument));
-    }
-    if row > LAST_ROW {
-        return Err(Refused::from(Refusal::Argument));
-    }
-    if out.len() % CHANNELS != 0 {
-        return Err(Refused::from(Refusal::Argument));
-    }
-    if (first as usize) + out.len() / CHANNELS > PIXELS {
+    if tree.drawing.xs.len() != tree.drawing.ys.len()
+        || row > LAST_ROW
+        || out.len() % CHANNELS != 0
+        || first as usize + out.len() / CHANNELS > PIXELS
+    {
         return Err(Refused::from(Refusal::Argument));
     }
     fill_row(tree, row, first, out)

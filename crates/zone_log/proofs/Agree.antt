@@ -15,6 +15,7 @@ use Rattle.find_leaf.specs.Leaf.{position_range}
 use Rattle.position.specs.Spots.{known}
 use Rattle.zone_log.specs.Logs.{is_logged, log_from, outside_from, each_word, material_at, known_from, zone_log, log_answer, out_after}
 use Rattle.zone_log.specs.code.Numbers.{RunIn}
+use Rattle.zone_log.proofs.Runs.{none_outside}
 
 pub logged_agrees : (m m' : ℕ → ℕ) (i : ℕ) → m i ≡ m' i → m (i - 1) ≡ m' (i - 1) → is_logged m i ≡ is_logged m' i
 logged_agrees m m' i p q = ap₂ (λ (u v : ℕ). eqb i 0 || not (eqb u v)) p q
@@ -39,11 +40,6 @@ module _ (t : Tree) (px py : List ℕ) where
   range_true i r l =
       ap₂ (λ (a b : Bool). a && b) (lt-ltb (get_or px i 0) 65536 (r.inside i l).0) (lt-ltb (get_or py i 0) 65536 (r.inside i l).1)
 
-  none_outside : (i n : ℕ) → ((k : ℕ) → k < i + n → position_range (get_or px k 0) (get_or py k 0) ≡ true) → outside_from px py i n ≡ i + n
-  unfolding outside_from
-  none_outside i zero h = omega arith
-  none_outside i (suc n) h = rw (h i (omega arith)) (none_outside (i + 1) n (λ k l. h k (omega (arith, l))) ∙ omega arith)
-
   -- a run in range, at whose positions 12 is not met, with room: the log of the materials
   pub log_accepted : (m : ℕ → ℕ) (out : List ℕ)
       → length t.xs ≡ length t.ys
@@ -56,7 +52,7 @@ module _ (t : Tree) (px py : List ℕ) where
       × (out_after t px py (log_answer t px py (length out)) out ≡ sets out 0 (log_from m 0 (length px)))
   log_accepted m out e r k h l w =
       let z = log_is m h in
-      let o : outside_from px py 0 (length px) ≡ length px = none_outside 0 (length px) (λ i g. range_true i r (omega (arith, g))) ∙ omega arith in
+      let o : outside_from px py 0 (length px) ≡ length px = none_outside px py 0 (length px) (λ i g. range_true i r (omega (arith, g))) ∙ omega arith in
       let room : (leb (length (zone_log t px py)) (length out) && each_word (zone_log t px py)) ≡ true =
       rw z (ap₂ (λ (a b : Bool). a && b) (le-leb (length (log_from m 0 (length px))) (length out) l) w) in
       let whole : Ok (length (zone_log t px py)) ≡ log_answer t px py (length out) =

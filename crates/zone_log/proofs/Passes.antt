@@ -1,85 +1,97 @@
--- The pass over a run: what it counts of the log, and what it writes.
-use Rattle.std.proofs.Common.{Option, Some, Ok, Err}
+-- The passes over a run: what is met at an index, what is counted of the log, and what is written.
+use Rattle.std.proofs.Common.{Option, Some, None, Result, Ok, Err, IfSome}
 use Rattle.refusals.specs.declared.Refusal.{Refusal}
 use Rattle.refusals.specs.declared.Refusal.TheVariants as Refusals
-use mathlib.Core.Path.{◌≡◌, refl, sym, ap, ap₂, subst, ◌∙◌}
-use mathlib.Core.Bool.{Bool, true, false, cond, not, ◌&&◌, ◌||◌}
+use mathlib.Core.Path.{◌≡◌, refl, sym, ap, ◌∙◌}
+use mathlib.Core.Bool.{Bool, true, false, cond}
 use mathlib.Core.List.{List, [], ◌∷◌}
 use Prim.Native.Nat.{ℕ, suc, ◌+◌, ◌-◌, ◌≤◌, ◌<◌}
 use native.Mathlib.Omega.{arith}
-use lib.Dec.{eqb, ltb}
+use lib.Dec.{ltb}
 use lib.ListN.{length, get_or, length-set}
 use lib.ListN as ListN
 use lib.Seq.{sets}
-use borrow.Author.Tests.{ltb-true}
-use Rattle.laws.proofs.Booleans.{clash, and_true}
-use Rattle.evaluate.proofs.Laws.{both}
-use Rattle.paint.specs.Areas.{paint_at, material_of}
+use borrow.Author.Tests.{ltb-true, eq-eqb, ne_eqb}
+use Rattle.laws.proofs.Booleans.{clash}
 use Rattle.tables.specs.Tables.{Tree}
 use Rattle.position.specs.declared.Shown.{Shown}
-use Rattle.position.specs.Spots.{known}
-use Rattle.position.specs.code.Numbers.{LastIn}
-use Rattle.position.proofs.Known.{Known}
-use Rattle.zone_log.specs.declared.Tally.{Tally}
+use Rattle.position.specs.Spots.{known, material_in, set_read}
+use Rattle.position.specs.code.Numbers.{shown_there}
+use Rattle.position.proofs.Known.{known_set, unknown_set}
+use Rattle.zone_log.specs.declared.Met.{Met}
 use Rattle.zone_log.specs.Logs.{is_logged, log_from, each_word, material_at, known_from, zone_log}
-use Rattle.zone_log.specs.code.Numbers.{Accepted, logged_n, tally, tallied_n, count_in}
+use Rattle.zone_log.specs.code.Numbers.{Accepted, met_n, met_by, met_there, LastMet, logged_n, counted_n, count_of, count_in}
 use Rattle.zone_log.proofs.Runs.{less_one, less_none}
 
--- ---- what the code tests is whether the index is in the log
-logged_is : (m : ℕ → ℕ) (i before now : ℕ) → ((i ≡ 0 → ⊥) → before ≡ m (i - 1)) → now ≡ m i → logged_n i before now ≡ is_logged m i
-logged_is m i before now h e = go (eqb i 0) refl
-  where
-    go : (b : Bool) → eqb i 0 ≡ b → (b || not (eqb now before)) ≡ (b || not (eqb (m i) (m (i - 1))))
-    go true q = refl
-    go false q = ap₂ (λ (u v : ℕ). not (eqb u v)) e (h (λ z. clash (sym q ∙ ap (λ (j : ℕ). eqb j 0) z)))
+-- ---- what is met at a position
+module _ (t : Tree) (x y : ℕ) where
+  pub record MetThere (m : Met) : Type 0 where
+    pub is_known : known t x y ≡ true
+    pub is_material : m.material ≡ material_in t x y
+    pub is_last : LastMet t (Some m)
 
-and_word : (a b c : Bool) → ((a && b) && c) ≡ (a && cond b c false)
-and_word true true c = refl
-and_word true false c = refl
-and_word false b c = refl
+  pub met_told : (m : Met) → Ok m ≡ met_there t x y → MetThere m
+  met_told m e = go (shown_there t x y) refl e
+    where
+      go : (r : Result Shown Refusal) → shown_there t x y ≡ r → Ok m ≡ met_by (material_in t x y) r → MetThere m
+      go (Ok s) q e =
+          let z : m ≡ met_n s (material_in t x y) = cc in
+          let k = known_set t x y s (set_read t s.leaf x y) (sym q) refl in
+          rw z (record { is_known = k.is_known; is_material = refl; is_last = k.is_last })
+      go (Err f) q e = absurd (let z : ◌≡◌ {A = ℕ} 0 1 = cc in omega arith)
 
-word_more : (i : ℕ) (l : List ℕ) (f : Bool) → ((f && ltb i 4294967296) && each_word l) ≡ (f && each_word (i ∷ l))
+  pub met_broken : (f : Refusal) → Err f ≡ met_there t x y → (known t x y ≡ false) × (f ≡ Refusals.Broken)
+  met_broken f e = go (shown_there t x y) refl e
+    where
+      go : (r : Result Shown Refusal) → shown_there t x y ≡ r → Err f ≡ met_by (material_in t x y) r → (known t x y ≡ false) × (f ≡ Refusals.Broken)
+      go (Ok s) q e = absurd (let z : ◌≡◌ {A = ℕ} 0 1 = cc in omega arith)
+      go (Err g) q e = let z : f ≡ g = cc in unknown_set t x y f (ap (λ (h : Refusal). Err h) z ∙ sym q)
+
+-- ---- what is counted
+abbrev more : Option ℕ → List ℕ → Option ℕ
+more (Some n) l = cond (each_word l) (Some (n + length l)) None
+more None l = None
+
+count_more : (count : Option ℕ) (i : ℕ) (l : List ℕ) → more (counted_n count i) l ≡ more count (i ∷ l)
 unfolding each_word
-word_more i l f = and_word f (ltb i 4294967296) (each_word l)
-
-word_true : (i : ℕ) (l : List ℕ) → each_word (i ∷ l) ≡ true → i < 4294967296
-unfolding each_word
-word_true i l h = go (ltb i 4294967296) refl h
+count_more None i l = refl
+count_more (Some n) i l = go (ltb i 4294967296)
   where
-    go : (b : Bool) → ltb i 4294967296 ≡ b → cond b (each_word l) false ≡ true → i < 4294967296
-    go true e q = ltb-true i 4294967296 e
+    go : (b : Bool) → more (cond b (Some (n + 1)) None) l ≡ cond (cond b (each_word l) false) (Some (n + length (i ∷ l))) None
+    go true = let z : n + 1 + length l ≡ n + suc (length l) = omega arith in rw z
+    go false = refl
+
+few_more : (count : Option ℕ) (i : ℕ) → IfSome count (λ n. n ≤ i) → IfSome (counted_n count i) (λ n. n ≤ i + 1)
+few_more None i h = tt
+few_more (Some n) i h = go (ltb i 4294967296)
+  where
+    go : (b : Bool) → IfSome (cond b (Some (n + 1)) None) (λ n. n ≤ i + 1)
+    go true = omega arith
+    go false = tt
+
+few_same : (count : Option ℕ) (i : ℕ) → IfSome count (λ n. n ≤ i) → IfSome count (λ n. n ≤ i + 1)
+few_same None i h = tt
+few_same (Some n) i h = omega arith
+
+more_none : (count : Option ℕ) → more count [] ≡ count
+unfolding each_word
+more_none None = refl
+more_none (Some n) = let z : n + 0 ≡ n = omega arith in rw z
+
+word_first : (i : ℕ) (l : List ℕ) → each_word (i ∷ l) ≡ true → (i < 4294967296) × (each_word l ≡ true)
+unfolding each_word
+word_first i l h = go (ltb i 4294967296) refl h
+  where
+    go : (b : Bool) → ltb i 4294967296 ≡ b → cond b (each_word l) false ≡ true → (i < 4294967296) × (each_word l ≡ true)
+    go true e q = (ltb-true i 4294967296 e, q)
     go false e q = clash q
-
--- ---- one index more: what is counted, and what is written
-tally_turn : (c : Tally) (i : ℕ) (b : Bool) (l l' : List ℕ)
-    → l ≡ cond b (i ∷ l') l'
-    → ((tallied_n c i b).count ≤ c.count + 1)
-    × (((tallied_n c i b).count + length l' ≡ c.count + length l) × (((tallied_n c i b).fits && each_word l') ≡ (c.fits && each_word l)))
-tally_turn c i true l l' e =
-    (omega arith, (omega (arith, ap length e), word_more i l' c.fits ∙ sym (ap (λ (v : List ℕ). c.fits && each_word v) e)))
-tally_turn c i false l l' e = (omega arith, (omega (arith, ap length e), sym (ap (λ (v : List ℕ). c.fits && each_word v) e)))
-
-write_turn : (w b : Bool) (c : Tally) (i : ℕ) (out out' l l' : List ℕ)
-    → l ≡ cond b (i ∷ l') l'
-    → out' ≡ cond (b && w) (ListN.set out c.count i) out
-    → cond w (sets out' (tallied_n c i b).count l') out' ≡ cond w (sets out c.count l) out
-write_turn true true c i out out' l l' e s =
-    let z : c.count + 1 ≡ suc c.count = omega arith in
-    ap₂ (λ (o : List ℕ) (k : ℕ). sets o k l') s z ∙ sym (ap (sets out c.count) e)
-write_turn true false c i out out' l l' e s = ap (λ (o : List ℕ). sets o c.count l') s ∙ sym (ap (sets out c.count) e)
-write_turn false true c i out out' l l' e s = s
-write_turn false false c i out out' l l' e s = s
-
-write_length : (b : Bool) (out out' : List ℕ) (k i : ℕ) → out' ≡ cond b (ListN.set out k i) out → length out' ≡ length out
-write_length true out out' k i e = ap length e ∙ length-set out k i
-write_length false out out' k i e = ap length e
 
 module _ (t : Tree) (px py : List ℕ) where
   abbrev at : ℕ → ℕ
   at = material_at t px py
 
   -- ---- the log of the indices from i on
-  abbrev left : ℕ → List ℕ
+  abbrev pub left : ℕ → List ℕ
   left i = log_from at i (length px - i)
 
   left_turn : (i : ℕ) → i < length px → left i ≡ cond (is_logged at i) (i ∷ left (i + 1)) (left (i + 1))
@@ -89,6 +101,10 @@ module _ (t : Tree) (px py : List ℕ) where
   left_none : (i : ℕ) → length px ≤ i → left i ≡ []
   unfolding log_from
   left_none i h = let z : length px - i ≡ 0 = omega arith in rw z
+
+  left_all : left 0 ≡ zone_log t px py
+  unfolding zone_log
+  left_all = rw (less_none (length px))
 
   known_turn : (i : ℕ) (b : Bool)
       → i < length px
@@ -101,109 +117,154 @@ module _ (t : Tree) (px py : List ℕ) where
   unfolding known_from
   known_none i h = let z : length px - i ≡ 0 = omega arith in rw z
 
-  module _ (written : Bool) (out₀ : List ℕ) where
-    -- the output table afterwards
-    abbrev after : List ℕ
-    after = cond written (sets out₀ 0 (zone_log t px py)) out₀
+  -- ---- where a pass stands: what was met at the index before
+  abbrev Before : (i : ℕ) → Option Met → Type 0
+  Before i (Some m) = (0 < i) × (m.material ≡ at (i - 1))
+  Before i None = i ≡ 0
 
-    -- where a pass stands: what was read last, the material of the index before; what is counted and what is left make the whole,
-    -- and so do what is written and what is left
-    pub record Passing (i : ℕ) (last : Option Shown) (before : ℕ) (c : Tally) (out : List ℕ) : Type 0 where
-      pub prior_read : LastIn t last
-      pub prior : (i ≡ 0 → ⊥) → before ≡ at (i - 1)
-      pub few : c.count ≤ i
-      pub knows : known_from t px py i (length px - i) ≡ known_from t px py 0 (length px)
-      pub sum : c.count + length (left i) ≡ length (zone_log t px py)
-      pub words : (c.fits && each_word (left i)) ≡ each_word (zone_log t px py)
+  pub record Reading (i : ℕ) (last : Option Met) : Type 0 where
+    pub last_in : LastMet t last
+    pub before : Before i last
+    pub knows : known_from t px py i (length px - i) ≡ known_from t px py 0 (length px)
+
+  reading_begin : Reading 0 None
+  reading_begin = record { last_in = tt; before = refl; knows = rw (less_none (length px)) }
+
+  -- what the code tests is whether the index is in the log
+  logged_is : (i : ℕ) (last : Option Met) (m : Met) → Before i last → m.material ≡ at i → logged_n last m ≡ is_logged at i
+  logged_is i (Some b) m h e = rw (ne_eqb i 0 (omega (arith, h.0)), e, h.1)
+  logged_is i None m h e = rw (eq-eqb i 0 h)
+
+  module _ (i : ℕ) (last : Option Met) (p : Reading i last) where
+    reading_done : length px ≤ i → known_from t px py 0 (length px) ≡ true
+    reading_done h = sym p.knows ∙ known_none i h
+
+    reading_broken : (e : Refusal)
+        → i < length px
+        → Err e ≡ met_there t (get_or px i 0) (get_or py i 0)
+        → (known_from t px py 0 (length px) ≡ false) × (e ≡ Refusals.Broken)
+    reading_broken e h g = let k = met_broken t (get_or px i 0) (get_or py i 0) e g in (sym p.knows ∙ known_turn i false h k.0, k.1)
+
+    module _ (m : Met) (h : i < length px) (g : Ok m ≡ met_there t (get_or px i 0) (get_or py i 0)) where
+      reading_turn : Reading (i + 1) (Some m)
+      reading_turn =
+          let k = met_told t (get_or px i 0) (get_or py i 0) m g in
+          let z : i + 1 - 1 ≡ i = omega arith in
+          record {
+            last_in = k.is_last;
+            before = (omega arith, k.is_material ∙ ap at (sym z));
+            knows = sym (known_turn i true h k.is_known) ∙ p.knows;
+          }
+
+      next : (b : Bool) → b ≡ logged_n last m → left i ≡ cond b (i ∷ left (i + 1)) (left (i + 1))
+      next b q =
+          let k = met_told t (get_or px i 0) (get_or py i 0) m g in
+          left_turn i h
+          ∙ ap (λ (v : Bool). cond v (i ∷ left (i + 1)) (left (i + 1))) (sym (q ∙ logged_is i last m p.before k.is_material))
+
+  -- ---- the count
+  pub record Counting (i : ℕ) (last : Option Met) (count : Option ℕ) : Type 0 where
+    pub read : Reading i last
+    pub few : IfSome count (λ n. n ≤ i)
+    pub rest : more count (left i) ≡ count_of (zone_log t px py)
+
+  pub counting_begin : Counting 0 None (Some 0)
+  counting_begin = record { read = reading_begin; few = omega arith; rest = let z : 0 + length (zone_log t px py) ≡ length (zone_log t px py) = omega arith in rw (left_all, z) }
+
+  pub counting_turn : (i : ℕ) (last : Option Met) (count count' : Option ℕ) (m : Met) (b : Bool)
+      → Counting i last count
+      → i < length px
+      → Ok m ≡ met_there t (get_or px i 0) (get_or py i 0)
+      → b ≡ logged_n last m
+      → count' ≡ cond b (counted_n count i) count
+      → Counting (i + 1) (Some m) count'
+  counting_turn i last count count' m true p h g q e =
+      let n = next i last p.read m h g true q in
+      rw e (record {
+        read = reading_turn i last p.read m h g;
+        few = few_more count i p.few;
+        rest = count_more count i (left (i + 1)) ∙ (ap (more count) (sym n) ∙ p.rest);
+      })
+  counting_turn i last count count' m false p h g q e =
+      let n = next i last p.read m h g false q in
+      rw e (record {
+        read = reading_turn i last p.read m h g;
+        few = few_same count i p.few;
+        rest = ap (more count) (sym n) ∙ p.rest;
+      })
+
+  pub counting_done : (i : ℕ) (last : Option Met) (count : Option ℕ) → length px ≤ i → Counting i last count → Ok count ≡ count_in t px py
+  counting_done i last count h p =
+      let z : count ≡ count_of (zone_log t px py) = sym (more_none count) ∙ (ap (more count) (sym (left_none i h)) ∙ p.rest) in
+      rw (reading_done i last p.read h, ← z)
+
+  pub counting_broken : (i : ℕ) (last : Option Met) (count : Option ℕ) (e : Refusal)
+      → i < length px
+      → Counting i last count
+      → Err e ≡ met_there t (get_or px i 0) (get_or py i 0)
+      → Err e ≡ count_in t px py
+  counting_broken i last count e h p g = let k = reading_broken i last p.read e h g in rw (k.0, k.1)
+
+  -- ---- the writing: what is written and what is left make the whole
+  module _ (out₀ : List ℕ) where
+    pub record Writing (i : ℕ) (last : Option Met) (count : ℕ) (out : List ℕ) : Type 0 where
+      pub read : Reading i last
       pub size : length out ≡ length out₀
-      pub rest : cond written (sets out c.count (left i)) out ≡ after
+      pub room : count + length (left i) ≤ length out
+      pub words : each_word (left i) ≡ true
+      pub rest : sets out count (left i) ≡ sets out₀ 0 (zone_log t px py)
 
-    pub passing_begin : (before : ℕ) (last : Option Shown) → LastIn t last → Passing 0 last before (tally 0 true) out₀
-    unfolding zone_log
-    passing_begin before last h =
-        let z = less_none (length px) in
+    pub writing_begin : Accepted t px py (length out₀) → Writing 0 None 0 out₀
+    writing_begin a =
         record {
-          prior_read = h;
-          prior = λ e. absurd (e refl);
-          few = omega arith;
-          knows = rw z;
-          sum = rw z (omega arith);
-          words = rw z;
+          read = reading_begin;
           size = refl;
-          rest = rw z;
+          room = rw left_all (omega (arith, a.size));
+          words = rw left_all a.words;
+          rest = rw left_all;
         }
 
-    pub passing_done : (i : ℕ) (last : Option Shown) (before : ℕ) (c : Tally) (out : List ℕ)
-        → length px ≤ i
-        → Passing i last before c out
-        → (Ok c ≡ count_in t px py) × (out ≡ after)
-    unfolding each_word
-    passing_done i last before c out h p =
-        let l = left_none i h in
-        let k : known_from t px py 0 (length px) ≡ true = sym p.knows ∙ known_none i h in
-        let s : c.count ≡ length (zone_log t px py) = omega (arith, p.sum, ap length l) in
-        let w : c.fits ≡ each_word (zone_log t px py) = sym (and_true c.fits) ∙ (sym (ap (λ (v : List ℕ). c.fits && each_word v) l) ∙ p.words) in (
-          rw (k, ← s, ← w),
-          same written ∙ (sym (ap (λ (v : List ℕ). cond written (sets out c.count v) out) l) ∙ p.rest),
-        )
-      where
-        same : (w : Bool) → out ≡ cond w out out
-        same true = refl
-        same false = refl
+    module _ (i : ℕ) (last : Option Met) (count : ℕ) (out : List ℕ) (p : Writing i last count out) where
+      pub writing_done : length px ≤ i → out ≡ sets out₀ 0 (zone_log t px py)
+      writing_done h = ap (sets out count) (sym (left_none i h)) ∙ p.rest
 
-    -- no position of a run that is written is met by 12
-    pub passing_broken : (i : ℕ) (last : Option Shown) (before : ℕ) (c : Tally) (out : List ℕ) (e : Refusal)
-        → i < length px
-        → (written ≡ true → Accepted t px py (length out₀))
-        → Passing i last before c out
-        → (known t (get_or px i 0) (get_or py i 0) ≡ false) × (e ≡ Refusals.Broken)
-        → (Err e ≡ count_in t px py) × (out ≡ after)
-    passing_broken i last before c out e h a p g =
-        let k : known_from t px py 0 (length px) ≡ false = sym p.knows ∙ known_turn i false h g.0 in (rw (k, g.1), go k written refl p.rest)
-      where
-        go : known_from t px py 0 (length px) ≡ false
-            → (w : Bool)
-            → written ≡ w
-            → cond w (sets out c.count (left i)) out ≡ cond w (sets out₀ 0 (zone_log t px py)) out₀
-            → out ≡ cond w (sets out₀ 0 (zone_log t px py)) out₀
-        go k true e r = clash (sym k ∙ (a e).knows)
-        go k false e r = r
+      -- 12 is met at no position of a run that is written
+      pub writing_known : (e : Refusal)
+          → i < length px
+          → Accepted t px py (length out₀)
+          → Err e ≡ met_there t (get_or px i 0) (get_or py i 0)
+          → ⊥
+      writing_known e h a g = clash (sym (reading_broken i last p.read e h g).0 ∙ a.knows)
 
-    -- ---- one index
-    module _ (i set : ℕ) (last : Option Shown) (f : Shown) (before now : ℕ) (b : Bool) (c : Tally) (out : List ℕ) (h : i < length px)
-        (p : Passing i last before c out) (g : Known t (get_or px i 0) (get_or py i 0) set f)
-        (e : now ≡ material_of (paint_at t.areas) set) (q : b ≡ logged_n i before now) where
-      next : left i ≡ cond b (i ∷ left (i + 1)) (left (i + 1))
-      next =
-          left_turn i h
-          ∙ ap (λ (v : Bool). cond v (i ∷ left (i + 1)) (left (i + 1)))
-          (sym (q ∙ logged_is at i before now p.prior (e ∙ ap (material_of (paint_at t.areas)) g.is_set)))
+      module _ (m : Met) (h : i < length px) (g : Ok m ≡ met_there t (get_or px i 0) (get_or py i 0)) where
+        -- an index that is written has room
+        pub writing_room : true ≡ logged_n last m → (count < length out) × (i < 4294967296)
+        writing_room q =
+            let n = next i last p.read m h g true q in
+            (omega (arith, p.room, ap length n), (word_first i (left (i + 1)) (sym (ap each_word n) ∙ p.words)).0)
 
-      -- an index that is written has room
-      pub passing_room : (written ≡ true → Accepted t px py (length out₀)) → (b && written) ≡ true → (c.count < length out) × (i < 4294967296)
-      passing_room a r =
-          let w = both b written r in
-          let k = a w.1 in
-          let l : left i ≡ i ∷ left (i + 1) = next ∙ ap (λ (v : Bool). cond v (i ∷ left (i + 1)) (left (i + 1))) w.0 in (
-            omega (arith, p.sum, p.size, k.size, ap length l),
-            word_true i (left (i + 1)) (sym (ap each_word l) ∙ (both c.fits (each_word (left i)) (p.words ∙ k.words)).1),
-          )
-
-      pub passing_turn : (d : Tally) (out' : List ℕ)
-          → out' ≡ cond (b && written) (ListN.set out c.count i) out
-          → d ≡ tallied_n c i b
-          → Passing (i + 1) (Some f) now d out'
-      passing_turn d out' s r =
-          let z : i ≡ i + 1 - 1 = omega arith in
-          let u = tally_turn c i b (left i) (left (i + 1)) next in
-          subst (λ (d : Tally). Passing (i + 1) (Some f) now d out') (sym r)
-          (record {
-            prior_read = g.is_last;
-            prior = λ _. e ∙ (ap (material_of (paint_at t.areas)) g.is_set ∙ ap at z);
-            few = omega (arith, p.few, u.0);
-            knows = sym (known_turn i true h g.is_known) ∙ p.knows;
-            sum = u.1.0 ∙ p.sum;
-            words = u.1.1 ∙ p.words;
-            size = write_length (b && written) out out' c.count i s ∙ p.size;
-            rest = write_turn written b c i out out' (left i) (left (i + 1)) next s ∙ p.rest;
-          })
+        pub writing_turn : (count' : ℕ) (out' : List ℕ) (b : Bool)
+            → b ≡ logged_n last m
+            → count' ≡ cond b (count + 1) count
+            → out' ≡ cond b (ListN.set out count i) out
+            → Writing (i + 1) (Some m) count' out'
+        writing_turn count' out' true q k e =
+            let n = next i last p.read m h g true q in
+            let z : count' ≡ suc count = omega (arith, k) in
+            let s : length out' ≡ length out = ap length e ∙ length-set out count i in
+            record {
+              read = reading_turn i last p.read m h g;
+              size = s ∙ p.size;
+              room = omega (arith, p.room, z, s, ap length n);
+              words = (word_first i (left (i + 1)) (sym (ap each_word n) ∙ p.words)).1;
+              rest = rw (z, e) (ap (sets out count) (sym n) ∙ p.rest);
+            }
+        writing_turn count' out' false q k e =
+            let n = next i last p.read m h g false q in
+            rw (k, e) (record {
+              read = reading_turn i last p.read m h g;
+              size = p.size;
+              room = omega (arith, p.room, ap length n);
+              words = sym (ap each_word n) ∙ p.words;
+              rest = ap (sets out count) (sym n) ∙ p.rest;
+            })

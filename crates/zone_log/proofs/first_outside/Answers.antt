@@ -1,22 +1,10 @@
-use mathlib.Core.Path.{sym}
-use native.Mathlib.Omega.{arith}
-use lib.ListN.{length}
-use Rattle.zone_log.proofs.Runs.{outside_turn, outside_here, outside_done}
+use Rattle.std.proofs.Common.{rules}
+use Rattle.zone_log.proofs.Runs.{FirstOutside, outside_law}
 use Rattle.zone_log.proofs.first_outside.Goals as goal
-
-pub returns-then-not-is_position : goal.returns-then-not-is_position
-returns-then-not-is_position c = record {
-  answer = outside_here c.args.px.now c.args.py.now (length c.args.px.now) c.loop-i.i _ c.loop-i-test.true
-      (sym c.if-not-is_position.ensures.answer) c.loop-i.invariant;
-}
-
-pub loop-i-preserved : goal.loop-i-preserved
-loop-i-preserved c =
-    outside_turn c.args.px.now c.args.py.now (length c.args.px.now) c.loop-i.i _ c.loop-i-test.true
-    (sym c.if-not-is_position.ensures.answer) c.loop-i.invariant
 
 pub returns : goal.returns
 returns c =
-    let k = c.loop-i-test.false in
-    let e = outside_done c.args.px.now c.args.py.now (length c.args.px.now) c.loop-i.i _ k c.loop-i.invariant in
-    record { answer = omega (arith, e) }
+    let px = c.args.px.now in
+    let py = c.args.py.now in
+    let h : FirstOutside px py c.position.result = search rules in
+    record { answer = outside_law px py _ h }
