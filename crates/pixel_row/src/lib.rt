@@ -112,7 +112,7 @@ fn fill_row(tree: Tree, row: u32, first: u32, out: &mut [u8]) -> Result<(), Refu
     let n = out.len() / CHANNELS;
     let mut last = None;
     for i in 0..n {
-        // A match: the check tells a caller of `map_err` nothing plain of the place that a closure adds.
+        // A match: with `map_err` the proof of the place that its closure adds did not close.
         match pixel_at(tree, last, row, first + (i as u32)) {
             Ok(pixel) => {
                 put_pixel(out, i, pixel.colour);
