@@ -59,16 +59,12 @@ pub fn pack_written(w: Result<usize, Refusal>) -> u64
     pack(w.map_err(Refused::from))
 }
 
-pub fn pack_open(a: Result<u32, Refusal>) -> u64
-    ensures answer { result ≡ open_number a }
+// How many entries an opening has, or the number of a split's first child.
+pub fn pack_count(a: Result<u32, Refusal>) -> u64
+    ensures opened { result ≡ open_number a }
+    ensures split { result ≡ split_number a }
 {
-    pack(a.map(|entries| entries as usize).map_err(Refused::from))
-}
-
-pub fn pack_split(a: Result<u32, Refusal>) -> u64
-    ensures answer { result ≡ split_number a }
-{
-    pack(a.map(|child| child as usize).map_err(Refused::from))
+    pack(a.map(|count| count as usize).map_err(Refused::from))
 }
 
 // "full" has 2^31 more than "done".
@@ -88,14 +84,16 @@ fn put_leaf(out: &mut [u32], l: FoundLeaf)
     requires { 8 ≤ length out.old }
     ensures out { out.new ≡ leaf_put l out.old }
 {
-    out[0] = l.cell;
-    out[1] = l.x;
-    out[2] = l.y;
-    out[3] = l.side;
-    out[4] = l.steps;
-    out[5] = l.entries;
-    out[6] = l.lines;
-    out[7] = u32::from(l.uniform);
+    out[..LEAF_WORDS].copy_from_slice(&[
+        l.cell,
+        l.x,
+        l.y,
+        l.side,
+        l.steps,
+        l.entries,
+        l.lines,
+        l.uniform.into(),
+    ]);
 }
 
 // A leaf that was found, or 11.
@@ -121,16 +119,18 @@ fn put_spot(out: &mut [u32], s: Spot)
     requires { 10 ≤ length out.old }
     ensures out { out.new ≡ spot_put s out.old }
 {
-    out[0] = (s.set % 4294967296) as u32;
-    out[1] = (s.set / 4294967296) as u32;
-    out[2] = s.material;
-    out[3] = s.red;
-    out[4] = s.green;
-    out[5] = s.blue;
-    out[6] = u32::from(s.uniform);
-    out[7] = s.x;
-    out[8] = s.y;
-    out[9] = s.side;
+    out[..SPOT_WORDS].copy_from_slice(&[
+        (s.set % 4294967296) as u32,
+        (s.set / 4294967296) as u32,
+        s.material,
+        s.red,
+        s.green,
+        s.blue,
+        s.uniform.into(),
+        s.x,
+        s.y,
+        s.side,
+    ]);
 }
 
 // What shows, or 11.

@@ -98,7 +98,7 @@ pub extern "C" fn zones_open(
         cells,
         entries,
     );
-    answers::pack_open(a)
+    answers::pack_count(a)
 }
 
 // Splits a cell of a tree. The result is the number of its first child.
@@ -131,7 +131,7 @@ pub extern "C" fn zones_split(
         entries,
         cell,
     );
-    answers::pack_split(a)
+    answers::pack_count(a)
 }
 
 // Splits the lowest numbered leaf with more lines than the threshold and a depth below the limit, again and again. The result is the splits
