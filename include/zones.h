@@ -319,9 +319,9 @@ static inline const char *zones_refusal_text(uint32_t number) {
  * recursive and no frame depends on the tables: what was measured is the longest path through the object code, so
  * other drawings take no more.
  *
- *     zones_read     341     zones_split    7576     zones_position    862
- *     zones_write    485     zones_grow     7656     zones_pixel_row   990
- *     zones_open    2152     zones_find_leaf 750     zones_zone_log   1150
+ *     zones_read     460     zones_split    8408     zones_position   1061
+ *     zones_write    700     zones_grow     8456     zones_pixel_row  1861
+ *     zones_open    2360     zones_find_leaf 837     zones_zone_log   1541
  *
  * What memcpy and memset take comes on top. In a program that binds a shared C library lazily, the first call of
  * either runs the dynamic linker on this stack, another 3 to 4 KB.
@@ -333,24 +333,24 @@ static inline const char *zones_refusal_text(uint32_t number) {
  *
  *      | pit                       | berms                     | full                      | mine
  *      |cells  entr.   pos.  pixel |cells  entr.   pos.  pixel |cells  entr.   pos.  pixel |cells  entr.   pos.  pixel
- * none |    1     72   6549  36709 |    1    117  18310  99355 |    1     72   9196  59708 |    1   1247 153265 537233
- *   16 |   17    427   2985  15305 |   29    936   3686  19515 |   53   1590   3487  22220 |  429  38480   6046  20806
- *    8 |   45    962   2024   9667 |   73   1656   2427  11893 |  229   3849   2493  14472 | 1065  65158   4718  15957
- *    4 |   89   1390   1904   8284 |  253   4228   1864   9283 |  905   8523   1894   9847 | 1081f 65452   4417  12661
- *    2 |  329   3180   1595   6040 |  673   7615   1725   7738 | 2661  15606   1442   4133 | 1129f 65467   4197  12341
- *    1 | 1453   7811   1417   5408 | 2005  14840   1515   6608 | 4093f 20713   1373   3490 | 1145f 65382   4134  11696
- *    0 | 4093f 18119   1182   3530 | 4093f 24055   1272   4298 | 4093f 20187   1304   3191 | 1149f 65514   3933  12341
+ * none |    1     72   6146  32746 |    1    117  16369  97394 |    1     72   8399  54481 |    1   1247 136684 532317
+ *   16 |   17    427   2887  15339 |   29    936   3555  20114 |   53   1590   3263  20879 |  429  38480   5897  21414
+ *    8 |   45    962   1968   9894 |   73   1656   2362  12309 |  229   3849   2364  13862 | 1065  65158   4623  16608
+ *    4 |   89   1390   1857   8536 |  253   4228   1819   9619 |  905   8523   1822   9640 | 1081f 65452   4333  13182
+ *    2 |  329   3180   1566   6328 |  673   7615   1692   8091 | 2661  15606   1411   4388 | 1129f 65467   4109  12713
+ *    1 | 1453   7811   1398   5741 | 2005  14840   1496   7039 | 4093f 20713   1350   3801 | 1145f 65382   4043  12102
+ *    0 | 4093f 18119   1181   3769 | 4093f 24055   1271   4605 | 4093f 20187   1286   3479 | 1149f 65514   3828  12713
  *
  * Then over depth limits, with threshold 2:
  *
  *      | pit                       | berms                     | full                      | mine
  *      |cells  entr.   pos.  pixel |cells  entr.   pos.  pixel |cells  entr.   pos.  pixel |cells  entr.   pos.  pixel
- *    4 |  153   2016   1632   7387 |  121   2680   1862   8772 |  293   4399   2009  11957 |  317  31278   6080  25598
- *    5 |  249   2763   1600   6211 |  229   4096   1758   7993 | 1057   9329   1539   4784 |  973  60736   4261  12341
- *    6 |  301   3040   1596   6040 |  373   5493   1738   7738 | 2661  15606   1442   4133 | 1129f 65467   4197  12341
- *    7 |  317   3126   1595   6040 |  553   6889   1728   7738 | 2661  15606   1442   4133 | 1129f 65467   4197  12341
- *    8 |  329   3180   1595   6040 |  673   7615   1725   7738 | 2661  15606   1442   4133 | 1129f 65467   4197  12341
- *   10 |  333   3186   1595   6040 |  681   7641   1725   7738 | 2661  15606   1442   4133 | 1129f 65467   4197  12341
+ *    4 |  153   2016   1600   7590 |  121   2680   1818   9116 |  293   4399   1922  11537 |  317  31278   5910  26248
+ *    5 |  249   2763   1571   6494 |  229   4096   1722   8338 | 1057   9329   1497   4993 |  973  60736   4170  12713
+ *    6 |  301   3040   1567   6328 |  373   5493   1703   8091 | 2661  15606   1411   4388 | 1129f 65467   4109  12713
+ *    7 |  317   3126   1566   6328 |  553   6889   1694   8091 | 2661  15606   1411   4388 | 1129f 65467   4109  12713
+ *    8 |  329   3180   1566   6328 |  673   7615   1692   8091 | 2661  15606   1411   4388 | 1129f 65467   4109  12713
+ *   10 |  333   3186   1566   6328 |  681   7641   1692   8091 | 2661  15606   1411   4388 | 1129f 65467   4109  12713
  *
  * - In tables at the limits: threshold 2, depth limit 8. Below 2 the tables fill up for little; a large drawing fills
  *   them at any threshold up to 4, and what is cut then is cut evenly, as growing goes from the large cells down.

@@ -84,7 +84,7 @@ fn put_leaf(out: &mut [u32], l: FoundLeaf)
     requires { 8 ≤ length out.old }
     ensures out { out.new ≡ leaf_put l out.old }
 {
-    out[..LEAF_WORDS].copy_from_slice(&[
+    let words = [
         l.cell,
         l.x,
         l.y,
@@ -93,7 +93,8 @@ fn put_leaf(out: &mut [u32], l: FoundLeaf)
         l.entries,
         l.lines,
         l.uniform.into(),
-    ]);
+    ];
+    records::put_words(out, 0, &words);
 }
 
 // A leaf that was found, or 11.
@@ -119,7 +120,7 @@ fn put_spot(out: &mut [u32], s: Spot)
     requires { 10 ≤ length out.old }
     ensures out { out.new ≡ spot_put s out.old }
 {
-    out[..SPOT_WORDS].copy_from_slice(&[
+    let words = [
         (s.set % 4294967296) as u32,
         (s.set / 4294967296) as u32,
         s.material,
@@ -130,7 +131,8 @@ fn put_spot(out: &mut [u32], s: Spot)
         s.x,
         s.y,
         s.side,
-    ]);
+    ];
+    records::put_words(out, 0, &words);
 }
 
 // What shows, or 11.

@@ -99,7 +99,9 @@ fn put_pixel(out: &mut [u8], i: usize, c: Colour)
     ensures out { out.new ≡ put_pixel out.old i c }
 {
     let at = i * CHANNELS;
-    out[at..at + CHANNELS].copy_from_slice(&[c.red, c.green, c.blue]);
+    out[at] = c.red;
+    out[at + 1] = c.green;
+    out[at + 2] = c.blue;
 }
 
 // ---- the call

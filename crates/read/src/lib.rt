@@ -87,9 +87,10 @@ fn put_area(table: &mut [u32], at: usize, r: Record) -> usize
     ensures table { table.new ≡ sets table.old at (words_of_area r) }
 {
     if let Record::Area(f) = r {
-        table[at..at + AREA_WORDS].copy_from_slice(&[
+        let words = [
             f.role, f.rule, f.alpha, f.red, f.green, f.blue, f.material, 0,
-        ]);
+        ];
+        records::put_words(table, at, &words);
         return at + AREA_WORDS;
     }
     at

@@ -2,10 +2,11 @@
 use Prim.Native.Nat.{ℕ, zero, suc, ◌+◌, ◌*◌, ◌/◌, ◌%◌, ◌≤◌, ◌<◌}
 use mathlib.Core.Path.{◌≡◌, refl, sym, ap, ap₂, ◌∙◌}
 use mathlib.Core.Bool.{Bool, true, false, cond}
-use mathlib.Core.List.{List, [], ◌∷◌, ◌++◌}
+use mathlib.Core.List.{List, [], ◌∷◌, ◌++◌, append_assoc}
 use native.Mathlib.Omega.{arith}
-use lib.ListN.{length}
-use lib.Seq.{sets, sets-eq}
+use lib.ListN.{length, set, get_or, take, drop}
+use lib.Seq.{paste, sets, sets-eq}
+use Rattle.std.proofs.lemmas.List.Edits.{paste_all, paste_more}
 use Rattle.std.proofs.lemmas.List.{take-append-drop}
 use Rattle.std.proofs.lemmas.Slice.{take-put_mid, drop-put_mid}
 use borrow.Rule.Slice.PartMut.{put_mid}
@@ -335,3 +336,15 @@ part_sets a k xs ys zs s e h =
     sym (take-append-drop n (put_mid a k xs ys))
     ∙ ap₂ ◌++◌ (take-put_mid a k xs ys n refl (omega arith)) (drop-put_mid a k xs ys n (omega arith) (omega arith) e)
     ∙ (sym (sets-eq ys xs a (omega arith)) ∙ ap (sets xs a) s)
+
+-- a loop that copies the whole of s, a turn and the end of it
+module _ (d s : List ℕ) (at : ℕ) (h : at + length s ≤ length d) where
+  pub copied_more : (t : List ℕ) (k : ℕ) → k < length s → t ≡ paste d at s k → set t (at + k) (get_or s k 0) ≡ paste d at s (k + 1)
+  copied_more t k l e = rw e (paste_more d at s k 0 (omega arith) l)
+
+  pub copied_all : (t : List ℕ) (k : ℕ) → k ≤ length s → length s ≤ k → t ≡ paste d at s k → t ≡ sets d at s
+  copied_all t k a b e =
+      let n : k ≡ length s = omega arith in
+      let p : paste d at s k ≡ take at d ++ (s ++ drop (at + length s) d) =
+          paste_all d at s k n ∙ ap (λ (m : ℕ). take at d ++ (s ++ drop (at + m) d)) n in
+      e ∙ p ∙ sym (sets-eq s d at h ∙ append_assoc (take at d) s (drop (at + length s) d))

@@ -118,17 +118,47 @@ pub fn read_raw(records: &[u8], i: usize) -> Raw
     ensures answer { raw_at result 0 ≡ raw_at records.now i }
 {
     let at = i * RECORD_BYTES;
-    let mut r = [0; RECORD_BYTES];
-    r.copy_from_slice(&records[at..at + RECORD_BYTES]);
-    r
+    [
+        records[at],
+        records[at + 1],
+        records[at + 2],
+        records[at + 3],
+        records[at + 4],
+        records[at + 5],
+        records[at + 6],
+        records[at + 7],
+        records[at + 8],
+        records[at + 9],
+        records[at + 10],
+        records[at + 11],
+        records[at + 12],
+        records[at + 13],
+        records[at + 14],
+        records[at + 15],
+    ]
 }
+
+// Bytes and words are put one by one, and not by `copy_from_slice`, nor gone over by a slice's `iter`: the code of these keeps pointers in structs,
+// whose size depends on the processor, and the ports (docs/PORTING.md) are made of a module in which no pointer lies so.
 
 // Writes sixteen bytes.
 pub fn put_raw(out: &mut [u8], at: usize, r: Raw)
     requires { at + 16 ≤ length out.old }
     ensures out { out.new ≡ sets out.old at r }
 {
-    out[at..at + RECORD_BYTES].copy_from_slice(&r);
+    for k in 0..RECORD_BYTES {
+        out[at + k] = r[k];
+    }
+}
+
+// Writes words from place `at` on.
+pub fn put_words(out: &mut [u32], at: usize, words: &[u32])
+    requires { at + length words.now ≤ length out.old }
+    ensures out { out.new ≡ sets out.old at words.now }
+{
+    for k in 0..words.len() {
+        out[at + k] = words[k];
+    }
 }
 
 // Two bytes, the low one first.

@@ -29,9 +29,12 @@ fn first_outside(px: &[u32], py: &[u32]) -> Option<usize>
     requires { length px.now ≡ length py.now }
     ensures answer { result ≡ outside_n px.now py.now }
 {
-    px.iter()
-        .zip(py)
-        .position(|(x, y)| !find_leaf::is_position(*x, *y))
+    for i in 0..px.len() {
+        if !find_leaf::is_position(px[i], py[i]) {
+            return Some(i);
+        }
+    }
+    None
 }
 
 // ---- one index

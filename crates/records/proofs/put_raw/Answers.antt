@@ -1,11 +1,13 @@
-use mathlib.Core.Path.{◌∙◌}
 use native.Mathlib.Omega.{arith}
-use lib.ListN.{length-take, length-drop}
-use Rattle.records.proofs.Laws.{part_sets}
+use Rattle.std.proofs.lemmas.List.Edits.{paste_none}
+use Rattle.records.proofs.Laws.{copied_more, copied_all}
 use Rattle.records.proofs.put_raw.Goals as goal
 
+pub loop-k-init : goal.loop-k-init
+loop-k-init c = paste_none c.args.out.now c.args.at c.args.r
+
+pub loop-k-preserved : goal.loop-k-preserved
+loop-k-preserved c = copied_more c.args.out.now c.args.r c.args.at (omega arith) _ _ (omega arith) c.loop-k.invariant
+
 pub returns : goal.returns
-returns c =
-    record {
-      out = part_sets _ _ _ _ _ c.copy_from_slice.ensures.after (c.copy_from_slice.ensures.len ∙ simp (length-take, length-drop) (omega arith)) (omega arith);
-    }
+returns c = record { out = copied_all c.args.out.now c.args.r c.args.at (omega arith) _ c.loop-k.k (omega arith) (omega arith) c.loop-k.invariant }
