@@ -7,7 +7,8 @@
 
 ghost use Rattle.std.specs.Prelude.{◌≡◌, ◌≤◌, length};
 ghost use Rattle.refusals.specs.Refusals.{number_of};
-ghost use Rattle.answers.specs.Answers.{packed, packed_low, packed_answer, read_number, write_number, read_low, write_low, open_number, split_number, grow_splits, grow_number};
+ghost use Rattle.answers.specs.Answers.{packed, packed_low, packed_answer, read_number, write_number, read_low, write_low, open_number, split_number};
+ghost use Rattle.answers.specs.Answers.{grow_splits, grow_number};
 ghost use Rattle.answers.specs.Answers.{leaf_put, find_room, find_number, leaf_written};
 ghost use Rattle.answers.specs.Readings.{spot_put, spot_room, spot_number, spot_written, low_half, log_number, row_place, row_number};
 

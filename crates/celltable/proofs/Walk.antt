@@ -122,7 +122,8 @@ deeper_follows used first px py c u =
     upper : Bool
     upper = leb (c.y + c.side / 2) py
 
-step_follows : (t : List ℕ) (used entries px py : ℕ) (c c' : Cursor) (r : Option Down) → r ≡ step_n t used entries c px py → r ≡ Some (Deeper c') → Follows c c' used
+step_follows : (t : List ℕ) (used entries px py : ℕ) (c c' : Cursor) (r : Option Down) → r ≡ step_n t used entries c px py → r ≡ Some (Deeper c') →
+    Follows c c' used
 unfolding met_n
 step_follows t used entries px py c c' r p q = go (stands_n c w) numbers (eqb w.child 0) refl refl (sym p ∙ q)
   where
@@ -133,7 +134,8 @@ step_follows t used entries px py c c' r p q = go (stands_n c w) numbers (eqb w.
     numbers = numbers_n t used entries c w
 
     go : (a b d : Bool) → numbers ≡ b → eqb w.child 0 ≡ d
-        → cond a (cond b (cond d (Some (AtLeaf (leaf_of c.cell c.steps w))) (Some (Deeper (deeper_n c w.child px py)))) None) None ≡ Some (Deeper c') → Follows c c' used
+        → cond a (cond b (cond d (Some (AtLeaf (leaf_of c.cell c.steps w))) (Some (Deeper (deeper_n c w.child px py)))) None) None ≡ Some (Deeper c')
+        → Follows c c' used
     go true true false e f k =
         let s : deeper_n c w.child px py ≡ c' = cc in
         subst (λ (v : Cursor). Follows c v used) s

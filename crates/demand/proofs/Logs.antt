@@ -106,7 +106,8 @@ module _ (t : Tree) (H : List Node) (s : Sound t H) (px py : List ℕ) where
 
   paired_by : (out : List ℕ) (b : Bool)
       → Logged out (cond b (log_range t px py (length out)) (Err (at_place Argument 0)))
-      (cond b (cond (ltb outside (length px)) (Err (at_place Argument outside)) (room_of (log_shown (drawing_of t) px py) (length out))) (Err (at_place Argument 0)))
+      (cond b (cond (ltb outside (length px)) (Err (at_place Argument outside)) (room_of (log_shown (drawing_of t) px py) (length out))) (Err
+      (at_place Argument 0)))
   paired_by out true = ranged_by out (ltb outside (length px)) refl
   paired_by out false = record { answer = refl; output = refl }
 

@@ -8,7 +8,8 @@ ghost use Rattle.geometry.specs.Classes.{edge_class, cut};
 use crate::edge::Edge;
 use curves::Point;
 
-// The square of a cell: its low corner and its side. Contracts ask its range (SquareIn), which no ghost field holds: `celltable::quarter_of` makes the square of
+// The square of a cell: its low corner and its side. Contracts ask its range (SquareIn), which no ghost field holds: `celltable::quarter_of` makes the
+// square of
 // any words.
 #[derive(Clone, Copy)]
 pub struct Square {

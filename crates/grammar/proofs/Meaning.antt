@@ -18,7 +18,8 @@ use Rattle.records.specs.Record.{Decoded}
 use Rattle.grammar.specs.declared.State.{State}
 use Rattle.grammar.specs.code.Machine.{Scan}
 use Rattle.grammar.specs.Grammar.{Progress, breaks, stands, fits, ends_short, in_limit, after, Course, at, stopped, next, met, course, begin, final, checked}
-use Rattle.grammar.specs.code.Machine.{curve_breaks, bends_n, breaks_n, stands_n, fits_n, ends_short_n, in_limit_n, after_n, step_n, settled_n, advance_n, start_n, ended_n, scan_n}
+use Rattle.grammar.specs.code.Machine.{curve_breaks, bends_n, breaks_n, stands_n, fits_n, ends_short_n, in_limit_n, after_n, step_n, settled_n}
+use Rattle.grammar.specs.code.Machine.{advance_n, start_n, ended_n, scan_n}
 
 abbrev enc : Progress → State
 enc p =

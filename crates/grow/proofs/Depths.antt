@@ -16,7 +16,8 @@ zeros_agree (suc n) = eqb (count_trailing_zeros 32 (2 ^ suc n)) (suc n) && zeros
 zeros_up_to : (n s : ℕ) → zeros_agree n ≡ true → power_up_to n s ≡ true → count_trailing_zeros 32 s ≡ level_up_to n s
 unfolding power_up_to level_up_to
 zeros_up_to zero s a h = ap (count_trailing_zeros 32) (eqb-true s 1 h) ∙ eqb-true (count_trailing_zeros 32 1) 0 a
-zeros_up_to (suc n) s a h = go (eqb s (2 ^ suc n)) refl (λ q. zeros_up_to n s (and_right (eqb (count_trailing_zeros 32 (2 ^ suc n)) (suc n)) (zeros_agree n) a) q) h
+zeros_up_to (suc n) s a h = go (eqb s (2 ^ suc n)) refl (λ q. zeros_up_to n s (and_right (eqb (count_trailing_zeros 32 (2 ^ suc n)) (suc n))
+    (zeros_agree n) a) q) h
   where
     go : (b : Bool)
         → eqb s (2 ^ suc n) ≡ b

@@ -19,7 +19,8 @@ module _ (n l : ℕ) (t₀ : Tree) (p a x y h c e : List ℕ) (s : Sweep) (S : S
   abbrev t : Tree
   t = tree p a x y h c e
 
-  module _ (h' c' e' : List ℕ) (r : Result (Option Sweep) Refusal) (er : r ≡ turn_by (tried t n l s.cell) t s) (eh : h' ≡ (tree_by (tried t n l s.cell) t s.cell).head)
+  module _ (h' c' e' : List ℕ) (r : Result (Option Sweep) Refusal) (er : r ≡ turn_by (tried t n l s.cell) t s) (eh : h' ≡ (tree_by (tried t n l
+      s.cell) t s.cell).head)
       (ec : c' ≡ (tree_by (tried t n l s.cell) t s.cell).cells) (ee : e' ≡ (tree_by (tried t n l s.cell) t s.cell).entries) where
     whole : tree p a x y h' c' e' ≡ tree_by (tried t n l s.cell) t s.cell
     whole = tree_is p a x y h c e h' c' e' s.cell (tried t n l s.cell) eh ec ee

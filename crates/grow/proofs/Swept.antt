@@ -167,7 +167,8 @@ module _ (n l : ℕ) (t₀ t : Tree) (s : Sweep) (S : Sweeping n l t₀ t s) whe
         → split_answer t i ≡ x
         → by_answer x s (split_tree t i).head ≡ Ok (Some s')
         → Sweeping n l t₀ (split_tree t i) s'
-    by_split (Ok k) s' e a f = let z : split_n s (entries_used (split_tree t i).head) ≡ s' = cc in subst (Sweeping n l t₀ (split_tree t i)) z (sweeping_split h e k a)
+    by_split (Ok k) s' e a f = let z : split_n s (entries_used (split_tree t i).head) ≡ s' = cc in subst (Sweeping n l t₀ (split_tree t i)) z
+        (sweeping_split h e k a)
     by_split (Err r) s' e a f = absurd (not_further (eqb (number_of r) 11) s' f)
 
     pub turn_further : (x : Tried) (s' : Sweep) → tried t n l s.cell ≡ x → turn_by x t s ≡ Ok (Some s') → Sweeping n l t₀ (tree_by x t s.cell) s'

@@ -73,10 +73,12 @@ accepted_said b plan areas xs ys plan' areas' xs' ys' k e p a x y p' a' x' y' =
     ∙ ap (verdict_text b) e
 
 -- ---- a file that is too long
-long_law : (m : ℕ) (v : Verdict) → 65536 < m → cond (eqb (m % 16) 0) (cond (leb (m / 16) 4096) v (Err (at_place Length 0))) (Err (at_place Length 0)) ≡ Err (at_place Length 0)
+long_law : (m : ℕ) (v : Verdict) → 65536 < m → cond (eqb (m % 16) 0) (cond (leb (m / 16) 4096) v (Err (at_place Length 0))) (Err (at_place Length 0))
+    ≡ Err (at_place Length 0)
 long_law m v h = go (eqb (m % 16) 0) (leb (m / 16) 4096) refl refl
   where
-    go : (s t : Bool) → eqb (m % 16) 0 ≡ s → leb (m / 16) 4096 ≡ t → cond s (cond t v (Err (at_place Length 0))) (Err (at_place Length 0)) ≡ Err (at_place Length 0)
+    go : (s t : Bool) → eqb (m % 16) 0 ≡ s → leb (m / 16) 4096 ≡ t → cond s (cond t v (Err (at_place Length 0))) (Err (at_place Length 0)) ≡ Err
+        (at_place Length 0)
     go false t p q = refl
     go true false p q = refl
     go true true p q = absurd (omega (arith, eqb-true (m % 16) 0 p, leb-true (m / 16) 4096 q))

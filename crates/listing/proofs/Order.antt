@@ -73,5 +73,6 @@ pub in_key_order : (t : Tree) → keys_from 0 (listed t)
 in_key_order t = keys_from_law t 256 0 0 (omega arith) (omega arith)
 
 -- the answer at corner k
-pub corner_is : (t : Tree) (k x y : ℕ) (a : Result FoundLeaf Refusal) → x ≡ corner_x k → y ≡ corner_y k → a ≡ find_answer t x y → of_answer x y a ≡ corner_at t k
+pub corner_is : (t : Tree) (k x y : ℕ) (a : Result FoundLeaf Refusal) → x ≡ corner_x k → y ≡ corner_y k → a ≡ find_answer t x y → of_answer x y a ≡
+    corner_at t k
 corner_is t k x y a p q e = rw (e, p, q)

@@ -199,7 +199,8 @@ module _ (areas : List ℕ) (D : Drawing) (c : Cell) (agrees : (n : ℕ) → n <
       }
 
   -- an area
-  pub area_follows : (k : ℕ) (p p' : Pruner) (a : Option Declared.Waiting) (m : Making) (n : ℕ) (z : ℤ) → n < length D.fields → nat_abs z ≤ 2048 → Follows D k p a m
+  pub area_follows : (k : ℕ) (p p' : Pruner) (a : Option Declared.Waiting) (m : Making) (n : ℕ) (z : ℤ) → n < length D.fields → nat_abs z ≤ 2048 →
+      Follows D k p a m
       → counted p' ≡ settled_n areas (counted p) a → Follows D (k + 1) p' (waiting n z 4294967297) (making (settle D c m) (held n z []))
   area_follows k p p' a m n z i s f h =
       record {
@@ -256,7 +257,8 @@ module _ (areas : List ℕ) (D : Drawing) (c : Cell) (agrees : (n : ℕ) → n <
       (ap (waiting n z) (omega (arith, weight_more gs h)), omega (arith, one_more_law gs h), omega arith)
   left_by_law k x n z gs g Kept s e = (ap (waiting n z) (omega (arith, weight_more gs g, e refl)), omega (arith, one_more_law gs g), omega arith)
 
-  pub segment_follows : (k : ℕ) (p p' : Pruner) (a a' : Option Declared.Waiting) (m : Making) (g : Segment) → nat_abs (sign_of D.xs D.ys g) ≤ 1 → Follows D k p a m
+  pub segment_follows : (k : ℕ) (p p' : Pruner) (a a' : Option Declared.Waiting) (m : Making) (g : Segment) → nat_abs (sign_of D.xs D.ys g) ≤ 1 →
+      Follows D k p a m
       → counted p' ≡ counted p → a' ≡ with_left a (class_in D.xs D.ys c g) (sign_of D.xs D.ys g) → Follows D (k + 1) p' a' (add_to D c g m)
   segment_follows k p p' a a' (making x nothing) g s f h e =
       record { counts = h ∙ f.counts; waits = e ∙ rw f.waits; fit = f.fit; short = omega (arith, f.short); named_in = tt }

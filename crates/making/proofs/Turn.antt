@@ -41,7 +41,8 @@ use Rattle.evaluate.specs.code.Numbers.{segment_of}
 use Rattle.evaluate.proofs.Laws.{both, area_below, start_small, element_segment, in_segment}
 use Rattle.ranges.proofs.Groups.{opens, opens_length}
 use Rattle.making.specs.declared.Waiting as Declared
-use Rattle.making.specs.code.Numbers.{left_sign, left_class, left_range, waiting, resting, with_left, waiting_n, start_in, weight_in, settled_n, pruned_n, Room, Inside}
+use Rattle.making.specs.code.Numbers.{left_sign, left_class, left_range, waiting, resting, with_left, waiting_n, start_in, weight_in, settled_n}
+use Rattle.making.specs.code.Numbers.{pruned_n, Room, Inside}
 use Rattle.cells.proofs.Making.{entry_some}
 use Rattle.making.proofs.Laws.{by_kind, after_segment, SegmentBelow, range_below, range_sign, left_small}
 use Rattle.making.proofs.Follows.{

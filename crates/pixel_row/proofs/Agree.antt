@@ -80,7 +80,8 @@ module _ (t : Tree) (row : ℕ) where
     stands_none i n out g =
         let a : i + 0 ≡ i = omega arith in
         let b : first + i + 0 ≡ first + i = omega arith in
-        subst (λ (j : ℕ). Stands i (suc n) out (filled (Err (at_place Refusals.Broken j)) out)) a (up_to 0 out (omega arith) (ap (pixel_known t row) b ∙ g) refl)
+        subst (λ (j : ℕ). Stands i (suc n) out (filled (Err (at_place Refusals.Broken j)) out)) a (up_to 0 out (omega arith) (ap (pixel_known t row)
+        b ∙ g) refl)
 
     pub fill_stands : (i n : ℕ) (out : List ℕ) → Stands i n out (fill_from t row first i n out)
     unfolding fill_from row_bytes

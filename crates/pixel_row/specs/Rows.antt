@@ -58,5 +58,6 @@ module _ (t : Tree) (row : ℕ) where
   abbrev pub row_filled : (first : ℕ) → List ℕ → Filled
   row_filled first out =
       cond (eqb (length t.xs) (length t.ys))
-      (cond (leb row 4095) (cond (eqb (length out % 3) 0) (row_span first out) (filled (Err (at_place Argument 0)) out)) (filled (Err (at_place Argument 0)) out))
+      (cond (leb row 4095) (cond (eqb (length out % 3) 0) (row_span first out) (filled (Err (at_place Argument 0)) out)) (filled (Err (at_place
+      Argument 0)) out))
       (filled (Err (at_place Argument 0)) out)

@@ -42,7 +42,8 @@ if_room (Err e) p a c = Err e
 
 -- 7, "a lent pair of x and y tables of unequal length (tried before all other checks, 1 included)"
 unfoldable pub read_answer : List ℕ → List ℕ → List ℕ → List ℕ → List ℕ → Verdict
-read_answer b plan areas xs ys = cond (eqb (length xs) (length ys)) (if_room (verdict_of b) (length plan) (length areas) (length xs)) (Err (at_place Argument 0))
+read_answer b plan areas xs ys = cond (eqb (length xs) (length ys)) (if_room (verdict_of b) (length plan) (length areas) (length xs)) (Err (at_place
+    Argument 0))
 
 -- that answer for the file and the four tables as they are lent to a call, and the file's drawing: in an `ensures` the name of a slice stands for
 -- the slice at the call's entry and at its exit, and these take what each holds at entry

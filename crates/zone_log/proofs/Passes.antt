@@ -169,7 +169,12 @@ module _ (t : Tree) (px py : List ℕ) where
     pub rest : more count (left i) ≡ count_of (zone_log t px py)
 
   pub counting_begin : Counting 0 None (Some 0)
-  counting_begin = record { read = reading_begin; few = omega arith; rest = let z : 0 + length (zone_log t px py) ≡ length (zone_log t px py) = omega arith in rw (left_all, z) }
+  counting_begin = record {
+    read = reading_begin;
+    few = omega arith;
+    rest = let z : 0 + length (zone_log t px py) ≡ length (zone_log t px py) = omega
+        arith in rw (left_all, z);
+  }
 
   pub counting_turn : (i : ℕ) (last : Option Met) (count count' : Option ℕ) (m : Met) (b : Bool)
       → Counting i last count

@@ -54,7 +54,8 @@ module _ (t : Tree) (px py : List ℕ) where
 
   -- 7: "a lent pair of x and y tables of unequal length (tried before all other checks ...)": place 0
   abbrev pub log_answer : (out : ℕ) → Result ℕ Refused
-  log_answer out = cond (eqb (length t.xs) (length t.ys)) (cond (eqb (length px) (length py)) (log_range out) (Err (at_place Argument 0))) (Err (at_place Argument 0))
+  log_answer out = cond (eqb (length t.xs) (length t.ys)) (cond (eqb (length px) (length py)) (log_range out) (Err (at_place Argument 0))) (Err
+      (at_place Argument 0))
 
   -- the output table afterwards: "An accepted call leaves the rest of a longer output untouched"; on a refusal nothing changes
   abbrev pub out_after : Result ℕ Refused → List ℕ → List ℕ

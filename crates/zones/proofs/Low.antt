@@ -44,7 +44,8 @@ verdict_place : (b : List ℕ) → Verdict·place (verdict_of b) ≤ 4096
 unfolding verdict_of
 verdict_place b = go (eqb (length b % 16) 0) (leb (length b / 16) 4096) refl
   where
-    go : (a d : Bool) → leb (length b / 16) 4096 ≡ d → Verdict·place (cond a (cond d (checked (decoded_in b)) (Err (at_place Length 0))) (Err (at_place Length 0))) ≤ 4096
+    go : (a d : Bool) → leb (length b / 16) 4096 ≡ d → Verdict·place (cond a (cond d (checked (decoded_in b)) (Err (at_place Length 0))) (Err
+        (at_place Length 0))) ≤ 4096
     go false d e = omega arith
     go true false e = omega arith
     go true true e = omega (arith, place_below (decoded_in b), length_from b 0 (length b / 16), leb-true (length b / 16) 4096 e)

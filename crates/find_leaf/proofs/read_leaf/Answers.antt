@@ -61,7 +61,8 @@ returns-then-checked-leaf c =
     let h = told c.counts_fit.result (counts_in T) true c.counts_fit.ensures.answer c.if-not-counts_fit.false in
     record {
       answer = read_unfit T c.args.x c.args.y c.wide-used.result c.wide-free.result _ h
-          c.wide-used.ensures.answer c.wide-free.ensures.answer c.in-Some.ensures.answer _ _ refl c.in-Some-check_leaf.ensures.answer (ne_eqb _ _ c.if-checked-leaf.true);
+          c.wide-used.ensures.answer c.wide-free.ensures.answer c.in-Some.ensures.answer _ _ refl c.in-Some-check_leaf.ensures.answer (ne_eqb _ _
+          c.if-checked-leaf.true);
     }
 
 pub returns : goal.returns
@@ -70,5 +71,6 @@ returns c =
     let h = told c.counts_fit.result (counts_in T) true c.counts_fit.ensures.answer c.if-not-counts_fit.false in
     record {
       answer = read_met T c.args.x c.args.y c.wide-used.result c.wide-free.result _ h
-          c.wide-used.ensures.answer c.wide-free.ensures.answer c.in-Some.ensures.answer _ _ refl c.in-Some-check_leaf.ensures.answer (eq-eqb _ _ c.if-checked-leaf.false);
+          c.wide-used.ensures.answer c.wide-free.ensures.answer c.in-Some.ensures.answer _ _ refl c.in-Some-check_leaf.ensures.answer (eq-eqb _ _
+          c.if-checked-leaf.false);
     }

@@ -28,7 +28,8 @@ returns c =
     let ws = words_from a.stream.entries.now a.stream.first a.stream.count in record {
       answer = c.tally_of.ensures.answer
           ∙ tally_is (elements_of_child D (cell_of a.w) ws a.q) c.count_child-n.result
-          (few_elements a.stream.entries.now a.context.areas.now a.context.xs.now a.context.ys.now a.context.bounds a.stream.first a.stream.count _ c.requires.passed)
+          (few_elements a.stream.entries.now a.context.areas.now a.context.xs.now a.context.ys.now a.context.bounds a.stream.first a.stream.count _
+          c.requires.passed)
           (c.count_child-n.ensures.weight
           ∙ ap (λ (k : Cell). total element_size (elements_made D k ws))
           (kid_in a.w c.requires.w_value a.q c.quarter_of-s.result c.quarter_of-s.ensures.answer))

@@ -23,6 +23,7 @@ loop-q-preserved c = record { low = omega (arith, c.loop-q-test.true); tallies =
 pub returns : goal.returns
 returns c =
     let a = c.args in record {
-      answer = working_end (lent a.context.areas.now a.context.xs.now a.context.ys.now a.context.bounds) (cell_of a.w) (words_from a.stream.entries.now a.stream.first a.stream.count) a.n
+      answer = working_end (lent a.context.areas.now a.context.xs.now a.context.ys.now a.context.bounds) (cell_of a.w) (words_from
+          a.stream.entries.now a.stream.first a.stream.count) a.n
           c.loop-q.q c.loop-q.ts c.loop-q.invariant (omega (arith, c.loop-q-test.false));
     }

@@ -58,7 +58,8 @@ returns-in_err-turn c =
     c.take_turn.ensures.entries _ c.in_err-turn.was in
     let p = err_from_is_err_and c.from_residual.result c.from_residual.ensures.1 in
     record {
-      answer = rw (p.1, p.2) (loop_stopped a.limits.threshold a.limits.depth T d.plan.now d.areas.now d.xs.now d.ys.now c.loop-s.head c.loop-s.cells c.loop-s.entries c.loop-s.s
+      answer = rw (p.1, p.2) (loop_stopped a.limits.threshold a.limits.depth T d.plan.now d.areas.now d.xs.now d.ys.now c.loop-s.head c.loop-s.cells
+          c.loop-s.entries c.loop-s.s
           c.loop-s.invariant c.loop-s-test.true _ _ _ c.take_turn.result c.take_turn.ensures.answer c.take_turn.ensures.head c.take_turn.ensures.cells
           c.take_turn.ensures.entries _ c.in_err-turn.was);
       head = ap (λ (u : Tree). u.head) Q;

@@ -1,6 +1,7 @@
 -- The making of a stream, one entry at a time, as the numbers that the code holds. `Rattle.making.proofs` says that they go as the elements do
 -- (`Rattle.cells.specs.code.Making`).
-use Rattle.std.specs.Prelude.{◌≡◌, Bool, true, cond, not, List, ℕ, zero, suc, ◌+◌, ◌*◌, ◌/◌, ◌^◌, ◌<◌, ◌≤◌, eqb, leb, get_or, length, ℤ, pos, ◌+ℤ◌, nat_abs, Option, Some, None}
+use Rattle.std.specs.Prelude.{◌≡◌, Bool, true, cond, not, List, ℕ, zero, suc, ◌+◌, ◌*◌, ◌/◌, ◌^◌, ◌<◌, ◌≤◌, eqb, leb, get_or, length, ℤ, pos, ◌+ℤ◌}
+use Rattle.std.specs.Prelude.{nat_abs, Option, Some, None}
 use Rattle.std.specs.Int.{w32}
 use Rattle.std.proofs.Common.{to_z}
 use Rattle.geometry.specs.declared.class.Class.{Class}

@@ -12,7 +12,12 @@ returns-then-records-ne0 c =
     record {
       answer = elim c.then-records-ne0.branch [
         | then-records-ne0-via-then-records-ne0 w ↦ rw (c.into.ensures, ne_eqb _ _ w.if-records-ne0.true)
-        | then-records-ne0-via-else-records-ne0+then-n-gt-MOST_RECORDS w ↦ rw (c.into.ensures, eq-eqb _ _ w.if-records-ne0.false, lt-leb _ _ w.if-n-gt-MOST_RECORDS.true)
+        | then-records-ne0-via-else-records-ne0+then-n-gt-MOST_RECORDS w ↦ rw (
+          c.into.ensures,
+          eq-eqb _ _ w.if-records-ne0.false,
+          lt-leb _ _
+              w.if-n-gt-MOST_RECORDS.true,
+        )
       ];
     }
 

@@ -36,7 +36,10 @@ returns-in_err-child c =
     let n = sum_is D (cell_of c.args.w) (words_from t.entries.now c.args.w.first c.args.w.count) c.count_to-children.result c.entries_of-made.result
     c.count_to-children.ensures.answer c.entries_of-made.ensures.answer in
     let p = err_from_is_err_and c.from_residual.result c.from_residual.ensures.1 in
-    record { answer = rw (p.1, p.2) (plan_refused _ _ _ (c.in_err-child.ensures.answer ∙ ap (room_answer (length t.cells.now) (length t.entries.now) c.args.used c.args.free) n)) }
+    record {
+      answer = rw (p.1, p.2) (plan_refused _ _ _ (c.in_err-child.ensures.answer ∙ ap (room_answer (length t.cells.now) (length t.entries.now)
+          c.args.used c.args.free) n));
+    }
 
 pub returns : goal.returns
 returns c =

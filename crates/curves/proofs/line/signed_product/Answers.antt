@@ -38,11 +38,15 @@ whole : (c : After-difference-4) → let s = c.args in
 whole c = let s = c.args in
     ap₂ ◌+ℤ◌ (reads (first c.before.before) (left_fits c.requires.ends_in c.requires.position_in))
     (reads (second c) (right_fits c.requires.ends_in c.requires.position_in))
-    ∙ add_sub (s.low.x * s.high.y + s.at.x * s.low.y) (s.low.x * s.low.y + s.at.x * s.high.y) (s.at.y * s.high.x + s.low.y * s.low.x) (s.at.y * s.low.x + s.low.y * s.high.x)
+    ∙ add_sub (s.low.x * s.high.y + s.at.x * s.low.y) (s.low.x * s.low.y + s.at.x * s.high.y) (s.at.y * s.high.x + s.low.y * s.low.x) (s.at.y *
+    s.low.x + s.low.y * s.high.x)
 
 pub overflow_add-result : goal.overflow_add-result
 overflow_add-result c = fits_as (whole c) (product_fits c.requires.ends_in c.requires.position_in)
 
 pub returns : goal.returns
 returns c =
-    let s = c.args in record { answer = reads (whole c) (product_fits c.requires.ends_in c.requires.position_in) ∙ sym (product_is s.low.x s.low.y s.high.x s.high.y s.at.x s.at.y) }
+    let s = c.args in record {
+      answer = reads (whole c) (product_fits c.requires.ends_in c.requires.position_in) ∙ sym (product_is s.low.x s.low.y
+          s.high.x s.high.y s.at.x s.at.y);
+    }

@@ -14,7 +14,13 @@ loop-end-init c = (c.requires.t, running_start _ _)
 pub contour_winding-sum-requires : goal.contour_winding-sum-requires
 contour_winding-sum-requires c =
     let l = c.loop-end in
-    let n = follow_step _ l.first _ l.end-index _ (omega arith) refl l.invariant.0 in record { corners_in = c.requires.corners_in; first_le_end = n.0; end_in_bounds = n.1; position_in = c.requires.position_in }
+    let n = follow_step _ l.first _ l.end-index _ (omega arith) refl l.invariant.0 in record {
+      corners_in = c.requires.corners_in;
+      first_le_end =
+          n.0;
+      end_in_bounds = n.1;
+      position_in = c.requires.position_in;
+    }
 
 pub overflow_add-sum : goal.overflow_add-sum
 overflow_add-sum c =

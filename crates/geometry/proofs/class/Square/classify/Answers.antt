@@ -9,7 +9,10 @@ use Rattle.geometry.proofs.class.Square.classify.Goals as goal
 
 pub returns-then-hi-lo : goal.returns-then-hi-lo
 unfolding edge_class
-returns-then-hi-lo c = let g = c.args in record { answer = sym (no_rows (counts g.e) (first_row g.e) (end_row g.e) g.self.x g.self.y g.self.side (omega arith)) }
+returns-then-hi-lo c = let g = c.args in record {
+  answer = sym (no_rows (counts g.e) (first_row g.e) (end_row g.e) g.self.x g.self.y g.self.side
+      (omega arith));
+}
 
 pub returns-then-counts_in_neither : goal.returns-then-counts_in_neither
 unfolding edge_class
