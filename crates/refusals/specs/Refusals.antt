@@ -46,6 +46,6 @@ number_of Broken = 12
 -- document 02, Item 2: "13 for a curve that breaks the order or span"
 number_of Curve = 13
 
--- a refusal, "and the place where it is refused": "record number, position index or pixel index", else 0
+-- "Each gives its number and a place."
 abbrev pub at_place : Refusal → ℕ → Refused
 at_place r p = record { refusal = r; place = p }
