@@ -346,5 +346,5 @@ module _ (d s : List ℕ) (at : ℕ) (h : at + length s ≤ length d) where
   copied_all t k a b e =
       let n : k ≡ length s = omega arith in
       let p : paste d at s k ≡ take at d ++ (s ++ drop (at + length s) d) =
-          paste_all d at s k n ∙ ap (λ (m : ℕ). take at d ++ (s ++ drop (at + m) d)) n in
+      paste_all d at s k n ∙ ap (λ (m : ℕ). take at d ++ (s ++ drop (at + m) d)) n in
       e ∙ p ∙ sym (sets-eq s d at h ∙ append_assoc (take at d) s (drop (at + length s) d))
