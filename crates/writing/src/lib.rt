@@ -94,7 +94,7 @@ fn put_kept(out: &mut [u32], limit: usize, at: usize, left: Left, w: Words)
 }
 
 // The line, the curve or the shortcut of entry w, behind what waits.
-fn put_segment(out: &mut [u32], limit: usize, m: Maker, left: Left, w: Words)
+pub fn put_segment(out: &mut [u32], limit: usize, m: Maker, left: Left, w: Words)
     requires limit_in_bounds { limit * 4 ≤ length out.old }
     requires sign_bound { nat_abs left.sign ≤ 1 }
     ensures out { out.new ≡ segment_put limit out.old m left.class left.sign w }
@@ -205,7 +205,7 @@ fn put_mark(out: &mut [u32], limit: usize, q: Pruner, weight: u64, kind: u32)
 
 // An entry more that is no line, curve or shortcut: what it makes is written, and the pruner goes on.
 #[inline(always)]
-fn write_other(out: &mut [u32], limit: usize, areas: &[u32], m: Maker, kind: u32) -> Pruner
+pub fn write_other(out: &mut [u32], limit: usize, areas: &[u32], m: Maker, kind: u32) -> Pruner
     requires limit_in_bounds { limit * 4 ≤ length out.old }
     requires inside { Inside (length areas.now) m.waiting }
     requires room { Room m.pruner m.waiting kind }
