@@ -1,9 +1,10 @@
 // A curve, taken from its lower end: where it counts.
 ghost use Rattle.std.specs.Prelude.{◌≡◌, true, ◌≤◌, nat_abs};
 ghost use Rattle.curves.specs.Curves.{curve_fits, implicit, side_by, side, curve_counts};
-ghost use Rattle.curves.specs.code.Reach.{EndsIn, PositionIn, BoxIn, widest};
+ghost use Rattle.curves.specs.code.Reach.{BoxIn, widest};
 
-use crate::{Point, line};
+use crate::line::Ends;
+use crate::{Point, Position};
 
 // Document 000's implicit form, of the products of the chord, the first leg and the second.
 fn implicit_form(c: i64, f: i64, s: i64) -> i64
@@ -33,28 +34,36 @@ fn side_by(e: i64, c: i64, f: i64, s: i64) -> bool
 }
 
 // The same by the corners, at a position within the box of the curve.
-fn curve_side(low: Point, control: Point, high: Point, at: Point) -> bool
-    requires box_in { BoxIn low.x low.y control.x control.y high.x high.y at.x at.y }
-    requires ends_in { EndsIn low.x low.y high.x high.y }
-    requires position_in { PositionIn control.x control.y }
-    requires position_in_2 { PositionIn at.x at.y }
-    ensures answer { result ≡ side low.x low.y control.x control.y high.x high.y at.x at.y }
+fn curve_side(ends: Ends, control: Position, at: Position) -> bool
+    requires { BoxIn ends.low.x ends.low.y control.x control.y ends.high.x ends.high.y at.x at.y }
+    ensures answer { result ≡ side ends.low.x ends.low.y control.x control.y ends.high.x ends.high.y at.x at.y }
 {
-    let e = line::signed_product(low, high, control);
-    let c = line::signed_product(low, high, at);
-    let f = line::signed_product(low, control, at);
-    let s = line::signed_product(control, high, at);
+    let corner = Point {
+        x: control.x,
+        y: control.y,
+    };
+    let first_leg = Ends {
+        low: ends.low,
+        high: corner,
+    };
+    let second_leg = Ends {
+        low: corner,
+        high: ends.high,
+    };
+    let e = ends.product(control);
+    let c = ends.product(at);
+    let f = first_leg.product(at);
+    let s = second_leg.product(at);
     side_by(e, c, f, s)
 }
 
 // Whether the curve with these ends and this control corner counts at `at`: by its rows, by its box, by its form.
-pub fn curve_counts(low: Point, control: Point, high: Point, at: Point) -> bool
-    requires y2_value { curve_fits low.x low.y control.x control.y high.x high.y ≡ true }
-    requires y0_le_y2 { low.y ≤ high.y }
-    requires ends_in { EndsIn low.x low.y high.x high.y }
-    requires position_in { PositionIn at.x at.y }
-    ensures answer { result ≡ curve_counts low.x low.y control.x control.y high.x high.y at.x at.y }
+pub fn curve_counts(ends: Ends, control: Point, at: Position) -> bool
+    requires y2_value { curve_fits ends.low.x ends.low.y control.x control.y ends.high.x ends.high.y ≡ true }
+    requires y0_le_y2 { ends.low.y ≤ ends.high.y }
+    ensures answer { result ≡ curve_counts ends.low.x ends.low.y control.x control.y ends.high.x ends.high.y at.x at.y }
 {
+    let Ends { low, high } = ends;
     if at.y < low.y {
         return false;
     }
@@ -67,5 +76,9 @@ pub fn curve_counts(low: Point, control: Point, high: Point, at: Point) -> bool
     if at.x < low.x.min(high.x) {
         return true;
     }
-    curve_side(low, control, high, at)
+    let corner = Position {
+        x: control.x,
+        y: control.y,
+    };
+    curve_side(ends, corner, at)
 }

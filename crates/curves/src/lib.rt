@@ -7,15 +7,24 @@ pub mod line;
 
 ghost use Rattle.std.specs.Prelude.{◌≡◌};
 ghost use Rattle.curves.specs.Curves.{in_order, span_fits, curve_fits};
+ghost use Rattle.curves.specs.code.Reach.{PositionIn};
 
 // How many units a curve spans at most, in each axis.
 const MOST_SPAN: u32 = 4096;
 
-// A corner or a position. Contracts ask its range, which no ghost field holds: `curve_fits` takes any numbers.
+// A corner. Contracts ask its range, which no ghost field holds: `curve_fits` takes any numbers.
 #[derive(Clone, Copy)]
 pub struct Point {
     pub x: u32,
     pub y: u32,
+}
+
+// A position.
+#[derive(Clone, Copy)]
+pub struct Position {
+    pub x: u32,
+    pub y: u32,
+    pub ghost inside: { PositionIn x y },
 }
 
 // Three numbers in order, up or down.

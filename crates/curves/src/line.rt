@@ -1,26 +1,32 @@
 // A straight line, taken from its lower end: where it counts.
 ghost use Rattle.std.specs.Prelude.{◌≡◌};
 ghost use Rattle.curves.specs.Lines.{product, line_counts};
-ghost use Rattle.curves.specs.code.Reach.{EndsIn, PositionIn};
+ghost use Rattle.curves.specs.code.Reach.{EndsIn};
 
-use crate::Point;
+use crate::{Point, Position};
 
-// The signed product P at `at`, of the line with these ends.
-pub fn signed_product(low: Point, high: Point, at: Point) -> i64
-    requires ends_in { EndsIn low.x low.y high.x high.y }
-    requires position_in { PositionIn at.x at.y }
-    ensures answer { result ≡ product low.x low.y high.x high.y at.x at.y }
-{
-    laws::difference(low.x, at.x) * laws::difference(high.y, low.y)
-        + laws::difference(at.y, low.y) * laws::difference(high.x, low.x)
+// The lower end of a line or a curve, and its upper one.
+#[derive(Clone, Copy)]
+pub struct Ends {
+    pub low: Point,
+    pub high: Point,
+    pub ghost ends_in: { EndsIn low.x low.y high.x high.y },
 }
 
-// Whether the line with these ends counts at `at`.
-#[tactic(auto, unfolding(crate::specs::Lines::line_counts))]
-pub fn line_counts(low: Point, high: Point, at: Point) -> bool
-    requires ends_in { EndsIn low.x low.y high.x high.y }
-    requires position_in { PositionIn at.x at.y }
-    ensures answer { result ≡ line_counts low.x low.y high.x high.y at.x at.y }
-{
-    low.y <= at.y && at.y < high.y && signed_product(low, high, at) > 0
+impl Ends {
+    // The signed product P at `at`, of the line with these ends.
+    pub fn product(self, at: Position) -> i64
+        ensures answer { result ≡ product self.low.x self.low.y self.high.x self.high.y at.x at.y }
+    {
+        laws::difference(self.low.x, at.x) * laws::difference(self.high.y, self.low.y)
+            + laws::difference(at.y, self.low.y) * laws::difference(self.high.x, self.low.x)
+    }
+
+    // Whether the line with these ends counts at `at`.
+    #[tactic(auto, unfolding(crate::specs::Lines::line_counts))]
+    pub fn line_counts(self, at: Position) -> bool
+        ensures answer { result ≡ line_counts self.low.x self.low.y self.high.x self.high.y at.x at.y }
+    {
+        self.low.y <= at.y && at.y < self.high.y && self.product(at) > 0
+    }
 }
