@@ -1,16 +1,14 @@
 // What an edge, or the rows of a shortcut, become in a square: dropped, added to the start number, a shortcut, or a kept line.
 ghost use Rattle.std.specs.Prelude.{◌≡◌, not, ◌&&◌};
-ghost use Rattle.curves.specs.code.Reach.{PositionIn};
 ghost use Rattle.geometry.specs.code.Reach.{EdgeIn, SquareIn};
 ghost use Rattle.geometry.specs.Edges.{counts};
 ghost use Rattle.geometry.specs.Classes.{edge_class, cut};
 
 use crate::edge::Edge;
-use curves::Point;
+use curves::Position;
 
 // The square of a cell: its low corner and its side. Contracts ask its range (SquareIn), which no ghost field holds: `celltable::quarter_of` makes the
-// square of
-// any words.
+// square of any words.
 #[derive(Clone, Copy)]
 pub struct Square {
     pub x: u32,
@@ -27,24 +25,20 @@ pub enum Class {
     Kept,
 }
 
-// An edge counts neither in the first row nor in the last, in the column x.
-fn counts_in_neither(e: Edge, x: u32, first: u32, last: u32) -> bool
-    requires edge_in { EdgeIn e }
-    requires position_in { PositionIn x first }
-    requires position_in_2 { PositionIn x last }
-    ensures answer { result ≡ not (counts e x first) && not (counts e x last) }
+// An edge counts neither in the first row of a column nor in the last.
+fn counts_in_neither(e: Edge, first: Position, last: Position) -> bool
+    requires { EdgeIn e }
+    ensures answer { result ≡ not (counts e first.x first.y) && not (counts e last.x last.y) }
 {
-    !e.counts(Point { x, y: first }) && !e.counts(Point { x, y: last })
+    !e.counts(first) && !e.counts(last)
 }
 
-// An edge counts both in the first row and in the last, in the column x.
-fn counts_in_both(e: Edge, x: u32, first: u32, last: u32) -> bool
-    requires edge_in { EdgeIn e }
-    requires position_in { PositionIn x first }
-    requires position_in_2 { PositionIn x last }
-    ensures answer { result ≡ counts e x first && counts e x last }
+// An edge counts both in the first row of a column and in the last.
+fn counts_in_both(e: Edge, first: Position, last: Position) -> bool
+    requires { EdgeIn e }
+    ensures answer { result ≡ counts e first.x first.y && counts e last.x last.y }
 {
-    e.counts(Point { x, y: first }) && e.counts(Point { x, y: last })
+    e.counts(first) && e.counts(last)
 }
 
 impl Square {
@@ -62,9 +56,19 @@ impl Square {
             return Class::Dropped;
         }
         let last = hi - 1;
-        if counts_in_neither(e, self.x, lo, last) {
+        let left = self.x;
+        let right = self.x + self.side - 1;
+        if counts_in_neither(
+            e,
+            Position { x: left, y: lo },
+            Position { x: left, y: last },
+        ) {
             Class::Dropped
-        } else if counts_in_both(e, self.x + self.side - 1, lo, last) {
+        } else if counts_in_both(
+            e,
+            Position { x: right, y: lo },
+            Position { x: right, y: last },
+        ) {
             self.cut_rows(lo, hi)
         } else {
             Class::Kept

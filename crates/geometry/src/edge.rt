@@ -1,12 +1,13 @@
 // A drawn edge: where it counts, its sign, its rows, and what it adds to a winding.
 ghost use Rattle.std.specs.Prelude.{◌≡◌, true};
 ghost use Rattle.curves.specs.Curves.{curve_fits};
-ghost use Rattle.curves.specs.code.Reach.{EndsIn, PositionIn};
+ghost use Rattle.curves.specs.code.Reach.{EndsIn};
 ghost use Rattle.geometry.specs.code.Reach.{EdgeIn};
 ghost use Rattle.geometry.specs.Edges.{bent_counts, counts, sign, first_row, end_row};
 ghost use Rattle.geometry.specs.Windings.{adds};
 
-use curves::{Point, curve, line};
+use curves::line::Ends;
+use curves::{Point, Position, curve};
 use std::ops::Range;
 
 // An edge drawn from one corner to another: a curve where it has a control corner, else straight. Contracts ask its range (EdgeIn), which no ghost field
@@ -19,16 +20,29 @@ pub struct Edge {
 }
 
 // Whether the curve drawn from `from` by the control corner to `to` counts at `at`.
-pub fn bent_counts(from: Point, control: Point, to: Point, at: Point) -> bool
+pub fn bent_counts(from: Point, control: Point, to: Point, at: Position) -> bool
     requires ends_in { EndsIn from.x from.y to.x to.y }
     requires y1_value { curve_fits from.x from.y control.x control.y to.x to.y ≡ true }
-    requires position_in { PositionIn at.x at.y }
     ensures answer { result ≡ bent_counts from.x from.y control.x control.y to.x to.y at.x at.y }
 {
     if from.y <= to.y {
-        curve::curve_counts(from, control, to, at)
+        curve::curve_counts(
+            Ends {
+                low: from,
+                high: to,
+            },
+            control,
+            at,
+        )
     } else {
-        curve::curve_counts(to, control, from, at)
+        curve::curve_counts(
+            Ends {
+                low: to,
+                high: from,
+            },
+            control,
+            at,
+        )
     }
 }
 
@@ -36,15 +50,22 @@ impl Edge {
     // Whether an edge counts at `at`.
     #[tactic(auto, unfolding(crate::specs::Edges::counts))]
     #[inline(always)]
-    pub fn counts(self, at: Point) -> bool
-        requires edge_in { EdgeIn self }
-        requires position_in { PositionIn at.x at.y }
+    pub fn counts(self, at: Position) -> bool
+        requires { EdgeIn self }
         ensures answer { result ≡ counts self at.x at.y }
     {
         match self.control {
             Some(control) => bent_counts(self.from, control, self.to, at),
-            None if self.from.y <= self.to.y => line::line_counts(self.from, self.to, at),
-            None => line::line_counts(self.to, self.from, at),
+            None if self.from.y <= self.to.y => Ends {
+                low: self.from,
+                high: self.to,
+            }
+            .line_counts(at),
+            None => Ends {
+                low: self.to,
+                high: self.from,
+            }
+            .line_counts(at),
         }
     }
 
@@ -64,9 +85,8 @@ impl Edge {
 
     // What an edge adds to the winding at `at`.
     #[tactic(auto, unfolding(crate::specs::Windings::adds))]
-    pub fn adds(self, at: Point) -> i64
-        requires edge_in { EdgeIn self }
-        requires position_in { PositionIn at.x at.y }
+    pub fn adds(self, at: Position) -> i64
+        requires { EdgeIn self }
         ensures answer { result ≡ adds self at.x at.y }
     {
         if self.counts(at) { self.sign() } else { 0 }

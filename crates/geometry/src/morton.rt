@@ -24,19 +24,18 @@ const SPREAD: [u32; 256] = [
     21829, 21840, 21841, 21844, 21845,
 ];
 
-fn spread_byte(b: u32) -> u32
-    requires { b < 256 }
+fn spread_byte(b: u8) -> u32
     ensures answer { result ≡ spread 8 b }
 {
     SPREAD[b as usize]
 }
 
 // A half word with its bits spread: its low byte's, and its high byte's 16 places up.
-fn spread_half(x: u32) -> u32
-    requires { x < 65536 }
+fn spread_half(x: u16) -> u32
     ensures answer { result ≡ spread 16 x }
 {
-    spread_byte(x % 256) + 65536 * spread_byte(x / 256)
+    let [low, high] = x.to_le_bytes();
+    spread_byte(low) + 65536 * spread_byte(high)
 }
 
 // The key of (x, y): bit i of x at 2i, bit i of y at 2i + 1.
@@ -45,5 +44,5 @@ pub fn key(x: u32, y: u32) -> u32
     requires y_bound { y < 65536 }
     ensures answer { result ≡ key_of x y }
 {
-    spread_half(x) + 2 * spread_half(y)
+    spread_half(x as u16) + 2 * spread_half(y as u16)
 }

@@ -1,11 +1,11 @@
-// The winding of an area at a position, with no tree.
+// The winding of an area at a position, with no tree. Corners are two tables, xs and ys, as document 01 and the C interface lend them; that each lies in
+// range (CornersIn) stays a clause, since `edge_between` and `curve_from` read any tables.
 ghost use Rattle.std.specs.Prelude.{◌≡◌, T, length, ◌+◌, ◌-◌, ◌≤◌, ◌<◌};
-ghost use Rattle.curves.specs.code.Reach.{PositionIn};
 ghost use Rattle.geometry.specs.code.Reach.{CornersIn};
 ghost use Rattle.geometry.specs.Windings.{line, curve, corner_of, edge_of, next_corner, straight_lines, adds, sum_of, winding, contours_to, follow};
 
 use crate::edge::Edge;
-use curves::Point;
+use curves::{Point, Position};
 
 // Corner n of the tables.
 fn corner(xs: &[u32], ys: &[u32], n: usize) -> Point
@@ -55,46 +55,43 @@ fn next_corner(first: usize, end: usize, i: usize) -> usize
 }
 
 // What the edge from corner i to the next one of its contour adds.
-fn corner_adds(xs: &[u32], ys: &[u32], first: usize, end: usize, i: usize, x: u32, y: u32) -> i64
+fn corner_adds(xs: &[u32], ys: &[u32], first: usize, end: usize, i: usize, at: Position) -> i64
     requires corners_in { CornersIn xs.now ys.now }
     requires first_le_i { first ≤ i }
     requires i_lt_end { i < end }
     requires end_in_bounds { end ≤ length xs.now }
-    requires position_in { PositionIn x y }
-    ensures answer { result ≡ adds (edge_of xs.now ys.now (line i (next_corner first end i))) x y }
+    ensures answer { result ≡ adds (edge_of xs.now ys.now (line i (next_corner first end i))) at.x at.y }
 {
     let next = next_corner(first, end, i);
-    edge_between(xs, ys, i, next).adds(Point { x, y })
+    edge_between(xs, ys, i, next).adds(at)
 }
 
 // The sum over the edges of one contour, which begins at corner `first` and ends before corner `end`.
-fn contour_winding(xs: &[u32], ys: &[u32], first: usize, end: usize, x: u32, y: u32) -> i64
+fn contour_winding(xs: &[u32], ys: &[u32], first: usize, end: usize, at: Position) -> i64
     requires corners_in { CornersIn xs.now ys.now }
     requires first_le_end { first ≤ end }
     requires end_in_bounds { end ≤ length xs.now }
-    requires position_in { PositionIn x y }
-    ensures answer { result ≡ sum_of xs.now ys.now (straight_lines first first (end - first)) x y }
+    ensures answer { result ≡ sum_of xs.now ys.now (straight_lines first first (end - first)) at.x at.y }
 {
     let mut sum: i64 = 0;
     for i in first..end {
-        sum += corner_adds(xs, ys, first, end, i, x, y);
+        sum += corner_adds(xs, ys, first, end, i, at);
     }
     sum
 }
 
-// The winding at (x, y) of an area whose contours follow one another in the tables: the first begins at corner 0, and each ends before
+// The winding at `at` of an area whose contours follow one another in the tables: the first begins at corner 0, and each ends before
 // its number in `ends`.
-pub fn area_winding(xs: &[u32], ys: &[u32], ends: &[u32], x: u32, y: u32) -> i64
+pub fn area_winding(xs: &[u32], ys: &[u32], ends: &[u32], at: Position) -> i64
     requires corners_in { CornersIn xs.now ys.now }
     requires t { T (follow 0 (length xs.now) ends.now) }
-    requires position_in { PositionIn x y }
-    ensures answer { result ≡ winding xs.now ys.now (contours_to 0 ends.now) x y }
+    ensures answer { result ≡ winding xs.now ys.now (contours_to 0 ends.now) at.x at.y }
 {
     let mut sum: i64 = 0;
     let mut first = 0;
     for end in ends {
         let end = *end as usize;
-        sum += contour_winding(xs, ys, first, end, x, y);
+        sum += contour_winding(xs, ys, first, end, at);
         first = end;
     }
     sum

@@ -19,7 +19,6 @@ contour_winding-sum-requires c =
       first_le_end =
           n.0;
       end_in_bounds = n.1;
-      position_in = c.requires.position_in;
     }
 
 pub overflow_add-sum : goal.overflow_add-sum
@@ -28,9 +27,9 @@ overflow_add-sum c =
     let l = c.loop-end in
     let e = get_or a.ends.now l.end-index 0 in
     let n = follow_step _ l.first _ l.end-index _ (omega arith) refl l.invariant.0 in
-    running_fits l.invariant.1 (sum_of a.xs.now a.ys.now (straight_lines l.first l.first (e - l.first)) a.x a.y) _ _ e (e - l.first)
-    (area_step a.ends.now l.first (length a.xs.now) l.end-index e (omega arith) refl a.xs.now a.ys.now a.x a.y)
-    c.contour_winding-sum.ensures.answer (contour_abs a.xs.now a.ys.now l.first e a.x a.y) (omega arith) (omega arith)
+    running_fits l.invariant.1 (sum_of a.xs.now a.ys.now (straight_lines l.first l.first (e - l.first)) a.at.x a.at.y) _ _ e (e - l.first)
+    (area_step a.ends.now l.first (length a.xs.now) l.end-index e (omega arith) refl a.xs.now a.ys.now a.at.x a.at.y)
+    c.contour_winding-sum.ensures.answer (contour_abs a.xs.now a.ys.now l.first e a.at.x a.at.y) (omega arith) (omega arith)
 
 pub loop-end-preserved : goal.loop-end-preserved
 loop-end-preserved c =
@@ -39,10 +38,10 @@ loop-end-preserved c =
     let e = get_or a.ends.now l.end-index 0 in
     let n = follow_step _ l.first _ l.end-index _ (omega arith) refl l.invariant.0 in (
       n.2,
-      running_more l.invariant.1 (sum_of a.xs.now a.ys.now (straight_lines l.first l.first (e - l.first)) a.x a.y) _ _ e (e - l.first)
-          (area_step a.ends.now l.first (length a.xs.now) l.end-index e (omega arith) refl a.xs.now a.ys.now a.x a.y)
-          c.contour_winding-sum.ensures.answer (contour_abs a.xs.now a.ys.now l.first e a.x a.y) (omega arith) (omega arith),
+      running_more l.invariant.1 (sum_of a.xs.now a.ys.now (straight_lines l.first l.first (e - l.first)) a.at.x a.at.y) _ _ e (e - l.first)
+          (area_step a.ends.now l.first (length a.xs.now) l.end-index e (omega arith) refl a.xs.now a.ys.now a.at.x a.at.y)
+          c.contour_winding-sum.ensures.answer (contour_abs a.xs.now a.ys.now l.first e a.at.x a.at.y) (omega arith) (omega arith),
     )
 
 pub returns : goal.returns
-returns c = let a = c.args in record { answer = area_done a.xs.now a.ys.now a.x a.y a.ends.now _ c.loop-end.end-index _ _ (omega arith) c.loop-end.invariant.1 }
+returns c = let a = c.args in record { answer = area_done a.xs.now a.ys.now a.at.x a.at.y a.ends.now _ c.loop-end.end-index _ _ (omega arith) c.loop-end.invariant.1 }

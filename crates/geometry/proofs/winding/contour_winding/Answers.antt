@@ -14,18 +14,18 @@ overflow_add-sum c =
     let a = c.args in
     let i = c.loop-i.i in
     let e = edge_of a.xs.now a.ys.now (line i (next_corner a.first a.end i)) in
-    running_fits c.loop-i.invariant (adds e a.x a.y) _ _ (i + 1 - a.first) 1
-    (sum_step a.xs.now a.ys.now a.x a.y a.first i a.end (omega arith)) c.corner_adds-sum.ensures.answer
-    (adds_abs e a.x a.y) (omega arith) (omega arith)
+    running_fits c.loop-i.invariant (adds e a.at.x a.at.y) _ _ (i + 1 - a.first) 1
+    (sum_step a.xs.now a.ys.now a.at.x a.at.y a.first i a.end (omega arith)) c.corner_adds-sum.ensures.answer
+    (adds_abs e a.at.x a.at.y) (omega arith) (omega arith)
 
 pub loop-i-preserved : goal.loop-i-preserved
 loop-i-preserved c =
     let a = c.args in
     let i = c.loop-i.i in
     let e = edge_of a.xs.now a.ys.now (line i (next_corner a.first a.end i)) in
-    running_more c.loop-i.invariant (adds e a.x a.y) _ _ (i + 1 - a.first) 1
-    (sum_step a.xs.now a.ys.now a.x a.y a.first i a.end (omega arith)) c.corner_adds-sum.ensures.answer
-    (adds_abs e a.x a.y) (omega arith) (omega arith)
+    running_more c.loop-i.invariant (adds e a.at.x a.at.y) _ _ (i + 1 - a.first) 1
+    (sum_step a.xs.now a.ys.now a.at.x a.at.y a.first i a.end (omega arith)) c.corner_adds-sum.ensures.answer
+    (adds_abs e a.at.x a.at.y) (omega arith) (omega arith)
 
 pub returns : goal.returns
-returns c = let a = c.args in record { answer = sum_done a.xs.now a.ys.now a.x a.y a.first _ a.end _ _ (omega arith) c.loop-i.invariant }
+returns c = let a = c.args in record { answer = sum_done a.xs.now a.ys.now a.at.x a.at.y a.first _ a.end _ _ (omega arith) c.loop-i.invariant }

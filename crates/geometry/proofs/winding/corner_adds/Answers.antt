@@ -6,8 +6,8 @@ use Rattle.geometry.specs.Windings.{line}
 use Rattle.geometry.proofs.Windings.{edge_in}
 use Rattle.geometry.proofs.winding.corner_adds.Goals as goal
 
-pub adds-requires-clause-edge_in : goal.adds-requires-clause-edge_in
-adds-requires-clause-edge_in c =
+pub adds-requires : goal.adds-requires
+adds-requires c =
     subst EdgeIn (sym c.edge_between.ensures.answer)
     (edge_in _ _ c.requires.corners_in (line c.args.i c.next_corner-next.result) (omega arith) tt)
 
