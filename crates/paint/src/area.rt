@@ -4,7 +4,8 @@ ghost use Rattle.paint.specs.Areas.{paint_at, material_of, Painted};
 
 use crate::set;
 
-// The paint of an area. The material of no area is 0.
+// The paint of an area. The material of no area is 0. The channels are words, as the table holds them: `of_area` reads any table, and bytes would ask that
+// its words fit them.
 #[derive(Clone, Copy)]
 pub struct Paint {
     pub alpha: u32,
@@ -31,7 +32,8 @@ impl Paint {
     }
 }
 
-// The material of the lowest numbered area of a set, or 0 if it is empty.
+// The material of the lowest numbered area of a set, or 0 if it is empty. That the table has a row for each area of the set (Painted) is a fact about a
+// table and a set that come from different places, so it stays a clause.
 pub fn material_of(areas: &[u32], shown: u64) -> u32
     requires { Painted areas.now shown }
     ensures answer { result ≡ material_of (paint_at areas.now) shown }

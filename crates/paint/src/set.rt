@@ -3,7 +3,7 @@ ghost use Rattle.std.specs.Prelude.{◌≡◌, ◌<◌, MatchOption};
 ghost use Rattle.std.specs.Int.Count.{count_trailing_zeros};
 ghost use Rattle.paint.specs.Sets.{with_area};
 
-// The set with area n.
+// The set with area n. The bound stays a clause: numbers of areas come as words of entries, and nothing keeps one as a value of its own.
 pub fn with_area(set: u64, n: u32) -> u64
     requires { n < 64 }
     ensures answer { result ≡ with_area set n }
