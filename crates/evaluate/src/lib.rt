@@ -6,7 +6,6 @@ ghost use Rattle.std.specs.Prelude.{◌≡◌, true, cond, ◌+◌, ◌*◌, ◌
 ghost use Rattle.std.specs.Int.{w32};
 ghost use Rattle.std.proofs.Common.{to_z};
 ghost use Rattle.curves.specs.Lines.{is_row};
-ghost use Rattle.curves.specs.code.Reach.{PositionIn};
 ghost use Rattle.geometry.specs.code.Reach.{EdgeIn, LineBelow};
 ghost use Rattle.geometry.specs.Windings.{edge_of, adds};
 ghost use Rattle.paint.specs.Sets.{with_area};
@@ -18,7 +17,7 @@ ghost use Rattle.stream.specs.code.Machine.{run_length, end_passed};
 ghost use Rattle.evaluate.specs.Reading.{role_at, pass_at, opaque_at, set_at};
 ghost use Rattle.evaluate.specs.code.Numbers.{line_of, segment_range, segment_adds, segments_sum, moved_by, SegmentsIn, Ranged, Onward};
 
-use curves::Point;
+use curves::Position;
 use geometry::edge::Edge;
 use geometry::fill::FillRule;
 use geometry::{fill, winding};
@@ -37,6 +36,8 @@ fn shortcut_adds(w: Words, y: u32) -> i64
     }
 }
 
+// The functions of areas and of edges take the tables that they read and not a `Context`: what makes streams calls them with no bounds at hand, and that
+// corners lie below a length (LineBelow) is a fact about an entry and a table that come from different places.
 // The edge of the line or the curve that an entry names.
 pub fn edge_of(xs: &[u32], ys: &[u32], w: Words) -> Edge
     requires { LineBelow (length xs.now) (line_of w) × LineBelow (length ys.now) (line_of w) }
@@ -50,10 +51,9 @@ pub fn edge_of(xs: &[u32], ys: &[u32], w: Words) -> Edge
 }
 
 // What a line or a curve adds at a position.
-fn line_adds(xs: &[u32], ys: &[u32], w: Words, at: Point) -> i64
+fn line_adds(xs: &[u32], ys: &[u32], w: Words, at: Position) -> i64
     requires line_below { LineBelow (length xs.now) (line_of w) × LineBelow (length ys.now) (line_of w) }
     requires edge_in { EdgeIn (edge_of xs.now ys.now (line_of w)) }
-    requires position_in { PositionIn at.x at.y }
     ensures answer { result ≡ adds (edge_of xs.now ys.now (line_of w)) at.x at.y }
 {
     edge_of(xs, ys, w).adds(at)
@@ -98,11 +98,10 @@ pub fn start_of(w: Words) -> i64
 
 // ---- an area and its lines, curves and shortcuts
 // What a line, a curve or a shortcut adds at a position.
-fn segment_adds(context: Context, w: Words, at: Point) -> i64
+fn segment_adds(context: Context, w: Words, at: Position) -> i64
     requires corners_in_bounds { (context.bounds.corners ≤ length context.xs.now)
         × (context.bounds.corners ≤ length context.ys.now) }
     requires w_value { segment_range context.xs.now context.ys.now context.bounds.corners w ≡ true }
-    requires position_in { PositionIn at.x at.y }
     ensures answer { (result ≡ segment_adds (env_passed context).xs (env_passed context).ys at.x at.y w) × (nat_abs result ≤ 1) }
 {
     if stream::is_line(w.kind) {
@@ -120,10 +119,9 @@ pub struct Winding {
 }
 
 // The winding at a position of an area with this start number, whose lines, curves and shortcuts begin at entry `from`.
-fn winding_from(stream: Stream, from: usize, context: Context, start: i64, at: Point) -> Winding
+fn winding_from(stream: Stream, from: usize, context: Context, start: i64, at: Position) -> Winding
     requires segments_in { SegmentsIn stream.entries.now from (stream.first + stream.count)
         context.xs.now context.ys.now context.bounds }
-    requires position_in { PositionIn at.x at.y }
     requires start_bound { nat_abs start ≤ 2048 }
     ensures sum { result.sum ≡
         start +ℤ segments_sum (env_passed context).xs (env_passed context).ys at.x at.y
@@ -166,10 +164,9 @@ fn moved(m: Machine, kind: u32) -> Machine
 }
 
 // After the area of entry i, whose words are w. It is looked at in P only.
-fn read_area(stream: Stream, i: usize, context: Context, m: Machine, w: Words, at: Point) -> Reading
+fn read_area(stream: Stream, i: usize, context: Context, m: Machine, w: Words, at: Position) -> Reading
     requires ranged { Ranged stream.entries.now i (stream.first + stream.count) (env_of context) }
     requires w_value { (w ≡ words_at stream.entries.now i) × (w.kind ≡ 4) }
-    requires position_in { PositionIn at.x at.y }
     ensures onward { Onward (env_passed context).areas (env_passed context).xs (env_passed context).ys at.x at.y
         stream.entry.entries.now i (end_passed stream) m result }
 {
@@ -187,10 +184,9 @@ fn read_area(stream: Stream, i: usize, context: Context, m: Machine, w: Words, a
 }
 
 // After entry i and, if it is an area that is looked at, its lines, curves and shortcuts.
-fn read_next(stream: Stream, i: usize, context: Context, m: Machine, at: Point) -> Reading
+fn read_next(stream: Stream, i: usize, context: Context, m: Machine, at: Position) -> Reading
     requires ranged { Ranged stream.entries.now i (stream.first + stream.count) (env_of context) }
     requires depth_bound { m.depth < 4096 }
-    requires position_in { PositionIn at.x at.y }
     ensures onward { Onward (env_passed context).areas (env_passed context).xs (env_passed context).ys at.x at.y
         stream.entry.entries.now i (end_passed stream) m result }
 {
@@ -206,9 +202,8 @@ fn read_next(stream: Stream, i: usize, context: Context, m: Machine, at: Point) 
 }
 
 // The shown set at a position of a stream, up to the area that stops the machine. The stream has passed `stream::check_stream`.
-pub fn read_stream(stream: Stream, context: Context, at: Point) -> u64
-    requires passed { Passed stream.entries.now stream.first stream.count (env_of context) }
-    requires position_in { PositionIn at.x at.y }
+pub fn read_stream(stream: Stream, context: Context, at: Position) -> u64
+    requires { Passed stream.entries.now stream.first stream.count (env_of context) }
     ensures answer { result ≡
         set_at (env_passed context).areas (env_passed context).xs (env_passed context).ys at.x at.y (words_passed stream) }
 {

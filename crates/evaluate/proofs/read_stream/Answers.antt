@@ -28,7 +28,7 @@ returns-then-m-eq-STOPPED c =
 pub read_next-r-requires-clause-ranged : goal.read_next-r-requires-clause-ranged
 read_next-r-requires-clause-ranged c =
     let s = c.args.stream in
-    passed_ranged s.entries.now s.first s.count c.loop-i.i (env_of c.args.context) c.requires.passed c.loop-i.invariant.above c.loop-i-test.true
+    passed_ranged s.entries.now s.first s.count c.loop-i.i (env_of c.args.context) c.requires c.loop-i.invariant.above c.loop-i-test.true
 
 pub returns : goal.returns
 returns c =
