@@ -36,9 +36,8 @@ fn shortcut_adds(w: Words, y: u32) -> i64
     }
 }
 
-// The functions of areas and of edges take the tables that they read and not a `Context`: what makes streams calls them with no bounds at hand, and that
-// corners lie below a length (LineBelow) is a fact about an entry and a table that come from different places.
-// The edge of the line or the curve that an entry names.
+// The edge of the line or the curve that an entry names. This and the functions of an area below take the one or two tables that they read: with a whole
+// `Context` each contract would name its four. LineBelow stays a clause, since the entry and the tables come from different places.
 pub fn edge_of(xs: &[u32], ys: &[u32], w: Words) -> Edge
     requires { LineBelow (length xs.now) (line_of w) × LineBelow (length ys.now) (line_of w) }
     ensures answer { result ≡ edge_of xs.now ys.now (line_of w) }

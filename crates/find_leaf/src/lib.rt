@@ -2,18 +2,20 @@
 
 #![tactic(auto)]
 
-ghost use Rattle.std.specs.Prelude.{◌≡◌, ◌≤◌, length};
+ghost use Rattle.std.specs.Prelude.{◌≡◌, true, false, ◌≤◌, length, MatchOption};
 ghost use Rattle.tables.specs.Tables.{tree_passed};
 ghost use Rattle.find_leaf.specs.Leaf.{position_range, find_answer};
 ghost use Rattle.find_leaf.specs.code.Numbers.{leaf_checked, leaf_read, report_n};
 
 use celltable::Leaf;
+use curves::Position;
 use drawing::Drawing;
 use refusals::Refusal;
 use stream::{Checked, Context, Stream};
 use tables::Tree;
 
 // A leaf as it is reported: its number, low corner, side, depth, how many entries and lines it has, and whether it has no line, curve or shortcut.
+// `uniform` is an answer by itself, document 02's "yes or no" of the leaf reading, and says nothing of the other fields.
 #[derive(Clone, Copy)]
 pub struct FoundLeaf {
     pub cell: u32,
@@ -107,11 +109,16 @@ pub fn read_leaf(tree: Tree, x: u32, y: u32) -> Result<LeafRead, Refusal>
     })
 }
 
-// Whether (x, y) is a position: each of the two from 0 to 65,535.
-pub fn is_position(x: u32, y: u32) -> bool
-    ensures answer { result ≡ position_range x y }
+// The position (x, y), where each of the two is from 0 to 65,535.
+pub fn position_at(x: u32, y: u32) -> Option<Position>
+    ensures { MatchOption result (position_range x y ≡ false)
+        (λ at. (position_range x y ≡ true) × ((at.x ≡ x) × (at.y ≡ y))) }
 {
-    (x < celltable::GRID) & (y < celltable::GRID)
+    if (x < celltable::GRID) & (y < celltable::GRID) {
+        Some(Position { x, y })
+    } else {
+        None
+    }
 }
 
 // Finds the leaf that holds (x, y). Any tables may be handed in. Refusals, in this order: 7, 12.
@@ -121,9 +128,9 @@ pub fn find_leaf(tree: Tree, x: u32, y: u32) -> Result<FoundLeaf, Refusal>
     if tree.drawing.xs.len() != tree.drawing.ys.len() {
         return Err(Refusal::Argument);
     }
-    if !is_position(x, y) {
+    let Some(at) = position_at(x, y) else {
         return Err(Refusal::Argument);
-    }
-    let read = read_leaf(tree, x, y)?;
+    };
+    let read = read_leaf(tree, at.x, at.y)?;
     Ok(FoundLeaf::from(read))
 }
