@@ -27,8 +27,9 @@ use Rattle.find_leaf.proofs.Landing.{leaf_landed, leaf_passed}
 use Rattle.find_leaf.proofs.Same.{LeafHolds, leaf_same}
 use Rattle.position.specs.declared.Spot.{Spot}
 use Rattle.position.specs.declared.Shown.{Shown}
+use Rattle.position.specs.declared.Read.{Read}
 use Rattle.position.specs.Spots.{is_found, spot_of, set_read, set_by, spot_by, set_meant, known, set_in, spot_in, position_answer}
-use Rattle.position.specs.code.Numbers.{between, in_square, shown_n, shown_by, shown_there, LastIn}
+use Rattle.position.specs.code.Numbers.{between, in_square, shown_n, shown_by, shown_there, with_set, with_set_by, read_there, Readable, LastIn}
 
 -- ---- the square of a leaf
 
@@ -160,16 +161,43 @@ module _ (t : Tree) where
         let k = shown_in_law s e in
         record { is_known = leaf_known s.leaf k.is_leaf_law; is_set = q ∙ leaf_set s.leaf k.is_leaf_law; is_shown = e; is_last = last_in s e }
 
-    -- what reading the set of a leaf asks
-    pub record Readable (s : Shown) : Type 0 where
-      pub plan_long : 3 ≤ length t.plan
-      pub stream : Passed t.entries s.leaf.first s.leaf.count (leaf_env t s.leaf)
-      pub read : (v : ℕ) → s.set ≡ Some v → v ≡ set_read t s.leaf x y
-
-    pub readable : (s : Shown) → Ok s ≡ shown_there t x y → Readable s
+    pub readable : (s : Shown) → Ok s ≡ shown_there t x y → Readable t s x y
     readable s e =
         let k = shown_in_law s e in
         record { plan_long = leaf_plan s.leaf k.is_leaf_law; stream = leaf_stream_law s.leaf k.is_leaf_law; read = k.is_read }
+
+    -- the code has read the leaf and the set there
+    pub read_again : (s : Shown) (v : ℕ) → Ok s ≡ shown_there t x y → v ≡ set_read t s.leaf x y → Ok (with_set s v) ≡ read_there t x y
+    unfolding read_there
+    read_again s v e q = rw (sym e, q, leaf_set s.leaf (shown_in_law s e).is_leaf_law)
+
+    pub read_broken : (r : Refusal) → Err r ≡ shown_there t x y → Err r ≡ read_there t x y
+    unfolding read_there
+    read_broken r e = rw (sym e)
+
+    pub read_says : (r : Read) → Ok r ≡ read_there t x y → Known r.set r.shown
+    unfolding read_there
+    read_says r e = go (shown_there t x y) refl e
+      where
+        go : (s : Result Shown Refusal) → shown_there t x y ≡ s → Ok r ≡ with_set_by (set_in t x y) s → Known r.set r.shown
+        go (Ok s) k q =
+            let z : r ≡ with_set s (set_in t x y) = cc in
+            let l = (shown_in_law s (sym k)).is_leaf_law in
+            rw z (record { is_known = leaf_known s.leaf l; is_set = refl; is_shown = sym k; is_last = last_in s (sym k) })
+        go (Err w) k q = absurd (let z : ◌≡◌ {A = ℕ} 0 1 = cc in omega arith)
+
+    pub spot_read : (r : Read) → Ok r ≡ read_there t x y → Ok (spot_of t.areas r.shown.leaf (is_some r.shown.set) r.set) ≡ spot_in t x y
+    spot_read r e =
+        let k = read_says r e in
+        spot_known r.shown r.set k.is_shown (k.is_set ∙ sym (leaf_set r.shown.leaf (shown_in_law r.shown k.is_shown).is_leaf_law))
+
+    pub read_refused : (r : Refusal) → Err r ≡ read_there t x y → Err r ≡ shown_there t x y
+    unfolding read_there
+    read_refused r e = go (shown_there t x y) refl e
+      where
+        go : (s : Result Shown Refusal) → shown_there t x y ≡ s → Err r ≡ with_set_by (set_in t x y) s → Err r ≡ shown_there t x y
+        go (Ok s) k q = absurd (let z : ◌≡◌ {A = ℕ} 0 1 = cc in omega arith)
+        go (Err w) k q = let z : r ≡ w = cc in rw (k, z)
 
     pub unknown_set : (r : Refusal) → Err r ≡ shown_there t x y → (known t x y ≡ false) × (r ≡ Refusals.Broken)
     unfolding shown_there known

@@ -2,23 +2,23 @@
 
 #![tactic(auto)]
 
-ghost use Rattle.std.specs.Prelude.{◌≡◌, ℕ, ◌≤◌, ◌<◌, length, Some, Ok};
+ghost use Rattle.std.specs.Prelude.{◌≡◌, ◌≤◌, length, IfOk};
 ghost use Rattle.paint.specs.Areas.{Painted};
 ghost use Rattle.stream.specs.Grammar.{Passed};
 ghost use Rattle.tables.specs.Tables.{tree_of, tree_passed};
 ghost use Rattle.find_leaf.specs.code.Numbers.{leaf_env};
 ghost use Rattle.position.specs.Spots.{spot_of, set_read, position_answer};
-ghost use Rattle.position.specs.code.Numbers.{between, in_square, LastIn, shown_there};
+ghost use Rattle.position.specs.code.Numbers.{between, in_square, LastIn, Readable, shown_there, read_there};
 
 use celltable::Leaf;
-use curves::Point;
+use curves::Position;
 use paint::{area, colour};
 use refusals::Refusal;
 use stream::{Context, Stream};
 use tables::Tree;
 
 // What shows at a position: the set of areas, the material of the front one, and the colour. And how far that reaches: whether the leaf's stream holds no
-// line, curve or shortcut, and the leaf's low corner and its side.
+// line, curve or shortcut, and the leaf's low corner and its side. `uniform` is an answer by itself, as in `FoundLeaf`.
 #[derive(Clone, Copy)]
 pub struct Spot {
     pub set: u64,
@@ -39,13 +39,19 @@ pub struct Shown {
     pub set: Option<u64>,
 }
 
+// What is read at a position: the leaf as above, and the set that shows there.
+#[derive(Clone, Copy)]
+pub struct Read {
+    pub shown: Shown,
+    pub set: u64,
+}
+
 // ---- a leaf that was found
-// The shown set at (x, y), read from the stream of a leaf.
-fn set_in(tree: Tree, leaf: Leaf, x: u32, y: u32) -> u64
+// The shown set at a position, read from the stream of a leaf.
+fn set_in(tree: Tree, leaf: Leaf, at: Position) -> u64
     requires in_bounds { 3 ≤ length tree.drawing.plan.now }
     requires passed { Passed tree.entries.now leaf.first leaf.count (leaf_env (tree_of tree) leaf) }
-    requires x_bound { (x < 65536) × (y < 65536) }
-    ensures answer { result ≡ set_read (tree_passed tree) leaf x y }
+    ensures answer { result ≡ set_read (tree_passed tree) leaf at.x at.y }
     ensures painted { Painted (tree_passed tree).areas result }
 {
     let drawing = tree.drawing;
@@ -60,7 +66,7 @@ fn set_in(tree: Tree, leaf: Leaf, x: u32, y: u32) -> u64
         ys: drawing.ys,
         bounds: tables::bounds_in(drawing.plan, leaf.y, leaf.side),
     };
-    evaluate::read_stream(stream, context, Point { x, y })
+    evaluate::read_stream(stream, context, at)
 }
 
 // A set with its material and its colour, and the leaf from which it was read.
@@ -96,15 +102,14 @@ pub fn is_inside(leaf: Leaf, x: u32, y: u32) -> bool
     is_between(leaf.x, leaf.side, x) && is_between(leaf.y, leaf.side, y)
 }
 
-// The leaf that holds (x, y), with the set that shows in it where it is uniform, or 12: it is looked for and its stream is tried.
-fn leaf_anew(tree: Tree, x: u32, y: u32) -> Result<Shown, Refusal>
-    requires { (x < 65536) × (y < 65536) }
-    ensures answer { result ≡ shown_there (tree_passed tree) x y }
+// The leaf that holds a position, with the set that shows in it where it is uniform, or 12: it is looked for and its stream is tried.
+fn leaf_anew(tree: Tree, at: Position) -> Result<Shown, Refusal>
+    ensures answer { result ≡ shown_there (tree_passed tree) at.x at.y }
 {
-    let read = find_leaf::read_leaf(tree, x, y)?;
+    let read = find_leaf::read_leaf(tree, at.x, at.y)?;
     let leaf = read.leaf;
     if read.uniform {
-        let set = set_in(tree, leaf, x, y);
+        let set = set_in(tree, leaf, at);
         Ok(Shown {
             leaf,
             set: Some(set),
@@ -114,31 +119,38 @@ fn leaf_anew(tree: Tree, x: u32, y: u32) -> Result<Shown, Refusal>
     }
 }
 
-// The leaf that holds (x, y), or 12, where `last` was read last: it serves all positions of its square.
-pub fn leaf_for(tree: Tree, last: Option<Shown>, x: u32, y: u32) -> Result<Shown, Refusal>
-    requires last_in { LastIn (tree_of tree) last }
-    requires x_bound { (x < 65536) × (y < 65536) }
-    ensures answer { result ≡ shown_there (tree_passed tree) x y }
+// The leaf that holds a position, or 12, where `last` was read last: it serves all positions of its square.
+fn leaf_for(tree: Tree, last: Option<Shown>, at: Position) -> Result<Shown, Refusal>
+    requires { LastIn (tree_of tree) last }
+    ensures answer { result ≡ shown_there (tree_passed tree) at.x at.y }
 {
     match last {
-        Some(shown) if is_inside(shown.leaf, x, y) => Ok(shown),
-        _ => leaf_anew(tree, x, y),
+        Some(shown) if is_inside(shown.leaf, at.x, at.y) => Ok(shown),
+        _ => leaf_anew(tree, at),
     }
 }
 
-// The shown set at (x, y) in the leaf that holds it: a stream is read only where the leaf is not uniform.
-pub fn set_for(tree: Tree, shown: Shown, x: u32, y: u32) -> u64
-    requires in_bounds { 3 ≤ length tree.drawing.plan.now }
-    requires passed { Passed tree.entries.now shown.leaf.first shown.leaf.count (leaf_env (tree_of tree) shown.leaf) }
-    requires x_bound { (x < 65536) × (y < 65536) }
-    requires set_value { (s : ℕ) → shown.set ≡ Some s → s ≡ set_read (tree_of tree) shown.leaf x y }
-    ensures answer { result ≡ set_read (tree_passed tree) shown.leaf x y }
+// The shown set at a position in the leaf that holds it: a stream is read only where the leaf is not uniform.
+fn set_for(tree: Tree, shown: Shown, at: Position) -> u64
+    requires { Readable (tree_of tree) shown at.x at.y }
+    ensures answer { result ≡ set_read (tree_passed tree) shown.leaf at.x at.y }
     ensures painted { Painted (tree_passed tree).areas result }
 {
     match shown.set {
         Some(set) => set,
-        None => set_in(tree, shown.leaf, x, y),
+        None => set_in(tree, shown.leaf, at),
     }
+}
+
+// What is read at a position, or 12, where `last` was read last.
+pub fn read_at(tree: Tree, last: Option<Shown>, at: Position) -> Result<Read, Refusal>
+    requires { LastIn (tree_of tree) last }
+    ensures answer { result ≡ read_there (tree_passed tree) at.x at.y }
+    ensures painted { IfOk result (λ r. Painted (tree_passed tree).areas r.set) }
+{
+    let shown = leaf_for(tree, last, at)?;
+    let set = set_for(tree, shown, at);
+    Ok(Read { shown, set })
 }
 
 // ---- the call
@@ -151,11 +163,10 @@ pub fn position(tree: Tree, x: u32, y: u32) -> Result<Spot, Refusal>
     if tree.drawing.xs.len() != tree.drawing.ys.len() {
         return Err(Refusal::Argument);
     }
-    if !find_leaf::is_position(x, y) {
+    let Some(at) = find_leaf::position_at(x, y) else {
         return Err(Refusal::Argument);
-    }
-    let shown = leaf_anew(tree, x, y)?;
-    let set = set_for(tree, shown, x, y);
+    };
+    let Read { shown, set } = read_at(tree, None, at)?;
     let spot = spot_of(tree.drawing.areas, shown.leaf, shown.set.is_some(), set);
     Ok(spot)
 }

@@ -7,5 +7,5 @@ pub returns-in-Some-clause-painted : goal.returns-in-Some-clause-painted
 returns-in-Some-clause-painted c =
     let a = c.args in
     let l = a.shown.leaf in
-    rw (c.requires.set_value c.in-Some.set c.in-Some.is)
-    (set_painted a.tree.entries.now l.first l.count (leaf_env (tree_of a.tree) l) a.x a.y c.requires.passed)
+    rw (c.requires.read c.in-Some.set c.in-Some.is)
+    (set_painted a.tree.entries.now l.first l.count (leaf_env (tree_of a.tree) l) a.at.x a.at.y c.requires.stream)

@@ -7,4 +7,4 @@ pub returns-clause-painted : goal.returns-clause-painted
 returns-clause-painted c =
     let a = c.args in
     rw c.read_stream.ensures.answer
-    (set_painted a.tree.entries.now a.leaf.first a.leaf.count (leaf_env (tree_of a.tree) a.leaf) a.x a.y c.requires.passed)
+    (set_painted a.tree.entries.now a.leaf.first a.leaf.count (leaf_env (tree_of a.tree) a.leaf) a.at.x a.at.y c.requires.passed)
