@@ -24,9 +24,9 @@ use Rattle.celltable.specs.declared.Leaf.{Leaf}
 use Rattle.tables.specs.Tables.{Tree}
 use Rattle.find_leaf.proofs.Same.{LeafHolds}
 use Rattle.position.specs.declared.Shown.{Shown}
-use Rattle.position.specs.Spots.{set_read, known, sums_in}
+use Rattle.position.specs.Spots.{known, sums_in}
 use Rattle.position.specs.code.Numbers.{in_square, shown_there, LastIn}
-use Rattle.position.proofs.Known.{Known, known_set, shown_in_law, inside_holds, shown_again}
+use Rattle.position.proofs.Known.{Known, known_set, leaf_set, shown_in_law, inside_holds, shown_again}
 use Rattle.pixel_row.specs.Rows.{samples_known, pixel_known, pixel_in}
 use Rattle.pixel_row.proofs.Agree.{pixel_known_law}
 use Rattle.pixel_row.specs.code.Numbers.{holds_pixel, pixel_n, pixel_told, no_channels, sampled, Sampling}
@@ -64,12 +64,6 @@ offset_small i = below_small row_offsets i refl
 -- the sample's coordinates by another name
 pub known_at : (t : Tree) (x y x' y' s : ℕ) (f : Shown) → x ≡ x' → y ≡ y' → Known t x y s f → Known t x' y' s f
 known_at t x y x' y' s f p q k = subst (λ (v : ℕ). Known t v y' s f) p (subst (λ (w : ℕ). Known t x w s f) q k)
-
-pub shown_named : (t : Tree) (x y x' y' : ℕ) (r : Shown) → x ≡ x' → y ≡ y' → Ok r ≡ shown_there t x y → Ok r ≡ shown_there t x' y'
-shown_named t x y x' y' r p q e = e ∙ ap₂ (shown_there t) p q
-
-pub set_named : (t : Tree) (l : Leaf) (x y x' y' s : ℕ) → x ≡ x' → y ≡ y' → s ≡ set_read t l x y → s ≡ set_read t l x' y'
-set_named t l x y x' y' s p q e = e ∙ ap₂ (set_read t l) p q
 
 pub unknown_at : (t : Tree) (x y x' y' : ℕ) (e : Refusal) → x ≡ x' → y ≡ y' → (known t x y ≡ false) × (e ≡ Broken)
     → (known t x' y' ≡ false) × (e ≡ Broken)
@@ -197,16 +191,16 @@ module _ (t : Tree) (row pixel : ℕ) where
 
   -- the same where the set was read again
   pub uniform_read : (s : Shown) (set : ℕ) (c : Colour)
-      → Ok s ≡ shown_there t (sample_x pixel 0) (sample_y row 0)
+      → Known t (sample_x pixel 0) (sample_y row 0) set s
       → is_some s.set ≡ true
       → holds_pixel s.leaf row pixel ≡ true
-      → set ≡ set_read t s.leaf (sample_x pixel 0) (sample_y row 0)
       → c ≡ colour_of (paint_at t.areas) set
       → Ok (pixel_n c s) ≡ pixel_told t row pixel
-  uniform_read s set c e u h r g = go s.set refl u
+  uniform_read s set c k u h g = go s.set refl u
     where
       go : (o : Option ℕ) → s.set ≡ o → is_some o ≡ true → Ok (pixel_n c s) ≡ pixel_told t row pixel
       go (Some v) q d =
-          let w = (shown_in_law t (sample_x pixel 0) (sample_y row 0) s e).is_read v q in
-          uniform_told s v e q h c (g ∙ ap (colour_of (paint_at t.areas)) (r ∙ sym w))
+          let f = shown_in_law t (sample_x pixel 0) (sample_y row 0) s k.is_shown in
+          let w : v ≡ set = f.is_read v q ∙ (leaf_set t (sample_x pixel 0) (sample_y row 0) s.leaf f.is_leaf_law ∙ sym k.is_set) in
+          uniform_told s v k.is_shown q h c (g ∙ ap (colour_of (paint_at t.areas)) (sym w))
       go None q d = clash d

@@ -10,6 +10,7 @@ ghost use Rattle.pixel_row.specs.code.Numbers.{holds_pixel, Sampling, pixel_told
 
 use celltable::Leaf;
 use paint::colour::{Channels, Colour};
+use paint::pixel::PixelAt;
 use paint::{colour, pixel};
 use position::Shown;
 use refusals::{Refusal, Refused};
@@ -36,61 +37,48 @@ pub struct Pixel {
 
 // ---- one pixel
 // Whether the square of a leaf holds the whole pixel.
-fn holds_pixel(leaf: Leaf, row: u32, column: u32) -> bool
-    requires { (row ≤ 4095) × (column ≤ 4095) }
-    ensures answer { result ≡ holds_pixel leaf row column }
+fn holds_pixel(leaf: Leaf, place: PixelAt) -> bool
+    ensures answer { result ≡ holds_pixel leaf place.row place.column }
 {
-    let x = pixel::PIXEL_SIDE * column;
-    let y = pixel::PIXEL_SIDE * row;
+    let x = pixel::PIXEL_SIDE * place.column;
+    let y = pixel::PIXEL_SIDE * place.row;
     let low = position::is_inside(leaf, x, y);
     let high = position::is_inside(leaf, x + PIXEL_END, y + PIXEL_END);
     low & high
 }
 
-// The pixel of a row whose first sample is `first`, with these channel sums: the other fifteen samples.
-fn pixel_from(
-    tree: Tree,
-    first: Shown,
-    sums: Channels,
-    row: u32,
-    column: u32,
-) -> Result<Pixel, Refusal>
-    requires sampling { Sampling (tree_of tree) row column 16 1 (Some first) sums }
-    requires row_bound { (row ≤ 4095) × (column ≤ 4095) }
-    ensures answer { result ≡ pixel_told (tree_passed tree) row column }
+// The pixel whose first sample is `first`, with these channel sums: the other fifteen samples.
+fn pixel_from(tree: Tree, first: Shown, sums: Channels, place: PixelAt) -> Result<Pixel, Refusal>
+    requires { Sampling (tree_of tree) place.row place.column 16 1 (Some first) sums }
+    ensures answer { result ≡ pixel_told (tree_passed tree) place.row place.column }
 {
     let mut last = first;
     let mut sum = sums;
     for i in 1..pixel::SAMPLES {
-        let p = pixel::sample_at(row, column, i);
-        let shown = position::leaf_for(tree, Some(last), p.x, p.y)?;
-        let set = position::set_for(tree, shown, p.x, p.y);
-        let c = colour::channel_sums(tree.drawing.areas, set);
+        let read = position::read_at(tree, Some(last), place.sample(i))?;
+        let c = colour::channel_sums(tree.drawing.areas, read.set);
         sum = sum.plus(c);
-        last = shown;
+        last = read.shown;
     }
     let colour = sum.mean();
     Ok(Pixel { colour, last })
 }
 
-// The pixel of a row, where `before` was read last. One sample is enough for a pixel that lies in a uniform leaf.
-fn pixel_at(tree: Tree, before: Option<Shown>, row: u32, column: u32) -> Result<Pixel, Refusal>
-    requires last_in { LastIn (tree_of tree) before }
-    requires row_bound { (row ≤ 4095) × (column ≤ 4095) }
-    ensures answer { result ≡ pixel_told (tree_passed tree) row column }
+// A pixel, where `before` was read last. One sample is enough for a pixel that lies in a uniform leaf.
+fn pixel_at(tree: Tree, before: Option<Shown>, place: PixelAt) -> Result<Pixel, Refusal>
+    requires { LastIn (tree_of tree) before }
+    ensures answer { result ≡ pixel_told (tree_passed tree) place.row place.column }
 {
-    let p = pixel::sample_at(row, column, 0);
-    let shown = position::leaf_for(tree, before, p.x, p.y)?;
-    let set = position::set_for(tree, shown, p.x, p.y);
-    if shown.set.is_some() && holds_pixel(shown.leaf, row, column) {
-        let colour = colour::colour_of(tree.drawing.areas, set);
+    let read = position::read_at(tree, before, place.sample(0))?;
+    if read.shown.set.is_some() && holds_pixel(read.shown.leaf, place) {
+        let colour = colour::colour_of(tree.drawing.areas, read.set);
         return Ok(Pixel {
             colour,
-            last: shown,
+            last: read.shown,
         });
     }
-    let sums = colour::channel_sums(tree.drawing.areas, set);
-    pixel_from(tree, shown, sums, row, column)
+    let sums = colour::channel_sums(tree.drawing.areas, read.set);
+    pixel_from(tree, read.shown, sums, place)
 }
 
 // Writes the three bytes of pixel i.
@@ -115,7 +103,8 @@ fn fill_row(tree: Tree, row: u32, first: u32, out: &mut [u8]) -> Result<(), Refu
     let mut last = None;
     for i in 0..n {
         // A match: with `map_err` the proof of the place that its closure adds did not close.
-        match pixel_at(tree, last, row, first + (i as u32)) {
+        let column = first + (i as u32);
+        match pixel_at(tree, last, PixelAt { row, column }) {
             Ok(pixel) => {
                 put_pixel(out, i, pixel.colour);
                 last = Some(pixel.last);

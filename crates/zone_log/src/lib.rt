@@ -8,6 +8,7 @@ ghost use Rattle.tables.specs.Tables.{tree_of, tree_passed};
 ghost use Rattle.zone_log.specs.Logs.{zone_log, log_answer, out_after};
 ghost use Rattle.zone_log.specs.code.Numbers.{RunIn, Accepted, outside_n, LastMet, met_there, logged_n, counted_n, count_in};
 
+use curves::Position;
 use paint::area;
 use position::Shown;
 use refusals::{Refusal, Refused};
@@ -30,7 +31,7 @@ fn first_outside(px: &[u32], py: &[u32]) -> Option<usize>
     ensures answer { result ≡ outside_n px.now py.now }
 {
     for i in 0..px.len() {
-        if !find_leaf::is_position(px[i], py[i]) {
+        if find_leaf::position_at(px[i], py[i]).is_none() {
             return Some(i);
         }
     }
@@ -38,16 +39,17 @@ fn first_outside(px: &[u32], py: &[u32]) -> Option<usize>
 }
 
 // ---- one index
-// What shows at (x, y), or 12, where `last` was met at the index before.
-fn met_at(tree: Tree, last: Option<Met>, x: u32, y: u32) -> Result<Met, Refusal>
-    requires last_in { LastMet (tree_of tree) last }
-    requires x_bound { (x < 65536) × (y < 65536) }
-    ensures answer { result ≡ met_there (tree_passed tree) x y }
+// What shows at a position, or 12, where `last` was met at the index before.
+fn met_at(tree: Tree, last: Option<Met>, at: Position) -> Result<Met, Refusal>
+    requires { LastMet (tree_of tree) last }
+    ensures answer { result ≡ met_there (tree_passed tree) at.x at.y }
 {
-    let shown = position::leaf_for(tree, last.map(|met| met.shown), x, y)?;
-    let set = position::set_for(tree, shown, x, y);
-    let material = area::material_of(tree.drawing.areas, set);
-    Ok(Met { shown, material })
+    let read = position::read_at(tree, last.map(|met| met.shown), at)?;
+    let material = area::material_of(tree.drawing.areas, read.set);
+    Ok(Met {
+        shown: read.shown,
+        material,
+    })
 }
 
 // Whether an index is in the log, where `last` was met at the index before.
@@ -80,7 +82,8 @@ fn count_log(tree: Tree, px: &[u32], py: &[u32]) -> Result<Option<usize>, Refusa
     let mut last = None;
     let mut count = Some(0);
     for i in 0..px.len() {
-        let met = met_at(tree, last, px[i], py[i])?;
+        let at = Position { x: px[i], y: py[i] };
+        let met = met_at(tree, last, at)?;
         if is_logged(last, met) {
             count = counted(count, i);
         }
@@ -99,7 +102,8 @@ fn write_log(tree: Tree, px: &[u32], py: &[u32], out: &mut [u32]) -> Result<(), 
     let mut last = None;
     let mut count = 0;
     for i in 0..px.len() {
-        let met = met_at(tree, last, px[i], py[i])?;
+        let at = Position { x: px[i], y: py[i] };
+        let met = met_at(tree, last, at)?;
         if is_logged(last, met) {
             out[count] = i as u32;
             count += 1;
