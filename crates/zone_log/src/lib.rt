@@ -31,9 +31,9 @@ fn first_outside(px: &[u32], py: &[u32]) -> Option<usize>
     ensures answer { result ≡ outside_n px.now py.now }
 {
     for i in 0..px.len() {
-        if find_leaf::position_at(px[i], py[i]).is_none() {
+        let Some(_) = find_leaf::position_at(px[i], py[i]) else {
             return Some(i);
-        }
+        };
     }
     None
 }
