@@ -28,7 +28,8 @@ pub struct FoundLeaf {
     pub uniform: bool,
 }
 
-// A leaf that was found and whose stream has passed, with how many lines and curves its stream holds, and whether it holds no line, curve or shortcut.
+// A leaf that was found and whose stream has passed, with how many lines and curves its stream holds, and whether it holds no line, curve or shortcut,
+// which is the answer `uniform` of `FoundLeaf`.
 #[derive(Clone, Copy)]
 pub struct LeafRead {
     pub leaf: Leaf,

@@ -142,7 +142,8 @@ fn set_for(tree: Tree, shown: Shown, at: Position) -> u64
     }
 }
 
-// What is read at a position, or 12, where `last` was read last.
+// What is read at a position, or 12, where `last` was read last. That it was (LastIn) is a fact about a tree and a value which come apart, so it stays a
+// clause.
 pub fn read_at(tree: Tree, last: Option<Shown>, at: Position) -> Result<Read, Refusal>
     requires { LastIn (tree_of tree) last }
     ensures answer { result ≡ read_there (tree_passed tree) at.x at.y }

@@ -10,7 +10,7 @@ ghost use Rattle.probe.specs.Answers.{read_answer, square, leaf_on, square_fits,
 ghost use Rattle.probe.specs.Answers.{number_in, tally_number, tally_answer};
 
 use celltable::CellWords;
-use curves::Point;
+use curves::Position;
 use four_children::Tally;
 use geometry::class::Square;
 use stream::{Bounds, Context, Stream};
@@ -106,7 +106,7 @@ pub extern "C" fn probe_read(
         },
     };
     if stream_passes(stream, used, context) && (x <= LAST) & (y <= LAST) {
-        evaluate::read_stream(stream, context, Point { x, y })
+        evaluate::read_stream(stream, context, Position { x, y })
     } else {
         0
     }
@@ -129,7 +129,8 @@ fn leaf_on(s: Square) -> CellWords
     }
 }
 
-// Whether this is the square of a cell: its side a power of two up to 65,536, its corner on the grid of that side, all of it below 65,536.
+// Whether this is the square of a cell: its side a power of two up to 65,536, its corner on the grid of that side, all of it below 65,536. It stays a
+// clause: `geometry` and what makes streams take a Square of any such range, and a second type of square would be turned into it at each call.
 #[tactic(auto, unfolding(crate::specs::Answers::square_fits))]
 fn square_fits(s: Square) -> bool
     ensures answer { result ≡ square_fits s }

@@ -2,28 +2,29 @@
 
 #![tactic(auto)]
 
-ghost use Rattle.std.specs.Prelude.{◌<◌, IsTrue};
-ghost use Rattle.curves.specs.code.Reach.{PositionIn, EndsIn};
+ghost use Rattle.std.specs.Prelude.{IsTrue};
+ghost use Rattle.curves.specs.code.Reach.{EndsIn};
 ghost use Rattle.geometry.specs.code.Reach.{EdgeIn, SquareIn};
 ghost use Rattle.paint.specs.Areas.{Painted};
 ghost use Rattle.spots.specs.Starred.{all_right, table};
 
-use curves::Point;
+use curves::{Point, Position};
 use geometry::class::{Class, Square};
 use geometry::edge::Edge;
 use geometry::fill::FillRule;
+use paint::pixel::PixelAt;
 use std::io;
 
+// What follows is printed by functions and not by `Display`: each is printed at this one place, and as a sentence about a spot.
 // The winding of the contour (0, 0), (p, q), (w, w).
-fn write_winding(rt: &impl Print, p: u32, q: u32, w: u32, x: u32, y: u32) -> io::Result<()>
-    requires ends_in { EndsIn p q w w }
-    requires position_in { PositionIn x y }
+fn write_winding(rt: &impl Print, p: u32, q: u32, w: u32, at: Position) -> io::Result<()>
+    requires { EndsIn p q w w }
 {
     let xs = [0, p, w];
     let ys = [0, q, w];
     let ends = [3u32];
-    let n = geometry::winding::area_winding(&xs, &ys, &ends, x, y);
-    println!(rt; "winding at {x} {y}: {n}")
+    let n = geometry::winding::area_winding(&xs, &ys, &ends, at);
+    println!(rt; "winding at {} {}: {n}", at.x, at.y)
 }
 
 // Whether a winding passes.
@@ -63,19 +64,20 @@ fn write_shown(rt: &impl Print, areas: &[u32], set: u64) -> io::Result<()>
 }
 
 // The key of a position.
-fn write_key(rt: &impl Print, x: u32, y: u32) -> io::Result<()>
-    requires x_bound { x < 65536 }
-    requires y_bound { y < 65536 }
-{
-    let key = geometry::morton::key(x, y);
+fn write_key(rt: &impl Print, x: u16, y: u16) -> io::Result<()> {
+    let key = geometry::morton::key(u32::from(x), u32::from(y));
     println!(rt; "key of {x} {y}: {key}")
 }
 
 // The samples of one pixel.
 fn write_samples(rt: &impl Print) -> io::Result<()> {
     print!(rt; "samples of pixel 4095 of row 1:")?;
+    let pixel = PixelAt {
+        row: 1,
+        column: 4095,
+    };
     for i in 0..paint::pixel::SAMPLES {
-        let s = paint::pixel::sample_at(1, 4095, i);
+        let s = pixel.sample(i);
         print!(rt; " {} {}", s.x, s.y)?;
     }
     println!(rt)
@@ -83,15 +85,42 @@ fn write_samples(rt: &impl Print) -> io::Result<()> {
 
 // The triangle (0,0) (10,0) (10,10), the largest of its shape, and that one mirrored.
 fn triangles(rt: &impl Print) -> io::Result<()> {
-    write_winding(rt, 10, 0, 10, 5, 5)?;
-    write_winding(rt, 10, 0, 10, 0, 0)?;
-    write_winding(rt, 10, 0, 10, 9, 9)?;
-    write_winding(rt, 10, 0, 10, 4, 5)?;
-    write_winding(rt, 10, 0, 10, 10, 5)?;
-    write_winding(rt, 10, 0, 10, 5, 10)?;
-    write_winding(rt, 67108864, 0, 67108864, 67108863, 67108863)?;
-    write_winding(rt, 67108864, 0, 67108864, 67108862, 67108863)?;
-    write_winding(rt, 0, 67108864, 67108864, 67108862, 67108863)
+    write_winding(rt, 10, 0, 10, Position { x: 5, y: 5 })?;
+    write_winding(rt, 10, 0, 10, Position { x: 0, y: 0 })?;
+    write_winding(rt, 10, 0, 10, Position { x: 9, y: 9 })?;
+    write_winding(rt, 10, 0, 10, Position { x: 4, y: 5 })?;
+    write_winding(rt, 10, 0, 10, Position { x: 10, y: 5 })?;
+    write_winding(rt, 10, 0, 10, Position { x: 5, y: 10 })?;
+    write_winding(
+        rt,
+        67108864,
+        0,
+        67108864,
+        Position {
+            x: 67108863,
+            y: 67108863,
+        },
+    )?;
+    write_winding(
+        rt,
+        67108864,
+        0,
+        67108864,
+        Position {
+            x: 67108862,
+            y: 67108863,
+        },
+    )?;
+    write_winding(
+        rt,
+        0,
+        67108864,
+        67108864,
+        Position {
+            x: 67108862,
+            y: 67108863,
+        },
+    )
 }
 
 // Fill rules, below zero too.

@@ -7,10 +7,9 @@ use Rattle.spots.proofs.write_winding.Goals as goal
 pub area_winding-n-requires : goal.area_winding-n-requires
 area_winding-n-requires g c =
     let a = c.args in
-    let h = c.requires.ends_in in
+    let h = c.requires in
     let w = le-leb a.w reach h.second_x in
     record {
       corners_in = corners_in_law _ _ refl (simp (le-leb a.p reach h.first_x, w) tt) (simp (le-leb a.q reach h.first_y, w) tt);
       t = tt;
-      position_in = c.requires.position_in;
     }
