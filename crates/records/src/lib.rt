@@ -79,7 +79,7 @@ const LEAST_MATERIAL: u32 = 1;
 
 const MOST_MATERIAL: u32 = 65535;
 
-// The side of the grid: the largest coordinate of a corner. The same number is the largest side of a cell, `celltable::GRID`.
+// The side of the grid: the largest coordinate of a corner. Another meaning of the same number, the side of cell 0, is `celltable::GRID`.
 pub const GRID: u32 = 65536;
 
 // How many words an area has in the table of areas, and which is which; word 0 is its role.
