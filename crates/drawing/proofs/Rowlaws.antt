@@ -10,14 +10,20 @@ use lib.Dec.{eqb, ltb, leb}
 use borrow.Author.Tests.{ltb-true, lt-ltb, eqb-true}
 use Rattle.records.specs.Bytes.{Raw}
 use Rattle.records.specs.declared.Fields.{Fields}
-use Rattle.refusals.specs.declared.Refusal.TheVariants.{Kind, Field}
+use Rattle.refusals.specs.declared.Refusal.{Refusal}
+use Rattle.refusals.specs.declared.Refusal.TheVariants as Refusals
+use Rattle.refusals.specs.declared.Refusal.TheVariants.{Field}
+use Rattle.records.specs.declared.Kind.{Kind}
+use Rattle.records.specs.declared.Kind.TheVariants as Kinds
 use Rattle.records.specs.declared.Record.{Record}
 use Rattle.records.specs.declared.Record.TheVariants.{Area, First, Next, Open, Bar, Close, Control}
 use Rattle.records.specs.Record.{Decoded}
-use Rattle.std.specs.Prelude.{Ok, Err}
+use Rattle.std.specs.Prelude.{Result, Ok, Err}
 use Rattle.records.specs.Record.{in_range, ranged, is_corner, corner_of, delimiter_of, kind_of, is_good}
 use Rattle.records.specs.Bytes.{raw_at, raw_bytes, raw_of, decoded_raw, bytes_of}
-use Rattle.records.proofs.Laws.{kinds, ranged_told, Small, raw_back, raw_again}
+use Rattle.records.specs.Kinds.{kind_number, kind_at}
+use Rattle.records.proofs.Kindlaws.{kind_is, kind_first, of_kind}
+use Rattle.records.proofs.Laws.{ranged_told, Small, raw_back, raw_again}
 use Rattle.grammar.specs.declared.Counts.{Counts}
 use Rattle.grammar.specs.Lists.{area_one, corner_one}
 use Rattle.laws.proofs.Booleans.{clash}
@@ -215,6 +221,39 @@ module _ (t : Tables) (u : Counts) (i : ℕ) (c : Cursor) where
   row_read Close g k a x y p q = rw k
   row_read (Control m n) g k a x y p q = rw k (corner_read 7 m n (Control m n) refl g (has_first _ _ m [] x) (has_first _ _ n [] y) (omega arith))
 
+-- ---- a row by its kind
+module _ (t : Tables) (u : Counts) (c : Cursor) where
+  abbrev row_by : Result Kind Refusal → Decoded
+  row_by (Ok Kinds.Area) = area_row t.areas u.areas c.area
+  row_by (Ok Kinds.First) = corner_row t.xs t.ys u.corners 2 c.corner
+  row_by (Ok Kinds.Next) = corner_row t.xs t.ys u.corners 3 c.corner
+  row_by (Ok Kinds.Open) = Ok Open
+  row_by (Ok Kinds.Bar) = Ok Bar
+  row_by (Ok Kinds.Close) = Ok Close
+  row_by (Ok Kinds.Control) = corner_row t.xs t.ys u.corners 7 c.corner
+  row_by (Err e) = Err e
+
+  row_of : (k : Kind) → kind_row t.areas t.xs t.ys u (kind_number k) c ≡ row_by (Ok k)
+  unfolding kind_row delimiter_of
+  row_of Kinds.Area = refl
+  row_of Kinds.First = refl
+  row_of Kinds.Next = refl
+  row_of Kinds.Open = refl
+  row_of Kinds.Bar = refl
+  row_of Kinds.Close = refl
+  row_of Kinds.Control = refl
+
+  pub row_is : (i : ℕ) → record_at t u i c ≡ row_by (kind_at (get_or t.plan (i + 3) 0))
+  unfolding record_at
+  row_is i = kind_first (kind_row t.areas t.xs t.ys u n c) n ∙ go (kind_at n) refl
+    where
+      n : ℕ
+      n = get_or t.plan (i + 3) 0
+
+      go : (k : Result Kind Refusal) → kind_at n ≡ k → of_kind k (kind_row t.areas t.xs t.ys u n c) ≡ row_by k
+      go (Ok k) e = rw (← kind_is n k e) (row_of k)
+      go (Err x) e = refl
+
 -- ---- and what is read is there
 pub record RowTold (t : Tables) (u : Counts) (k : ℕ) (c : Cursor) (r : Record) : Type 0 where
   pub kind : k ≡ kind_of r
@@ -307,90 +346,18 @@ module _ (t : Tables) (u : Counts) (c : Cursor) (r : Record) where
       rw (← good_is Close r e)
       (record { kind = refl; areas = refl; xs = refl; ys = refl; few = λ h. omega arith; many = λ h. omega arith; range = refl })
 
-  told_kind : (k : ℕ) → leb 1 k ≡ true → leb k 7 ≡ true → kind_row t.areas t.xs t.ys u k c ≡ Ok r → RowTold t u k c r
-  unfolding kind_row delimiter_of
-  told_kind =
-      kinds (λ k. kind_row t.areas t.xs t.ys u k c ≡ Ok r → RowTold t u k c r)
-      told_area
-      told_first
-      told_next
-      told_open
-      told_bar
-      told_close
-      told_control
-
   pub row_told : (i : ℕ) → record_at t u i c ≡ Ok r → RowTold t u (get_or t.plan (i + 3) 0) c r
-  unfolding record_at
-  row_told i e₀ = go (leb 1 k) (leb k 7) refl refl e₀
+  row_told i e₀ = go (kind_at n) refl (sym (row_is t u c i) ∙ e₀)
     where
-      k : ℕ
-      k = get_or t.plan (i + 3) 0
+      n : ℕ
+      n = get_or t.plan (i + 3) 0
 
-      go : (a b : Bool)
-          → leb 1 k ≡ a
-          → leb k 7 ≡ b
-          → cond a (cond b (kind_row t.areas t.xs t.ys u k c) (Err Kind)) (Err Kind) ≡ Ok r
-          → RowTold t u k c r
-      go false b p q e = absurd cc
-      go true false p q e = absurd cc
-      go true true p q e = told_kind k p q e
-
--- ---- a row that is good: its number is in use, and it is what the tables say
-module _ (t : Tables) (u : Counts) (i : ℕ) (c : Cursor) (g : is_good (record_at t u i c) ≡ true) where
-  abbrev kind_at : ℕ
-  kind_at = get_or t.plan (i + 3) 0
-
-  kind_good : (record_at t u i c ≡ kind_row t.areas t.xs t.ys u kind_at c) × (is_good (kind_row t.areas t.xs t.ys u kind_at c) ≡ true)
-  unfolding record_at
-  kind_good = go (leb 1 kind_at) (leb kind_at 7) g
-    where
-      row : Decoded
-      row = kind_row t.areas t.xs t.ys u kind_at c
-
-      go : (a b : Bool)
-          → is_good (cond a (cond b row (Err Kind)) (Err Kind)) ≡ true
-          → (cond a (cond b row (Err Kind)) (Err Kind) ≡ row) × (is_good row ≡ true)
-      go false b h = clash h
-      go true false h = clash h
-      go true true h = (refl, h)
-
-  pub area_good : eqb kind_at 1 ≡ true → (c.area < u.areas) × (record_at t u i c ≡ Ok (Area (fields_at t.areas c.area)))
-  unfolding kind_row area_row
-  area_good e =
-      let h : (ltb c.area u.areas ≡ true) × (area_row t.areas u.areas c.area ≡ Ok (Area f)) =
-      go (ltb c.area u.areas) (eqb (get_or t.areas (c.area * 8 + 7) 0) 0) (in_range (Area f)) (rw e at kind_good.1) in
-      (ltb-true _ _ h.0, rw e at kind_good.0 ∙ h.1)
-    where
-      f : Fields
-      f = fields_at t.areas c.area
-
-      go : (a b d : Bool)
-          → is_good (cond a (cond b (cond d (Ok (Area f)) (Err Field)) (Err Field)) (Err Field)) ≡ true
-          → (a ≡ true) × (cond a (cond b (cond d (Ok (Area f)) (Err Field)) (Err Field)) (Err Field) ≡ Ok (Area f))
-      go false b d h = clash h
-      go true false d h = clash h
-      go true true false h = clash h
-      go true true true h = (refl, refl)
-
-  pub corner_good : eqb kind_at 1 ≡ false
-      → is_corner kind_at ≡ true
-      → (c.corner < u.corners) × (record_at t u i c ≡ Ok (corner_of kind_at (get_or t.xs c.corner 0) (get_or t.ys c.corner 0)))
-  unfolding kind_row corner_row
-  corner_good e k =
-      let h : (ltb c.corner u.corners ≡ true) × (corner_row t.xs t.ys u.corners kind_at c.corner ≡ Ok m) =
-      go (ltb c.corner u.corners) (in_range m) (rw (e, k) at kind_good.1) in
-      (ltb-true _ _ h.0, rw (e, k) at kind_good.0 ∙ h.1)
-    where
-      m : Record
-      m = corner_of kind_at (get_or t.xs c.corner 0) (get_or t.ys c.corner 0)
-
-      go : (a d : Bool)
-          → is_good (cond a (cond d (Ok m) (Err Field)) (Err Field)) ≡ true
-          → (a ≡ true) × (cond a (cond d (Ok m) (Err Field)) (Err Field) ≡ Ok m)
-      go false d h = clash h
-      go true false h = clash h
-      go true true h = (refl, refl)
-
-  pub delimiter_good : eqb kind_at 1 ≡ false → is_corner kind_at ≡ false → record_at t u i c ≡ Ok (delimiter_of kind_at)
-  unfolding kind_row
-  delimiter_good e k = rw (e, k) at kind_good.0
+      go : (k : Result Kind Refusal) → kind_at n ≡ k → row_by t u c k ≡ Ok r → RowTold t u n c r
+      go (Ok Kinds.Area) q e = rw (← kind_is n Kinds.Area q) (told_area e)
+      go (Ok Kinds.First) q e = rw (← kind_is n Kinds.First q) (told_first e)
+      go (Ok Kinds.Next) q e = rw (← kind_is n Kinds.Next q) (told_next e)
+      go (Ok Kinds.Open) q e = rw (← kind_is n Kinds.Open q) (told_open e)
+      go (Ok Kinds.Bar) q e = rw (← kind_is n Kinds.Bar q) (told_bar e)
+      go (Ok Kinds.Close) q e = rw (← kind_is n Kinds.Close q) (told_close e)
+      go (Ok Kinds.Control) q e = rw (← kind_is n Kinds.Control q) (told_control e)
+      go (Err x) q e = absurd cc

@@ -121,11 +121,11 @@ drawing_verdict t =
     cond (eqb (length t.xs) (length t.ys)) (cond (leb 3 (length t.plan)) (counts_judged t (used_of t.plan)) (Err (at_place Broken 0)))
     (Err (at_place Argument 0))
 
--- then 11, the output too short for 16 bytes a record
 -- how many bytes were written, or why none were
 abbrev pub Written : Type 0
 Written = Result ℕ Refusal
 
+-- then 11, the output too short for 16 bytes a record
 abbrev pub written_of : Verdict → ℕ → Written
 written_of (Ok k) n = cond (leb k.records (n / 16)) (Ok (k.records * 16)) (Err Room)
 written_of (Err e) n = Err e.refusal

@@ -8,15 +8,15 @@ ghost use Rattle.grammar.specs.code.Machine.{scan_n, start_n};
 ghost use Rattle.grammar.specs.Lists.{good_records};
 ghost use Rattle.records.specs.Bytes.{bytes_of};
 ghost use Rattle.read.specs.Words.{file_of, on_good};
-ghost use Rattle.records.specs.Record.{is_good};
+ghost use Rattle.records.specs.Kinds.{kind_number};
 ghost use Rattle.read.specs.Reading.{all_good};
 ghost use Rattle.drawing.specs.code.Scanned.{cursor_n};
-ghost use Rattle.drawing.specs.Tables.{tables_of, drawing_passed, Ready, cursor, fields_at, area_row, corner_row, kind_row, record_at, past_record};
+ghost use Rattle.drawing.specs.Tables.{tables_of, drawing_passed, Ready, cursor, fields_at, area_row, corner_row, record_at, past_record};
 ghost use Rattle.drawing.specs.Tables.{rebuilt, drawn_in, agreed, counts_judged, drawing_verdict, write_answer, out_after};
 
 use grammar::{Counts, State};
 use read::PLAN_COUNTS;
-use records::{AREA_WORDS, Fields, KIND_AREA, RECORD_BYTES, Record};
+use records::{AREA_WORDS, Fields, Kind, RECORD_BYTES, Record};
 use refusals::{Refusal, Refused};
 
 // The four tables of a drawing, as they are lent to a call.
@@ -74,9 +74,7 @@ impl Cursor {
                 area: self.area + 1,
                 ..self
             },
-            Record::Open => self,
-            Record::Bar => self,
-            Record::Close => self,
+            Record::Open | Record::Bar | Record::Close => self,
             _ => Cursor {
                 corner: self.corner + 1,
                 ..self
@@ -108,71 +106,54 @@ fn agreed_with(verdict: Result<Counts, Refused>, used: Counts) -> Result<Counts,
     }
 }
 
-impl<'a> Drawing<'a> {
-    #[tactic(auto, unfolding(crate::specs::Tables::corner_row))]
-    fn corner_row(self, used: usize, k: u32, i: usize) -> Result<Record, Refusal>
-        requires { (used ≤ length self.xs.now) × (used ≤ length self.ys.now) }
-        ensures answer { result ≡ corner_row (drawing_passed self).xs (drawing_passed self).ys used k i }
+// A drawing whose tables have the words that its counts speak of.
+#[derive(Clone, Copy)]
+struct Held<'a> {
+    drawing: Drawing<'a>,
+    used: Counts,
+    ghost ready: { Ready drawing.plan.now drawing.areas.now drawing.xs.now drawing.ys.now used },
+}
+
+impl<'a> Held<'a> {
+    // Corner i, where it is in use.
+    #[tactic(auto, unfolding(crate::specs::Tables::corner_row, records::specs::Record::corner_of))]
+    fn corner_row(self, kind: Kind, i: usize) -> Result<Record, Refusal>
+        ensures answer { result
+            ≡ corner_row (tables_of self.entry.drawing).xs (tables_of self.entry.drawing).ys self.entry.used.corners (kind_number kind) i }
     {
-        if i >= used {
+        if i >= self.used.corners {
             return Err(Refusal::Field);
         }
-        records::ranged_of(records::corner_of(k, self.xs[i], self.ys[i]))
-    }
-
-    #[tactic(auto, unfolding(crate::specs::Tables::kind_row))]
-    fn kind_row(self, used: Counts, k: u32, c: Cursor) -> Result<Record, Refusal>
-        requires { (used.areas * 8 ≤ length self.areas.now) × (used.corners ≤ length self.xs.now) × (used.corners ≤ length self.ys.now) }
-        ensures answer { result ≡ kind_row (drawing_passed self).areas (drawing_passed self).xs (drawing_passed self).ys used k c }
-    {
-        if k == KIND_AREA {
-            area_row(self.areas, used.areas, c.area)
-        } else if records::is_corner(k) {
-            self.corner_row(used.corners, k, c.corner)
-        } else {
-            Ok(records::delimiter_of(k))
-        }
+        let (x, y) = (self.drawing.xs[i], self.drawing.ys[i]);
+        records::ranged_of(match kind {
+            Kind::First => Record::First(x, y),
+            Kind::Next => Record::Next(x, y),
+            _ => Record::Control(x, y),
+        })
     }
 
     // Record i, with the areas and the corners before it.
-    #[tactic(auto, unfolding(crate::specs::Tables::record_at))]
-    fn row(self, used: Counts, i: usize, c: Cursor) -> Result<Record, Refusal>
-        requires ready { Ready self.plan.now self.areas.now self.xs.now self.ys.now used }
-        requires i_lt_records { i < used.records }
-        ensures answer { result ≡ record_at (drawing_passed self) used i c }
+    #[tactic(auto, using(crate::proofs::Rowlaws::row_is))]
+    fn row(self, i: usize, c: Cursor) -> Result<Record, Refusal>
+        requires { i < self.used.records }
+        ensures answer { result ≡ record_at (tables_of self.entry.drawing) self.entry.used i c }
     {
-        let k = self.plan[i + PLAN_COUNTS];
-        if k < KIND_AREA || k > records::KIND_CONTROL {
-            return Err(Refusal::Kind);
+        let kind = Kind::try_from(self.drawing.plan[i + PLAN_COUNTS])?;
+        match kind {
+            Kind::Area => area_row(self.drawing.areas, self.used.areas, c.area),
+            Kind::First | Kind::Next | Kind::Control => self.corner_row(kind, c.corner),
+            Kind::Open => Ok(Record::Open),
+            Kind::Bar => Ok(Record::Bar),
+            Kind::Close => Ok(Record::Close),
         }
-        self.kind_row(used, k, c)
     }
 
-    // Record i of a drawing that passed: nothing is tried again.
-    fn row_accepted(self, used: Counts, i: usize, c: Cursor) -> Record
-        requires ready { Ready self.plan.now self.areas.now self.xs.now self.ys.now used }
-        requires i_lt_records { i < used.records }
-        requires c_value { is_good (record_at (tables_of self) used i c) ≡ true }
-        ensures answer { Ok result ≡ record_at (drawing_passed self) used i c }
-    {
-        let k = self.plan[i + PLAN_COUNTS];
-        if k == KIND_AREA {
-            return Record::Area(fields_at(self.areas, c.area));
-        }
-        if records::is_corner(k) {
-            let j = c.corner;
-            return records::corner_of(k, self.xs[j], self.ys[j]);
-        }
-        records::delimiter_of(k)
-    }
-
-    fn scan(self, used: Counts) -> Result<State, Refused>
-        requires { Ready self.plan.now self.areas.now self.xs.now self.ys.now used }
-        ensures answer { result ≡ scan_n start_n 0 (rebuilt (drawing_passed self) used 0 (cursor 0 0) used.records) }
+    fn scan(self) -> Result<State, Refused>
+        ensures answer { result ≡ scan_n start_n 0 (rebuilt (tables_of self.entry.drawing) self.entry.used 0 (cursor 0 0) self.entry.used.records) }
     {
         let mut s = grammar::start();
-        for i in 0..used.records {
-            let d = self.row(used, i, cursor_of(s));
+        for i in 0..self.used.records {
+            let d = self.row(i, cursor_of(s));
             s = grammar::advance(s, d, i);
             if s.is_err() {
                 return s;
@@ -181,6 +162,27 @@ impl<'a> Drawing<'a> {
         s
     }
 
+    // Writes the records of a drawing that passed: each of its rows is one.
+    fn write_all(self, out: &mut [u8])
+        requires records_in_bounds { self.used.records * 16 ≤ length out.old }
+        requires records_value { all_good (rebuilt (tables_of self.drawing) self.used 0 (cursor 0 0) self.used.records) ≡ true }
+        ensures out { out.new ≡ sets out.old 0
+            (file_of (good_records (rebuilt (tables_of self.entry.drawing) self.entry.used 0 (cursor 0 0) self.entry.used.records))) }
+    {
+        let mut c = Cursor { area: 0, corner: 0 };
+        let mut at = 0;
+        for i in 0..self.used.records {
+            let Ok(r) = self.row(i, c) else {
+                unreachable!()
+            };
+            records::put_raw(out, at, records::raw_of(r));
+            at += RECORD_BYTES;
+            c = c.past(r);
+        }
+    }
+}
+
+impl<'a> Drawing<'a> {
     #[tactic(auto, unfolding(crate::specs::Tables::counts_judged))]
     fn check_counts(self, used: Counts) -> Result<Counts, Refused>
         requires { length self.xs.now ≡ length self.ys.now }
@@ -192,7 +194,11 @@ impl<'a> Drawing<'a> {
         if !read::tables_hold(self.plan.len(), self.areas.len(), self.xs.len(), used) {
             return Err(Refusal::Broken.into());
         }
-        agreed_with(grammar::ended(self.scan(used), used.records), used)
+        let held = Held {
+            drawing: self,
+            used,
+        };
+        agreed_with(grammar::ended(held.scan(), used.records), used)
     }
 
     // Whether lent tables hold a drawing: 7, then 12.
@@ -213,23 +219,6 @@ impl<'a> Drawing<'a> {
         })
     }
 
-    // ---- writing
-    fn write_all(self, used: Counts, out: &mut [u8])
-        requires ready { Ready self.plan.now self.areas.now self.xs.now self.ys.now used }
-        requires records_in_bounds { used.records * 16 ≤ length out.old }
-        requires records_value { all_good (rebuilt (tables_of self) used 0 (cursor 0 0) used.records) ≡ true }
-        ensures out { out.new ≡ sets out.old 0 (file_of (good_records (rebuilt (drawing_passed self) used 0 (cursor 0 0) used.records))) }
-    {
-        let mut c = Cursor { area: 0, corner: 0 };
-        let mut at = 0;
-        for i in 0..used.records {
-            let r = self.row_accepted(used, i, c);
-            records::put_raw(out, at, records::raw_of(r));
-            at += RECORD_BYTES;
-            c = c.past(r);
-        }
-    }
-
     // Writes a drawing out as a file. Any tables may be handed in.
     pub fn write(self, out: &mut [u8]) -> Result<usize, Refusal>
         ensures answer { result ≡ write_answer (drawing_passed self) out.old }
@@ -239,7 +228,11 @@ impl<'a> Drawing<'a> {
         if used.records > out.len() / RECORD_BYTES {
             return Err(Refusal::Room);
         }
-        self.write_all(used, out);
+        let held = Held {
+            drawing: self,
+            used,
+        };
+        held.write_all(out);
         Ok(used.records * RECORD_BYTES)
     }
 }

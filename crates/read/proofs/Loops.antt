@@ -42,22 +42,28 @@ from_zero b n = ap (decoded_from b 0) (omega arith)
 pub scan_begin : (b : List ℕ) (n : ℕ) (s : Scan) → s ≡ start_n → scan_n s 0 (decoded_from b 0 (n - 0)) ≡ scan_n start_n 0 (decoded_from b 0 n)
 scan_begin b n s e = rw (e, from_zero b n)
 
-pub scan_turn : (b : List ℕ) (i e : ℕ) (s s' whole : Scan) (d : Decoded) → i < e → d ≡ decoded_raw (raw_at b i) → s' ≡ advance_n s d i
-    → scan_n s i (decoded_from b i (e - i)) ≡ whole → scan_n s' (i + 1) (decoded_from b (i + 1) (e - (i + 1))) ≡ whole
+pub scan_turn : (b : List ℕ) (i e : ℕ) (s s' whole : Scan) (r : Raw) (d : Decoded)
+    → i < e
+    → r ≡ raw_at b i
+    → d ≡ decoded_raw r
+    → s' ≡ advance_n s d i
+    → scan_n s i (decoded_from b i (e - i)) ≡ whole
+    → scan_n s' (i + 1) (decoded_from b (i + 1) (e - (i + 1))) ≡ whole
 unfolding scan_n
-scan_turn b i e s s' whole d h p q inv = rw (q, p) (rw (from_step b i e h) at inv)
+scan_turn b i e s s' whole r d h o p q inv = rw (q, p, o) (rw (from_step b i e h) at inv)
 
 -- a scan that stopped is the whole
-pub scan_stops : (b : List ℕ) (i e : ℕ) (s s' whole : Scan) (d : Decoded) (t : Bool)
+pub scan_stops : (b : List ℕ) (i e : ℕ) (s s' whole : Scan) (r : Raw) (d : Decoded) (t : Bool)
     → i < e
-    → d ≡ decoded_raw (raw_at b i)
+    → r ≡ raw_at b i
+    → d ≡ decoded_raw r
     → s' ≡ advance_n s d i
     → t ≡ is_err s'
     → t ≡ true
     → scan_n s i (decoded_from b i (e - i)) ≡ whole
     → s' ≡ whole
-scan_stops b i e s s' whole d t h p q u v inv =
-    sym (stopped_stays s' (i + 1) (decoded_from b (i + 1) (e - (i + 1))) (sym u ∙ v)) ∙ scan_turn b i e s s' whole d h p q inv
+scan_stops b i e s s' whole r d t h o p q u v inv =
+    sym (stopped_stays s' (i + 1) (decoded_from b (i + 1) (e - (i + 1))) (sym u ∙ v)) ∙ scan_turn b i e s s' whole r d h o p q inv
 
 pub scan_done : (b : List ℕ) (i e : ℕ) (s whole : Scan) → e ≤ i → scan_n s i (decoded_from b i (e - i)) ≡ whole → s ≡ whole
 unfolding scan_n
@@ -72,16 +78,24 @@ good_at b i (suc j) (suc n) h l =
     subst (λ (k : ℕ). is_good (decoded_raw (raw_at b k)) ≡ true) (omega arith)
     (good_at b (i + 1) j n (and_right (is_good (decoded_raw (raw_at b i))) _ h) (omega arith))
 
-pub fill_good : (b : List ℕ) (n i : ℕ) → i < n → all_good (decoded_from b 0 n) ≡ true → is_good (decoded_raw (raw_at b i)) ≡ true
+fill_good : (b : List ℕ) (n i : ℕ) → i < n → all_good (decoded_from b 0 n) ≡ true → is_good (decoded_raw (raw_at b i)) ≡ true
 fill_good b n i l h = subst (λ (k : ℕ). is_good (decoded_raw (raw_at b k)) ≡ true) (omega arith) (good_at b 0 i n h l)
 
 -- a good record is what its named bytes say
-pub named_good : (r : Raw) → is_good (decoded_raw r) ≡ true → decoded_raw r ≡ Ok (named r)
+named_good : (r : Raw) → is_good (decoded_raw r) ≡ true → decoded_raw r ≡ Ok (named r)
 named_good r = go (decoded_raw r) refl
   where
     go : (d : Decoded) → decoded_raw r ≡ d → is_good d ≡ true → decoded_raw r ≡ Ok (named r)
     go (Ok t) e h = e ∙ ap Ok (sym (told r t e).is)
     go (Err x) e h = clash h
+
+pub fill_read : (b : List ℕ) (n i : ℕ) (raw : Raw) (r : Record)
+    → i < n
+    → all_good (decoded_from b 0 n) ≡ true
+    → raw ≡ raw_at b i
+    → r ≡ named raw
+    → Ok r ≡ decoded_raw (raw_at b i)
+fill_read b n i raw r l h p q = let o : Record → Decoded = Ok in ap o (q ∙ ap named p) ∙ sym (named_good (raw_at b i) (fill_good b n i l h))
 
 -- ---- a table's words: the table is t and was t₀; the records from i to n are to come, and their words go to `at`
 pub record Filling (f : Record → List ℕ) (b : List ℕ) (n : ℕ) (t₀ : List ℕ) (first : ℕ) (t : List ℕ) (i at : ℕ) : Type 0 where

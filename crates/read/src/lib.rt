@@ -6,8 +6,6 @@ ghost use Rattle.std.specs.Prelude.{◌≡◌, true, ◌+◌, ◌*◌, ◌≤◌
 ghost use Rattle.std.proofs.lemmas.List.Edits.{sets};
 ghost use Rattle.grammar.specs.code.Machine.{scan_n, start_n};
 ghost use Rattle.grammar.specs.Lists.{good_records};
-ghost use Rattle.records.specs.Record.{kind_of, is_good};
-ghost use Rattle.records.specs.Bytes.{raw_at, decoded_raw};
 ghost use Rattle.read.specs.Words.{words_of_kind, words_of_area, words_of_x, words_of_y, joined, plan_words, area_words, x_words, y_words};
 ghost use Rattle.read.specs.Reading.{decoded_from, all_good, records_lent, verdict_of, holds, read_lent, left_by, Filed};
 
@@ -25,29 +23,13 @@ pub const CORNERS: usize = 2;
 pub const PLAN_COUNTS: usize = 3;
 
 // ---- the file
-fn read_record(records: &[u8], i: usize) -> Result<Record, Refusal>
-    requires { i * 16 + 16 ≤ length records.now }
-    ensures answer { result ≡ decoded_raw (raw_at records.now i) }
-{
-    records::decoded_raw(records::read_raw(records, i))
-}
-
-// Record i of a file that was accepted: nothing is tried again.
-fn read_accepted(records: &[u8], i: usize) -> Record
-    requires i_in_bounds { i * 16 + 16 ≤ length records.now }
-    requires i_value { is_good (decoded_raw (raw_at records.now i)) ≡ true }
-    ensures answer { Ok result ≡ decoded_raw (raw_at records.now i) }
-{
-    records::named_of(records::read_raw(records, i))
-}
-
 fn scan_records(records: &[u8], n: usize) -> Result<State, Refused>
     requires { n * 16 ≤ length records.now }
     ensures answer { result ≡ scan_n start_n 0 (decoded_from records.now 0 n) }
 {
     let mut s = grammar::start();
     for i in 0..n {
-        s = grammar::advance(s, read_record(records, i), i);
+        s = grammar::advance(s, records::decoded_raw(records::read_raw(records, i)), i);
         if s.is_err() {
             return s;
         }
@@ -67,20 +49,6 @@ pub fn check_records(records: &[u8]) -> Result<Counts, Refused>
 }
 
 // ---- a record into a table
-fn kind_of(r: Record) -> u32
-    ensures answer { result ≡ kind_of r }
-{
-    match r {
-        Record::Area(_) => records::KIND_AREA,
-        Record::First(_, _) => records::KIND_FIRST,
-        Record::Next(_, _) => records::KIND_NEXT,
-        Record::Open => records::KIND_OPEN,
-        Record::Bar => records::KIND_BAR,
-        Record::Close => records::KIND_CLOSE,
-        Record::Control(_, _) => records::KIND_CONTROL,
-    }
-}
-
 fn put_area(table: &mut [u32], at: usize, r: Record) -> usize
     requires { at + length (words_of_area r) ≤ length table.old }
     ensures answer { result ≡ at + length (words_of_area r) }
@@ -114,7 +82,9 @@ fn put_corner(xs: &mut [u32], ys: &mut [u32], at: usize, r: Record) -> usize
     }
 }
 
-// Writes the words of all records in the four tables, behind the plan's three counts.
+// Writes the words of all records in the four tables, behind the plan's three counts. The file was accepted, so nothing is tried again: that would read
+// records more slowly and be no plainer. The tables are lent to be written, here and below, so each is a parameter: a struct of them would need a clause
+// for each table in each contract, that it still lends the same.
 fn fill(
     records: &[u8],
     n: usize,
@@ -137,8 +107,8 @@ fn fill(
     let mut area = 0;
     let mut corner = 0;
     for i in 0..n {
-        let r = read_accepted(records, i);
-        plan[PLAN_COUNTS + i] = kind_of(r);
+        let r = records::named_of(records::read_raw(records, i));
+        plan[PLAN_COUNTS + i] = r.kind().into();
         area = put_area(areas, area, r);
         corner = put_corner(xs, ys, corner, r);
     }

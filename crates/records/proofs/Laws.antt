@@ -14,6 +14,7 @@ use lib.Dec.{eqb, leb}
 use borrow.Author.Tests.{leb-true, eqb-true}
 use Rattle.laws.proofs.Booleans.{clash, and_left, and_right}
 use Rattle.records.specs.Bytes.{Raw}
+use Rattle.records.proofs.Kindlaws.{numbers}
 use Rattle.records.specs.declared.Fields.{Fields}
 use Rattle.refusals.specs.declared.Refusal.TheVariants.{Kind, Field}
 use Rattle.records.specs.declared.Record.{Record}
@@ -32,16 +33,9 @@ zeros b (c ∷ cs) h = (eqb-true _ _ (and_left (eqb b 0) (all_zero c cs) h), zer
 
 -- a kind is one of seven
 pub kinds : (P : ℕ → Type 0) → P 1 → P 2 → P 3 → P 4 → P 5 → P 6 → P 7 → (k : ℕ) → leb 1 k ≡ true → leb k 7 ≡ true → P k
-kinds P a b d e f g j zero l h = clash l
-kinds P a b d e f g j (suc zero) l h = a
-kinds P a b d e f g j (suc (suc zero)) l h = b
-kinds P a b d e f g j (suc (suc (suc zero))) l h = d
-kinds P a b d e f g j (suc (suc (suc (suc zero)))) l h = e
-kinds P a b d e f g j (suc (suc (suc (suc (suc zero))))) l h = f
-kinds P a b d e f g j (suc (suc (suc (suc (suc (suc zero)))))) l h = g
-kinds P a b d e f g j (suc (suc (suc (suc (suc (suc (suc zero))))))) l h = j
-kinds P a b d e f g j (suc (suc (suc (suc (suc (suc (suc (suc k)))))))) l h =
-    absurd (omega (arith, leb-true (suc (suc (suc (suc (suc (suc (suc (suc k)))))))) 7 h))
+kinds P a b d e f g j =
+    numbers (λ k. leb 1 k ≡ true → leb k 7 ≡ true → P k) (λ l h. clash l) (λ l h. a) (λ l h. b) (λ l h. d) (λ l h. e) (λ l h. f) (λ l h. g) (λ l h. j)
+    (λ k m l h. absurd (omega (arith, leb-true k 7 h)))
 
 -- ---- what a range says
 pub record AreaFacts (f : Fields) : Type 0 where

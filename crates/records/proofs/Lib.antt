@@ -1,2 +1,3 @@
 -- A record written as bytes is read back, and the other way.
 pub mod Laws
+pub mod Kindlaws

@@ -4,7 +4,8 @@
 
 ghost use Rattle.std.specs.Prelude.{◌≡◌, ◌+◌, ◌*◌, ◌%◌, ◌≤◌, ◌<◌, length};
 ghost use Rattle.std.proofs.lemmas.List.Edits.{sets};
-ghost use Rattle.records.specs.Record.{paint_range, clip_range, area_range, corner_range, in_range, ranged, is_corner, corner_of, delimiter_of};
+ghost use Rattle.records.specs.Record.{paint_range, clip_range, area_range, corner_range, in_range, ranged, kind_of};
+ghost use Rattle.records.specs.Kinds.{kind_number, kind_at};
 ghost use Rattle.records.specs.Bytes.{raw_at, raw_bytes, number2, number4, area_unnamed, corner_unnamed, delimiter_unnamed, unnamed_zero, fields_of, named};
 ghost use Rattle.records.specs.Bytes.{decoded_raw, raw_area, raw_corner, raw_delimiter, bytes_of};
 
@@ -17,38 +18,51 @@ pub const MOST_AREAS: usize = 64;
 
 pub const MOST_CORNERS: usize = 2048;
 
-// How many bytes a record has, and its kinds, as numbers and as byte 0.
+// How many bytes a record has.
 pub const RECORD_BYTES: usize = 16;
 
-pub const KIND_AREA: u32 = 1;
+// The kinds of records and their numbers, as byte 0 of a record and a word of a plan have them.
+#[derive(Clone, Copy, Debug, PartialEq, Eq)]
+pub enum Kind {
+    Area = 1,
+    First = 2,
+    Next = 3,
+    Open = 4,
+    Bar = 5,
+    Close = 6,
+    Control = 7,
+}
 
-pub const KIND_FIRST: u32 = 2;
+impl From<Kind> for u32 {
+    ghost from_gives = { λ k n. n ≡ kind_number k };
 
-pub const KIND_NEXT: u32 = 3;
+    fn from(kind: Kind) -> u32 {
+        kind as u32
+    }
+}
 
-pub const KIND_OPEN: u32 = 4;
+impl TryFrom<u32> for Kind {
+    type Error = Refusal;
 
-pub const KIND_BAR: u32 = 5;
+    ghost try_from_gives = { λ n r. r ≡ kind_at n };
 
-pub const KIND_CLOSE: u32 = 6;
+    #[tactic(auto, unfolding(crate::specs::Kinds::kind_at))]
+    fn try_from(number: u32) -> Result<Kind, Refusal> {
+        match number {
+            1 => Ok(Kind::Area),
+            2 => Ok(Kind::First),
+            3 => Ok(Kind::Next),
+            4 => Ok(Kind::Open),
+            5 => Ok(Kind::Bar),
+            6 => Ok(Kind::Close),
+            7 => Ok(Kind::Control),
+            _ => Err(Refusal::Kind),
+        }
+    }
+}
 
-pub const KIND_CONTROL: u32 = 7;
-
-const BYTE_AREA: u8 = KIND_AREA as u8;
-
-const BYTE_FIRST: u8 = KIND_FIRST as u8;
-
-const BYTE_NEXT: u8 = KIND_NEXT as u8;
-
-const BYTE_OPEN: u8 = KIND_OPEN as u8;
-
-const BYTE_BAR: u8 = KIND_BAR as u8;
-
-const BYTE_CLOSE: u8 = KIND_CLOSE as u8;
-
-const BYTE_CONTROL: u8 = KIND_CONTROL as u8;
-
-// The roles, the fill rules, the largest alpha and channel, and the range of a material.
+// The roles, the fill rules, the largest alpha and channel, and the range of a material. Roles and rules are words, not enums: before the check the table
+// of areas may have any word there.
 pub const PAINT: u32 = 0;
 
 pub const CLIP: u32 = 1;
@@ -65,7 +79,7 @@ const LEAST_MATERIAL: u32 = 1;
 
 const MOST_MATERIAL: u32 = 65535;
 
-// The side of the grid, the largest coordinate of a corner.
+// The side of the grid: the largest coordinate of a corner. Another meaning of the same number, the side of cell 0, is `celltable::GRID`.
 pub const GRID: u32 = 65536;
 
 // How many words an area has in the table of areas, and which is which; word 0 is its role.
@@ -85,7 +99,7 @@ pub const MATERIAL: usize = 6;
 
 pub const UNNAMED: usize = 7;
 
-// The fields of an area.
+// The fields of an area. The role and the rule are words, since a word out of range is refused after it was read.
 #[derive(Clone, Copy, Debug, PartialEq, Eq)]
 pub struct Fields {
     pub role: u32,
@@ -107,6 +121,22 @@ pub enum Record {
     Bar,
     Close,
     Control(u32, u32),
+}
+
+impl Record {
+    pub fn kind(self) -> Kind
+        ensures answer { kind_number result ≡ kind_of self }
+    {
+        match self {
+            Record::Area(_) => Kind::Area,
+            Record::First(_, _) => Kind::First,
+            Record::Next(_, _) => Kind::Next,
+            Record::Open => Kind::Open,
+            Record::Bar => Kind::Bar,
+            Record::Close => Kind::Close,
+            Record::Control(_, _) => Kind::Control,
+        }
+    }
 }
 
 // The bytes of a record.
@@ -238,35 +268,6 @@ pub fn ranged_of(r: Record) -> Result<Record, Refusal>
 }
 
 // ---- from bytes
-// A kind from 2 on that is a corner's.
-pub fn is_corner(k: u32) -> bool
-    ensures answer { result ≡ is_corner k }
-{
-    k < KIND_OPEN || k == KIND_CONTROL
-}
-
-#[tactic(auto, unfolding(crate::specs::Record::corner_of))]
-pub fn corner_of(k: u32, x: u32, y: u32) -> Record
-    ensures answer { result ≡ corner_of k x y }
-{
-    match k {
-        KIND_FIRST => Record::First(x, y),
-        KIND_NEXT => Record::Next(x, y),
-        _ => Record::Control(x, y),
-    }
-}
-
-#[tactic(auto, unfolding(crate::specs::Record::delimiter_of))]
-pub fn delimiter_of(k: u32) -> Record
-    ensures answer { result ≡ delimiter_of k }
-{
-    match k {
-        KIND_OPEN => Record::Open,
-        KIND_BAR => Record::Bar,
-        _ => Record::Close,
-    }
-}
-
 fn area_unnamed(r: Raw) -> bool
     ensures answer { result ≡ area_unnamed (raw_at r 0) }
 {
@@ -286,15 +287,14 @@ fn delimiter_unnamed(r: Raw) -> bool
 }
 
 #[tactic(auto, unfolding(crate::specs::Bytes::unnamed_zero))]
-fn unnamed_zero(r: Raw) -> bool
+fn unnamed_zero(kind: Kind, r: Raw) -> bool
+    requires { kind_number kind ≡ (raw_at r 0).b0 }
     ensures answer { result ≡ unnamed_zero (raw_at r 0) }
 {
-    if r[0] == BYTE_AREA {
-        area_unnamed(r)
-    } else if is_corner(r[0].into()) {
-        corner_unnamed(r)
-    } else {
-        delimiter_unnamed(r)
+    match kind {
+        Kind::Area => area_unnamed(r),
+        Kind::First | Kind::Next | Kind::Control => corner_unnamed(r),
+        Kind::Open | Kind::Bar | Kind::Close => delimiter_unnamed(r),
     }
 }
 
@@ -313,35 +313,33 @@ fn fields_of(r: Raw) -> Fields
     }
 }
 
-// The record that the named bytes say.
-#[tactic(auto, unfolding(crate::specs::Bytes::named))]
+// The record that the named bytes say, of any bytes: a kind 0 is taken as a control corner, and one over 7 as a close.
+#[tactic(auto, using(crate::proofs::Kindlaws::named_is))]
 pub fn named_of(r: Raw) -> Record
     ensures answer { result ≡ named (raw_at r 0) }
 {
-    if r[0] == BYTE_AREA {
-        return Record::Area(fields_of(r));
-    }
-    let kind = r[0].into();
-    if is_corner(kind) {
-        corner_of(
-            kind,
-            four_bytes(r[4], r[5], r[6], r[7]),
-            four_bytes(r[8], r[9], r[10], r[11]),
-        )
-    } else {
-        delimiter_of(kind)
+    let x = four_bytes(r[4], r[5], r[6], r[7]);
+    let y = four_bytes(r[8], r[9], r[10], r[11]);
+    match Kind::try_from(u32::from(r[0])) {
+        Ok(Kind::Area) => Record::Area(fields_of(r)),
+        Ok(Kind::First) => Record::First(x, y),
+        Ok(Kind::Next) => Record::Next(x, y),
+        Ok(Kind::Open) => Record::Open,
+        Ok(Kind::Bar) => Record::Bar,
+        Ok(Kind::Close) => Record::Close,
+        Ok(Kind::Control) => Record::Control(x, y),
+        Err(_) if r[0] == 0 => Record::Control(x, y),
+        Err(_) => Record::Close,
     }
 }
 
 // What sixteen bytes say.
-#[tactic(auto, unfolding(crate::specs::Bytes::decoded_raw))]
+#[tactic(auto, using(crate::proofs::Kindlaws::decoded_is, crate::proofs::Kindlaws::kind_is))]
 pub fn decoded_raw(r: Raw) -> Result<Record, Refusal>
     ensures answer { result ≡ decoded_raw (raw_at r 0) }
 {
-    if r[0] < BYTE_AREA || r[0] > BYTE_CONTROL {
-        return Err(Refusal::Kind);
-    }
-    if !unnamed_zero(r) {
+    let kind = Kind::try_from(u32::from(r[0]))?;
+    if !unnamed_zero(kind, r) {
         return Err(Refusal::Field);
     }
     ranged_of(named_of(r))
@@ -351,7 +349,7 @@ pub fn decoded_raw(r: Raw) -> Result<Record, Refusal>
 fn low_byte(x: u32) -> u8
     ensures answer { result ≡ x % 256 }
 {
-    (x % 256) as u8
+    x.to_le_bytes()[0]
 }
 
 fn raw_area(f: Fields) -> Raw
@@ -359,7 +357,7 @@ fn raw_area(f: Fields) -> Raw
 {
     let [low, high, _, _] = f.material.to_le_bytes();
     [
-        BYTE_AREA,
+        Kind::Area as u8,
         low_byte(f.role),
         low_byte(f.rule),
         low_byte(f.alpha),
@@ -378,18 +376,20 @@ fn raw_area(f: Fields) -> Raw
     ]
 }
 
-fn raw_corner(k: u8, x: u32, y: u32) -> Raw
-    ensures answer { result ≡ raw_bytes (raw_corner k x y) }
+fn raw_corner(kind: Kind, x: u32, y: u32) -> Raw
+    ensures answer { result ≡ raw_bytes (raw_corner (kind_number kind) x y) }
 {
     let [x0, x1, x2, x3] = x.to_le_bytes();
     let [y0, y1, y2, y3] = y.to_le_bytes();
-    [k, 0, 0, 0, x0, x1, x2, x3, y0, y1, y2, y3, 0, 0, 0, 0]
+    [
+        kind as u8, 0, 0, 0, x0, x1, x2, x3, y0, y1, y2, y3, 0, 0, 0, 0,
+    ]
 }
 
-fn raw_delimiter(k: u8) -> Raw
-    ensures answer { result ≡ raw_bytes (raw_delimiter k) }
+fn raw_delimiter(kind: Kind) -> Raw
+    ensures answer { result ≡ raw_bytes (raw_delimiter (kind_number kind)) }
 {
-    [k, 0, 0, 0, 0, 0, 0, 0, 0, 0, 0, 0, 0, 0, 0, 0]
+    [kind as u8, 0, 0, 0, 0, 0, 0, 0, 0, 0, 0, 0, 0, 0, 0, 0]
 }
 
 // The bytes of a record.
@@ -398,11 +398,11 @@ pub fn raw_of(r: Record) -> Raw
 {
     match r {
         Record::Area(f) => raw_area(f),
-        Record::First(x, y) => raw_corner(BYTE_FIRST, x, y),
-        Record::Next(x, y) => raw_corner(BYTE_NEXT, x, y),
-        Record::Open => raw_delimiter(BYTE_OPEN),
-        Record::Bar => raw_delimiter(BYTE_BAR),
-        Record::Close => raw_delimiter(BYTE_CLOSE),
-        Record::Control(x, y) => raw_corner(BYTE_CONTROL, x, y),
+        Record::First(x, y) | Record::Next(x, y) | Record::Control(x, y) => raw_corner(
+            r.kind(),
+            x,
+            y,
+        ),
+        Record::Open | Record::Bar | Record::Close => raw_delimiter(r.kind()),
     }
 }

@@ -7,7 +7,11 @@ use native.Mathlib.Omega.{arith}
 use lib.Dec.{eqb, ltb}
 use lib.ListN.{length, get_or}
 use native.Mathlib.Decide.{dec_lt}
-use borrow.Author.Tests.{lt-ltb, le-ltb}
+use borrow.Author.Tests.{ltb-true, lt-ltb, le-ltb}
+use Rattle.std.specs.Prelude.{Option, Some, None}
+use Rattle.records.specs.declared.Kind.{Kind}
+use Rattle.records.specs.declared.Kind.TheVariants as Kinds
+use Rattle.records.specs.Kinds.{kind_number}
 use Rattle.laws.proofs.Booleans.{clash}
 use Rattle.records.specs.declared.Record.{Record}
 use Rattle.records.specs.declared.Record.TheVariants.{Area, First, Next, Control, Open, Bar, Close}
@@ -22,7 +26,7 @@ use Rattle.evaluate.specs.Words.{words_of}
 use Rattle.plans.specs.code.Source.{edge_from, source_from}
 use Rattle.plans.proofs.Bent.{neither, corner, Bent, bent_next}
 use Rattle.root_stream.specs.declared.Source.{Source}
-use Rattle.root_stream.specs.code.Numbers.{source_at, kind_n, stride_n, edge_n, entry_n, after_n, entries_n}
+use Rattle.root_stream.specs.code.Numbers.{source_at, number_in, kind_n, stride_n, edge_n, entry_n, after_n, entries_n}
 
 taken : {A : Type 0} (t : Bool) (x y : A) → t ≡ true → cond t x y ≡ x
 taken t x y e = rw e
@@ -33,6 +37,9 @@ stride_some b = go (eqb b 7)
     go : (t : Bool) → (1 ≤ cond t 2 1) × (cond t 2 1 ≤ 2)
     go true = (omega arith, omega arith)
     go false = (omega arith, omega arith)
+
+pub kind_read : {o : Option Kind} {k : Kind} {n : ℕ} → number_in o ≡ n → o ≡ Some k → kind_number k ≡ n
+kind_read e f = ap number_in (sym f) ∙ e
 
 module _ (plan : List ℕ) (records : ℕ) where
   -- the words ws of the records from record i on
@@ -192,6 +199,60 @@ module _ (plan : List ℕ) (records : ℕ) where
       none : (rs : List Record) → length rs ≡ 0 → map words_of (source_from s.area s.corner s.first rs) ≡ []
       none [] e = refl
       none (r ∷ rs) e = absurd (omega arith)
+
+  -- each is the number of a kind, and so is that of the record behind it, or there is none
+  head_kind_law : (rs : List Record) → (head_kind rs ≤ 7) × (0 < length rs → 0 < head_kind rs)
+  head_kind_law [] = (omega arith, λ h. h)
+  head_kind_law (Area f ∷ rs) = (omega arith, λ h. omega arith)
+  head_kind_law (First x y ∷ rs) = (omega arith, λ h. omega arith)
+  head_kind_law (Next x y ∷ rs) = (omega arith, λ h. omega arith)
+  head_kind_law (Control x y ∷ rs) = (omega arith, λ h. omega arith)
+  head_kind_law (Open ∷ rs) = (omega arith, λ h. omega arith)
+  head_kind_law (Bar ∷ rs) = (omega arith, λ h. omega arith)
+  head_kind_law (Close ∷ rs) = (omega arith, λ h. omega arith)
+
+  kind_of_ahead : (i : ℕ) (s : Source) (ws : List Words) (a : Ahead i s ws) → kind_n plan records i ≡ head_kind a.rest
+  kind_of_ahead i s ws a = kind_first i (i + 3) a.rest refl a.kinds a.whole
+
+  pub is_kind : (i : ℕ) (s : Source) (ws : List Words) → Ahead i s ws → kind_n plan records i ≤ 7
+  is_kind i s ws a = omega (arith, kind_of_ahead i s ws a, (head_kind_law a.rest).0)
+
+  pub is_kind_behind : (i : ℕ) (s : Source) (ws : List Words) → Ahead i s ws → i < records → kind_n plan records (i + 1) ≤ 7
+  is_kind_behind i s ws a l = go a.rest a.kinds a.whole
+    where
+      go : (rs : List Record) → Has plan (i + 3) (joined words_of_kind rs) → i + length rs ≡ records → kind_n plan records (i + 1) ≤ 7
+      go [] h e = absurd (omega arith)
+      go (r ∷ rs) h e = omega (arith, kind_next i r rs h e, (head_kind_law rs).0)
+
+  -- where the kind of record i was read, the record is there, and where none was, no record is left
+  pub some_here : (i : ℕ) {o : Option Kind} {k : Kind} → number_in o ≡ kind_n plan records i → o ≡ Some k → i < records
+  some_here i {o} {k} e f = go (ltb i records) refl (ap number_in (sym f) ∙ e)
+    where
+      some : (j : Kind) → 0 < kind_number j
+      some Kinds.Area = omega arith
+      some Kinds.First = omega arith
+      some Kinds.Next = omega arith
+      some Kinds.Open = omega arith
+      some Kinds.Bar = omega arith
+      some Kinds.Close = omega arith
+      some Kinds.Control = omega arith
+
+      go : (t : Bool) → ltb i records ≡ t → kind_number k ≡ cond t (get_or plan (i + 3) 0) 0 → i < records
+      go true p q = ltb-true _ _ p
+      go false p q = absurd (omega (arith, some k))
+
+  pub none_left : (i : ℕ) (s : Source) (ws : List Words) {o : Option Kind}
+      → Ahead i s ws
+      → number_in o ≡ kind_n plan records i
+      → o ≡ None
+      → records ≤ i
+  none_left i s ws a e f =
+      let z : 0 ≡ kind_n plan records i = ap number_in (sym f) ∙ e in
+      go a.rest (head_kind_law a.rest).1 a.whole (z ∙ kind_of_ahead i s ws a)
+    where
+      go : (rs : List Record) → (0 < length rs → 0 < head_kind rs) → i + length rs ≡ records → 0 ≡ head_kind rs → records ≤ i
+      go [] h w z = omega arith
+      go (r ∷ rs) h w z = absurd (omega (arith, h (omega arith)))
 
   -- the entries from record i on
   pub entries_ahead : (n i : ℕ) (s : Source) (ws : List Words) → Ahead i s ws → records ≤ i + n → entries_n plan records i s n ≡ ws

@@ -3,18 +3,20 @@
 #![tactic(auto)]
 
 ghost use Rattle.std.specs.Prelude.{◌≡◌, ◌+◌, ◌*◌, ◌≤◌, ◌<◌, length};
+ghost use Rattle.records.specs.Kinds.{kind_number};
 ghost use Rattle.cells.specs.Cells.{square_of, root};
 ghost use Rattle.cells.specs.code.Making.{element_size};
 ghost use Rattle.pruning.specs.code.Weights.{total};
 ghost use Rattle.drawing.specs.Tables.{tables_of, drawing_passed};
 ghost use Rattle.stream.specs.Table.{written};
 ghost use Rattle.evaluate.specs.Words.{words};
-ghost use Rattle.root_stream.specs.code.Numbers.{source_at, kind_n, stride_n, edge_n, mark_n, entry_n, after_n, Opened};
+ghost use Rattle.root_stream.specs.code.Numbers.{source_at, number_in, kind_n, stride_n, edge_n, entry_n, after_n, Opened};
 ghost use Rattle.root_stream.specs.Opened.{elements_opened, words_opened};
 
 use drawing::Drawing;
 use geometry::class::Square;
 use making::Maker;
+use records::Kind;
 use stream::{Bounds, Context, Words};
 
 // The areas and the corners before a record, and the first corner of the contour in progress.
@@ -38,78 +40,80 @@ impl Source {
     }
 
     // The entry of a record, with one of kind `behind` straight behind it: the area, the edge from its corner, or the delimiter.
-    fn entry(self, kind: u32, behind: u32) -> Words
+    fn entry(self, kind: Kind, behind: Option<Kind>) -> Words
         requires { self.corner ≤ 2048 }
-        ensures answer { result ≡ entry_n self kind behind }
+        ensures answer { result ≡ entry_n self (kind_number kind) (number_in behind) }
     {
         match kind {
-            records::KIND_AREA => Words {
+            Kind::Area => Words {
                 kind: stream::ENTRY_AREA,
                 p: self.area,
                 q: 0,
                 r: 0,
             },
-            records::KIND_FIRST => edge_from(behind, self.corner, self.corner),
-            records::KIND_NEXT => edge_from(behind, self.corner, self.first),
-            _ => delimiter(kind),
+            Kind::First => edge_from(behind, self.corner, self.corner),
+            Kind::Next => edge_from(behind, self.corner, self.first),
+            Kind::Open => delimiter(stream::ENTRY_OPEN),
+            Kind::Bar => delimiter(stream::ENTRY_BAR),
+            Kind::Close | Kind::Control => delimiter(stream::ENTRY_CLOSE),
         }
     }
 
     // Behind that entry.
-    fn after(self, kind: u32, behind: u32) -> Source
+    fn after(self, kind: Kind, behind: Option<Kind>) -> Source
         requires { (self.area ≤ 64) × (self.corner ≤ 2048) }
-        ensures answer { result ≡ after_n self kind behind }
+        ensures answer { result ≡ after_n self (kind_number kind) (number_in behind) }
     {
         let corner = self.corner + stride(behind) as u32;
         match kind {
-            records::KIND_AREA => Source {
+            Kind::Area => Source {
                 area: self.area + 1,
                 ..self
             },
-            records::KIND_FIRST => Source {
+            Kind::First => Source {
                 corner,
                 first: self.corner,
                 ..self
             },
-            records::KIND_NEXT => Source { corner, ..self },
+            Kind::Next => Source { corner, ..self },
             _ => self,
         }
     }
 }
 
-// The kind of record i, or 0 where there is none.
-fn kind_at(plan: &[u32], i: usize, records: usize) -> u32
-    requires { records + 3 ≤ length plan.now }
-    ensures answer { result ≡ kind_n plan.now records i }
+// The kind of record i, where there is one.
+fn kind_at(plan: &[u32], i: usize, records: usize) -> Option<Kind>
+    requires records_in_bounds { records + 3 ≤ length plan.now }
+    requires is_kind { kind_n plan.now records i ≤ 7 }
+    ensures answer { number_in result ≡ kind_n plan.now records i }
 {
     if i < records {
-        plan[i + read::PLAN_COUNTS]
+        Kind::try_from(plan[i + read::PLAN_COUNTS]).ok()
     } else {
-        0
+        None
     }
 }
 
 // How many records an edge from a corner takes up to where it ends, where a record of kind `behind` stands straight behind the corner.
-fn stride(behind: u32) -> usize
-    ensures answer { result ≡ stride_n behind }
+fn stride(behind: Option<Kind>) -> usize
+    ensures answer { result ≡ stride_n (number_in behind) }
     ensures range { (0 < result) × (result ≤ 2) }
 {
-    if behind == records::KIND_CONTROL {
-        2
-    } else {
-        1
+    match behind {
+        Some(Kind::Control) => 2,
+        _ => 1,
     }
 }
 
 // The edge from a corner: to the next corner where it stands straight behind, the curve by a control corner that stands there, or to the first
 // corner of the contour.
-fn edge_from(behind: u32, corner: u32, first: u32) -> Words
+fn edge_from(behind: Option<Kind>, corner: u32, first: u32) -> Words
     requires { corner ≤ 2048 }
-    ensures answer { result ≡ edge_n behind corner first }
+    ensures answer { result ≡ edge_n (number_in behind) corner first }
 {
     let (kind, q) = match behind {
-        records::KIND_NEXT => (stream::ENTRY_LINE, corner + 1),
-        records::KIND_CONTROL => (stream::ENTRY_CURVE, 0),
+        Some(Kind::Next) => (stream::ENTRY_LINE, corner + 1),
+        Some(Kind::Control) => (stream::ENTRY_CURVE, 0),
         _ => (stream::ENTRY_LINE, first),
     };
     Words {
@@ -121,13 +125,8 @@ fn edge_from(behind: u32, corner: u32, first: u32) -> Words
 }
 
 fn delimiter(kind: u32) -> Words
-    ensures answer { result ≡ mark_n kind }
+    ensures answer { result ≡ words kind 0 0 0 }
 {
-    let kind = match kind {
-        records::KIND_OPEN => stream::ENTRY_OPEN,
-        records::KIND_BAR => stream::ENTRY_BAR,
-        _ => stream::ENTRY_CLOSE,
-    };
     Words {
         kind,
         p: 0,
@@ -162,9 +161,7 @@ pub fn count_open(drawing: Drawing, records: usize, bounds: Bounds) -> u64
     let mut m = Maker::begun();
     let mut source = Source::begun();
     let mut i = 0;
-    // A curve takes two records, so no `for` over the records goes on by one.
-    while i < records {
-        let kind = kind_at(drawing.plan, i, records);
+    while let Some(kind) = kind_at(drawing.plan, i, records) {
         let behind = kind_at(drawing.plan, i + 1, records);
         let w = source.entry(kind, behind);
         m.go_on(context, s, w);
@@ -197,8 +194,7 @@ pub fn write_open(
     let mut m = Maker::begun();
     let mut source = Source::begun();
     let mut i = 0;
-    while i < records {
-        let kind = kind_at(drawing.plan, i, records);
+    while let Some(kind) = kind_at(drawing.plan, i, records) {
         let behind = kind_at(drawing.plan, i + 1, records);
         let w = source.entry(kind, behind);
         writing::write_entry(entries, made, &mut m, context, s, w);

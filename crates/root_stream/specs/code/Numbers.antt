@@ -1,6 +1,8 @@
 -- What cell 0's stream is made from, one entry at a time, as the numbers that the code holds. `Rattle.root_stream.proofs` says that they go as the elements do
 -- (`Rattle.plans.specs.code.Source`). And what the code asks of its caller.
-use Rattle.std.specs.Prelude.{◌≡◌, cond, List, [], ◌∷◌, ℕ, zero, suc, ◌+◌, eqb, ltb, get_or}
+use Rattle.std.specs.Prelude.{◌≡◌, cond, List, [], ◌∷◌, ℕ, zero, suc, ◌+◌, Option, Some, None, eqb, ltb, get_or}
+use Rattle.records.specs.declared.Kind.{Kind}
+use Rattle.records.specs.Kinds.{kind_number}
 use Rattle.geometry.specs.Windings.{Line, line, curve}
 use Rattle.grammar.specs.declared.Counts.{Counts}
 use Rattle.drawing.specs.Tables.{Tables, drawn_in}
@@ -15,6 +17,11 @@ use Rattle.root_stream.specs.declared.Source.{Source}
 -- the areas and the corners before a record, and the first corner of the contour in progress
 abbrev pub source_at : (area corner first : ℕ) → Source
 source_at a c f = record { area = a; corner = c; first = f }
+
+-- the number of a kind, or 0 of none
+abbrev pub number_in : Option Kind → ℕ
+number_in (Some k) = kind_number k
+number_in None = 0
 
 -- the kind of record i, or 0 where there is none
 abbrev pub kind_n : List ℕ → (records i : ℕ) → ℕ

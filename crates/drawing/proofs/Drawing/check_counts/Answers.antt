@@ -6,8 +6,9 @@ use mathlib.Core.Path.{ap, sym, ◌∙◌}
 use borrow.Author.Tests.{le-leb}
 use Rattle.drawing.proofs.Drawing.check_counts.Goals as goal
 
-pub scan-requires : goal.scan-requires
-scan-requires c = holds_ready _ _ _ _ _ c.if-used-gt-MOST_RECORDS.false (sym c.tables_hold.ensures.answer ∙ c.if-not-tables_hold.false) c.requires
+pub invariant_of-held : goal.invariant_of-held
+invariant_of-held c =
+    record { ready = holds_ready _ _ _ _ _ c.if-used-gt-MOST_RECORDS.false (sym c.tables_hold.ensures.answer ∙ c.if-not-tables_hold.false) c.requires }
 
 pub returns : goal.returns
 unfolding counts_judged

@@ -17,9 +17,10 @@ unfolding write_answer
 returns-then-used-out-clause-answer c =
     let v : drawing_verdict (tables_of c.args.self) ≡ Ok c.in_ok-used.used = grind (arith, common_steps) in rw (v, lt-leb _ _ c.if-used-out.true)
 
-pub write_all-requires-clause-ready : goal.write_all-requires-clause-ready
-write_all-requires-clause-ready c =
-    let v : drawing_verdict (tables_of c.args.self) ≡ Ok c.in_ok-used.used = grind (arith, common_steps) in ready (tables_of c.args.self) _ (drawn _ _ v)
+pub invariant_of-held : goal.invariant_of-held
+invariant_of-held c =
+    let v : drawing_verdict (tables_of c.args.self) ≡ Ok c.in_ok-used.used = grind (arith, common_steps) in
+    record { ready = ready (tables_of c.args.self) _ (drawn _ _ v) }
 
 pub write_all-requires-clause-records_value : goal.write_all-requires-clause-records_value
 write_all-requires-clause-records_value c =

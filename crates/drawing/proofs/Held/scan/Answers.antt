@@ -1,6 +1,6 @@
--- `drawing::Drawing::scan` meets its contract: what is left to scan gives what the whole gives.
+-- `drawing::Held::scan` meets its contract: what is left to scan gives what the whole gives.
 use Rattle.drawing.proofs.Rows.{walk_begin, walk_turn, walk_stops, walk_done}
-use Rattle.drawing.proofs.Drawing.scan.Goals as goal
+use Rattle.drawing.proofs.Held.scan.Goals as goal
 
 pub loop-i-init : goal.loop-i-init
 loop-i-init c = search walk_begin
