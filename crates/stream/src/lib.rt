@@ -7,6 +7,7 @@ ghost use Rattle.stream.specs.Table.{words_at, words_from, put_at};
 ghost use Rattle.stream.specs.Grammar.{env_passed, corner_met, line_range, curve_range, shortcut_range, record_fits, role_fits, used_range};
 ghost use Rattle.stream.specs.Grammar.{ContextReady, accepts};
 ghost use Rattle.stream.specs.Entry.{is_curve, is_line, is_segment};
+ghost use Rattle.stream.specs.Kinds.{kind_number, kind_at};
 ghost use Rattle.stream.specs.code.Machine.{in_groups, after_open_n, after_bar_n, after_close_n, after_passes_n, with_area_n, area_fits_n, other_n};
 ghost use Rattle.stream.specs.code.Machine.{line_fits, segment_fits, run_fits, run_to, scan_n, end_passed, Apart, Ran, Onward};
 ghost use Rattle.stream.specs.code.Checks.{told, told_at, checked};
@@ -58,6 +59,46 @@ pub struct Words {
     pub p: u32,
     pub q: u32,
     pub r: u32,
+}
+
+// The kinds of entries, by the number that is an entry's first word.
+#[derive(Clone, Copy, Debug, PartialEq, Eq)]
+pub enum Kind {
+    Open = 1,
+    Bar,
+    Close,
+    Area,
+    Line,
+    Shortcut,
+    Passes,
+    Curve,
+}
+
+impl From<Kind> for u32 {
+    ghost from_gives = { λ k n. n ≡ kind_number k };
+
+    fn from(kind: Kind) -> u32 {
+        kind as u32
+    }
+}
+
+impl Words {
+    // The kind of an entry, if its first word is that of one.
+    pub fn named(self) -> Option<Kind>
+        ensures answer { result ≡ kind_at self.kind }
+    {
+        match self.kind {
+            1 => Some(Kind::Open),
+            2 => Some(Kind::Bar),
+            3 => Some(Kind::Close),
+            4 => Some(Kind::Area),
+            5 => Some(Kind::Line),
+            6 => Some(Kind::Shortcut),
+            7 => Some(Kind::Passes),
+            8 => Some(Kind::Curve),
+            _ => None,
+        }
+    }
 }
 
 // What a stream is read against, beside the drawing's tables: the areas and the corners in use, and the cell's low row and its side.
