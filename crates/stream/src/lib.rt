@@ -99,6 +99,30 @@ impl Words {
             _ => None,
         }
     }
+
+    // Whether this is a curve.
+    pub fn is_curve(self) -> bool
+        ensures answer { result ≡ is_curve self.kind }
+    {
+        matches!(self.named(), Some(Kind::Curve))
+    }
+
+    // Whether this is a line or a curve.
+    pub fn is_line(self) -> bool
+        ensures answer { result ≡ is_line self.kind }
+    {
+        matches!(self.named(), Some(Kind::Line | Kind::Curve))
+    }
+
+    // Whether this is a line, a curve or a shortcut.
+    pub fn is_segment(self) -> bool
+        ensures answer { result ≡ is_segment self.kind }
+    {
+        matches!(
+            self.named(),
+            Some(Kind::Line | Kind::Curve | Kind::Shortcut)
+        )
+    }
 }
 
 // What a stream is read against, beside the drawing's tables: the areas and the corners in use, and the cell's low row and its side.
@@ -265,7 +289,7 @@ impl Context<'_> {
         requires ready { ContextReady self }
         ensures answer { result ≡ line_fits (env_passed self).xs (env_passed self).ys (env_passed self).used.corners w }
     {
-        if is_curve(w.kind) {
+        if w.is_curve() {
             self.curve_range(w)
         } else {
             self.line_range(w)
@@ -287,7 +311,7 @@ impl Context<'_> {
         requires ready { ContextReady self }
         ensures answer { result ≡ segment_fits (env_passed self).xs (env_passed self).ys (env_passed self).used w }
     {
-        if is_line(w.kind) {
+        if w.is_line() {
             self.line_fits(w)
         } else {
             self.shortcut_range(w)
@@ -368,13 +392,13 @@ impl Scan {
         requires ready { ContextReady context }
         ensures answer { result ≡ other_n (env_passed context).areas (env_passed context).used.areas self w }
     {
-        match w.kind {
-            ENTRY_OPEN => self.after_open(),
-            ENTRY_BAR => self.after_bar(),
-            ENTRY_CLOSE => self.after_close(),
-            ENTRY_AREA => self.with_area(context.area_fits(self.stack, w)),
-            ENTRY_PASSES => self.after_passes(),
-            _ => None,
+        match w.named()? {
+            Kind::Open => self.after_open(),
+            Kind::Bar => self.after_bar(),
+            Kind::Close => self.after_close(),
+            Kind::Area => self.with_area(context.area_fits(self.stack, w)),
+            Kind::Passes => self.after_passes(),
+            Kind::Line | Kind::Shortcut | Kind::Curve => None,
         }
     }
 }
@@ -422,13 +446,13 @@ fn scan_run(stream: Stream, from: usize, context: Context, before: usize) -> Opt
     let mut lines: usize = 0;
     for i in from..end {
         let w = read_entry(stream.entries, i);
-        if !is_segment(w.kind) {
+        if !w.is_segment() {
             return run_to(lines, before, from, i);
         }
         if !context.segment_fits(w) {
             return None;
         }
-        if is_line(w.kind) {
+        if w.is_line() {
             lines += 1;
         }
     }
