@@ -8,11 +8,12 @@ ghost use Rattle.stream.specs.Grammar.{env_passed, corner_met, line_range, curve
 ghost use Rattle.stream.specs.Grammar.{ContextReady, accepts};
 ghost use Rattle.stream.specs.Entry.{is_curve, is_line, is_segment};
 ghost use Rattle.stream.specs.Kinds.{kind_number, kind_at};
-ghost use Rattle.stream.specs.code.Machine.{in_groups, after_open_n, after_bar_n, after_close_n, after_passes_n, with_area_n, area_fits_n, other_n};
+ghost use Rattle.stream.specs.code.Machine.{in_groups, with_area_n, area_fits_n, other_n};
 ghost use Rattle.stream.specs.code.Machine.{line_fits, segment_fits, run_fits, run_to, scan_n, end_passed, Apart, Ran, Onward};
 ghost use Rattle.stream.specs.code.Checks.{told, told_at, checked};
 
 use curves::Point;
+use groups::Groups;
 use records::Record;
 use refusals::Refusal;
 
@@ -151,11 +152,11 @@ pub struct Stream<'a> {
     pub count: usize,
 }
 
-// Where a reader of a stream stands. `stack`: the open groups (crate `groups`). `held`: an area, a line, a curve or a shortcut stands straight
-// before. `areas`, `segments`: how many areas, and how many lines, curves and shortcuts, so far.
+// Where a reader of a stream stands. `held`: an area, a line, a curve or a shortcut stands straight before; it says so by itself, since no value goes
+// with it. `areas`, `segments`: how many areas, and how many lines, curves and shortcuts, so far.
 #[derive(Clone, Copy)]
 pub struct Scan {
-    pub stack: u32,
+    pub groups: Groups,
     pub held: bool,
     pub areas: u32,
     pub segments: u32,
@@ -239,12 +240,12 @@ impl Context<'_> {
     }
 
     // Whether the area that is named is in range and fits here, and its start number is in range.
-    fn area_fits(self, stack: u32, w: Words) -> bool
+    fn area_fits(self, groups: Groups, w: Words) -> bool
         requires ready { ContextReady self }
-        ensures answer { result ≡ area_fits_n (env_passed self).areas (env_passed self).used.areas stack w }
+        ensures answer { result ≡ area_fits_n (env_passed self).areas (env_passed self).used.areas groups.number w }
     {
         let d = drawing::area_row(self.areas, self.bounds.areas, w.p as usize);
-        let fits = role_fits(d, groups::on_paint(stack));
+        let fits = role_fits(d, groups.on_paint());
         fits & ((w.q <= MOST_START) | (LEAST_START <= w.q))
     }
 
@@ -322,53 +323,13 @@ impl Context<'_> {
 // ---- one entry more
 impl Scan {
     // The same areas and lines, in other groups.
-    fn in_groups(self, stack: u32) -> Scan
-        ensures answer { result ≡ in_groups self stack }
+    fn in_groups(self, groups: Groups) -> Scan
+        ensures answer { result ≡ in_groups self groups.number }
     {
         Scan {
-            stack,
+            groups,
             held: false,
             ..self
-        }
-    }
-
-    fn after_open(self) -> Option<Scan>
-        ensures answer { result ≡ after_open_n self }
-    {
-        if groups::has_room(self.stack) {
-            Some(self.in_groups(groups::opened(self.stack)))
-        } else {
-            None
-        }
-    }
-
-    fn after_bar(self) -> Option<Scan>
-        ensures answer { result ≡ after_bar_n self }
-    {
-        if groups::on_left(self.stack) {
-            Some(self.in_groups(groups::barred(self.stack)))
-        } else {
-            None
-        }
-    }
-
-    fn after_close(self) -> Option<Scan>
-        ensures answer { result ≡ after_close_n self }
-    {
-        if groups::on_right(self.stack) {
-            Some(self.in_groups(groups::closed(self.stack)))
-        } else {
-            None
-        }
-    }
-
-    fn after_passes(self) -> Option<Scan>
-        ensures answer { result ≡ after_passes_n self }
-    {
-        if groups::on_paint(self.stack) {
-            None
-        } else {
-            Some(self.in_groups(self.stack))
         }
     }
 
@@ -392,14 +353,15 @@ impl Scan {
         requires ready { ContextReady context }
         ensures answer { result ≡ other_n (env_passed context).areas (env_passed context).used.areas self w }
     {
-        match w.named()? {
-            Kind::Open => self.after_open(),
-            Kind::Bar => self.after_bar(),
-            Kind::Close => self.after_close(),
-            Kind::Area => self.with_area(context.area_fits(self.stack, w)),
-            Kind::Passes => self.after_passes(),
-            Kind::Line | Kind::Shortcut | Kind::Curve => None,
-        }
+        let groups = match w.named()? {
+            Kind::Area => return self.with_area(context.area_fits(self.groups, w)),
+            Kind::Open if self.groups.has_room() => self.groups.opened(),
+            Kind::Bar if self.groups.on_left() => self.groups.barred(),
+            Kind::Close if self.groups.on_right() => self.groups.closed(),
+            Kind::Passes if !self.groups.on_paint() => self.groups,
+            _ => return None,
+        };
+        Some(self.in_groups(groups))
     }
 }
 
@@ -512,7 +474,7 @@ fn tell(s: Scan, lines: usize) -> Option<Checked>
     requires { lines ≤ 4096 }
     ensures answer { result ≡ told_at s lines }
 {
-    if s.stack == groups::NONE_OPEN {
+    if s.groups == Groups::NONE_OPEN {
         Some(Checked {
             lines: lines as u32,
             segments: s.segments,
@@ -533,7 +495,7 @@ fn scan_all(stream: Stream, context: Context) -> Option<Checked>
 {
     let end = stream.first + stream.count;
     let mut s = Scan {
-        stack: groups::NONE_OPEN,
+        groups: Groups::NONE_OPEN,
         held: false,
         areas: 0,
         segments: 0,
