@@ -4,7 +4,7 @@
 
 ghost use Rattle.std.specs.Prelude.{◌≡◌, false, ◌+◌, ◌*◌, ◌-◌, ◌≤◌, ◌<◌, length, None, Some, MatchOption};
 ghost use Rattle.stream.specs.Table.{words_at, words_from, put_at};
-ghost use Rattle.stream.specs.Grammar.{env_passed, corner_met, line_range, curve_range, shortcut_range, record_fits, role_fits, used_range};
+ghost use Rattle.stream.specs.Grammar.{env_passed, corner_met, line_range, curve_range, shortcut_range, role_fits, used_range};
 ghost use Rattle.stream.specs.Grammar.{ContextReady, accepts};
 ghost use Rattle.stream.specs.Entry.{is_curve, is_line, is_segment};
 ghost use Rattle.stream.specs.Kinds.{kind_number, kind_at};
@@ -49,9 +49,6 @@ pub const MINUS_ONE: u32 = 4294967295;
 pub const MOST_ENTRIES: usize = 65536;
 
 pub const MOST_IN_STREAM: usize = records::MOST_RECORDS;
-
-// Areas in a stream.
-const MOST_AREAS: u32 = records::MOST_AREAS as u32;
 
 // The four words of an entry.
 #[derive(Clone, Copy)]
@@ -158,7 +155,7 @@ pub struct Stream<'a> {
 pub struct Scan {
     pub groups: Groups,
     pub held: bool,
-    pub areas: u32,
+    pub areas: usize,
     pub segments: u32,
 }
 
@@ -212,22 +209,11 @@ pub fn is_segment(kind: u32) -> bool
 
 // ---- the numbers of an entry
 // Whether an area's role fits a paint side, or a clip side.
-fn record_fits(r: Record, paint: bool) -> bool
-    ensures answer { result ≡ record_fits r paint }
-{
-    match r {
-        Record::Area(f) => f.role == if paint { records::PAINT } else { records::CLIP },
-        _ => false,
-    }
-}
-
 fn role_fits(d: Result<Record, Refusal>, paint: bool) -> bool
     ensures answer { result ≡ role_fits d paint }
 {
-    match d {
-        Ok(r) => record_fits(r, paint),
-        Err(_) => false,
-    }
+    let role = if paint { records::PAINT } else { records::CLIP };
+    matches!(d, Ok(Record::Area(f)) if f.role == role)
 }
 
 impl Context<'_> {
@@ -337,7 +323,7 @@ impl Scan {
     fn with_area(self, ok: bool) -> Option<Scan>
         ensures answer { result ≡ with_area_n self ok }
     {
-        if ok && self.areas < MOST_AREAS {
+        if ok && self.areas < records::MOST_AREAS {
             Some(Scan {
                 held: true,
                 areas: self.areas + 1,
