@@ -4,12 +4,12 @@
 
 ghost use Rattle.std.specs.Prelude.{◌≡◌, false, ◌+◌, ◌*◌, ◌-◌, ◌≤◌, ◌<◌, length, None, Some, MatchOption};
 ghost use Rattle.stream.specs.Table.{words_at, words_from, put_at};
-ghost use Rattle.stream.specs.Grammar.{env_passed, corner_met, line_range, curve_range, shortcut_range, role_fits, used_range};
+ghost use Rattle.stream.specs.Grammar.{env_of, env_passed, corner_met, line_range, curve_range, shortcut_range, role_fits, used_range};
 ghost use Rattle.stream.specs.Grammar.{ContextReady, accepts};
 ghost use Rattle.stream.specs.Entry.{is_curve, is_line, is_segment};
 ghost use Rattle.stream.specs.Kinds.{kind_number, kind_at};
 ghost use Rattle.stream.specs.code.Machine.{in_groups, with_area_n, area_fits_n, other_n};
-ghost use Rattle.stream.specs.code.Machine.{line_fits, segment_fits, run_fits, run_to, scan_n, end_passed, Apart, Ran, Onward};
+ghost use Rattle.stream.specs.code.Machine.{segment_fits, run_fits, run_to, scan_n, end_passed, Apart, Ran, Onward};
 ghost use Rattle.stream.specs.code.Checks.{told, told_at, checked};
 
 use curves::Point;
@@ -216,44 +216,53 @@ fn role_fits(d: Result<Record, Refusal>, paint: bool) -> bool
     matches!(d, Ok(Record::Area(f)) if f.role == role)
 }
 
-impl Context<'_> {
+// A context whose tables hold what its bounds speak of.
+#[derive(Clone, Copy)]
+struct ReadyContext<'a> {
+    context: Context<'a>,
+    ghost ready: { ContextReady context },
+}
+
+impl ReadyContext<'_> {
     // Whether corner i is in use and its coordinates are in range.
     fn corner_met(self, i: usize) -> bool
-        requires ready { ContextReady self }
-        ensures answer { result ≡ corner_met (env_passed self).xs (env_passed self).ys (env_passed self).used.corners i }
+        ensures answer { result ≡
+            corner_met (env_of self.entry.context).xs (env_of self.entry.context).ys (env_of self.entry.context).used.corners i }
     {
-        i < self.bounds.corners && (self.xs[i] <= records::GRID) & (self.ys[i] <= records::GRID)
+        let c = self.context;
+        i < c.bounds.corners && (c.xs[i] <= records::GRID) & (c.ys[i] <= records::GRID)
     }
 
     // Whether the area that is named is in range and fits here, and its start number is in range.
     fn area_fits(self, groups: Groups, w: Words) -> bool
-        requires ready { ContextReady self }
-        ensures answer { result ≡ area_fits_n (env_passed self).areas (env_passed self).used.areas groups.number w }
+        ensures answer { result ≡
+            area_fits_n (env_of self.entry.context).areas (env_of self.entry.context).used.areas groups.number w }
     {
-        let d = drawing::area_row(self.areas, self.bounds.areas, w.p as usize);
+        let c = self.context;
+        let d = drawing::area_row(c.areas, c.bounds.areas, w.p as usize);
         let fits = role_fits(d, groups.on_paint());
         fits & ((w.q <= MOST_START) | (LEAST_START <= w.q))
     }
 
     // Whether both corners of a line are in use and in range.
     fn line_range(self, w: Words) -> bool
-        requires ready { ContextReady self }
-        ensures answer { result ≡ line_range (env_passed self).xs (env_passed self).ys (env_passed self).used.corners w.p w.q }
+        ensures answer { result ≡
+            line_range (env_of self.entry.context).xs (env_of self.entry.context).ys (env_of self.entry.context).used.corners w.p w.q }
     {
         self.corner_met(w.p as usize) & self.corner_met(w.q as usize)
     }
 
     // Whether the three corners of a curve are in use and in range, and in order and span.
     fn curve_range(self, w: Words) -> bool
-        requires ready { ContextReady self }
-        ensures answer { result ≡ curve_range (env_passed self).xs (env_passed self).ys (env_passed self).used.corners w.p }
+        ensures answer { result ≡
+            curve_range (env_of self.entry.context).xs (env_of self.entry.context).ys (env_of self.entry.context).used.corners w.p }
     {
-        let xs = self.xs;
-        let ys = self.ys;
+        let xs = self.context.xs;
+        let ys = self.context.ys;
         let p = w.p as usize;
         let control = p + 1;
         let end = p + 2;
-        if self.bounds.corners <= end {
+        if self.context.bounds.corners <= end {
             return false;
         }
         let met = self.corner_met(p) & (self.corner_met(control) & self.corner_met(end));
@@ -271,37 +280,26 @@ impl Context<'_> {
         met & fits
     }
 
-    // Whether the numbers of a line or a curve are in range.
-    fn line_fits(self, w: Words) -> bool
-        requires ready { ContextReady self }
-        ensures answer { result ≡ line_fits (env_passed self).xs (env_passed self).ys (env_passed self).used.corners w }
-    {
-        if w.is_curve() {
-            self.curve_range(w)
-        } else {
-            self.line_range(w)
-        }
-    }
-
     // Whether a shortcut has the sign 1 or -1, and rows, all of them inside the cell.
     fn shortcut_range(self, w: Words) -> bool
-        ensures answer { result ≡ shortcut_range (env_passed self).used.low (env_passed self).used.side w.p w.q w.r }
+        ensures answer { result ≡
+            shortcut_range (env_of self.entry.context).used.low (env_of self.entry.context).used.side w.p w.q w.r }
     {
-        let low = self.bounds.low;
-        let beyond = (low as u64) + (self.bounds.side as u64);
+        let low = self.context.bounds.low;
+        let beyond = (low as u64) + (self.context.bounds.side as u64);
         ((w.p == PLUS_ONE) | (w.p == MINUS_ONE))
             & ((low <= w.q) & ((w.q < w.r) & ((w.r as u64) <= beyond)))
     }
 
     // Whether the numbers of a line, a curve or a shortcut are in range.
     fn segment_fits(self, w: Words) -> bool
-        requires ready { ContextReady self }
-        ensures answer { result ≡ segment_fits (env_passed self).xs (env_passed self).ys (env_passed self).used w }
+        ensures answer { result ≡
+            segment_fits (env_of self.entry.context).xs (env_of self.entry.context).ys (env_of self.entry.context).used w }
     {
-        if w.is_line() {
-            self.line_fits(w)
-        } else {
-            self.shortcut_range(w)
+        match w.named() {
+            Some(Kind::Curve) => self.curve_range(w),
+            Some(Kind::Line) => self.line_range(w),
+            _ => self.shortcut_range(w),
         }
     }
 }
@@ -335,9 +333,8 @@ impl Scan {
     }
 
     // One entry more, where a line, a curve or a shortcut does not fit: `scan_run` takes those that do.
-    fn step(self, context: Context, w: Words) -> Option<Scan>
-        requires ready { ContextReady context }
-        ensures answer { result ≡ other_n (env_passed context).areas (env_passed context).used.areas self w }
+    fn step(self, context: ReadyContext, w: Words) -> Option<Scan>
+        ensures answer { result ≡ other_n (env_of context.entry.context).areas (env_of context.entry.context).used.areas self w }
     {
         let groups = match w.named()? {
             Kind::Area => return self.with_area(context.area_fits(self.groups, w)),
@@ -378,17 +375,16 @@ fn run_to(lines: usize, before: usize, from: usize, next: usize) -> Option<Run>
 }
 
 // The lines, curves and shortcuts from entry `from` on, where `before` stand before, if all are in range and few enough.
-fn scan_run(stream: Stream, from: usize, context: Context, before: usize) -> Option<Run>
+fn scan_run(stream: Stream, from: usize, context: ReadyContext, before: usize) -> Option<Run>
     requires from_le_end { (from ≤ stream.first + stream.count)
         × (stream.first + stream.count ≤ from + 4096)
         × ((stream.first + stream.count) * 4 ≤ length stream.entries.now) }
-    requires ready { ContextReady context }
     requires before_bound { before < 4294967296 }
     ensures answer { MatchOption result
-        (run_fits (env_passed context).xs (env_passed context).ys (env_passed context).used before
+        (run_fits (env_of context.entry.context).xs (env_of context.entry.context).ys (env_of context.entry.context).used before
         (words_from stream.entry.entries.now from (end_passed stream - from))
         ≡ false)
-        (λ r. Ran (env_passed context) stream.entry.entries.now from (end_passed stream) before r) }
+        (λ r. Ran (env_of context.entry.context) stream.entry.entries.now from (end_passed stream) before r) }
 {
     let end = stream.first + stream.count;
     let mut lines: usize = 0;
@@ -424,15 +420,14 @@ pub struct Checked {
 }
 
 // Entry i, and the lines, curves and shortcuts that stand behind it.
-fn scan_next(stream: Stream, i: usize, context: Context, s: Scan) -> Option<Scanned>
+fn scan_next(stream: Stream, i: usize, context: ReadyContext, s: Scan) -> Option<Scanned>
     requires i_lt_end { (i < stream.first + stream.count)
         × (stream.first + stream.count ≤ i + 4096)
         × ((stream.first + stream.count) * 4 ≤ length stream.entries.now) }
-    requires ready { ContextReady context }
     requires apart { Apart stream.entries.now i (stream.first + stream.count) s }
     ensures onward { MatchOption result
-        (scan_n (env_passed context) (Some s) (words_from stream.entry.entries.now i (end_passed stream - i)) ≡ None)
-        (λ r. Onward (env_passed context) stream.entry.entries.now i (end_passed stream) s r) }
+        (scan_n (env_of context.entry.context) (Some s) (words_from stream.entry.entries.now i (end_passed stream - i)) ≡ None)
+        (λ r. Onward (env_of context.entry.context) stream.entry.entries.now i (end_passed stream) s r) }
 {
     let w = read_entry(stream.entries, i);
     let n = s.step(context, w)?;
@@ -471,12 +466,11 @@ fn tell(s: Scan, lines: usize) -> Option<Checked>
 }
 
 // All the entries of a stream.
-fn scan_all(stream: Stream, context: Context) -> Option<Checked>
+fn scan_all(stream: Stream, context: ReadyContext) -> Option<Checked>
     requires count_in_bounds { (stream.first + stream.count) * 4 ≤ length stream.entries.now }
     requires count_bound { stream.count ≤ 4096 }
-    requires ready { ContextReady context }
     ensures answer { result ≡
-        told (accepts (env_passed context) (words_from stream.entry.entries.now stream.entry.first stream.entry.count))
+        told (accepts (env_of context.entry.context) (words_from stream.entry.entries.now stream.entry.first stream.entry.count))
         (words_from stream.entry.entries.now stream.entry.first stream.entry.count) }
 {
     let end = stream.first + stream.count;
@@ -534,7 +528,7 @@ pub fn check_stream(stream: Stream, used: usize, context: Context) -> Option<Che
         && stream.first <= used - stream.count
         && stream.count <= MOST_IN_STREAM
     {
-        scan_all(stream, context)
+        scan_all(stream, ReadyContext { context })
     } else {
         None
     }
