@@ -493,21 +493,22 @@ fn scan_all(stream: Stream, context: ReadyContext) -> Option<Checked>
 }
 
 // ---- the check
-// Whether the numbers in use are at most what tables of these lengths hold.
-#[tactic(auto, unfolding(crate::specs::Grammar::used_range))]
-pub fn used_range(
-    entries: usize,
-    used: usize,
-    areas: usize,
-    xs: usize,
-    ys: usize,
-    b: Bounds,
-) -> bool
-    ensures answer { result ≡ used_range entries used areas xs ys b }
-{
-    ((used <= entries / ENTRY_WORDS) & (used <= MOST_ENTRIES))
-        & (((b.areas <= areas / records::AREA_WORDS) & (b.areas <= records::MOST_AREAS))
-            & ((b.corners <= xs) & ((b.corners <= ys) & (b.corners <= records::MOST_CORNERS))))
+impl Context<'_> {
+    // Whether the numbers in use are at most what the tables hold: `used` entries of a table with so many words, and the areas and the corners.
+    #[tactic(auto, unfolding(crate::specs::Grammar::used_range))]
+    pub fn used_range(self, entries: usize, used: usize) -> bool
+        ensures answer { result ≡
+            used_range entries used (length (env_passed self).areas) (length (env_passed self).xs) (length (env_passed self).ys)
+            (env_passed self).used }
+    {
+        let b = self.bounds;
+        let entries_fit = (used <= entries / ENTRY_WORDS) & (used <= MOST_ENTRIES);
+        let areas_fit = (b.areas <= self.areas.len() / records::AREA_WORDS)
+            & (b.areas <= records::MOST_AREAS);
+        let corners_fit = (b.corners <= self.xs.len())
+            & ((b.corners <= self.ys.len()) & (b.corners <= records::MOST_CORNERS));
+        entries_fit & (areas_fit & corners_fit)
+    }
 }
 
 // Whether these entries are a stream of the cell with this low row and this side, where `used` are in use, and how many lines and segments it holds.
@@ -516,14 +517,7 @@ pub fn check_stream(stream: Stream, used: usize, context: Context) -> Option<Che
     ensures answer { result ≡
         checked stream.entry.entries.now stream.entry.first stream.entry.count used (env_passed context) }
 {
-    let u = used_range(
-        stream.entries.len(),
-        used,
-        context.areas.len(),
-        context.xs.len(),
-        context.ys.len(),
-        context.bounds,
-    );
+    let u = context.used_range(stream.entries.len(), used);
     if u && stream.count <= used
         && stream.first <= used - stream.count
         && stream.count <= MOST_IN_STREAM
