@@ -159,18 +159,19 @@ pub fn waiting_from(w: Words) -> Option<Waiting>
 }
 
 // ---- the pruner
-// After a delimiter, "passes", or an area, which only waits.
-fn moved(p: Pruner, kind: u32) -> Pruner
-    requires weight_bound { (p.weight < 2 ^ 61) × (p.base < 2 ^ 61) × (skip_number (skip_of p.skip) < 4096) × (p.depth ≤ 8) }
-    requires depth_bound { kind ≡ 1 → p.skip ≡ None → p.depth < 8 }
-    ensures answer { counted result ≡ moved_n kind (counted p) }
+// Goes on after a delimiter, "passes", or an area, which only waits.
+pub fn moved(p: &mut Pruner, kind: u32)
+    requires weight_bound { (p.old.weight < 2 ^ 61) × (p.old.base < 2 ^ 61)
+        × (skip_number (skip_of p.old.skip) < 4096) × (p.old.depth ≤ 8) }
+    requires depth_bound { kind ≡ 1 → p.old.skip ≡ None → p.old.depth < 8 }
+    ensures answer { counted p.new ≡ moved_n kind (counted p.old) }
 {
     match kind {
         stream::ENTRY_OPEN => p.after_open(),
         stream::ENTRY_BAR => p.after_bar(),
         stream::ENTRY_CLOSE => p.after_close(),
         stream::ENTRY_PASSES => p.after_item(false, ItemClass::Passes, 1),
-        _ => p,
+        _ => {}
     }
 }
 
@@ -201,31 +202,19 @@ impl Maker {
         }
     }
 
-    // The pruner after the area that waits, if one does.
+    // The pruner goes on after the area that waits, if one does.
     #[inline(always)]
-    pub fn settled(self, areas: &[u32]) -> Pruner
-        requires inside { Inside (length areas.now) self.waiting }
-        requires weight_bound { (self.pruner.weight + weight_in self.waiting < 2 ^ 60) × (self.pruner.base < 2 ^ 60) }
-        ensures answer { counted result ≡ settled_n areas.now (counted self.pruner) self.waiting }
+    pub fn settle(&mut self, areas: &[u32])
+        requires inside { Inside (length areas.now) self.old.waiting }
+        requires weight_bound { (self.old.pruner.weight + weight_in self.old.waiting < 2 ^ 60) × (self.old.pruner.base < 2 ^ 60) }
+        ensures pruner { counted self.new.pruner ≡ settled_n areas.now (counted self.old.pruner) self.old.waiting }
+        ensures waiting { self.new.waiting ≡ resting }
     {
-        let Some(a) = self.waiting else {
-            return self.pruner;
-        };
-        let class = a.class(areas);
-        let paint = areas[(a.number as usize) * records::AREA_WORDS] == records::PAINT;
-        self.pruner.after_item(paint, class, a.weight)
-    }
-
-    // The pruner after an entry.
-    pub fn pruner_after(self, areas: &[u32], kind: u32) -> Pruner
-        requires inside { Inside (length areas.now) self.waiting }
-        requires room { Room self.pruner self.waiting kind }
-        ensures answer { counted result ≡ pruned_n areas.now (counted self.pruner) self.waiting kind }
-    {
-        if stream::is_segment(kind) {
-            self.pruner
-        } else {
-            moved(self.settled(areas), kind)
+        if let Some(a) = self.waiting {
+            let class = a.class(areas);
+            let paint = areas[(a.number as usize) * records::AREA_WORDS] == records::PAINT;
+            self.pruner.after_item(paint, class, a.weight);
+            self.waiting = None;
         }
     }
 
@@ -243,7 +232,8 @@ impl Maker {
             (left_sign context.entry.xs.now context.entry.ys.now w) w }
     {
         if prunes(w.kind) {
-            self.pruner = self.pruner_after(context.areas, w.kind);
+            self.settle(context.areas);
+            moved(&mut self.pruner, w.kind);
             self.waiting = waiting_from(w);
         } else {
             let left = left_of(context, s, w);
@@ -252,11 +242,12 @@ impl Maker {
     }
 
     // The weight of what is made once the area that waits has settled.
-    pub fn weight(self, areas: &[u32]) -> u64
+    pub fn weight(mut self, areas: &[u32]) -> u64
         requires inside { Inside (length areas.now) self.waiting }
         requires weight_bound { (self.pruner.weight + weight_in self.waiting < 2 ^ 60) × (self.pruner.base < 2 ^ 60) }
         ensures answer { result ≡ length_of (settled_n areas.now (counted self.pruner) self.waiting) }
     {
-        self.settled(areas).weight
+        self.settle(areas);
+        self.pruner.weight
     }
 }
