@@ -105,5 +105,5 @@ pub fn write_child(
         let w = stream::read_entry(used, i);
         writing::write_entry(out, made, &mut m, context, s, w);
     }
-    writing::put_settled(out, made, context.areas, m);
+    writing::put_settled(out, made, context.areas, &m);
 }

@@ -205,5 +205,5 @@ pub fn write_open(
         source = source.after(kind, behind);
         i += stride(behind);
     }
-    writing::put_settled(entries, made, drawing.areas, m);
+    writing::put_settled(entries, made, drawing.areas, &m);
 }

@@ -6,14 +6,14 @@
 ghost use Rattle.std.specs.Prelude.{◌≡◌, ◌+◌, ◌*◌, ◌^◌, ◌≤◌, ◌<◌, length, nat_abs};
 ghost use Rattle.std.specs.Int.{w32};
 ghost use Rattle.std.proofs.Common.{of_z};
-ghost use Rattle.pruner.specs.code.Numbers.{counted};
+ghost use Rattle.pruner.specs.code.Numbers.{counted, skip_of, skip_number};
 ghost use Rattle.cells.specs.Segments.{drawn};
 ghost use Rattle.evaluate.specs.Words.{segment_words};
 ghost use Rattle.evaluate.specs.code.Numbers.{line_of};
 ghost use Rattle.geometry.specs.code.Reach.{SquareIn};
 ghost use Rattle.stream.specs.Grammar.{env_of};
-ghost use Rattle.making.specs.code.Numbers.{left_class, left_sign, waiting_n, settled_n, pruned_n, AreaIn, Inside, Room, Asks};
-ghost use Rattle.writing.specs.code.Numbers.{put_below, place_of, kept_put, segment_put, named_put, bare_put, class_put, settled_put, mark_put, mark_on};
+ghost use Rattle.making.specs.code.Numbers.{left_class, left_sign, waiting_n, waiting_from, settled_n, moved_n, pruned_n, AreaIn, Inside, Room, Asks};
+ghost use Rattle.writing.specs.code.Numbers.{put_below, place_of, kept_put, segment_put, named_put, bare_put, class_put, settled_put, mark_put, mark_on, delimiter_put};
 ghost use Rattle.writing.specs.code.Numbers.{one_put};
 
 use geometry::class::{Class, Square};
@@ -94,10 +94,10 @@ fn put_kept(out: &mut [u32], limit: usize, at: usize, left: Left, w: Words)
 }
 
 // The line, the curve or the shortcut of entry w, behind what waits.
-pub fn put_segment(out: &mut [u32], limit: usize, m: Maker, left: Left, w: Words)
+pub fn put_segment(out: &mut [u32], limit: usize, m: &Maker, left: Left, w: Words)
     requires limit_in_bounds { limit * 4 ≤ length out.old }
     requires sign_bound { nat_abs left.sign ≤ 1 }
-    ensures out { out.new ≡ segment_put limit out.old m left.class left.sign w }
+    ensures out { out.new ≡ segment_put limit out.old m.now left.class left.sign w }
 {
     if m.pruner.skip.is_some() {
         return;
@@ -109,9 +109,9 @@ pub fn put_segment(out: &mut [u32], limit: usize, m: Maker, left: Left, w: Words
 }
 
 // The bare "passes", where the side begins.
-fn put_bare(out: &mut [u32], limit: usize, p: Pruner)
+fn put_bare(out: &mut [u32], limit: usize, p: &Pruner)
     requires { limit * 4 ≤ length out.old }
-    ensures out { out.new ≡ bare_put limit out.old p }
+    ensures out { out.new ≡ bare_put limit out.old p.now }
 {
     let at = place_of(p.base);
     put_below(
@@ -128,10 +128,10 @@ fn put_bare(out: &mut [u32], limit: usize, p: Pruner)
 }
 
 // The area that waits, behind what is written.
-fn put_named(out: &mut [u32], limit: usize, p: Pruner, a: Waiting)
+fn put_named(out: &mut [u32], limit: usize, p: &Pruner, a: Waiting)
     requires limit_in_bounds { limit * 4 ≤ length out.old }
     requires start_bound { nat_abs a.start ≤ 8192 }
-    ensures out { out.new ≡ named_put limit out.old p a }
+    ensures out { out.new ≡ named_put limit out.old p.now a }
 {
     let at = place_of(p.weight);
     let q = word_of(a.start);
@@ -149,10 +149,10 @@ fn put_named(out: &mut [u32], limit: usize, p: Pruner, a: Waiting)
 }
 
 // The area that waits, of this class.
-fn put_class(out: &mut [u32], limit: usize, areas: &[u32], p: Pruner, a: Waiting, class: ItemClass)
+fn put_class(out: &mut [u32], limit: usize, areas: &[u32], p: &Pruner, a: Waiting, class: ItemClass)
     requires limit_in_bounds { limit * 4 ≤ length out.old }
     requires inside { AreaIn (length areas.now) a }
-    ensures out { out.new ≡ class_put limit areas.now out.old p a class }
+    ensures out { out.new ≡ class_put limit areas.now out.old p.now a class }
 {
     match class {
         ItemClass::Fails => {}
@@ -164,35 +164,30 @@ fn put_class(out: &mut [u32], limit: usize, areas: &[u32], p: Pruner, a: Waiting
 }
 
 // What the area that waits, if one does, is written as.
-pub fn put_settled(out: &mut [u32], limit: usize, areas: &[u32], m: Maker)
+pub fn put_settled(out: &mut [u32], limit: usize, areas: &[u32], m: &Maker)
     requires limit_in_bounds { limit * 4 ≤ length out.old }
-    requires inside { Inside (length areas.now) m.waiting }
-    ensures out { out.new ≡ settled_put limit areas.now out.old m }
+    requires inside { Inside (length areas.now) m.now.waiting }
+    ensures out { out.new ≡ settled_put limit areas.now out.old m.now }
 {
     if m.pruner.skip.is_some() {
         return;
     }
     if let Some(a) = m.waiting {
         let class = a.class(areas);
-        put_class(out, limit, areas, m.pruner, a, class);
+        put_class(out, limit, areas, &m.pruner, a, class);
     }
 }
 
-// A delimiter or "passes", after which what is made has this weight.
-fn put_mark(out: &mut [u32], limit: usize, q: Pruner, weight: u64, kind: u32)
+// A delimiter, where it makes what is made heavier.
+fn put_delimiter(out: &mut [u32], limit: usize, before: u64, after: u64, kind: u32)
     requires { limit * 4 ≤ length out.old }
-    ensures out { out.new ≡ mark_put limit out.old q weight kind }
+    ensures out { out.new ≡ delimiter_put limit out.old before after kind }
 {
-    if kind == stream::ENTRY_PASSES {
-        if q.skip.is_none() {
-            put_bare(out, limit, q);
-        }
-    } else if q.weight < weight {
-        let at = place_of(q.weight);
+    if before < after {
         put_below(
             out,
             limit,
-            at,
+            place_of(before),
             Words {
                 kind,
                 p: 0,
@@ -203,22 +198,46 @@ fn put_mark(out: &mut [u32], limit: usize, q: Pruner, weight: u64, kind: u32)
     }
 }
 
-// An entry more that is no line, curve or shortcut: what it makes is written, and the pruner goes on.
-#[inline(always)]
-pub fn write_other(out: &mut [u32], limit: usize, areas: &[u32], m: Maker, kind: u32) -> Pruner
+// A delimiter or "passes": what it makes is written, and the pruner goes on.
+fn put_mark(out: &mut [u32], limit: usize, p: &mut Pruner, kind: u32)
     requires limit_in_bounds { limit * 4 ≤ length out.old }
-    requires inside { Inside (length areas.now) m.waiting }
-    requires room { Room m.pruner m.waiting kind }
-    ensures answer { counted result ≡ pruned_n areas.now (counted m.pruner) m.waiting kind }
-    ensures out { out.new ≡
-        mark_on limit (settled_put limit areas.now out.old m) (settled_n areas.now (counted m.pruner) m.waiting)
-        result.weight kind }
+    requires weight_bound { (p.old.weight < 2 ^ 61) × (p.old.base < 2 ^ 61)
+        × (skip_number (skip_of p.old.skip) < 4096) × (p.old.depth ≤ 8) }
+    requires depth_bound { kind ≡ 1 → p.old.skip ≡ None → p.old.depth < 8 }
+    ensures pruner { counted p.new ≡ moved_n kind (counted p.old) }
+    ensures out { out.new ≡ mark_put limit out.old p.old p.new.weight kind }
 {
-    let after = m.pruner_after(areas, kind);
-    let q = m.settled(areas);
+    if kind == stream::ENTRY_PASSES && p.skip.is_none() {
+        put_bare(out, limit, p);
+    }
+    let before = p.weight;
+    making::moved(p, kind);
+    if kind != stream::ENTRY_PASSES {
+        put_delimiter(out, limit, before, p.weight, kind);
+    }
+}
+
+// An entry more that is no line, curve or shortcut: what it makes is written, and the making goes on.
+#[inline(always)]
+pub fn write_other(out: &mut [u32], limit: usize, areas: &[u32], m: &mut Maker, w: Words)
+    requires limit_in_bounds { limit * 4 ≤ length out.old }
+    requires inside { Inside (length areas.now) m.old.waiting }
+    requires room { Room m.old.pruner m.old.waiting w.kind }
+    ensures pruner { counted m.new.pruner ≡ pruned_n areas.now (counted m.old.pruner) m.old.waiting w.kind }
+    ensures waiting { m.new.waiting ≡ waiting_from w }
+    ensures out { out.new ≡
+        mark_on limit (settled_put limit areas.now out.old m.old) (settled_n areas.now (counted m.old.pruner) m.old.waiting)
+        m.new.pruner.weight w.kind }
+{
     put_settled(out, limit, areas, m);
-    put_mark(out, limit, q, after.weight, kind);
-    after
+    if making::prunes(w.kind) {
+        m.settle(areas);
+        put_mark(out, limit, &mut m.pruner, w.kind);
+    } else {
+        // Any other entry leaves the pruner.
+        put_delimiter(out, limit, m.weight(areas), m.pruner.weight, w.kind);
+    }
+    m.waiting = making::waiting_from(w);
 }
 
 // Goes on to the next entry, w, and writes what it makes.
@@ -246,11 +265,10 @@ pub fn write_entry(
         (left_sign context.entry.xs.now context.entry.ys.now w) w m.new.pruner.weight }
 {
     if making::prunes(w.kind) {
-        m.pruner = write_other(out, limit, context.areas, *m, w.kind);
-        m.waiting = making::waiting_from(w);
+        write_other(out, limit, context.areas, m, w);
     } else {
         let left = making::left_of(context, s, w);
-        put_segment(out, limit, *m, left, w);
+        put_segment(out, limit, m, left, w);
         m.waiting = making::with_left(m.waiting, left);
     }
 }

@@ -64,15 +64,17 @@ settled_put limit areas t m = cond (is_none m.pruner.skip) (waiting_put limit ar
 
 -- ---- a delimiter or "passes", after which what is made has this weight
 
+abbrev pub delimiter_put : (limit : ℕ) → List ℕ → (before after kind : ℕ) → List ℕ
+delimiter_put limit t before n kind = cond (ltb before n) (put_below limit t (place_of before) (words kind 0 0 0)) t
+
 abbrev pub mark_put : (limit : ℕ) → List ℕ → Pruner → (weight kind : ℕ) → List ℕ
-mark_put limit t q n kind =
-    cond (eqb kind 7) (cond (is_none q.skip) (bare_put limit t q) t) (cond (ltb q.weight n) (put_below limit t (place_of q.weight) (words kind 0 0 0)) t)
+mark_put limit t q n kind = cond (eqb kind 7) (cond (is_none q.skip) (bare_put limit t q) t) (delimiter_put limit t q.weight n kind)
 
 -- the same by the numbers of a count
 abbrev pub mark_on : (limit : ℕ) → List ℕ → Count → (weight kind : ℕ) → List ℕ
 mark_on limit t c n kind =
     cond (eqb kind 7) (cond (eqb (skip_in c) 0) (put_below limit t (place_of (base_of c)) (words 7 0 0 0)) t)
-    (cond (ltb (length_of c) n) (put_below limit t (place_of (length_of c)) (words kind 0 0 0)) t)
+    (delimiter_put limit t (length_of c) n kind)
 
 -- ---- entry w, of which this is left and after which what is made has this weight
 
