@@ -24,7 +24,7 @@ use geometry::fill::FillRule;
 use geometry::{fill, winding};
 use machine::Machine;
 use records::AREA_WORDS;
-use stream::{Context, Stream, Words};
+use stream::{Context, Kind, Stream, Words};
 
 // What a shortcut adds in row y.
 fn shortcut_adds(w: Words, y: u32) -> i64
@@ -42,7 +42,7 @@ pub fn edge_of(xs: &[u32], ys: &[u32], w: Words) -> Edge
     requires { LineBelow (length xs.now) (line_of w) × LineBelow (length ys.now) (line_of w) }
     ensures answer { result ≡ edge_of xs.now ys.now (line_of w) }
 {
-    if stream::is_curve(w.kind) {
+    if w.is_curve() {
         winding::curve_from(xs, ys, w.p as usize)
     } else {
         winding::edge_between(xs, ys, w.p as usize, w.q as usize)
@@ -105,7 +105,7 @@ fn segment_adds(context: Context, w: Words, at: Point) -> i64
     requires position_in { PositionIn at.x at.y }
     ensures answer { (result ≡ segment_adds (env_passed context).xs (env_passed context).ys at.x at.y w) × (nat_abs result ≤ 1) }
 {
-    if stream::is_line(w.kind) {
+    if w.is_line() {
         line_adds(context.xs, context.ys, w, at)
     } else {
         shortcut_adds(w, at.y)
@@ -135,7 +135,7 @@ fn winding_from(stream: Stream, from: usize, context: Context, start: i64, at: P
     let mut sum = start;
     for i in from..end {
         let w = stream::read_entry(stream.entries, i);
-        if !stream::is_segment(w.kind) {
+        if !w.is_segment() {
             return Winding { sum, next: i };
         }
         sum += segment_adds(context, w, at);
@@ -152,15 +152,15 @@ pub struct Reading {
 }
 
 // The machine after a delimiter or "passes". A line, a curve or a shortcut of an area that is not looked at leaves it as it is.
-fn moved(m: Machine, kind: u32) -> Machine
+fn moved(m: Machine, w: Words) -> Machine
     requires { m.depth < 4096 }
-    ensures answer { (meant result ≡ moved_by kind (meant m)) × (result.depth ≤ m.depth + 1) }
+    ensures answer { (meant result ≡ moved_by w.kind (meant m)) × (result.depth ≤ m.depth + 1) }
 {
-    match kind {
-        stream::ENTRY_OPEN => m.after_open(),
-        stream::ENTRY_BAR => m.after_bar(),
-        stream::ENTRY_CLOSE => m.after_close(),
-        _ if stream::is_segment(kind) => m,
+    match w.named() {
+        Some(Kind::Open) => m.after_open(),
+        Some(Kind::Bar) => m.after_bar(),
+        Some(Kind::Close) => m.after_close(),
+        Some(Kind::Line | Kind::Shortcut | Kind::Curve) => m,
         _ => m.after_clip(true),
     }
 }
@@ -195,11 +195,11 @@ fn read_next(stream: Stream, i: usize, context: Context, m: Machine, at: Point) 
         stream.entry.entries.now i (end_passed stream) m result }
 {
     let w = stream::read_entry(stream.entries, i);
-    if w.kind == stream::ENTRY_AREA {
+    if w.named() == Some(Kind::Area) {
         read_area(stream, i, context, m, w, at)
     } else {
         Reading {
-            machine: moved(m, w.kind),
+            machine: moved(m, w),
             next: i + 1,
         }
     }

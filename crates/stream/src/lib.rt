@@ -7,6 +7,7 @@ ghost use Rattle.stream.specs.Table.{words_at, words_from, put_at};
 ghost use Rattle.stream.specs.Grammar.{env_passed, corner_met, line_range, curve_range, shortcut_range, record_fits, role_fits, used_range};
 ghost use Rattle.stream.specs.Grammar.{ContextReady, accepts};
 ghost use Rattle.stream.specs.Entry.{is_curve, is_line, is_segment};
+ghost use Rattle.stream.specs.Kinds.{kind_number, kind_at};
 ghost use Rattle.stream.specs.code.Machine.{in_groups, after_open_n, after_bar_n, after_close_n, after_passes_n, with_area_n, area_fits_n, other_n};
 ghost use Rattle.stream.specs.code.Machine.{line_fits, segment_fits, run_fits, run_to, scan_n, end_passed, Apart, Ran, Onward};
 ghost use Rattle.stream.specs.code.Checks.{told, told_at, checked};
@@ -58,6 +59,70 @@ pub struct Words {
     pub p: u32,
     pub q: u32,
     pub r: u32,
+}
+
+// The kinds of entries, by the number that is an entry's first word.
+#[derive(Clone, Copy, Debug, PartialEq, Eq)]
+pub enum Kind {
+    Open = 1,
+    Bar,
+    Close,
+    Area,
+    Line,
+    Shortcut,
+    Passes,
+    Curve,
+}
+
+impl From<Kind> for u32 {
+    ghost from_gives = { λ k n. n ≡ kind_number k };
+
+    fn from(kind: Kind) -> u32 {
+        kind as u32
+    }
+}
+
+impl Words {
+    // The kind of an entry, if its first word is that of one.
+    pub fn named(self) -> Option<Kind>
+        ensures answer { result ≡ kind_at self.kind }
+    {
+        match self.kind {
+            1 => Some(Kind::Open),
+            2 => Some(Kind::Bar),
+            3 => Some(Kind::Close),
+            4 => Some(Kind::Area),
+            5 => Some(Kind::Line),
+            6 => Some(Kind::Shortcut),
+            7 => Some(Kind::Passes),
+            8 => Some(Kind::Curve),
+            _ => None,
+        }
+    }
+
+    // Whether this is a curve.
+    pub fn is_curve(self) -> bool
+        ensures answer { result ≡ is_curve self.kind }
+    {
+        matches!(self.named(), Some(Kind::Curve))
+    }
+
+    // Whether this is a line or a curve.
+    pub fn is_line(self) -> bool
+        ensures answer { result ≡ is_line self.kind }
+    {
+        matches!(self.named(), Some(Kind::Line | Kind::Curve))
+    }
+
+    // Whether this is a line, a curve or a shortcut.
+    pub fn is_segment(self) -> bool
+        ensures answer { result ≡ is_segment self.kind }
+    {
+        matches!(
+            self.named(),
+            Some(Kind::Line | Kind::Curve | Kind::Shortcut)
+        )
+    }
 }
 
 // What a stream is read against, beside the drawing's tables: the areas and the corners in use, and the cell's low row and its side.
@@ -224,7 +289,7 @@ impl Context<'_> {
         requires ready { ContextReady self }
         ensures answer { result ≡ line_fits (env_passed self).xs (env_passed self).ys (env_passed self).used.corners w }
     {
-        if is_curve(w.kind) {
+        if w.is_curve() {
             self.curve_range(w)
         } else {
             self.line_range(w)
@@ -246,7 +311,7 @@ impl Context<'_> {
         requires ready { ContextReady self }
         ensures answer { result ≡ segment_fits (env_passed self).xs (env_passed self).ys (env_passed self).used w }
     {
-        if is_line(w.kind) {
+        if w.is_line() {
             self.line_fits(w)
         } else {
             self.shortcut_range(w)
@@ -327,13 +392,13 @@ impl Scan {
         requires ready { ContextReady context }
         ensures answer { result ≡ other_n (env_passed context).areas (env_passed context).used.areas self w }
     {
-        match w.kind {
-            ENTRY_OPEN => self.after_open(),
-            ENTRY_BAR => self.after_bar(),
-            ENTRY_CLOSE => self.after_close(),
-            ENTRY_AREA => self.with_area(context.area_fits(self.stack, w)),
-            ENTRY_PASSES => self.after_passes(),
-            _ => None,
+        match w.named()? {
+            Kind::Open => self.after_open(),
+            Kind::Bar => self.after_bar(),
+            Kind::Close => self.after_close(),
+            Kind::Area => self.with_area(context.area_fits(self.stack, w)),
+            Kind::Passes => self.after_passes(),
+            Kind::Line | Kind::Shortcut | Kind::Curve => None,
         }
     }
 }
@@ -381,13 +446,13 @@ fn scan_run(stream: Stream, from: usize, context: Context, before: usize) -> Opt
     let mut lines: usize = 0;
     for i in from..end {
         let w = read_entry(stream.entries, i);
-        if !is_segment(w.kind) {
+        if !w.is_segment() {
             return run_to(lines, before, from, i);
         }
         if !context.segment_fits(w) {
             return None;
         }
-        if is_line(w.kind) {
+        if w.is_line() {
             lines += 1;
         }
     }
