@@ -99,11 +99,12 @@ pub fn write_child(
     ensures entries { entries.new ≡ written entries.old free (words_made
         (lent_passed context) (cell_in s) (words_from entries.old first count)) }
 {
-    let (used, out) = entries.split_at_mut(free * stream::ENTRY_WORDS);
+    let (used, end) = entries.split_at_mut(free * stream::ENTRY_WORDS);
+    let (out, _) = end.split_at_mut(made * stream::ENTRY_WORDS);
     let mut m = Maker::begun();
     for i in first..first + count {
         let w = stream::read_entry(used, i);
-        writing::write_entry(out, made, &mut m, context, s, w);
+        writing::write_entry(out, &mut m, context, s, w);
     }
-    writing::put_settled(out, made, context.areas, &m);
+    writing::put_settled(out, context.areas, &m);
 }

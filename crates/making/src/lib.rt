@@ -15,12 +15,12 @@ ghost use Rattle.pruning.specs.code.Pruner.{going};
 ghost use Rattle.pruning.specs.code.Counters.{ct, length_of};
 ghost use Rattle.pruner.specs.code.Numbers.{counted, skip_of, skip_number};
 ghost use Rattle.making.specs.code.Numbers.{left_sign, left_class, left_range, resting, with_class, with_left, waiting_from, waiting_n};
-ghost use Rattle.making.specs.code.Numbers.{class_n, settled_n, moved_n, prunes_n};
+ghost use Rattle.making.specs.code.Numbers.{class_n, settled_n, moved_n};
 ghost use Rattle.making.specs.code.Numbers.{pruned_n, start_in, weight_in, Room, AreaIn, Inside, Asks};
 
 use geometry::class::{Class, Square};
 use pruner::{ItemClass, Pruner};
-use stream::{Context, Words};
+use stream::{Context, Kind, Words};
 
 // What is made weighs 1 for each entry, LINE more for a line or a curve, AREA more for an area.
 pub const LINE: u64 = 65536;
@@ -71,12 +71,12 @@ pub fn left_of(context: Context, s: Square, w: Words) -> Left
     ensures answer { (result.sign ≡ left_sign context.entry.xs.now context.entry.ys.now w)
         × (result.class ≡ left_class context.entry.xs.now context.entry.ys.now s w) }
 {
-    if !stream::is_segment(w.kind) {
+    if !w.is_segment() {
         Left {
             sign: 0,
             class: Class::Dropped,
         }
-    } else if stream::is_line(w.kind) {
+    } else if w.is_line() {
         line_left(context.xs, context.ys, s, w)
     } else {
         shortcut_left(s, w)
@@ -147,39 +147,31 @@ pub fn with_left(a: Option<Waiting>, left: Left) -> Option<Waiting>
 pub fn waiting_from(w: Words) -> Option<Waiting>
     ensures answer { result ≡ waiting_from w }
 {
-    if w.kind == stream::ENTRY_AREA {
-        Some(Waiting {
+    match w.named() {
+        Some(Kind::Area) => Some(Waiting {
             number: w.p,
             start: evaluate::start_of(w),
             weight: AREA_ALONE,
-        })
-    } else {
-        None
+        }),
+        _ => None,
     }
 }
 
 // ---- the pruner
-// Goes on after a delimiter, "passes", or an area, which only waits.
-pub fn moved(p: &mut Pruner, kind: u32)
+// Goes on after entry w: a delimiter, "passes", or an area, which only waits.
+pub fn moved(p: &mut Pruner, w: Words)
     requires weight_bound { (p.old.weight < 2 ^ 61) × (p.old.base < 2 ^ 61)
         × (skip_number (skip_of p.old.skip) < 4096) × (p.old.depth ≤ 8) }
-    requires depth_bound { kind ≡ 1 → p.old.skip ≡ None → p.old.depth < 8 }
-    ensures answer { counted p.new ≡ moved_n kind (counted p.old) }
+    requires depth_bound { w.kind ≡ 1 → p.old.skip ≡ None → p.old.depth < 8 }
+    ensures answer { counted p.new ≡ moved_n w.kind (counted p.old) }
 {
-    match kind {
-        stream::ENTRY_OPEN => p.after_open(),
-        stream::ENTRY_BAR => p.after_bar(),
-        stream::ENTRY_CLOSE => p.after_close(),
-        stream::ENTRY_PASSES => p.after_item(false, ItemClass::Passes, 1),
+    match w.named() {
+        Some(Kind::Open) => p.after_open(),
+        Some(Kind::Bar) => p.after_bar(),
+        Some(Kind::Close) => p.after_close(),
+        Some(Kind::Passes) => p.after_item(false, ItemClass::Passes, 1),
         _ => {}
     }
-}
-
-// Whether an entry of this kind is for the pruner: a line, a curve and a shortcut leave it as it is.
-pub fn prunes(kind: u32) -> bool
-    ensures answer { result ≡ prunes_n kind }
-{
-    !stream::is_segment(kind)
 }
 
 // ---- both
@@ -221,8 +213,6 @@ impl Maker {
     // Goes on to the next entry, w.
     #[inline(always)]
     pub fn go_on(&mut self, context: Context, s: Square, w: Words)
-        requires corners_in_bounds { (context.bounds.corners ≤ length context.xs.now)
-            × (context.bounds.corners ≤ length context.ys.now) }
         requires square_in { SquareIn s }
         requires asks { Asks (env_of context) self.old w }
         ensures pruner { counted self.new.pruner ≡
@@ -231,13 +221,13 @@ impl Maker {
             waiting_n self.old.waiting (left_class context.entry.xs.now context.entry.ys.now s w)
             (left_sign context.entry.xs.now context.entry.ys.now w) w }
     {
-        if prunes(w.kind) {
-            self.settle(context.areas);
-            moved(&mut self.pruner, w.kind);
-            self.waiting = waiting_from(w);
-        } else {
+        if w.is_segment() {
             let left = left_of(context, s, w);
             self.waiting = with_left(self.waiting, left);
+        } else {
+            self.settle(context.areas);
+            moved(&mut self.pruner, w);
+            self.waiting = waiting_from(w);
         }
     }
 

@@ -12,7 +12,7 @@ use Rattle.pruning.specs.code.Counters.{Count, length_of}
 use Rattle.pruner.specs.declared.Pruner.{Pruner}
 use Rattle.pruner.specs.code.Numbers.{counted, skip_of, skip_number, skip_in}
 use Rattle.pruner.proofs.Near.{counted_weight, counted_base, counted_skip}
-use Rattle.making.specs.code.Numbers.{prunes_n}
+use Rattle.stream.specs.Entry.{is_segment}
 use Rattle.writing.specs.code.Numbers.{delimiter_put, mark_put, mark_on}
 
 -- the side is read on
@@ -23,15 +23,15 @@ none_is p = ap (λ n. eqb n 0) (counted_skip p) ∙ go p.skip
     go None = refl
     go (Some m) = ne_eqb (suc m) 0 (λ e. omega arith)
 
-pub mark_is : (limit : ℕ) (t : List ℕ) (q : Pruner) (n kind : ℕ) (c : Count) → counted q ≡ c → mark_put limit t q n kind ≡ mark_on limit t c n kind
-mark_is limit t q n kind c e = rw (← e, counted_weight q, counted_base q, none_is q)
+pub mark_is : (t : List ℕ) (q : Pruner) (n kind : ℕ) (c : Count) → counted q ≡ c → mark_put t q n kind ≡ mark_on t c n kind
+mark_is t q n kind c e = rw (← e, counted_weight q, counted_base q, none_is q)
 
 -- a line, a curve or a shortcut is no "passes"
-pub mark_segment : (limit : ℕ) (t : List ℕ) (n kind : ℕ) (c : Count)
-    → prunes_n kind ≡ false
-    → mark_on limit t c n kind ≡ delimiter_put limit t (length_of c) n kind
-mark_segment limit t n kind c h = rw (go (eqb kind 7) refl)
+pub mark_segment : (t : List ℕ) (n kind : ℕ) (c : Count)
+    → is_segment kind ≡ true
+    → mark_on t c n kind ≡ delimiter_put t (length_of c) n kind
+mark_segment t n kind c h = rw (go (eqb kind 7) refl)
   where
     go : (b : Bool) → eqb kind 7 ≡ b → eqb kind 7 ≡ false
-    go true e = clash (sym h ∙ ap prunes_n (eqb-true kind 7 e))
+    go true e = clash (sym (ap is_segment (eqb-true kind 7 e)) ∙ h)
     go false e = e

@@ -45,7 +45,6 @@ pub go_on-requires : goal.go_on-requires
 go_on-requires c =
     let a = c.args in
     record {
-      corners_in_bounds = (c.requires.passed.ready.xs, c.requires.passed.ready.ys);
       square_in = c.requires.square_in;
       asks = here a.context a.s a.parent c.requires.passed _ _ _ c.loop-i.invariant c.loop-i-test.true _ c.read_entry-w.ensures.answer;
     }

@@ -43,7 +43,6 @@ go_on-requires c =
     let t = tables_of d in
     let B = base t a.records a.bounds c.requires in
     record {
-      corners_in_bounds = (B.ready.xs, B.ready.ys);
       square_in = rw c.root_square-s.ensures.answer root_in;
       asks = loop_asks (env d.areas.now d.xs.now d.ys.now a.bounds) (drawing_in t) d.plan.now a.records (words_in t) B c.loop-i.i c.loop-i.source
           c.loop-i.m c.loop-i.invariant c.loop-i-test.true _

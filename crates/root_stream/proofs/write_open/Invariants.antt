@@ -10,7 +10,7 @@ abbrev pub invariant-loop-i : goal.invariant-loop-i
 invariant-loop-i l =
     let d = l.drawing in
     let t = tables_of d in
-    Filling (env d.areas.now d.xs.now d.ys.now l.fn.bounds) (drawing_in t) d.plan.now l.records (words_in t) l.made l.fn.entries l.i l.source l.m l.entries
+    Filling (env d.areas.now d.xs.now d.ys.now l.fn.bounds) (drawing_in t) d.plan.now l.records (words_in t) l.made l.i l.source l.m l.out
 
 abbrev pub decreases-loop-i : goal.decreases-loop-i
 decreases-loop-i l = l.records - l.i
