@@ -2,15 +2,18 @@ use mathlib.Core.Path.{refl, sym, ap, ap₂, ◌∙◌}
 use Prim.Native.Nat.{ℕ, ◌+◌}
 use native.Mathlib.Omega.{arith}
 use lib.ListN.{length}
+use Rattle.cells.specs.Cells.{root}
 use Rattle.drawing.specs.Tables.{tables_of}
 use Rattle.stream.specs.Table.{written}
 use Rattle.stream.specs.Grammar.{env}
+use Rattle.making.specs.Made.{words_made}
 use Rattle.making.specs.code.Numbers.{left_class, left_sign}
+use Rattle.making.proofs.Made.{made_length}
 use Rattle.root_stream.specs.code.Numbers.{stride_n, after_n}
 use Rattle.root_stream.specs.Opened.{drawing_in}
 use Rattle.root_stream.proofs.Base.{words_in, base, base_made}
 use Rattle.root_stream.proofs.Loop.{root_in, read_entry, source_few, loop_asks, end_inside}
-use Rattle.root_stream.proofs.Fill.{fill_begin, looping, room_now, fill_turn, fill_end, words_opened_law}
+use Rattle.root_stream.proofs.Fill.{fill_begin, looping, fill_turn, fill_end, front_written, words_opened_law}
 use Rattle.root_stream.proofs.write_open.Goals as goal
 
 pub loop-i-init : goal.loop-i-init
@@ -19,8 +22,8 @@ loop-i-init c =
     let d = a.drawing in
     let t = tables_of d in
     fill_begin (env d.areas.now d.xs.now d.ys.now a.bounds) (drawing_in t) d.plan.now a.records (words_in t)
-    (base t a.records a.bounds c.requires.opened) a.made a.entries.now c.requires.made_in_bounds c.begun-source.result c.begun-m.result
-    c.begun-source.ensures.answer c.begun-m.ensures.pruner c.begun-m.ensures.waiting
+    (base t a.records a.bounds c.requires.opened) a.made c.begun-source.result c.begun-m.result c.split_at_mut-out.result.0.now
+    c.begun-source.ensures.answer c.begun-m.ensures.pruner c.begun-m.ensures.waiting c.split_at_mut-out.ensures.front_len
 
 pub kind_at-kind-requires : goal.kind_at-kind-requires
 kind_at-kind-requires c = let a = c.args in (base (tables_of a.drawing) a.records a.bounds c.requires.opened).long
@@ -46,13 +49,10 @@ write_entry-requires c =
     let v = env d.areas.now d.xs.now d.ys.now a.bounds in
     let B = base t a.records a.bounds c.requires.opened in
     record {
-      limit_in_bounds = room_now v (drawing_in t) d.plan.now a.records (words_in t) B a.made a.entries.now c.requires.made_in_bounds c.loop-i.i
-          c.loop-i.source c.loop-i.m c.loop-i.entries c.loop-i.invariant;
-      corners_in_bounds = (B.ready.xs, B.ready.ys);
       square_in = rw c.root_square-s.ensures.answer root_in;
       asks = loop_asks v (drawing_in t) d.plan.now a.records (words_in t) B c.loop-i.i c.loop-i.source c.loop-i.m
-          (looping v (drawing_in t) d.plan.now a.records (words_in t) B a.made a.entries.now c.requires.made_in_bounds c.loop-i.i c.loop-i.source
-          c.loop-i.m c.loop-i.entries c.loop-i.invariant)
+          (looping v (drawing_in t) d.plan.now a.records (words_in t) B a.made c.loop-i.i c.loop-i.source c.loop-i.m c.loop-i.out
+          c.loop-i.invariant)
           c.loop-i-test.true _
           (read_entry c.loop-i.source c.entry-w.ensures.answer c.kind_at-kind.ensures.answer c.kind_at-behind.ensures.answer);
     }
@@ -75,8 +75,7 @@ loop-i-preserved c =
     let w = c.entry-w.result in
     let s = c.root_square-s.result in
     fill_turn (env d.areas.now d.xs.now d.ys.now a.bounds) (drawing_in t) d.plan.now a.records (words_in t)
-    (base t a.records a.bounds c.requires.opened) a.made a.entries.now c.requires.made_in_bounds c.loop-i.i c.loop-i.source c.loop-i.m c.loop-i.entries
-    c.loop-i.invariant c.loop-i-test.true _ w s (left_class d.xs.now d.ys.now s w) (left_sign d.xs.now d.ys.now w) c.after-source.result _ _
+    (base t a.records a.bounds c.requires.opened) a.made c.loop-i.i c.loop-i.source c.loop-i.m c.loop-i.out c.loop-i.invariant c.loop-i-test.true _ w s (left_class d.xs.now d.ys.now s w) (left_sign d.xs.now d.ys.now w) c.after-source.result _ _
     (read_entry c.loop-i.source c.entry-w.ensures.answer c.kind_at-kind.ensures.answer c.kind_at-behind.ensures.answer)
     c.entry-w.type_inv.1.1.1.1.0.1 c.root_square-s.ensures.answer refl refl c.write_entry.ensures.pruner c.write_entry.ensures.waiting
     c.write_entry.ensures.out
@@ -91,11 +90,9 @@ put_settled-requires c =
     let v = env d.areas.now d.xs.now d.ys.now a.bounds in
     let B = base t a.records a.bounds c.requires.opened in
     record {
-      limit_in_bounds = room_now v (drawing_in t) d.plan.now a.records (words_in t) B a.made a.entries.now c.requires.made_in_bounds c.loop-i.i
-          c.loop-i.source c.loop-i.m c.loop-i.entries c.loop-i.invariant;
       inside = end_inside v (drawing_in t) d.plan.now a.records (words_in t) B c.loop-i.i c.loop-i.source c.loop-i.m
-          (looping v (drawing_in t) d.plan.now a.records (words_in t) B a.made a.entries.now c.requires.made_in_bounds c.loop-i.i c.loop-i.source
-          c.loop-i.m c.loop-i.entries c.loop-i.invariant)
+          (looping v (drawing_in t) d.plan.now a.records (words_in t) B a.made c.loop-i.i c.loop-i.source c.loop-i.m c.loop-i.out
+          c.loop-i.invariant)
           c.loop-i-test.false;
     }
 
@@ -104,10 +101,14 @@ returns c =
     let a = c.args in
     let d = a.drawing in
     let t = tables_of d in
+    let D = drawing_in t in
     let e = base_made t a.records a.bounds c.requires.opened in
+    let exact = c.requires.made_value ∙ ap length (sym e) in
+    let out = fill_end (env d.areas.now d.xs.now d.ys.now a.bounds) D d.plan.now a.records (words_in t)
+    (base t a.records a.bounds c.requires.opened) a.made c.loop-i.i c.loop-i.source c.loop-i.m c.loop-i.out c.loop-i.invariant c.loop-i-test.false
+    exact _ c.put_settled.ensures.out in
     record {
-      entries = fill_end (env d.areas.now d.xs.now d.ys.now a.bounds) (drawing_in t) d.plan.now a.records (words_in t)
-          (base t a.records a.bounds c.requires.opened) a.made a.entries.now c.requires.made_in_bounds c.loop-i.i c.loop-i.source c.loop-i.m
-          c.loop-i.entries c.loop-i.invariant c.loop-i-test.false (c.requires.made_value ∙ ap length (sym e)) _ c.put_settled.ensures.out
-          ∙ ap (written a.entries.now 0) (words_opened_law t (drawing_in t) (words_in t) e);
+      entries = rw (out, c.split_at_mut-out.ensures.back)
+          (front_written a.entries.now (words_made D root (words_in t)) a.made (made_length D root (words_in t) ∙ sym exact) c.requires.made_in_bounds)
+          ∙ ap (written a.entries.now 0) (words_opened_law t D (words_in t) e);
     }
