@@ -29,9 +29,8 @@ pub struct Starts {
 }
 
 // The start number of the area that waits, behind those of the areas that stand. An area that goes again makes place for the next.
-fn note(at: &mut [i16], m: &Maker)
-    requires at_len { length at.old ≡ 64 }
-    requires start_bound { nat_abs (start_in m.now.waiting) ≤ 8192 }
+fn note(at: &mut [i16; records::MOST_AREAS], m: &Maker)
+    requires { nat_abs (start_in m.now.waiting) ≤ 8192 }
     ensures at { at.new ≡ noted_n at.old m.now.pruner m.now.waiting }
 {
     let start = m.waiting.map_or(0, |a| a.start);

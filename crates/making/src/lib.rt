@@ -85,6 +85,7 @@ pub fn left_of(context: Context, s: Square, w: Words) -> Left
 
 // ---- the area that waits
 // An area that waits for its lines, curves and shortcuts: its number, its start number, and its weight, with that of what is left of them.
+// That the number is that of an area is no ghost field: it is about the table of areas, which is lent beside this.
 #[derive(Clone, Copy, Debug, PartialEq, Eq)]
 pub struct Waiting {
     pub number: u32,

@@ -40,6 +40,7 @@ pub struct Frame {
 
 // `weight`: that of what is written. `base`: the weight of what stands before the side. `skip`: None where the side is read on, Some(m) where it is
 // skipped and m groups were opened since. `depth`: how many frames are in use.
+// The bounds on the weights are no ghost fields: a step may end at the bound that it asks for.
 #[derive(Clone, Copy, Debug, PartialEq, Eq)]
 pub struct Pruner {
     pub weight: u64,
