@@ -5,12 +5,13 @@
 
 #![tactic(auto)]
 
-ghost use Rattle.std.specs.Prelude.{◌≡◌, ◌≤◌, length};
+ghost use Rattle.std.specs.Prelude.{◌≡◌, ◌≤◌, ◌/◌, ◌%◌, [], ◌∷◌, cond, leb, length, sets};
+ghost use Rattle.refusals.specs.declared.Refusal.TheVariants.{Room};
 ghost use Rattle.refusals.specs.Refusals.{number_of};
 ghost use Rattle.answers.specs.Answers.{packed, packed_low, packed_answer, read_number, write_number, read_low, write_low, open_number, split_number};
 ghost use Rattle.answers.specs.Answers.{grow_splits, grow_number};
-ghost use Rattle.answers.specs.Answers.{leaf_put, find_room, find_number, leaf_written};
-ghost use Rattle.answers.specs.Readings.{spot_put, spot_room, spot_number, spot_written, low_half, log_number, row_place, row_number};
+ghost use Rattle.answers.specs.Answers.{word_of, find_room, find_number, leaf_written};
+ghost use Rattle.answers.specs.Readings.{spot_room, spot_number, spot_written, low_half, log_number, row_place, row_number};
 
 use find_leaf::FoundLeaf;
 use grammar::Counts;
@@ -36,7 +37,7 @@ fn pack(answer: Result<usize, Refused>) -> u64
         Ok(n) => (0, n),
         Err(e) => (u32::from(e.refusal), e.place),
     };
-    (number as u64) * 4294967296 + (low as u64)
+    (u64::from(number) << 32) + (low as u64)
 }
 
 // A refusal from the state, or one that is never about a place.
@@ -80,12 +81,24 @@ pub fn pack_grow(a: Result<Growth, Refusal>) -> u64
     pack(splits.map_err(Refused::from))
 }
 
-// Writes the eight words of a leaf.
-fn put_leaf(out: &mut [u32], l: FoundLeaf)
-    requires { 8 ≤ length out.old }
-    ensures out { out.new ≡ leaf_put l out.old }
+// ---- the words that are written
+// Writes these words, and gives this number, or 11 where the table is too short.
+fn put(out: &mut [u32], words: &[u32], number: u32) -> u64
+    ensures answer { result ≡ cond (leb (length words.now) (length out.old)) (packed 0 number) (packed (number_of Room) 0) }
+    ensures out { out.new ≡ cond (leb (length words.now) (length out.old)) (sets out.old 0 words.now) out.old }
 {
-    let words = [
+    if out.len() < words.len() {
+        return refused(Refusal::Room);
+    }
+    records::put_words(out, 0, words);
+    pack(Ok(number as usize))
+}
+
+// The words of a leaf.
+fn leaf_words(l: FoundLeaf) -> [u32; LEAF_WORDS]
+    ensures words { result ≡ l.cell ∷ l.x ∷ l.y ∷ l.side ∷ l.steps ∷ l.entries ∷ l.lines ∷ word_of l.uniform ∷ [] }
+{
+    [
         l.cell,
         l.x,
         l.y,
@@ -94,8 +107,7 @@ fn put_leaf(out: &mut [u32], l: FoundLeaf)
         l.entries,
         l.lines,
         l.uniform.into(),
-    ];
-    records::put_words(out, 0, &words);
+    ]
 }
 
 // A leaf that was found, or 11.
@@ -104,26 +116,18 @@ pub fn put_found(out: &mut [u32], a: Result<FoundLeaf, Refusal>) -> u64
     ensures out { out.new ≡ leaf_written a out.old }
 {
     match a {
-        Ok(leaf) => {
-            if out.len() < LEAF_WORDS {
-                return refused(Refusal::Room);
-            }
-            put_leaf(out, leaf);
-            pack(Ok(leaf.cell as usize))
-        }
+        Ok(leaf) => put(out, &leaf_words(leaf), leaf.cell),
         Err(r) => refused(r),
     }
 }
 
-// ---- a position
-// Writes the six words of what shows, and the four of how far that reaches.
-fn put_spot(out: &mut [u32], s: Spot)
-    requires { 10 ≤ length out.old }
-    ensures out { out.new ≡ spot_put s out.old }
+// The six words of what shows, and the four of how far that reaches.
+fn spot_words(s: Spot) -> [u32; SPOT_WORDS]
+    ensures words { result ≡ (s.set % 4294967296) ∷ (s.set / 4294967296) ∷ s.material ∷ s.red ∷ s.green ∷ s.blue ∷ word_of s.uniform ∷ s.x ∷ s.y ∷ s.side ∷ [] }
 {
-    let words = [
-        (s.set % 4294967296) as u32,
-        (s.set / 4294967296) as u32,
+    [
+        s.set as u32,
+        (s.set >> 32) as u32,
         s.material,
         s.red,
         s.green,
@@ -132,8 +136,7 @@ fn put_spot(out: &mut [u32], s: Spot)
         s.x,
         s.y,
         s.side,
-    ];
-    records::put_words(out, 0, &words);
+    ]
 }
 
 // What shows, or 11.
@@ -142,13 +145,7 @@ pub fn put_shown(out: &mut [u32], a: Result<Spot, Refusal>) -> u64
     ensures out { out.new ≡ spot_written a out.old }
 {
     match a {
-        Ok(spot) => {
-            if out.len() < SPOT_WORDS {
-                return refused(Refusal::Room);
-            }
-            put_spot(out, spot);
-            pack(Ok(spot.material as usize))
-        }
+        Ok(spot) => put(out, &spot_words(spot), spot.material),
         Err(r) => refused(r),
     }
 }
@@ -159,7 +156,7 @@ fn low_half(n: usize) -> usize
     ensures answer { result ≡ low_half n }
     ensures range { result ≤ 4294967295 }
 {
-    n.min(4294967295)
+    n.min(u32::MAX as usize)
 }
 
 pub fn pack_log(a: Result<usize, Refused>) -> u64

@@ -62,6 +62,8 @@ module _ (v : Env) (D : Drawing) (c : Cell) (R : Reads v D) (t : List ℕ) (firs
         let room = standing_room v D c R (i - first) m.pruner m.waiting all w ws s few in
         let inside = standing_inside v D c R (i - first) m.pruner m.waiting all (w ∷ ws) few P.ready.areas s in
         record {
+          xs = P.ready.xs;
+          ys = P.ready.ys;
           inside = inside;
           room = room;
           left = standing_left v D c R (i - first) m.pruner m.waiting all w ws s;

@@ -29,9 +29,8 @@ pub struct Starts {
 }
 
 // The start number of the area that waits, behind those of the areas that stand. An area that goes again makes place for the next.
-fn note(at: &mut [i16], m: &Maker)
-    requires at_len { length at.old ≡ 64 }
-    requires start_bound { nat_abs (start_in m.now.waiting) ≤ 8192 }
+fn note(at: &mut [i16; records::MOST_AREAS], m: &Maker)
+    requires { nat_abs (start_in m.now.waiting) ≤ 8192 }
     ensures at { at.new ≡ noted_n at.old m.now.pruner m.now.waiting }
 {
     let start = m.waiting.map_or(0, |a| a.start);
@@ -99,11 +98,12 @@ pub fn write_child(
     ensures entries { entries.new ≡ written entries.old free (words_made
         (lent_passed context) (cell_in s) (words_from entries.old first count)) }
 {
-    let (used, out) = entries.split_at_mut(free * stream::ENTRY_WORDS);
+    let (used, end) = entries.split_at_mut(free * stream::ENTRY_WORDS);
+    let (out, _) = end.split_at_mut(made * stream::ENTRY_WORDS);
     let mut m = Maker::begun();
     for i in first..first + count {
         let w = stream::read_entry(used, i);
-        writing::write_entry(out, made, &mut m, context, s, w);
+        writing::write_entry(out, &mut m, context, s, w);
     }
-    writing::put_settled(out, made, context.areas, m);
+    writing::put_settled(out, context.areas, &m);
 }

@@ -19,9 +19,9 @@ use std::io::{ErrorKind, Read, Write};
 use tables::Tree;
 
 // "Its tables hold 1,024 cells and 4,096 entries"
-const CELLS: usize = 1024;
+const TABLE_CELLS: usize = 1024;
 
-const ENTRIES: usize = 4096;
+const TABLE_ENTRIES: usize = 4096;
 
 // "threshold 0 and depth limit 4"
 const THRESHOLD: u32 = 0;
@@ -36,6 +36,7 @@ pub struct Listed {
 }
 
 // "cell, key, side, entries, lines"
+// No `Display` for a line: this is the one place that prints one.
 fn print_line<W: Write>(out: &mut W, l: Line) -> io::Result<()>
     ensures { OnOk result (Appends (W.contents out.old) (W.contents out.new) (line_text l)) }
 {
@@ -80,9 +81,8 @@ fn list_grown(
     head: &mut [u32],
     cells: &mut [u32],
     entries: &mut [u32],
-    rows: &mut [u32],
+    rows: &mut [u32; listing::LIST_WORDS],
 ) -> Result<Listed, Refusal>
-    requires { 1280 ≤ length rows.old }
     ensures answer { result ≡ outcome_grown (tree_passed_mut drawing head cells entries) }
     ensures rows { rows.new ≡ rows_grown (tree_passed_mut drawing head cells entries) rows.old }
     ensures range { lines_of result ≤ 256 }
@@ -108,9 +108,8 @@ fn list_drawing(
     head: &mut [u32],
     cells: &mut [u32],
     entries: &mut [u32],
-    rows: &mut [u32],
+    rows: &mut [u32; listing::LIST_WORDS],
 ) -> Result<Listed, Refusal>
-    requires { 1280 ≤ length rows.old }
     ensures answer { result ≡ outcome (tree_passed_mut drawing head cells entries) }
     ensures rows { rows.new ≡ rows_after (tree_passed_mut drawing head cells entries) rows.old }
     ensures range { lines_of result ≤ 256 }
@@ -147,8 +146,8 @@ fn print_drawing<W: Write>(out: &mut W, drawing: Drawing) -> io::Result<()>
         (drawing_text drawing.entry.plan.now drawing.entry.areas.now drawing.entry.xs.now drawing.entry.ys.now)) }
 {
     let mut head = [0u32; celltable::HEAD_WORDS];
-    let mut cells = [0u32; CELLS * celltable::CELL_WORDS];
-    let mut entries = [0u32; ENTRIES * stream::ENTRY_WORDS];
+    let mut cells = [0u32; TABLE_CELLS * celltable::CELL_WORDS];
+    let mut entries = [0u32; TABLE_ENTRIES * stream::ENTRY_WORDS];
     let mut rows = [0u32; listing::LIST_WORDS];
     let outcome = list_drawing(drawing, &mut head, &mut cells, &mut entries, &mut rows);
     print_outcome(out, outcome, &rows)

@@ -12,7 +12,7 @@ use find_leaf::FoundLeaf;
 use tables::Tree;
 
 // The places that a low corner can have at a depth of at most 4.
-const CORNERS: u32 = 256;
+const LOW_CORNERS: u32 = 256;
 
 // The step from one of them to the next, in x and in y.
 const STEP: u32 = 4096;
@@ -21,7 +21,7 @@ const STEP: u32 = 4096;
 const LINE_WORDS: usize = 5;
 
 // The words of the longest list.
-pub const LIST_WORDS: usize = CORNERS as usize * LINE_WORDS;
+pub const LIST_WORDS: usize = LOW_CORNERS as usize * LINE_WORDS;
 
 // A line: a leaf that is listed.
 #[derive(Clone, Copy)]
@@ -98,7 +98,7 @@ fn put_line(rows: &mut [u32], n: usize, l: Line)
 }
 
 // Writes the lines of all leaves of a depth of at most 4, in key order, and gives how many there are; deeper leaves are left out. Any tables may be
-// handed in: a corner whose leaf would be refused has no line.
+// handed in: a corner whose leaf would be refused has no line. A longer table may be lent than the array of a list.
 pub fn list_leaves(tree: Tree, rows: &mut [u32]) -> usize
     requires { 1280 ≤ length rows.old }
     ensures answer { result ≡ length (listed (tree_passed tree)) }
@@ -106,7 +106,7 @@ pub fn list_leaves(tree: Tree, rows: &mut [u32]) -> usize
     ensures most { result ≤ 256 }
 {
     let mut n = 0;
-    for k in 0..CORNERS {
+    for k in 0..LOW_CORNERS {
         if let Some(line) = corner_at(tree, k) {
             put_line(rows, n, line);
             n += 1;

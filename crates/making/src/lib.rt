@@ -15,12 +15,12 @@ ghost use Rattle.pruning.specs.code.Pruner.{going};
 ghost use Rattle.pruning.specs.code.Counters.{ct, length_of};
 ghost use Rattle.pruner.specs.code.Numbers.{counted, skip_of, skip_number};
 ghost use Rattle.making.specs.code.Numbers.{left_sign, left_class, left_range, resting, with_class, with_left, waiting_from, waiting_n};
-ghost use Rattle.making.specs.code.Numbers.{class_n, settled_n, moved_n, prunes_n};
+ghost use Rattle.making.specs.code.Numbers.{class_n, settled_n, moved_n};
 ghost use Rattle.making.specs.code.Numbers.{pruned_n, start_in, weight_in, Room, AreaIn, Inside, Asks};
 
 use geometry::class::{Class, Square};
 use pruner::{ItemClass, Pruner};
-use stream::{Context, Words};
+use stream::{Context, Kind, Words};
 
 // What is made weighs 1 for each entry, LINE more for a line or a curve, AREA more for an area.
 pub const LINE: u64 = 65536;
@@ -71,12 +71,12 @@ pub fn left_of(context: Context, s: Square, w: Words) -> Left
     ensures answer { (result.sign ≡ left_sign context.entry.xs.now context.entry.ys.now w)
         × (result.class ≡ left_class context.entry.xs.now context.entry.ys.now s w) }
 {
-    if !stream::is_segment(w.kind) {
+    if !w.is_segment() {
         Left {
             sign: 0,
             class: Class::Dropped,
         }
-    } else if stream::is_line(w.kind) {
+    } else if w.is_line() {
         line_left(context.xs, context.ys, s, w)
     } else {
         shortcut_left(s, w)
@@ -85,6 +85,7 @@ pub fn left_of(context: Context, s: Square, w: Words) -> Left
 
 // ---- the area that waits
 // An area that waits for its lines, curves and shortcuts: its number, its start number, and its weight, with that of what is left of them.
+// That the number is that of an area is no ghost field: it is about the table of areas, which is lent beside this.
 #[derive(Clone, Copy, Debug, PartialEq, Eq)]
 pub struct Waiting {
     pub number: u32,
@@ -147,38 +148,31 @@ pub fn with_left(a: Option<Waiting>, left: Left) -> Option<Waiting>
 pub fn waiting_from(w: Words) -> Option<Waiting>
     ensures answer { result ≡ waiting_from w }
 {
-    if w.kind == stream::ENTRY_AREA {
-        Some(Waiting {
+    match w.named() {
+        Some(Kind::Area) => Some(Waiting {
             number: w.p,
             start: evaluate::start_of(w),
             weight: AREA_ALONE,
-        })
-    } else {
-        None
+        }),
+        _ => None,
     }
 }
 
 // ---- the pruner
-// After a delimiter, "passes", or an area, which only waits.
-fn moved(p: Pruner, kind: u32) -> Pruner
-    requires weight_bound { (p.weight < 2 ^ 61) × (p.base < 2 ^ 61) × (skip_number (skip_of p.skip) < 4096) × (p.depth ≤ 8) }
-    requires depth_bound { kind ≡ 1 → p.skip ≡ None → p.depth < 8 }
-    ensures answer { counted result ≡ moved_n kind (counted p) }
+// Goes on after entry w: a delimiter, "passes", or an area, which only waits.
+pub fn moved(p: &mut Pruner, w: Words)
+    requires weight_bound { (p.old.weight < 2 ^ 61) × (p.old.base < 2 ^ 61)
+        × (skip_number (skip_of p.old.skip) < 4096) × (p.old.depth ≤ 8) }
+    requires depth_bound { w.kind ≡ 1 → p.old.skip ≡ None → p.old.depth < 8 }
+    ensures answer { counted p.new ≡ moved_n w.kind (counted p.old) }
 {
-    match kind {
-        stream::ENTRY_OPEN => p.after_open(),
-        stream::ENTRY_BAR => p.after_bar(),
-        stream::ENTRY_CLOSE => p.after_close(),
-        stream::ENTRY_PASSES => p.after_item(false, ItemClass::Passes, 1),
-        _ => p,
+    match w.named() {
+        Some(Kind::Open) => p.after_open(),
+        Some(Kind::Bar) => p.after_bar(),
+        Some(Kind::Close) => p.after_close(),
+        Some(Kind::Passes) => p.after_item(false, ItemClass::Passes, 1),
+        _ => {}
     }
-}
-
-// Whether an entry of this kind is for the pruner: a line, a curve and a shortcut leave it as it is.
-pub fn prunes(kind: u32) -> bool
-    ensures answer { result ≡ prunes_n kind }
-{
-    !stream::is_segment(kind)
 }
 
 // ---- both
@@ -201,39 +195,25 @@ impl Maker {
         }
     }
 
-    // The pruner after the area that waits, if one does.
+    // The pruner goes on after the area that waits, if one does.
     #[inline(always)]
-    pub fn settled(self, areas: &[u32]) -> Pruner
-        requires inside { Inside (length areas.now) self.waiting }
-        requires weight_bound { (self.pruner.weight + weight_in self.waiting < 2 ^ 60) × (self.pruner.base < 2 ^ 60) }
-        ensures answer { counted result ≡ settled_n areas.now (counted self.pruner) self.waiting }
+    pub fn settle(&mut self, areas: &[u32])
+        requires inside { Inside (length areas.now) self.old.waiting }
+        requires weight_bound { (self.old.pruner.weight + weight_in self.old.waiting < 2 ^ 60) × (self.old.pruner.base < 2 ^ 60) }
+        ensures pruner { counted self.new.pruner ≡ settled_n areas.now (counted self.old.pruner) self.old.waiting }
+        ensures waiting { self.new.waiting ≡ resting }
     {
-        let Some(a) = self.waiting else {
-            return self.pruner;
-        };
-        let class = a.class(areas);
-        let paint = areas[(a.number as usize) * records::AREA_WORDS] == records::PAINT;
-        self.pruner.after_item(paint, class, a.weight)
-    }
-
-    // The pruner after an entry.
-    pub fn pruner_after(self, areas: &[u32], kind: u32) -> Pruner
-        requires inside { Inside (length areas.now) self.waiting }
-        requires room { Room self.pruner self.waiting kind }
-        ensures answer { counted result ≡ pruned_n areas.now (counted self.pruner) self.waiting kind }
-    {
-        if stream::is_segment(kind) {
-            self.pruner
-        } else {
-            moved(self.settled(areas), kind)
+        if let Some(a) = self.waiting {
+            let class = a.class(areas);
+            let paint = areas[(a.number as usize) * records::AREA_WORDS] == records::PAINT;
+            self.pruner.after_item(paint, class, a.weight);
+            self.waiting = None;
         }
     }
 
     // Goes on to the next entry, w.
     #[inline(always)]
     pub fn go_on(&mut self, context: Context, s: Square, w: Words)
-        requires corners_in_bounds { (context.bounds.corners ≤ length context.xs.now)
-            × (context.bounds.corners ≤ length context.ys.now) }
         requires square_in { SquareIn s }
         requires asks { Asks (env_of context) self.old w }
         ensures pruner { counted self.new.pruner ≡
@@ -242,21 +222,23 @@ impl Maker {
             waiting_n self.old.waiting (left_class context.entry.xs.now context.entry.ys.now s w)
             (left_sign context.entry.xs.now context.entry.ys.now w) w }
     {
-        if prunes(w.kind) {
-            self.pruner = self.pruner_after(context.areas, w.kind);
-            self.waiting = waiting_from(w);
-        } else {
+        if w.is_segment() {
             let left = left_of(context, s, w);
             self.waiting = with_left(self.waiting, left);
+        } else {
+            self.settle(context.areas);
+            moved(&mut self.pruner, w);
+            self.waiting = waiting_from(w);
         }
     }
 
     // The weight of what is made once the area that waits has settled.
-    pub fn weight(self, areas: &[u32]) -> u64
+    pub fn weight(mut self, areas: &[u32]) -> u64
         requires inside { Inside (length areas.now) self.waiting }
         requires weight_bound { (self.pruner.weight + weight_in self.waiting < 2 ^ 60) × (self.pruner.base < 2 ^ 60) }
         ensures answer { result ≡ length_of (settled_n areas.now (counted self.pruner) self.waiting) }
     {
-        self.settled(areas).weight
+        self.settle(areas);
+        self.pruner.weight
     }
 }

@@ -40,6 +40,7 @@ pub struct Frame {
 
 // `weight`: that of what is written. `base`: the weight of what stands before the side. `skip`: None where the side is read on, Some(m) where it is
 // skipped and m groups were opened since. `depth`: how many frames are in use.
+// The bounds on the weights are no ghost fields: a step may end at the bound that it asks for.
 #[derive(Clone, Copy, Debug, PartialEq, Eq)]
 pub struct Pruner {
     pub weight: u64,
@@ -70,81 +71,71 @@ impl Pruner {
     }
 
     // Frame d is the innermost, and is f.
-    fn framed(self, d: usize, f: Frame, weight: u64, base: u64, skip: Option<u32>) -> Pruner
+    fn frame(&mut self, d: usize, f: Frame, weight: u64, base: u64, skip: Option<u32>)
         requires { d < 8 }
-        ensures answer { counted result ≡ ct weight base (skip_of skip) (frame_of f ∷ frames_of self.frames d) }
+        ensures answer { counted self.new ≡ ct weight base (skip_of skip) (frame_of f ∷ frames_of self.old.frames d) }
     {
-        let mut frames = self.frames;
-        frames[d] = f;
-        Pruner {
-            weight,
-            base,
-            skip,
-            depth: d + 1,
-            frames,
-        }
+        self.weight = weight;
+        self.base = base;
+        self.skip = skip;
+        self.depth = d + 1;
+        self.frames[d] = f;
     }
 
     // An item of a paint side or of a clip side, of this class and weight.
-    pub fn after_item(self, paint: bool, class: ItemClass, weight: u64) -> Pruner
-        requires weight_bound { self.weight + weight < 2 ^ 62 }
-        requires base_bound { self.base < 2 ^ 62 }
-        ensures answer { counted result ≡
-            count_step sized_items size_of (counted self) (item (kind_of paint) (sized (class_of class) weight)) }
+    pub fn after_item(&mut self, paint: bool, class: ItemClass, weight: u64)
+        requires weight_bound { self.old.weight + weight < 2 ^ 62 }
+        requires base_bound { self.old.base < 2 ^ 62 }
+        ensures answer { counted self.new ≡
+            count_step sized_items size_of (counted self.old) (item (kind_of paint) (sized (class_of class) weight)) }
     {
         if self.skip.is_some() {
-            return self;
+            return;
         }
         match class {
-            ItemClass::Fails => self,
-            ItemClass::Passes if paint => Pruner {
-                weight: self.weight + weight,
-                skip: Some(0),
-                ..self
-            },
-            ItemClass::Passes => Pruner {
-                weight: self.base + 1,
-                skip: Some(0),
-                ..self
-            },
-            ItemClass::Neither => Pruner {
-                weight: self.weight + weight,
-                ..self
-            },
+            ItemClass::Fails => {}
+            ItemClass::Passes => {
+                self.weight = if paint {
+                    self.weight + weight
+                } else {
+                    self.base + 1
+                };
+                self.skip = Some(0);
+            }
+            ItemClass::Neither => self.weight += weight,
         }
     }
 
     // `(`
-    pub fn after_open(self) -> Pruner
-        requires weight_bound { self.weight < 2 ^ 62 }
-        requires skip_bound { skip_number (skip_of self.skip) < 4096 }
-        requires depth_bound { self.skip ≡ None → self.depth < 8 }
-        ensures answer { counted result ≡ count_step sized_items size_of (counted self) push }
+    pub fn after_open(&mut self)
+        requires weight_bound { self.old.weight < 2 ^ 62 }
+        requires skip_bound { skip_number (skip_of self.old.skip) < 4096 }
+        requires depth_bound { self.old.skip ≡ None → self.old.depth < 8 }
+        ensures answer { counted self.new ≡ count_step sized_items size_of (counted self.old) push }
     {
         if let Some(groups) = self.skip {
-            return Pruner {
-                skip: Some(groups + 1),
-                ..self
-            };
+            self.skip = Some(groups + 1);
+            return;
         }
         let left = Frame {
             mode: Mode::Left,
             start: self.weight,
             outer: self.base,
         };
-        self.framed(self.depth, left, self.weight + 1, self.weight + 1, None)
+        self.frame(self.depth, left, self.weight + 1, self.weight + 1, None);
     }
 
     // `|` of the innermost group, frame d.
-    fn at_bar(self, d: usize, f: Frame) -> Pruner
-        requires weight_bound { self.weight < 2 ^ 62 }
+    fn at_bar(&mut self, d: usize, f: Frame)
+        requires weight_bound { self.old.weight < 2 ^ 62 }
         requires d_bound { d < 8 }
-        requires top { frames_of self.frames self.depth ≡ frame_of f ∷ frames_of self.frames d }
-        ensures answer { counted result ≡
-            count_left sized_items size_of self.weight self.base (skip_of self.skip) (frames_of self.frames self.depth) }
+        requires top { frames_of self.old.frames self.old.depth ≡ frame_of f ∷ frames_of self.old.frames d }
+        ensures answer { counted self.new ≡
+            count_left sized_items size_of self.old.weight self.old.base (skip_of self.old.skip)
+            (frames_of self.old.frames self.old.depth) }
     {
         if f.mode != Mode::Left {
-            return self;
+            return;
         }
         if self.skip.is_some() {
             let through = Frame {
@@ -152,81 +143,73 @@ impl Pruner {
                 start: f.outer,
                 outer: f.outer,
             };
-            return self.framed(d, through, f.start, f.outer, None);
-        }
-        if self.weight == self.base {
+            self.frame(d, through, f.start, f.outer, None);
+        } else if self.weight == self.base {
             let dead = Frame {
                 mode: Mode::Dead,
                 start: f.outer,
                 outer: f.outer,
             };
-            return self.framed(d, dead, f.start, f.outer, Some(0));
+            self.frame(d, dead, f.start, f.outer, Some(0));
+        } else {
+            let right = Frame {
+                mode: Mode::Right,
+                ..f
+            };
+            self.frame(d, right, self.weight + 1, self.weight + 1, None);
         }
-        let right = Frame {
-            mode: Mode::Right,
-            ..f
-        };
-        self.framed(d, right, self.weight + 1, self.weight + 1, None)
     }
 
     // `)` of the innermost group, frame d.
-    fn at_close(self, d: usize, f: Frame) -> Pruner
-        requires weight_bound { self.weight < 2 ^ 62 }
-        requires top { frames_of self.frames self.depth ≡ frame_of f ∷ frames_of self.frames d }
-        ensures answer { counted result ≡
-            count_right sized_items size_of self.weight self.base (skip_of self.skip) (frames_of self.frames self.depth) }
+    fn at_close(&mut self, d: usize, f: Frame)
+        requires weight_bound { self.old.weight < 2 ^ 62 }
+        requires top { frames_of self.old.frames self.old.depth ≡ frame_of f ∷ frames_of self.old.frames d }
+        ensures answer { counted self.new ≡
+            count_right sized_items size_of self.old.weight self.old.base (skip_of self.old.skip)
+            (frames_of self.old.frames self.old.depth) }
     {
-        let outside = Pruner {
-            base: f.outer,
-            skip: None,
-            depth: d,
-            ..self
-        };
         match f.mode {
-            Mode::Left => self,
-            Mode::Right if self.weight == self.base => Pruner {
-                weight: f.start,
-                ..outside
-            },
-            Mode::Right => Pruner {
-                weight: self.weight + 1,
-                ..outside
-            },
-            Mode::Through => Pruner { depth: d, ..self },
-            Mode::Dead => outside,
+            Mode::Left => return,
+            Mode::Through => {
+                self.depth = d;
+                return;
+            }
+            Mode::Right if self.weight == self.base => self.weight = f.start,
+            Mode::Right => self.weight += 1,
+            Mode::Dead => {}
         }
+        self.base = f.outer;
+        self.skip = None;
+        self.depth = d;
     }
 
     // `|`
-    pub fn after_bar(self) -> Pruner
-        requires weight_bound { self.weight < 2 ^ 62 }
-        requires depth_bound { self.depth ≤ 8 }
-        ensures answer { counted result ≡ count_step sized_items size_of (counted self) activate }
+    pub fn after_bar(&mut self)
+        requires weight_bound { self.old.weight < 2 ^ 62 }
+        requires depth_bound { self.old.depth ≤ 8 }
+        ensures answer { counted self.new ≡ count_step sized_items size_of (counted self.old) activate }
     {
         if self.depth == 0 || matches!(self.skip, Some(1..)) {
-            return self;
+            return;
         }
         let d = self.depth - 1;
         let f = self.frames[d];
-        self.at_bar(d, f)
+        self.at_bar(d, f);
     }
 
     // `)`
-    pub fn after_close(self) -> Pruner
-        requires weight_bound { self.weight < 2 ^ 62 }
-        requires depth_bound { self.depth ≤ 8 }
-        ensures answer { counted result ≡ count_step sized_items size_of (counted self) pop }
+    pub fn after_close(&mut self)
+        requires weight_bound { self.old.weight < 2 ^ 62 }
+        requires depth_bound { self.old.depth ≤ 8 }
+        ensures answer { counted self.new ≡ count_step sized_items size_of (counted self.old) pop }
     {
         match self.skip {
-            Some(groups) if groups > 0 => Pruner {
-                skip: Some(groups - 1),
-                ..self
-            },
-            _ if self.depth == 0 => self,
+            Some(groups) if groups > 0 => self.skip = Some(groups - 1),
+            _ if self.depth == 0 => {}
             _ => {
                 let d = self.depth - 1;
                 let f = self.frames[d];
-                self.at_close(d, f)
+                self.at_close(d, f);
             }
         }
     }

@@ -22,10 +22,8 @@ use Rattle.evaluate.specs.Words.{words_of}
 use Rattle.making.specs.declared.Maker.{Maker}
 use Rattle.making.specs.Made.{elements_made, words_made}
 use Rattle.making.specs.code.Numbers.{resting, left_sign, left_class, waiting_n, pruned_n}
-use Rattle.making.proofs.Made.{made_length}
 use Rattle.making.proofs.Whole.{all_of, standing_start}
 use Rattle.writing.specs.code.Numbers.{settled_put, one_put}
-use Rattle.writing.proofs.Same.{same_refl}
 use Rattle.writing.proofs.Written.{Writes}
 use Rattle.writing.proofs.Turn.{Writing, writing_next}
 use Rattle.writing.proofs.Whole.{written_end}
@@ -36,40 +34,37 @@ use Rattle.root_stream.proofs.Ahead.{stride_some, Ahead, ahead_next, ahead_none}
 use Rattle.root_stream.proofs.Base.{Base}
 use Rattle.root_stream.proofs.Loop.{Looping}
 
--- the table t was t₀: what is made so far, and the rest as it was
-pub record Filling (v : Env) (D : Drawing) (plan : List ℕ) (records : ℕ) (all : List Words) (limit : ℕ) (t₀ : List ℕ) (i : ℕ) (s : Source)
-    (m : Maker) (t : List ℕ) : Type 0 where
+-- what is made so far stands in the table t, which is lent for it
+pub record Filling (v : Env) (D : Drawing) (plan : List ℕ) (records : ℕ) (all : List Words) (limit i : ℕ) (s : Source) (m : Maker)
+    (t : List ℕ) : Type 0 where
   pub ws : List Words
   pub ahead : Ahead plan records i s ws
   pub done : ℕ
   pub early : done ≤ i
-  pub writing : Writing v D root done m ws (all_of D root all) limit t₀ t
+  pub writing : Writing v D root done m ws (all_of D root all) limit t
 
-module _ (v : Env) (D : Drawing) (plan : List ℕ) (records : ℕ) (all : List Words) (B : Base v D plan records all) (limit : ℕ) (t₀ : List ℕ)
-    (room : limit * 4 ≤ length t₀) where
-  pub fill_begin : (s : Source) (m : Maker)
+module _ (v : Env) (D : Drawing) (plan : List ℕ) (records : ℕ) (all : List Words) (B : Base v D plan records all) (limit : ℕ) where
+  pub fill_begin : (s : Source) (m : Maker) (t : List ℕ)
       → s ≡ source_at 0 0 0
       → counted m.pruner ≡ ct 0 0 going []
       → m.waiting ≡ resting
-      → Filling v D plan records all limit t₀ 0 s m t₀
-  fill_begin s m y e f =
+      → length t ≡ limit * 4
+      → Filling v D plan records all limit 0 s m t
+  fill_begin s m t y e f n =
       let x = standing_start v D root B.reads all B.grammar m.pruner m.waiting e f in
-      let none : Writes limit t₀ (begun D root) = record { done = tt; behind = λ q. tt } in
+      let none : Writes limit t (begun D root) = record { done = tt; behind = λ q. tt } in
       record {
         ws = all;
         ahead = rw y B.begin;
         done = 0;
         early = omega arith;
-        writing = record { standing = x.0; writes = subst (λ (z : Making). Writes limit t₀ z) (sym x.1) none; same = same_refl limit t₀ };
+        writing = record { standing = x.0; writes = subst (λ (z : Making). Writes limit t z) (sym x.1) none; size = n };
       }
 
   -- where the table is t
-  module _ (i : ℕ) (s : Source) (m : Maker) (t : List ℕ) (f : Filling v D plan records all limit t₀ i s m t) where
+  module _ (i : ℕ) (s : Source) (m : Maker) (t : List ℕ) (f : Filling v D plan records all limit i s m t) where
     pub looping : Looping v D plan records all i s m
     looping = record { ws = f.ws; ahead = f.ahead; done = f.done; early = f.early; standing = f.writing.standing }
-
-    pub room_now : limit * 4 ≤ length t
-    room_now = omega (arith, f.writing.same.size)
 
     few : f.done ≤ 4096
     few = omega (arith, B.few, f.early, f.ahead.whole)
@@ -83,14 +78,14 @@ module _ (v : Env) (D : Drawing) (plan : List ℕ) (records : ℕ) (all : List W
         → z ≡ left_sign v.xs v.ys w
         → counted n.pruner ≡ pruned_n v.areas (counted m.pruner) m.waiting w.kind
         → n.waiting ≡ waiting_n m.waiting g z w
-        → u ≡ one_put limit v.areas t m g z w n.pruner.weight
+        → u ≡ one_put v.areas t m g z w n.pruner.weight
         → s' ≡ after_n s (kind_n plan records i) (kind_n plan records (i + 1))
         → j ≡ i + stride_n (kind_n plan records (i + 1))
-        → Filling v D plan records all limit t₀ j s' n u
+        → Filling v D plan records all limit j s' n u
     fill_turn h n w q g z s' j u e b r x y hp ha hu hs hj =
         let next = ahead_next plan records i s f.ws f.ahead h in
-        let now : Writing v D root f.done m (w ∷ next.0) (all_of D root all) limit t₀ t =
-        subst (λ (ws : List Words). Writing v D root f.done m ws (all_of D root all) limit t₀ t)
+        let now : Writing v D root f.done m (w ∷ next.0) (all_of D root all) limit t =
+        subst (λ (ws : List Words). Writing v D root f.done m ws (all_of D root all) limit t)
         (next.1 ∙ ap (λ (k : Words). k ∷ next.0) (sym e)) f.writing in
         record {
           ws = next.0;
@@ -98,25 +93,23 @@ module _ (v : Env) (D : Drawing) (plan : List ℕ) (records : ℕ) (all : List W
           done = f.done + 1;
           early = omega (arith, f.early, stride_some (kind_n plan records (i + 1)), hj);
           writing =
-              writing_next v D root B.reads f.done m (all_of D root all) limit t₀ t few room_now w next.0 now u n.pruner.weight g z
+              writing_next v D root B.reads f.done m (all_of D root all) limit t few w next.0 now u n.pruner.weight g z
               (x ∙ ap (λ (a : Square). left_class v.xs v.ys a w) r) y hu n refl b hp ha;
         }
 
     -- where no record is left
-    module _ (h : records ≤ i) (exact : limit ≡ length (elements_made D root all)) where
-      length_made : length (words_made D root all) ≡ limit
-      length_made = made_length D root all ∙ sym exact
+    pub fill_end : records ≤ i → limit ≡ length (elements_made D root all) → (u : List ℕ) → u ≡ settled_put v.areas t m
+        → u ≡ flat (words_made D root all)
+    fill_end h exact u hu =
+        let last : Writing v D root f.done m [] (all_of D root all) limit t = subst
+        (λ (ws : List Words). Writing v D root f.done m ws (all_of D root all) limit t) (ahead_none plan records i s f.ws f.ahead h) f.writing in
+        hu ∙ written_end v D root B.reads all B.grammar f.done m limit t few exact last
 
-      pub fill_end : (u : List ℕ) → u ≡ settled_put limit v.areas t m → u ≡ written t₀ 0 (words_made D root all)
-      fill_end u hu =
-          let last : Writing v D root f.done m [] (all_of D root all) limit t₀ t = subst
-          (λ (ws : List Words). Writing v D root f.done m ws (all_of D root all) limit t₀ t) (ahead_none plan records i s f.ws f.ahead h)
-          f.writing in
-          let size : 0 + length (words_made D root all) ≡ limit = omega (arith, length_made) in
-          hu
-          ∙ (written_end v D root B.reads all B.grammar f.done m limit t₀ t few room_now exact last
-          ∙ (ap (λ (n : ℕ). flat (words_made D root all) ++ drop (n * 4) t₀) (sym size)
-          ∙ sym (written_eq t₀ 0 (words_made D root all) (omega (arith, length_made)))))
+-- what was lent, with the rest of the table behind it
+pub front_written : (t : List ℕ) (ws : List Words) (limit : ℕ) → length ws ≡ limit → limit * 4 ≤ length t → flat ws ++ drop (limit * 4) t ≡ written t 0 ws
+front_written t ws limit e h =
+    let size : 0 + length ws ≡ limit = omega (arith, e) in
+    ap (λ (n : ℕ). flat ws ++ drop (n * 4) t) (sym size) ∙ sym (written_eq t 0 ws (omega (arith, e)))
 
 -- the words of the same elements
 pub words_opened_law : (t : Tables) (D : Drawing) (all : List Words) → elements_made D root all ≡ elements_opened t → words_made D root all ≡ words_opened t

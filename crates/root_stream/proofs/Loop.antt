@@ -90,6 +90,8 @@ module _ (v : Env) (D : Drawing) (plan : List ℕ) (records : ℕ) (all : List W
         let room = standing_room v D root B.reads l.done m.pruner m.waiting all w next.0 s few in
         let inside = standing_inside v D root B.reads l.done m.pruner m.waiting all (w ∷ next.0) few B.ready.areas s in
         record {
+          xs = B.ready.xs;
+          ys = B.ready.ys;
           inside = inside;
           room = room;
           left = standing_left v D root B.reads l.done m.pruner m.waiting all w next.0 s;

@@ -191,15 +191,16 @@ pub fn write_open(
         bounds,
     };
     let s = root_square();
+    let (out, _) = entries.split_at_mut(made * stream::ENTRY_WORDS);
     let mut m = Maker::begun();
     let mut source = Source::begun();
     let mut i = 0;
     while let Some(kind) = kind_at(drawing.plan, i, records) {
         let behind = kind_at(drawing.plan, i + 1, records);
         let w = source.entry(kind, behind);
-        writing::write_entry(entries, made, &mut m, context, s, w);
+        writing::write_entry(out, &mut m, context, s, w);
         source = source.after(kind, behind);
         i += stride(behind);
     }
-    writing::put_settled(entries, made, drawing.areas, m);
+    writing::put_settled(out, drawing.areas, &m);
 }

@@ -2,13 +2,13 @@
 use mathlib.Core.Path.{◌≡◌, refl, sym, ap₂, subst, ◌∙◌}
 use mathlib.Core.Bool.{Bool, true, false, cond}
 use mathlib.Core.List.{List, [], ◌∷◌, ◌++◌, map}
-use Prim.Native.Nat.{ℕ, zero, suc, ◌+◌, ◌*◌, ◌≤◌, ◌<◌}
+use Prim.Native.Nat.{ℕ, zero, suc, ◌+◌, ◌*◌, ◌/◌, ◌≤◌, ◌<◌}
 use native.Mathlib.Omega.{arith}
 use native.Mathlib.Nat.{add-zero}
 use lib.Dec.{ltb}
-use lib.ListN.{length, get_or, take, drop, set}
-use lib.Seq.{get_or-set_other, drop-set-lt}
-use borrow.Author.Tests.{lt-ltb, ltb-true}
+use lib.ListN.{length, get_or, take, set}
+use lib.Seq.{get_or-set_other}
+use borrow.Author.Tests.{lt-ltb}
 use Rattle.stream.specs.declared.Words.{Words}
 use Rattle.stream.specs.Table.{words_at, words_from, put_at}
 use Rattle.stream.proofs.Table.{put_same, length_put}
@@ -48,41 +48,28 @@ put_other t i j w h =
         ∙ (get_or-set_other t₁ (j * 4 + 1) k w.p 0 (λ f. differ k x 1 e a (omega arith) f)
         ∙ get_or-set_other t (j * 4) k w.kind 0 (λ f. differ k x 0 e a (omega arith) (f ∙ sym (add-zero (j * 4))))))
 
+pub below_other : (t : List ℕ) (i at : ℕ) (w : Words) → (i ≡ at → ⊥) → words_at (put_below t at w) i ≡ words_at t i
+unfolding put_below
+below_other t i at w h = go (ltb at (length t / 4))
+  where
+    go : (b : Bool) → words_at (cond b (put_at t at w) t) i ≡ words_at t i
+    go true = put_other t i at w h
+    go false = refl
+
+pub below_length : (t : List ℕ) (at : ℕ) (w : Words) → length (put_below t at w) ≡ length t
+unfolding put_below
+below_length t at w = go (ltb at (length t / 4))
+  where
+    go : (b : Bool) → length (cond b (put_at t at w) t) ≡ length t
+    go true = length_put t at w
+    go false = refl
+
 module _ (limit : ℕ) where
-  pub below_other : (t : List ℕ) (i at : ℕ) (w : Words) → (i ≡ at → ⊥) → words_at (put_below limit t at w) i ≡ words_at t i
+  pub below_here : (t : List ℕ) (at : ℕ) (w : Words) → limit * 4 ≤ length t → at < limit → words_at (put_below t at w) at ≡ w
   unfolding put_below
-  below_other t i at w h = go (ltb at limit)
-    where
-      go : (b : Bool) → words_at (cond b (put_at t at w) t) i ≡ words_at t i
-      go true = put_other t i at w h
-      go false = refl
-
-  pub below_here : (t : List ℕ) (at : ℕ) (w : Words) → limit * 4 ≤ length t → at < limit → words_at (put_below limit t at w) at ≡ w
-  unfolding put_below
-  below_here t at w r h = rw (lt-ltb at limit h) (put_same t at w (omega arith))
-
-  pub below_length : (t : List ℕ) (at : ℕ) (w : Words) → length (put_below limit t at w) ≡ length t
-  unfolding put_below
-  below_length t at w = go (ltb at limit)
-    where
-      go : (b : Bool) → length (cond b (put_at t at w) t) ≡ length t
-      go true = length_put t at w
-      go false = refl
-
-  -- what stands from the limit on is as it was
-  pub below_rest : (t : List ℕ) (at : ℕ) (w : Words) → drop (limit * 4) (put_below limit t at w) ≡ drop (limit * 4) t
-  unfolding put_below
-  below_rest t at w = go (ltb at limit) refl
-    where
-      go : (b : Bool) → ltb at limit ≡ b → drop (limit * 4) (cond b (put_at t at w) t) ≡ drop (limit * 4) t
-      go true e =
-          let h : at < limit = ltb-true at limit e in
-          let d : at * 4 < limit * 4 = omega arith in
-          let d₁ : at * 4 + 1 < limit * 4 = omega arith in
-          let d₂ : at * 4 + 2 < limit * 4 = omega arith in
-          let d₃ : at * 4 + 3 < limit * 4 = omega arith in
-          simp drop-set-lt
-      go false e = refl
+  below_here t at w r h =
+      let l : at < length t / 4 = omega arith in
+      rw (lt-ltb at (length t / 4) l) (put_same t at w (omega arith))
 
   -- ---- elements from entry `at` on, as far as they stand below the limit
   abbrev pub Agree : List ℕ → ℕ → List Element → Type 0
@@ -101,11 +88,11 @@ module _ (limit : ℕ) where
   agree_take t at (suc p) (r ∷ x) a = (a.0, agree_take t (at + 1) p x a.1)
 
   -- an entry behind them, or before them, leaves them
-  pub agree_behind : (t : List ℕ) (at : ℕ) (x : List Element) (p : ℕ) (w : Words) → at + length x ≤ p → Agree t at x → Agree (put_below limit t p w) at x
+  pub agree_behind : (t : List ℕ) (at : ℕ) (x : List Element) (p : ℕ) (w : Words) → at + length x ≤ p → Agree t at x → Agree (put_below t p w) at x
   agree_behind t at [] p w h a = tt
   agree_behind t at (r ∷ x) p w h a = (λ l. below_other t at p w (λ e. omega arith) ∙ a.0 l, agree_behind t (at + 1) x p w (omega arith) a.1)
 
-  pub agree_before : (t : List ℕ) (at : ℕ) (x : List Element) (p : ℕ) (w : Words) → p < at → Agree t at x → Agree (put_below limit t p w) at x
+  pub agree_before : (t : List ℕ) (at : ℕ) (x : List Element) (p : ℕ) (w : Words) → p < at → Agree t at x → Agree (put_below t p w) at x
   agree_before t at [] p w h a = tt
   agree_before t at (r ∷ x) p w h a = (λ l. below_other t at p w (λ e. omega arith) ∙ a.0 l, agree_before t (at + 1) x p w (omega arith) a.1)
 
@@ -113,9 +100,9 @@ module _ (limit : ℕ) where
   pub agree_more : (t : List ℕ) (at : ℕ) (x : List Element) (r : Element)
       → limit * 4 ≤ length t
       → Agree t at x
-      → Agree (put_below limit t (at + length x) (words_of r)) at (x ++ (r ∷ []))
+      → Agree (put_below t (at + length x) (words_of r)) at (x ++ (r ∷ []))
   agree_more t at x r h a =
-      agree_append (put_below limit t (at + length x) (words_of r)) at x (r ∷ [])
+      agree_append (put_below t (at + length x) (words_of r)) at x (r ∷ [])
       (agree_behind t at x (at + length x) (words_of r) (omega arith) a) (λ l. below_here t (at + length x) (words_of r) h l, tt)
 
   -- elements up to the limit

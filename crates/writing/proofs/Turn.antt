@@ -45,18 +45,21 @@ use Rattle.making.proofs.Standing.{Reads, sign_same, class_same, Standing}
 use Rattle.making.proofs.Turn.{standing_elements, weight_is}
 use Rattle.writing.specs.code.Numbers.{put_below, place_of, segment_put, settled_put, one_put}
 use Rattle.writing.proofs.Agree.{Agree}
-use Rattle.writing.proofs.Same.{Same, same_then, same_settled, same_one}
+use Rattle.writing.proofs.Same.{same_settled, same_one}
 use Rattle.writing.proofs.Places.{Moves, open_moves, bar_moves, close_moves}
 use Rattle.writing.proofs.Written.{going_is, Writes, mark_agrees, bare_agrees, settle_agrees, segment_writes}
 
--- the table t was t₀; what is made so far stands in it
-pub record Writing (v : Env) (D : Drawing) (c : Cell) (k : ℕ) (mk : Maker) (ws : List Words) (whole : Making) (limit : ℕ) (t₀ t : List ℕ) : Type 0 where
+-- what is made so far stands in the table t, which has as many entries as are made in the end
+pub record Writing (v : Env) (D : Drawing) (c : Cell) (k : ℕ) (mk : Maker) (ws : List Words) (whole : Making) (limit : ℕ) (t : List ℕ) : Type 0 where
   pub standing : Standing v D c k mk.pruner mk.waiting ws whole
   pub writes : Writes limit t standing.elements
-  pub same : Same limit t₀ t
+  pub size : length t ≡ limit * 4
 
-module _ (v : Env) (D : Drawing) (c : Cell) (R : Reads v D) (k : ℕ) (mk : Maker) (whole : Making) (limit : ℕ) (t₀ t : List ℕ) (l : k ≤ 4096)
-    (room : limit * 4 ≤ length t) (w : Words) (ws : List Words) (s : Writing v D c k mk (w ∷ ws) whole limit t₀ t) where
+module _ (v : Env) (D : Drawing) (c : Cell) (R : Reads v D) (k : ℕ) (mk : Maker) (whole : Making) (limit : ℕ) (t : List ℕ) (l : k ≤ 4096)
+    (w : Words) (ws : List Words) (s : Writing v D c k mk (w ∷ ws) whole limit t) where
+  room : limit * 4 ≤ length t
+  room = omega (arith, s.size)
+
   abbrev elements : Making
   elements = s.standing.elements
 
@@ -79,13 +82,13 @@ module _ (v : Env) (D : Drawing) (c : Cell) (R : Reads v D) (k : ℕ) (mk : Make
 
   -- after the area that waits
   abbrev settled : List ℕ
-  settled = settled_put limit areas t mk
+  settled = settled_put areas t mk
 
   stands : Agree limit settled 0 (out_of (settle D c elements))
   stands = settle_agrees limit areas D c R.agrees k mk elements t l room s.standing.follows s.writes
 
   roomy : limit * 4 ≤ length settled
-  roomy = omega (arith, room, (same_settled limit areas t mk).size)
+  roomy = omega (arith, room, same_settled areas t mk)
 
   small : length (out_of (settle D c elements)) < 65536
   small = omega (arith, settle_short areas D c R.agrees k mk.pruner mk.waiting elements s.standing.follows, l)
@@ -103,12 +106,12 @@ module _ (v : Env) (D : Drawing) (c : Cell) (R : Reads v D) (k : ℕ) (mk : Make
       → n ≡ total element_size (out_of x)
       → u
       ≡ cond (ltb (length_of (settled_n areas (counted mk.pruner) mk.waiting)) n)
-      (put_below limit settled (place_of (length_of (settled_n areas (counted mk.pruner) mk.waiting))) (words kind 0 0 0)) settled
+      (put_below settled (place_of (length_of (settled_n areas (counted mk.pruner) mk.waiting))) (words kind 0 0 0)) settled
       → Writes limit u (making x nothing)
   marked kind n r x u e z m h g = resting u x (rw (g, counts, h) (mark_agrees limit settled (settle D c elements) r kind (out_of x) e z roomy small m stands))
 
   module _ (u : List ℕ) (n : ℕ) (f : Class) (z : ℤ) (hf : f ≡ left_class v.xs v.ys (square_of c) w)
-      (hz : z ≡ left_sign v.xs v.ys w) (hu : u ≡ one_put limit areas t mk f z w n) where
+      (hz : z ≡ left_sign v.xs v.ys w) (hu : u ≡ one_put areas t mk f z w n) where
     on_open : w.kind ≡ 1 → n ≡ total element_size (out_of (state_of (next Entries.opens))) → Writes limit u (next Entries.opens)
     on_open e h = marked 1 n Elements.opens (prune D c (settle D c elements) push) u refl refl (open_moves D c (settle D c elements)) h (rw e at hu)
 
@@ -122,7 +125,7 @@ module _ (v : Env) (D : Drawing) (c : Cell) (R : Reads v D) (k : ℕ) (mk : Make
     on_passes e =
         let g : u
         ≡ cond (eqb (skip_in (settled_n areas (counted mk.pruner) mk.waiting)) 0)
-        (put_below limit settled (place_of (base_of (settled_n areas (counted mk.pruner) mk.waiting))) (words 7 0 0 0)) settled =
+        (put_below settled (place_of (base_of (settled_n areas (counted mk.pruner) mk.waiting))) (words 7 0 0 0)) settled =
         rw e at hu in
         resting u (prune D c (settle D c elements) (item clip always))
         (rw (g, counts, going_is (settle D c elements))
@@ -133,7 +136,7 @@ module _ (v : Env) (D : Drawing) (c : Cell) (R : Reads v D) (k : ℕ) (mk : Make
     on_area e h =
         let g : u
         ≡ cond (ltb (length_of (settled_n areas (counted mk.pruner) mk.waiting)) n)
-        (put_below limit settled (place_of (length_of (settled_n areas (counted mk.pruner) mk.waiting))) (words 4 0 0 0)) settled =
+        (put_below settled (place_of (length_of (settled_n areas (counted mk.pruner) mk.waiting))) (words 4 0 0 0)) settled =
         rw e at hu in
         record {
           done = rw (
@@ -154,7 +157,7 @@ module _ (v : Env) (D : Drawing) (c : Cell) (R : Reads v D) (k : ℕ) (mk : Make
         let b : SegmentBelow v.used.corners g = range_below v.xs v.ys v.used.corners w (in_segment v w e h.range) in
         let x : f ≡ class_on v.xs v.ys (square_of c) g = rw e at hf in
         let y : z ≡ sign_of v.xs v.ys g = rw e at hz in
-        let q : u ≡ segment_put limit t mk f z w = rw e at hu in
+        let q : u ≡ segment_put t mk f z w = rw e at hu in
         rw (element_segment w [] e, q, x, y, ← sign_same v D R g b, ← class_same v D R (square_of c) g b)
         (segment_writes limit areas D c R.agrees k mk elements t g w l room kept_line s.standing.follows s.writes)
 
@@ -163,7 +166,7 @@ module _ (v : Env) (D : Drawing) (c : Cell) (R : Reads v D) (k : ℕ) (mk : Make
         → w.q < 4294967296
         → counted nk.pruner ≡ pruned_n areas (counted mk.pruner) mk.waiting w.kind
         → nk.waiting ≡ waiting_n mk.waiting f z w
-        → Writing v D c (k + 1) nk ws whole limit t₀ u
+        → Writing v D c (k + 1) nk ws whole limit u
     writing_next nk hn q hp ha =
         let x = standing_elements v D c R k mk.pruner mk.waiting whole w ws s.standing nk.pruner nk.waiting hp (rw (← hf, ← hz) ha) q in
         let m : n ≡ total element_size (out_of (state_of (next (decode w)))) = hn
@@ -178,5 +181,5 @@ module _ (v : Env) (D : Drawing) (c : Cell) (R : Reads v D) (k : ℕ) (mk : Make
         record {
           standing = x.0;
           writes = subst (λ (y : Making). Writes limit u y) (sym x.1) y;
-          same = same_then limit s.same (rw hu (same_one limit areas t mk f z w n));
+          size = ap length hu ∙ (same_one areas t mk f z w n ∙ s.size);
         }

@@ -1,11 +1,11 @@
--- A table whose front is what was made: as a whole.
+-- A table of what was made, as a whole.
 use mathlib.Core.Path.{◌≡◌, refl, sym, ap, ap₂, subst, ◌∙◌}
 use mathlib.Core.Bool.{true}
 use mathlib.Core.List.{List, [], ◌∷◌, ◌++◌}
 use Prim.Native.Nat.{ℕ, zero, suc, ◌+◌, ◌*◌, ◌≤◌, ◌<◌}
 use native.Mathlib.Omega.{arith}
-use lib.ListN.{length, get_or, take, drop, take-append-drop}
-use lib.Seq.{drop-cons}
+use lib.ListN.{length, get_or, take, drop}
+use lib.Seq.{drop-cons, take-length}
 use Rattle.pruning.specs.code.Effects.{out_of}
 use Rattle.cells.specs.Cells.{Cell}
 use Rattle.cells.specs.Drawings.{Drawing}
@@ -17,12 +17,11 @@ use Rattle.stream.specs.Grammar.{Env, accepts}
 use Rattle.evaluate.specs.Reading.{elements_in}
 use Rattle.making.specs.declared.Maker.{Maker}
 use Rattle.making.specs.Made.{elements_made, words_made}
-use Rattle.making.proofs.Made.{made_length}
 use Rattle.making.proofs.Standing.{Reads}
 use Rattle.making.proofs.Whole.{all_of, elements_all}
 use Rattle.writing.specs.code.Numbers.{settled_put}
 use Rattle.writing.proofs.Agree.{Agree, agree_all}
-use Rattle.writing.proofs.Same.{Same, same_then, same_settled}
+use Rattle.writing.proofs.Same.{same_settled}
 use Rattle.writing.proofs.Written.{settle_agrees}
 use Rattle.writing.proofs.Turn.{Writing}
 
@@ -53,39 +52,33 @@ words_flat t i (suc n) h =
     (ap (λ (x : List ℕ). get_or t (i * 4) 0 ∷ get_or t (i * 4 + 1) 0 ∷ get_or t (i * 4 + 2) 0 ∷ get_or t (i * 4 + 3) 0 ∷ x)
     (words_flat t (i + 1) n (omega arith)))
 
--- ---- a table whose first entries are ws, and which is as it was behind them
-pub table_is : (t₀ t : List ℕ) (limit : ℕ) (ws : List Words)
-    → limit * 4 ≤ length t
-    → limit ≡ length ws
-    → Same limit t₀ t
-    → words_from t 0 limit ≡ ws
-    → t ≡ flat ws ++ drop (limit * 4) t₀
-table_is t₀ t limit ws h l s e =
+-- ---- a table of the entries ws
+pub table_is : (t : List ℕ) (limit : ℕ) (ws : List Words) → length t ≡ limit * 4 → words_from t 0 limit ≡ ws → t ≡ flat ws
+table_is t limit ws h e =
     let d : (0 + limit) * 4 ≤ length t = omega arith in
-    sym (take-append-drop (limit * 4) t) ∙ ap₂ (λ (x y : List ℕ). x ++ y) (words_flat t 0 limit d ∙ ap flat e) s.rest
+    let a : take (limit * 4) t ≡ t = ap (λ n. take n t) (sym h) ∙ take-length t in
+    sym a ∙ (words_flat t 0 limit d ∙ ap flat e)
 
--- the end of the table is what was made
+-- in the end the table is what was made
 module _ (v : Env) (D : Drawing) (c : Cell) (R : Reads v D) (all : List Words) (accepted : accepts v all ≡ true) (k : ℕ) (mk : Maker)
-    (limit : ℕ) (t₀ t : List ℕ) (l : k ≤ 4096) (room : limit * 4 ≤ length t) (exact : limit ≡ length (elements_made D c all))
-    (s : Writing v D c k mk [] (all_of D c all) limit t₀ t) where
+    (limit : ℕ) (t : List ℕ) (l : k ≤ 4096) (exact : limit ≡ length (elements_made D c all))
+    (s : Writing v D c k mk [] (all_of D c all) limit t) where
+  room : limit * 4 ≤ length t
+  room = omega (arith, s.size)
+
   elements_end : s.standing.elements ≡ all_of D c all
   unfolding elements_in
   elements_end = s.standing.ahead
 
-  agrees_end : Agree limit (settled_put limit v.areas t mk) 0 (elements_made D c all)
+  agrees_end : Agree limit (settled_put v.areas t mk) 0 (elements_made D c all)
   agrees_end =
-      subst (λ (x : List Element). Agree limit (settled_put limit v.areas t mk) 0 x)
+      subst (λ (x : List Element). Agree limit (settled_put v.areas t mk) 0 x)
       (ap (λ (m : Making). out_of (settle D c m)) elements_end ∙ elements_all v D c R all accepted)
       (settle_agrees limit v.areas D c R.agrees k mk s.standing.elements t l room s.standing.follows s.writes)
 
-  pub written_end : settled_put limit v.areas t mk ≡ flat (words_made D c all) ++ drop (limit * 4) t₀
+  pub written_end : settled_put v.areas t mk ≡ flat (words_made D c all)
   unfolding words_made
   written_end =
-      let a : Same limit t₀ (settled_put limit v.areas t mk) = same_then limit s.same (same_settled limit v.areas t mk) in
-      table_is t₀ (settled_put limit v.areas t mk) limit (words_made D c all)
-      (omega (arith, room, (same_settled limit v.areas t mk).size)) (exact ∙ sym (made_length D c all)) a
-      (subst (λ (n : ℕ). words_from (settled_put limit v.areas t mk) 0 n ≡ words_made D c all) (sym exact)
-      (agree_all limit (settled_put limit v.areas t mk) 0 (elements_made D c all) (omega arith) agrees_end))
-
-  pub size_end : length (settled_put limit v.areas t mk) ≡ length t
-  size_end = (same_settled limit v.areas t mk).size
+      table_is (settled_put v.areas t mk) limit (words_made D c all) (same_settled v.areas t mk ∙ s.size)
+      (subst (λ (n : ℕ). words_from (settled_put v.areas t mk) 0 n ≡ words_made D c all) (sym exact)
+      (agree_all limit (settled_put v.areas t mk) 0 (elements_made D c all) (omega arith) agrees_end))

@@ -86,19 +86,19 @@ module _ (limit : ℕ) where
       → limit * 4 ≤ length t
       → Agree limit t 0 out
       → Agree limit t (length out + 1) gs
-      → Agree limit (put_below limit t (length out) (words_of r)) 0 (out ++ (r ∷ gs))
+      → Agree limit (put_below t (length out) (words_of r)) 0 (out ++ (r ∷ gs))
   item_agrees t out gs r h a b =
-      agree_append limit (put_below limit t (length out) (words_of r)) 0 out (r ∷ gs) (agree_behind limit t 0 out (length out) (words_of r) (omega arith) a)
-      (subst (λ (n : ℕ). Agree limit (put_below limit t (length out) (words_of r)) n (r ∷ gs)) (sym (zero-add (length out)))
+      agree_append limit (put_below t (length out) (words_of r)) 0 out (r ∷ gs) (agree_behind limit t 0 out (length out) (words_of r) (omega arith) a)
+      (subst (λ (n : ℕ). Agree limit (put_below t (length out) (words_of r)) n (r ∷ gs)) (sym (zero-add (length out)))
       (λ l. below_here limit t (length out) (words_of r) h l, agree_before limit t (length out + 1) gs (length out) (words_of r) (omega arith) b))
 
   back_agrees : (t : List ℕ) (out : List Element) (b : ℕ) (r : Element)
       → limit * 4 ≤ length t
       → b ≤ length out
       → Agree limit t 0 out
-      → Agree limit (put_below limit t b (words_of r)) 0 (take b out ++ (r ∷ []))
+      → Agree limit (put_below t b (words_of r)) 0 (take b out ++ (r ∷ []))
   back_agrees t out b r h l a =
-      subst (λ (n : ℕ). Agree limit (put_below limit t n (words_of r)) 0 (take b out ++ (r ∷ [])))
+      subst (λ (n : ℕ). Agree limit (put_below t n (words_of r)) 0 (take b out ++ (r ∷ [])))
       (zero-add (length (take b out)) ∙ length-take-le b out l) (agree_more limit t 0 (take b out) r h (agree_take limit t 0 b out a))
 
   -- ---- a delimiter
@@ -111,7 +111,7 @@ module _ (limit : ℕ) where
       → Agree limit t 0 (out_of x)
       → Agree limit
       (cond (ltb (length_of (weighed element_size x)) (total element_size out'))
-      (put_below limit t (place_of (length_of (weighed element_size x))) (words kind 0 0 0)) t)
+      (put_below t (place_of (length_of (weighed element_size x))) (words kind 0 0 0)) t)
       0 out'
   mark_agrees t (st out b w fs) r kind out' e s h l (adds m) a =
       let n : total element_size (out ++ (r ∷ [])) ≡ total element_size out + 1 = omega (arith, total_append element_size out (r ∷ [])) in
@@ -125,7 +125,7 @@ module _ (limit : ℕ) where
       → limit * 4 ≤ length t
       → length (out_of x) < 65536
       → Agree limit t 0 (out_of x)
-      → Agree limit (cond (is_going x) (put_below limit t (place_of (base_of (weighed element_size x))) (words 7 0 0 0)) t) 0
+      → Agree limit (cond (is_going x) (put_below t (place_of (base_of (weighed element_size x))) (words 7 0 0 0)) t) 0
       (out_of (prune D c x (item clip always)))
   bare_agrees t D c (st out b going fs) f h l a = rw (base_at out b f.0 l) (back_agrees t out b bare h f.0 a)
   bare_agrees t D c (st out b (shut m) fs) f h l a = a
@@ -148,7 +148,7 @@ module _ (limit : ℕ) where
         → place_of p.base ≡ b
         → (k : ItemClass) (is_paint : Bool)
         → eqb (get_or areas (n * 8) 0) 0 ≡ is_paint
-        → Agree limit (class_put limit areas t p a k) 0
+        → Agree limit (class_put areas t p a k) 0
         (out_of (add_item (items D) Element entry_elements (cond is_paint paint clip) (class_of k) (area n z gs) out b fs))
     class_agrees t out b fs n z gs h l ag g p a en ez ew eb Fails is_paint e = ag
     class_agrees t out b fs n z gs h l ag g p a en ez ew eb Passes true e = rw (en, ez, ew, e) (item_agrees t out (map segment gs) (named n z) h ag g)
@@ -161,7 +161,7 @@ module _ (limit : ℕ) where
         → limit * 4 ≤ length t
         → Follows D k mk.pruner mk.waiting m
         → Writes limit t m
-        → Agree limit (settled_put limit areas t mk) 0 (out_of (settle D c m))
+        → Agree limit (settled_put areas t mk) 0 (out_of (settle D c m))
     settle_agrees k mk (making x nothing) t l h f w = rw f.waits (same_cond (is_none mk.pruner.skip) t (out_of x) w.done)
     settle_agrees k mk (making (st out b (shut s) fs) (held n z gs)) t l h f w =
         rw (f.waits, skip_is mk.pruner (st out b (shut s) fs) f.counts) w.done
@@ -185,7 +185,7 @@ module _ (limit : ℕ) where
         → limit * 4 ≤ length t
         → Writes limit t (making (st out b going fs) (held n z gs))
         → (z' : ℤ)
-        → Writes limit (put_below limit t at (words_of (segment g))) (making (st out b going fs) (held n z' (gs ++ (g ∷ []))))
+        → Writes limit (put_below t at (words_of (segment g))) (making (st out b going fs) (held n z' (gs ++ (g ∷ []))))
     one_more_law t out b fs n z gs g at e h w z' =
         let e' : at ≡ length out + 1 + length (map segment gs) = omega (arith, length-map {B = Element} gs segment) in
         record {
@@ -204,13 +204,13 @@ module _ (limit : ℕ) where
         → limit * 4 ≤ length t
         → (f ≡ Kept → g ≡ drawn (line_of wd))
         → Writes limit t (making (st out b going fs) (held n z gs))
-        → Writes limit (kept_put f limit t at (sign_of D.xs D.ys g) wd)
+        → Writes limit (kept_put f t at (sign_of D.xs D.ys g) wd)
         (making (st out b going fs) (held n (start_by D.xs D.ys f g z) (gs ++ kept_by D.xs D.ys f g [])))
     kept_writes t out b fs n z gs g wd at Dropped e h k w = none_more t (st out b going fs) n z z gs w
     kept_writes t out b fs n z gs g wd at Start e h k w = none_more t (st out b going fs) n z (z +ℤ sign_of D.xs D.ys g) gs w
     kept_writes t out b fs n z gs g wd at (Shortcut lo hi) e h k w = one_more_law t out b fs n z gs (shortcut (sign_of D.xs D.ys g) lo hi) at e h w z
     kept_writes t out b fs n z gs g wd at Kept e h k w =
-        subst (λ (u : Words). Writes limit (put_below limit t at u) (making (st out b going fs) (held n z (gs ++ (g ∷ []))))) (ap segment_words (k refl))
+        subst (λ (u : Words). Writes limit (put_below t at u) (making (st out b going fs) (held n z (gs ++ (g ∷ []))))) (ap segment_words (k refl))
         (one_more_law t out b fs n z gs g at e h w z)
 
     -- nothing is written on a side that is skipped
@@ -225,7 +225,7 @@ module _ (limit : ℕ) where
         → (class_in D.xs D.ys c g ≡ Kept → g ≡ drawn (line_of wd))
         → Follows D k mk.pruner mk.waiting m
         → Writes limit t m
-        → Writes limit (segment_put limit t mk (class_in D.xs D.ys c g) (sign_of D.xs D.ys g) wd) (add_to D c g m)
+        → Writes limit (segment_put t mk (class_in D.xs D.ys c g) (sign_of D.xs D.ys g) wd) (add_to D c g m)
     segment_writes k mk (making x nothing) t g wd l h e f w = rw f.waits (same (is_none mk.pruner.skip))
       where
         same : (b : Bool) → Writes limit (cond b t t) (making x nothing)

@@ -39,13 +39,12 @@ pub note-requires : goal.note-requires
 note-requires c =
     let a = c.args in
     let h = here a.context a.s a.parent c.requires.passed _ _ _ c.loop-i.invariant c.loop-i-test.true _ c.read_entry-w.ensures.answer in
-    record { at_len = c.loop-i.invariant.size; start_bound = h.small }
+    h.small
 
 pub go_on-requires : goal.go_on-requires
 go_on-requires c =
     let a = c.args in
     record {
-      corners_in_bounds = (c.requires.passed.ready.xs, c.requires.passed.ready.ys);
       square_in = c.requires.square_in;
       asks = here a.context a.s a.parent c.requires.passed _ _ _ c.loop-i.invariant c.loop-i-test.true _ c.read_entry-w.ensures.answer;
     }
@@ -63,12 +62,9 @@ pub note-requires-2 : goal.note-requires-2
 note-requires-2 c =
     let a = c.args in
     let l = held a.context a.s a.parent c.requires.passed _ _ _ c.loop-i.invariant in
-    record {
-      at_len = c.loop-i.invariant.size;
-      start_bound = waits_small _ c.loop-i.m.waiting
-          (end_inside (env_of a.context) (lent_of a.context) (cell_in a.s) (reads a.context a.s a.parent c.requires.passed)
-          a.parent.entries.now a.parent.first a.parent.count c.requires.passed c.loop-i.i c.loop-i.m l c.loop-i-test.false);
-    }
+    waits_small _ c.loop-i.m.waiting
+    (end_inside (env_of a.context) (lent_of a.context) (cell_in a.s) (reads a.context a.s a.parent c.requires.passed)
+    a.parent.entries.now a.parent.first a.parent.count c.requires.passed c.loop-i.i c.loop-i.m l c.loop-i-test.false)
 
 pub weight-weight-requires : goal.weight-weight-requires
 weight-weight-requires c =

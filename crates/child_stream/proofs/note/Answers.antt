@@ -23,7 +23,7 @@ unfolding put_start
 returns-then-k-lt-MOST_AREAS c =
     let start : c.map_or-start.result ≡ start_in c.args.m.now.waiting = search rules in
     record {
-      at = rw (lt-ltb (c.args.m.now.pruner.weight / 4294967296) 64 c.if-k-lt-MOST_AREAS.true, same _ _ start c.requires.start_bound);
+      at = rw (lt-ltb (c.args.m.now.pruner.weight / 4294967296) 64 c.if-k-lt-MOST_AREAS.true, same _ _ start c.requires);
     }
 
 pub returns-else-k-lt-MOST_AREAS : goal.returns-else-k-lt-MOST_AREAS

@@ -6,4 +6,4 @@ use Rattle.child_stream.proofs.write_child.Given as goal
 
 abbrev pub invariant-loop-i : goal.invariant-loop-i
 invariant-loop-i l =
-    Filling (env_of l.context) (lent_of l.context) (cell_in l.s) l.fn.entries l.first l.count l.free l.made l.i l.m l.out
+    Filling (env_of l.context) (lent_of l.context) (cell_in l.s) l.fn.entries l.first l.count l.made l.i l.m l.out

@@ -1,6 +1,6 @@
 -- The making of a stream, one entry at a time, as the numbers that the code holds. `Rattle.making.proofs` says that they go as the elements do
 -- (`Rattle.cells.specs.code.Making`).
-use Rattle.std.specs.Prelude.{◌≡◌, Bool, true, cond, not, List, ℕ, zero, suc, ◌+◌, ◌*◌, ◌/◌, ◌^◌, ◌<◌, ◌≤◌, eqb, leb, get_or, length, ℤ, pos, ◌+ℤ◌}
+use Rattle.std.specs.Prelude.{◌≡◌, Bool, true, cond, List, ℕ, zero, suc, ◌+◌, ◌*◌, ◌/◌, ◌^◌, ◌<◌, ◌≤◌, eqb, leb, get_or, length, ℤ, pos, ◌+ℤ◌}
 use Rattle.std.specs.Prelude.{nat_abs, Option, Some, None}
 use Rattle.std.specs.Int.{w32}
 use Rattle.std.proofs.Common.{to_z}
@@ -103,10 +103,6 @@ moved_n kind c =
     (cond (eqb kind 3) (count_step sized_items size_of c pop)
     (cond (eqb kind 7) (count_step sized_items size_of c (item clip (sized passes 1))) c)))
 
--- an entry that is no line, curve or shortcut
-abbrev pub prunes_n : ℕ → Bool
-prunes_n kind = not (is_segment kind)
-
 abbrev pub pruned_n : List ℕ → Count → Option Waiting → ℕ → Count
 pruned_n areas c a kind = cond (is_segment kind) c (moved_n kind (settled_n areas c a))
 
@@ -132,6 +128,8 @@ Inside words (Some a) = AreaIn words a
 
 -- what entry w, the next, asks of a making read against v
 pub record Asks (v : Env) (m : Maker) (w : Words) : Type 0 where
+  pub xs : v.used.corners ≤ length v.xs
+  pub ys : v.used.corners ≤ length v.ys
   pub inside : Inside (length v.areas) m.waiting
   pub room : Room m.pruner m.waiting w.kind
   pub left : left_range v.xs v.ys v.used.corners w ≡ true

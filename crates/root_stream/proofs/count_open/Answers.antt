@@ -48,7 +48,6 @@ go_on-requires c =
     let t = tables_of d in
     let B = base t a.records a.bounds c.requires in
     record {
-      corners_in_bounds = (B.ready.xs, B.ready.ys);
       square_in = rw c.root_square-s.ensures.answer root_in;
       asks = loop_asks (env d.areas.now d.xs.now d.ys.now a.bounds) (drawing_in t) d.plan.now a.records (words_in t) B c.loop-kind.i c.loop-kind.source
           c.loop-kind.m c.loop-kind.invariant (some_here _ _ _ c.kind_at.ensures.answer c.in-Some.is) _

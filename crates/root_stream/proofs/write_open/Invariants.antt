@@ -10,7 +10,7 @@ abbrev pub invariant-loop-kind : goal.invariant-loop-kind
 invariant-loop-kind l =
     let d = l.drawing in
     let t = tables_of d in
-    Filling (env d.areas.now d.xs.now d.ys.now l.fn.bounds) (drawing_in t) d.plan.now l.records (words_in t) l.made l.fn.entries l.i l.source l.m l.entries
+    Filling (env d.areas.now d.xs.now d.ys.now l.fn.bounds) (drawing_in t) d.plan.now l.records (words_in t) l.made l.i l.source l.m l.out
 
 abbrev pub decreases-loop-kind : goal.decreases-loop-kind
 decreases-loop-kind l = l.records - l.i

@@ -4,4 +4,4 @@ use Rattle.pruner.proofs.Near.{counted_weight}
 use Rattle.making.proofs.Maker.weight.Goals as goal
 
 pub returns : goal.returns
-returns c = record { answer = sym (counted_weight c.settled.result) ∙ ap length_of c.settled.ensures.answer }
+returns c = record { answer = sym (counted_weight c.settle.new.self.pruner) ∙ ap length_of c.settle.ensures.pruner }
