@@ -8,6 +8,7 @@ ghost use Rattle.cells.specs.Cells.{square_of, root};
 ghost use Rattle.cells.specs.code.Making.{element_size};
 ghost use Rattle.pruning.specs.code.Weights.{total};
 ghost use Rattle.drawing.specs.Tables.{tables_of, drawing_passed};
+ghost use Rattle.stream.specs.Kinds.{kind_number as entry_number};
 ghost use Rattle.stream.specs.Table.{written};
 ghost use Rattle.evaluate.specs.Words.{words};
 ghost use Rattle.root_stream.specs.code.Numbers.{source_at, number_in, kind_n, stride_n, edge_n, entry_n, after_n, Opened};
@@ -17,7 +18,7 @@ use drawing::Drawing;
 use geometry::class::Square;
 use making::Maker;
 use records::Kind;
-use stream::{Bounds, Context, Words};
+use stream::{Bounds, Context, Kind as EntryKind, Words};
 
 // The areas and the corners before a record, and the first corner of the contour in progress.
 #[derive(Clone, Copy, Debug, PartialEq, Eq)]
@@ -46,16 +47,16 @@ impl Source {
     {
         match kind {
             Kind::Area => Words {
-                kind: stream::ENTRY_AREA,
+                kind: u32::from(EntryKind::Area),
                 p: self.area,
                 q: 0,
                 r: 0,
             },
             Kind::First => edge_from(behind, self.corner, self.corner),
             Kind::Next => edge_from(behind, self.corner, self.first),
-            Kind::Open => delimiter(stream::ENTRY_OPEN),
-            Kind::Bar => delimiter(stream::ENTRY_BAR),
-            Kind::Close | Kind::Control => delimiter(stream::ENTRY_CLOSE),
+            Kind::Open => delimiter(EntryKind::Open),
+            Kind::Bar => delimiter(EntryKind::Bar),
+            Kind::Close | Kind::Control => delimiter(EntryKind::Close),
         }
     }
 
@@ -112,23 +113,23 @@ fn edge_from(behind: Option<Kind>, corner: u32, first: u32) -> Words
     ensures answer { result ≡ edge_n (number_in behind) corner first }
 {
     let (kind, q) = match behind {
-        Some(Kind::Next) => (stream::ENTRY_LINE, corner + 1),
-        Some(Kind::Control) => (stream::ENTRY_CURVE, 0),
-        _ => (stream::ENTRY_LINE, first),
+        Some(Kind::Next) => (EntryKind::Line, corner + 1),
+        Some(Kind::Control) => (EntryKind::Curve, 0),
+        _ => (EntryKind::Line, first),
     };
     Words {
-        kind,
+        kind: u32::from(kind),
         p: corner,
         q,
         r: 0,
     }
 }
 
-fn delimiter(kind: u32) -> Words
-    ensures answer { result ≡ words kind 0 0 0 }
+fn delimiter(kind: EntryKind) -> Words
+    ensures answer { result ≡ words (entry_number kind) 0 0 0 }
 {
     Words {
-        kind,
+        kind: u32::from(kind),
         p: 0,
         q: 0,
         r: 0,

@@ -17,24 +17,8 @@ use groups::Groups;
 use records::Record;
 use refusals::Refusal;
 
-// How many words an entry has, and the kinds, its first word.
+// How many words an entry has.
 pub const ENTRY_WORDS: usize = 4;
-
-pub const ENTRY_OPEN: u32 = 1;
-
-pub const ENTRY_BAR: u32 = 2;
-
-pub const ENTRY_CLOSE: u32 = 3;
-
-pub const ENTRY_AREA: u32 = 4;
-
-pub const ENTRY_LINE: u32 = 5;
-
-pub const ENTRY_SHORTCUT: u32 = 6;
-
-pub const ENTRY_PASSES: u32 = 7;
-
-pub const ENTRY_CURVE: u32 = 8;
 
 // Signed words: the start numbers 2,048 and -2,048, which all others lie between, and the signs 1 and -1.
 pub const MOST_START: u32 = 2048;
@@ -183,28 +167,6 @@ pub fn put_entry(table: &mut [u32], i: usize, w: Words)
     table[at + 1] = w.p;
     table[at + 2] = w.q;
     table[at + 3] = w.r;
-}
-
-// ---- the kind of an entry
-// Whether an entry of this kind is a curve.
-pub fn is_curve(kind: u32) -> bool
-    ensures answer { result ≡ is_curve kind }
-{
-    kind == ENTRY_CURVE
-}
-
-// Whether an entry of this kind is a line or a curve.
-pub fn is_line(kind: u32) -> bool
-    ensures answer { result ≡ is_line kind }
-{
-    (kind == ENTRY_LINE) | is_curve(kind)
-}
-
-// Whether an entry of this kind is a line, a curve or a shortcut.
-pub fn is_segment(kind: u32) -> bool
-    ensures answer { result ≡ is_segment kind }
-{
-    is_line(kind) | (kind == ENTRY_SHORTCUT)
 }
 
 // ---- the numbers of an entry
