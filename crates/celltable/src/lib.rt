@@ -74,6 +74,15 @@ pub struct Parent {
     pub ghost halves: { 1 < words.side },
 }
 
+// The numbers of cells and of entries in use, at most what a tree may have.
+#[derive(Clone, Copy)]
+pub struct InUse {
+    pub cells: u32,
+    pub entries: u32,
+    pub ghost few_cells: { cells ≤ 4096 },
+    pub ghost few_entries: { entries ≤ 65536 },
+}
+
 // A table of cells, with the numbers of cells and of entries in use.
 #[derive(Clone, Copy)]
 pub struct Cells<'a> {
