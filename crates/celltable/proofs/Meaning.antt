@@ -15,9 +15,9 @@ use Rattle.celltable.specs.declared.Down.TheVariants.{Deeper, AtLeaf}
 use Rattle.std.specs.Prelude.{Option, None, Some}
 use Rattle.celltable.specs.declared.Leaf.{Leaf}
 use Rattle.celltable.specs.Table.{cell_at}
-use Rattle.celltable.specs.Ranges.{child_range, entry_range, parent_range, cell_range}
+use Rattle.celltable.specs.Ranges.{child_range, entry_range, half_at, parent_range, cell_range}
 use Rattle.celltable.specs.Descent.{place_of, on_square, leaf_of, down_from, descend_in}
-use Rattle.celltable.specs.code.Numbers.{half_n, deeper_n, numbers_n, met_n, go_on, walk_n, start_n}
+use Rattle.celltable.specs.code.Numbers.{half_bit, deeper_n, numbers_n, met_n, go_on, walk_n, start_n}
 use Rattle.celltable.proofs.Ranges.{child_in_use}
 use Rattle.celltable.proofs.Grid.{Gridded, root_gridded, child_gridded, gridded_range, says_cell}
 use Rattle.celltable.proofs.Parents.{few_places, quarter_passes, root_passes}
@@ -30,23 +30,23 @@ pub half_pow : (k : ℕ) → 2 ^ suc k / 2 ≡ 2 ^ k
 half_pow k = omega (arith, two-pow-succ k)
 
 -- ---- the numbers of a quarter
-pub part_x : (x n : ℕ) (a b : Bool) → (half_n x n a).at ≡ x + along_x (quarter_by a b) * n
+pub part_x : (x n : ℕ) (a b : Bool) → half_at x n a ≡ x + along_x (quarter_by a b) * n
 part_x x n false false = omega arith
 part_x x n true false = omega arith
 part_x x n false true = omega arith
 part_x x n true true = omega arith
 
-pub part_y : (y n : ℕ) (a b : Bool) → (half_n y n b).at ≡ y + along_y (quarter_by a b) * n
+pub part_y : (y n : ℕ) (a b : Bool) → half_at y n b ≡ y + along_y (quarter_by a b) * n
 part_y y n false false = omega arith
 part_y y n true false = omega arith
 part_y y n false true = omega arith
 part_y y n true true = omega arith
 
-place_is : (first x y n : ℕ) (a b : Bool) → first + (half_n x n a).bit + 2 * (half_n y n b).bit ≡ first + place_of (quarter_by a b)
-place_is first x y n false false = omega arith
-place_is first x y n true false = omega arith
-place_is first x y n false true = omega arith
-place_is first x y n true true = omega arith
+place_is : (first : ℕ) (a b : Bool) → first + half_bit a + 2 * half_bit b ≡ first + place_of (quarter_by a b)
+place_is first false false = omega arith
+place_is first true false = omega arith
+place_is first false true = omega arith
+place_is first true true = omega arith
 
 -- one level deeper
 deeper_is : (i from steps x y k first : ℕ) (p : Position) (px py : ℕ) → p ≡ at px py
@@ -57,10 +57,10 @@ deeper_is i from steps x y k first p px py e = rw (e, half_pow k) (go (leb (x + 
     go : (a b : Bool)
         → ◌≡◌ {A = Cursor}
         (record {
-          cell = first + (half_n x (2 ^ k) a).bit + 2 * (half_n y (2 ^ k) b).bit;
+          cell = first + half_bit a + 2 * half_bit b;
           parent = i;
-          x = (half_n x (2 ^ k) a).at;
-          y = (half_n y (2 ^ k) b).at;
+          x = half_at x (2 ^ k) a;
+          y = half_at y (2 ^ k) b;
           side = 2 ^ k;
           steps = steps + 1;
         })
@@ -68,7 +68,7 @@ deeper_is i from steps x y k first p px py e = rw (e, half_pow k) (go (leb (x + 
     go a b =
         λ d.
         record {
-          cell = place_is first x y (2 ^ k) a b d;
+          cell = place_is first a b d;
           parent = i;
           x = part_x x (2 ^ k) a b d;
           y = part_y y (2 ^ k) a b d;

@@ -7,14 +7,13 @@ use lib.Dec.{eqb, leb}
 use Rattle.geometry.specs.declared.class.Square.{Square}
 use Rattle.cells.specs.Cells.{Quarter, low_low, high_low, low_high, high_high, cell, square_of, child, quarter_by}
 use Rattle.celltable.specs.declared.CellWords.{CellWords}
-use Rattle.celltable.specs.Ranges.{square_range, level_of, cell_of}
+use Rattle.celltable.specs.Ranges.{square_range, half_at, level_of, cell_of}
 use Rattle.celltable.specs.Descent.{place_of, quarter_at}
-use Rattle.celltable.specs.code.Numbers.{half_n}
 use Rattle.celltable.proofs.Ranges.{square_fits_law}
 use Rattle.celltable.proofs.Meaning.{half_pow, part_x, part_y}
 
 abbrev quarter_n : CellWords → (a b : Bool) → Square
-quarter_n w a b = record { x = (half_n w.x (w.side / 2) a).at; y = (half_n w.y (w.side / 2) b).at; side = w.side / 2 }
+quarter_n w a b = record { x = half_at w.x (w.side / 2) a; y = half_at w.y (w.side / 2) b; side = w.side / 2 }
 
 at_level : (w : CellWords) (a b : Bool) (k : ℕ) → 2 ^ k ≡ w.side → 1 < w.side → quarter_n w a b ≡ square_of (child (cell w.x w.y k) (quarter_by a b))
 at_level w a b zero e h = absurd (omega arith)

@@ -14,9 +14,9 @@ use Rattle.celltable.specs.declared.Down.{Down}
 use Rattle.celltable.specs.declared.Down.TheVariants.{Deeper, AtLeaf}
 use Rattle.std.specs.Prelude.{Option, None, Some}
 use Rattle.celltable.specs.Table.{cell_at}
-use Rattle.celltable.specs.Ranges.{child_range}
+use Rattle.celltable.specs.Ranges.{child_range, half_at}
 use Rattle.celltable.specs.Descent.{leaf_of}
-use Rattle.celltable.specs.code.Numbers.{half_n, deeper_n, stands_n, numbers_n, met_n, step_n, go_on, walk_n, start_n, CursorIn}
+use Rattle.celltable.specs.code.Numbers.{half_bit, deeper_n, stands_n, numbers_n, met_n, step_n, go_on, walk_n, start_n, CursorIn}
 use Rattle.celltable.proofs.Ranges.{child_in_use}
 
 -- ---- what one step gives: w is the cell that was read, s and f are the outcomes of its tests
@@ -99,18 +99,18 @@ record Follows (c c' : Cursor) (used : ℕ) : Type 0 where
   north : c.y + c.side ≤ 65536 → c'.y + c'.side ≤ 65536
   counted : c'.steps ≡ c.steps + 1
 
-half_in : (at s : ℕ) (high : Bool) → (half_n at (s / 2) high).at + s / 2 ≤ at + s
+half_in : (at s : ℕ) (high : Bool) → half_at at (s / 2) high + s / 2 ≤ at + s
 half_in at s true = omega arith
 half_in at s false = omega arith
 
-half_bit : (at half : ℕ) (high : Bool) → (half_n at half high).bit ≤ 1
-half_bit at half true = omega arith
-half_bit at half false = omega arith
+one_bit : (high : Bool) → half_bit high ≤ 1
+one_bit true = omega arith
+one_bit false = omega arith
 
 deeper_follows : (used first px py : ℕ) (c : Cursor) → first + 3 < used → Follows c (deeper_n c first px py) used
 deeper_follows used first px py c u =
     record {
-      in_use = omega (arith, half_bit c.x (c.side / 2) right, half_bit c.y (c.side / 2) upper);
+      in_use = omega (arith, one_bit right, one_bit upper);
       east = λ h. omega (arith, half_in c.x c.side right);
       north = λ h. omega (arith, half_in c.y c.side upper);
       counted = refl;

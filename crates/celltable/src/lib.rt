@@ -9,11 +9,11 @@ ghost use Rattle.celltable.specs.Table.{cell_at, put_cell_at, put_child_at};
 ghost use Rattle.celltable.specs.Ranges.{side_range, square_range, root_range, child_range, entry_range, cell_range, head_range, CellsIn, cell_of};
 ghost use Rattle.celltable.specs.Ranges.{half_at, on_quarter, held_by, parent_range};
 ghost use Rattle.celltable.specs.Descent.{quarter_at, descend_in};
-ghost use Rattle.celltable.specs.code.Numbers.{half_n, deeper_n, stands_n, parent_n, numbers_n, step_n, CursorIn};
+ghost use Rattle.celltable.specs.code.Numbers.{deeper_n, stands_n, parent_n, numbers_n, step_n, CursorIn};
 
 use geometry::class::Square;
 
-// The side of cell 0, one past the last position.
+// The side of cell 0, one past the last position. `records::GRID` is another number: the largest coordinate of a corner.
 pub const GRID: u32 = 65536;
 
 // The cells of a tree at most.
@@ -66,11 +66,30 @@ pub struct CellWords {
     pub parent: u32,
 }
 
-// Where one half of a side begins, and whether it is the high one (1) or the low one (0).
+// The words of a cell that can be split: it lies on the grid, and its side is over 1.
 #[derive(Clone, Copy)]
-pub struct Half {
-    pub at: u32,
-    pub bit: u32,
+pub struct Parent {
+    pub words: CellWords,
+    pub ghost on_grid: { square_range words ≡ true },
+    pub ghost halves: { 1 < words.side },
+}
+
+// The numbers of cells and of entries in use, at most what a tree may have.
+#[derive(Clone, Copy)]
+pub struct InUse {
+    pub cells: u32,
+    pub entries: u32,
+    pub ghost few_cells: { cells ≤ 4096 },
+    pub ghost few_entries: { entries ≤ 65536 },
+}
+
+// A table of cells, with the numbers of cells and of entries in use.
+#[derive(Clone, Copy)]
+pub struct Cells<'a> {
+    pub table: &'a [u32],
+    pub used: usize,
+    pub entries: usize,
+    pub ghost in_table: { used * 8 ≤ length table.now },
 }
 
 // Where a path down stands: the number of the next cell and of the cell that it came from (0 for cell 0), the square that it has to be, and the steps so
@@ -106,24 +125,8 @@ pub enum Down {
 }
 
 // ---- the table of cells
-pub fn read_cell(cells: &[u32], i: usize) -> CellWords
-    requires { i * 8 + 8 ≤ length cells.now }
-    ensures answer { result ≡ cell_at cells.now i }
-{
-    let at = i * CELL_WORDS;
-    CellWords {
-        x: cells[at],
-        y: cells[at + Y],
-        side: cells[at + SIDE],
-        child: cells[at + CHILD],
-        first: cells[at + FIRST],
-        count: cells[at + COUNT],
-        lines: cells[at + LINES],
-        parent: cells[at + PARENT],
-    }
-}
-
-// Writes the eight words of cell i.
+// Writes the eight words of cell i. The table is lent to be written, so it is a parameter by itself: as a field, each contract would have to say that
+// the struct still lends the same table.
 pub fn put_cell(cells: &mut [u32], i: usize, w: CellWords)
     requires { i * 8 + 8 ≤ length cells.old }
     ensures cells { cells.new ≡ put_cell_at cells.old i w }
@@ -210,29 +213,48 @@ fn held_by(p: CellWords, w: CellWords, i: usize, used: usize) -> bool
         && on_quarter(p, w, i - first)
 }
 
-// Whether the parent of cell i, whose words are w, is itself for cell 0, else a split cell that holds it as one of its four.
-fn parent_fits(cells: &[u32], i: usize, used: usize, w: CellWords) -> bool
-    requires used_in_bounds { used * 8 ≤ length cells.now }
-    requires w_value { w ≡ cell_at cells.now i }
-    ensures answer { result ≡ parent_range cells.now i used }
-{
-    if i == 0 {
-        return w.parent == 0;
+impl Cells<'_> {
+    // The words of cell i.
+    pub fn cell(self, i: usize) -> CellWords
+        requires { i < self.used }
+        ensures answer { result ≡ cell_at self.entry.table.now i }
+    {
+        let at = i * CELL_WORDS;
+        CellWords {
+            x: self.table[at],
+            y: self.table[at + Y],
+            side: self.table[at + SIDE],
+            child: self.table[at + CHILD],
+            first: self.table[at + FIRST],
+            count: self.table[at + COUNT],
+            lines: self.table[at + LINES],
+            parent: self.table[at + PARENT],
+        }
     }
-    let up = w.parent as usize;
-    up < used && held_by(read_cell(cells, up), w, i, used)
-}
 
-// Whether the numbers of cell i are in range, with so many cells and entries in use.
-pub fn cell_fits(cells: &[u32], i: usize, used: usize, entries: usize) -> bool
-    requires { (i < used) × (used * 8 ≤ length cells.now) }
-    ensures answer { result ≡ cell_range cells.now i used entries }
-{
-    let w = read_cell(cells, i);
-    square_fits(w)
-        & (children_fit(w.child, used)
-            & (entries_fit(w.first, w.count, entries)
-                & (root_fits(w, i) & parent_fits(cells, i, used, w))))
+    // Whether the parent of cell i, whose words are w, is itself for cell 0, else a split cell that holds it as one of its four.
+    fn parent_fits(self, i: usize, w: CellWords) -> bool
+        requires { w ≡ cell_at self.table.now i }
+        ensures answer { result ≡ parent_range self.entry.table.now i self.entry.used }
+    {
+        if i == 0 {
+            return w.parent == 0;
+        }
+        let up = w.parent as usize;
+        up < self.used && held_by(self.cell(up), w, i, self.used)
+    }
+
+    // Whether the numbers of cell i are in range.
+    pub fn fits(self, i: usize) -> bool
+        requires { i < self.used }
+        ensures answer { result ≡ cell_range self.entry.table.now i self.entry.used self.entry.entries }
+    {
+        let w = self.cell(i);
+        square_fits(w)
+            & (children_fit(w.child, self.used)
+                & (entries_fit(w.first, w.count, self.entries)
+                    & (root_fits(w, i) & self.parent_fits(i, w))))
+    }
 }
 
 // Whether the numbers in use, in the head, are in range for tables of cells and of entries of these lengths.
@@ -242,42 +264,33 @@ pub fn head_fits(head: &[u32], cells: usize, entries: usize) -> bool
     if head.len() < HEAD_WORDS {
         return false;
     }
-    let n = laws::wide(head[CELLS]);
-    let m = laws::wide(head[ENTRIES]);
+    let n = head[CELLS] as usize;
+    let m = head[ENTRIES] as usize;
     ((1 <= n) & ((n <= cells / CELL_WORDS) & (n <= MOST_CELLS)))
         & ((m <= entries / stream::ENTRY_WORDS) & (m <= stream::MOST_ENTRIES))
 }
 
 // ---- the quarters of a cell
-// The low or the high half of a side.
-fn half_of(at: u32, half: u32, high: bool) -> Half
+// Where the low or the high half of a side begins, on the grid; `half_at` adds any two words.
+fn half_of(at: u32, half: u32, high: bool) -> u32
     requires { at + half ≤ 65536 }
-    ensures answer { result ≡ half_n at half high }
-    ensures bit_range { result.bit ≤ 1 }
+    ensures answer { result ≡ half_at at half high }
 {
-    if high {
-        Half {
-            at: at + half,
-            bit: 1,
-        }
-    } else {
-        Half { at, bit: 0 }
-    }
+    if high { at + half } else { at }
 }
 
-// The square of the child at place q: low x low y, high x low y, low x high y, high x high y.
-pub fn quarter_of(w: CellWords, q: u32) -> Square
-    requires w_value { square_range w ≡ true }
-    requires lt_side { 1 < w.side }
-    ensures answer { result ≡ square_of (child (cell_of w) (quarter_at q)) }
-{
-    let half = w.side / 2;
-    let h = half_of(w.x, half, q % 2 == 1);
-    let v = half_of(w.y, half, 2 <= q);
-    Square {
-        x: h.at,
-        y: v.at,
-        side: half,
+impl Parent {
+    // The square of the child at place q: low x low y, high x low y, low x high y, high x high y.
+    pub fn quarter(self, q: u32) -> Square
+        ensures answer { result ≡ square_of (child (cell_of self.words) (quarter_at q)) }
+    {
+        let w = self.words;
+        let half = w.side / 2;
+        Square {
+            x: half_of(w.x, half, q % 2 == 1),
+            y: half_of(w.y, half, 2 <= q),
+            side: half,
+        }
     }
 }
 
@@ -297,49 +310,47 @@ impl Cursor {
         ensures answer { result ≡ deeper_n self first px py }
     {
         let half = self.side / 2;
-        let h = half_of(self.x, half, self.x + half <= px);
-        let v = half_of(self.y, half, self.y + half <= py);
+        let east = self.x + half <= px;
+        let north = self.y + half <= py;
         Cursor {
-            cell: first + h.bit + 2 * v.bit,
+            cell: first + u32::from(east) + 2 * u32::from(north),
             parent: self.cell,
-            x: h.at,
-            y: v.at,
+            x: half_of(self.x, half, east),
+            y: half_of(self.y, half, north),
             side: half,
             steps: self.steps + 1,
         }
     }
 
     // Whether the parent that a cell on the way names holds it. The cell that the way came from does.
-    fn parent_holds(self, cells: &[u32], used: usize, w: CellWords) -> bool
-        requires used_in_bounds { used * 8 ≤ length cells.now }
-        requires w_value { w ≡ cell_at cells.now self.cell }
-        ensures answer { result ≡ parent_n cells.now used self w }
+    fn parent_holds(self, cells: Cells, w: CellWords) -> bool
+        requires { w ≡ cell_at cells.table.now self.cell }
+        ensures answer { result ≡ parent_n cells.entry.table.now cells.entry.used self w }
     {
-        w.parent == self.parent || parent_fits(cells, self.cell as usize, used, w)
+        w.parent == self.parent || cells.parent_fits(self.cell as usize, w)
     }
 
     // Whether the children, the entries and the parent of a cell on the way are in range. On the square that the way expects it has a side and a
     // corner in range.
-    fn numbers_fit(self, cells: &[u32], used: usize, entries: usize, w: CellWords) -> bool
-        requires used_in_bounds { used * 8 ≤ length cells.now }
-        requires w_value { w ≡ cell_at cells.now self.cell }
-        ensures answer { result ≡ numbers_n cells.now used entries self w }
+    fn numbers_fit(self, cells: Cells, w: CellWords) -> bool
+        requires { w ≡ cell_at cells.table.now self.cell }
+        ensures answer { result ≡ numbers_n cells.entry.table.now cells.entry.used cells.entry.entries self w }
     {
-        children_fit(w.child, used)
-            & (entries_fit(w.first, w.count, entries) & self.parent_holds(cells, used, w))
+        children_fit(w.child, cells.used)
+            & (entries_fit(w.first, w.count, cells.entries) & self.parent_holds(cells, w))
     }
 
     // The cell is read and tried; a leaf ends the way, another cell gives the cursor one level deeper.
-    fn step(self, cells: &[u32], used: usize, entries: usize, px: u32, py: u32) -> Option<Down>
-        requires cells_in { CellsIn cells.now used }
-        requires cursor_in { CursorIn self used }
-        ensures answer { result ≡ step_n cells.now used entries self px py }
+    fn step(self, cells: Cells, px: u32, py: u32) -> Option<Down>
+        requires cells_in { CellsIn cells.table.now cells.used }
+        requires cursor_in { CursorIn self cells.used }
+        ensures answer { result ≡ step_n cells.entry.table.now cells.entry.used cells.entry.entries self px py }
     {
-        let w = read_cell(cells, self.cell as usize);
+        let w = cells.cell(self.cell as usize);
         if !self.stands_on(w) {
             return None;
         }
-        if !self.numbers_fit(cells, used, entries, w) {
+        if !self.numbers_fit(cells, w) {
             return None;
         }
         if w.child != 0 {
@@ -358,28 +369,30 @@ impl Cursor {
     }
 }
 
-// The leaf that holds (x, y), over at most 16 steps from cell 0. `used` and `entries` are the head's numbers, and the head has passed.
-pub fn descend(cells: &[u32], used: usize, entries: usize, x: u32, y: u32) -> Option<Leaf>
-    requires { CellsIn cells.now used }
-    ensures answer { result ≡ descend_in cells.now used entries x y }
-{
-    let mut c = Cursor {
-        cell: 0,
-        parent: 0,
-        x: 0,
-        y: 0,
-        side: GRID,
-        steps: 0,
-    };
-    for k in 0..LONGEST_WAY {
-        match c.step(cells, used, entries, x, y)? {
-            Down::Deeper(next) => {
-                c = next;
-            }
-            Down::AtLeaf(leaf) => {
-                return Some(leaf);
+impl Cells<'_> {
+    // The leaf that holds (x, y), over at most 16 steps from cell 0. The numbers in use are the head's, and the head has passed.
+    pub fn descend(self, x: u32, y: u32) -> Option<Leaf>
+        requires { CellsIn self.table.now self.used }
+        ensures answer { result ≡ descend_in self.entry.table.now self.entry.used self.entry.entries x y }
+    {
+        let mut c = Cursor {
+            cell: 0,
+            parent: 0,
+            x: 0,
+            y: 0,
+            side: GRID,
+            steps: 0,
+        };
+        for k in 0..LONGEST_WAY {
+            match c.step(self, x, y)? {
+                Down::Deeper(next) => {
+                    c = next;
+                }
+                Down::AtLeaf(leaf) => {
+                    return Some(leaf);
+                }
             }
         }
+        None
     }
-    None
 }

@@ -7,7 +7,7 @@ ghost use Rattle.tables.specs.Tables.{tree_passed};
 ghost use Rattle.find_leaf.specs.Leaf.{position_range, find_answer};
 ghost use Rattle.find_leaf.specs.code.Numbers.{leaf_checked, leaf_read, report_n};
 
-use celltable::Leaf;
+use celltable::{Cells, Leaf};
 use curves::Position;
 use drawing::Drawing;
 use refusals::Refusal;
@@ -92,12 +92,15 @@ pub fn read_leaf(tree: Tree, x: u32, y: u32) -> Result<LeafRead, Refusal>
     if !tree.counts_fit() {
         return Err(Refusal::Broken);
     }
-    let used = laws::wide(tree.head[celltable::CELLS]);
-    let free = laws::wide(tree.head[celltable::ENTRIES]);
-    let Some(leaf) = celltable::descend(tree.cells, used, free, x, y) else {
+    let cells = Cells {
+        table: tree.cells,
+        used: tree.head[celltable::CELLS] as usize,
+        entries: tree.head[celltable::ENTRIES] as usize,
+    };
+    let Some(leaf) = cells.descend(x, y) else {
         return Err(Refusal::Broken);
     };
-    let Some(checked) = check_leaf(tree, free, leaf) else {
+    let Some(checked) = check_leaf(tree, cells.entries, leaf) else {
         return Err(Refusal::Broken);
     };
     if checked.lines != leaf.lines {

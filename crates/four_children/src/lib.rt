@@ -2,16 +2,17 @@
 
 #![tactic(auto)]
 
-ghost use Rattle.std.specs.Prelude.{◌≡◌, true, [], ◌∷◌, ◌+◌, ◌*◌, ◌≤◌, ◌<◌, length};
-ghost use Rattle.stream.specs.Table.{words_from, written};
+ghost use Rattle.std.specs.Prelude.{◌≡◌, [], ◌∷◌, ◌+◌, ◌*◌, ◌/◌, ◌%◌, ◌≤◌, ◌<◌, length};
+ghost use Rattle.stream.specs.Table.{words_from, words_in, words_passed, written};
 ghost use Rattle.stream.specs.Grammar.{env_of, Passed};
-ghost use Rattle.celltable.specs.Ranges.{square_range, cell_of};
+ghost use Rattle.celltable.specs.Ranges.{cell_of};
+ghost use Rattle.ranges.specs.Held.{lent_of, lent_passed};
 ghost use Rattle.four_children.specs.Children.{elements_of_child, words_of_child, entries_of_child, streams_to, words_with};
-ghost use Rattle.four_children.specs.code.Numbers.{drawing_of, words_of, tally, tally_n, empty_tally, worked_to, cells_by, FewEach};
+ghost use Rattle.four_children.specs.code.Numbers.{tally, tally_n, empty_tally, worked_to, cells_by, FewEach};
 ghost use Rattle.cells.specs.Cells.{child};
 ghost use Rattle.celltable.specs.Descent.{quarter_at};
 
-use celltable::CellWords;
+use celltable::{CellWords, InUse, Parent};
 use child_stream::{Count, Starts};
 use stream::{Context, Stream};
 
@@ -25,26 +26,36 @@ pub struct Tally {
     pub starts: Starts,
 }
 
+// The entries that a stream's weight counts, and the lines and curves among them.
+pub fn entries_in(weight: u64) -> usize
+    ensures answer { result ≡ weight % 65536 }
+{
+    (weight % 65536) as usize
+}
+
+pub fn lines_in(weight: u64) -> usize
+    ensures answer { result ≡ weight / 65536 % 65536 }
+{
+    (weight / 65536 % 65536) as usize
+}
+
 fn tally_of(k: Count) -> Tally
     ensures answer { result ≡ tally_n k }
 {
-    let n = k.weight;
     Tally {
-        entries: (n % 65536) as usize,
-        lines: (n / 65536 % 65536) as usize,
+        entries: entries_in(k.weight),
+        lines: lines_in(k.weight),
         starts: k.starts,
     }
 }
 
 // The tally of child q of the cell whose words are w.
-fn count_one(stream: Stream, context: Context, w: CellWords, q: u32) -> Tally
+fn count_one(stream: Stream, context: Context, w: Parent, q: u32) -> Tally
     requires passed { Passed stream.entries.now stream.first stream.count (env_of context) }
-    requires w_value { square_range w ≡ true }
-    requires lt_side { 1 < w.side }
     ensures answer { result ≡ tally (elements_of_child
-        (drawing_of context.entry) (cell_of w) (words_of stream.entry) q) }
+        (lent_passed context) (cell_of w.words) (words_passed stream) q) }
 {
-    let s = celltable::quarter_of(w, q);
+    let s = w.quarter(q);
     let n = child_stream::count_child(stream, context, s);
     tally_of(n)
 }
@@ -70,15 +81,13 @@ fn count_next(
     q: u32,
     stream: Stream,
     context: Context,
-    w: CellWords,
+    w: Parent,
 ) -> [Tally; 4]
     requires q_bound { q < 4 }
     requires passed { Passed stream.entries.now stream.first stream.count (env_of context) }
-    requires w_value { square_range w ≡ true }
-    requires lt_side { 1 < w.side }
-    requires ts_value { ts ≡ worked_to (drawing_of context) (cell_of w) (words_of stream) q }
+    requires ts_value { ts ≡ worked_to (lent_of context) (cell_of w.words) (words_in stream) q }
     ensures answer { result ≡ worked_to
-        (drawing_of context.entry) (cell_of w) (words_of stream.entry) (q + 1) }
+        (lent_passed context) (cell_of w.words) (words_passed stream) (q + 1) }
 {
     let t = count_one(stream, context, w, q);
     ts[q as usize] = t;
@@ -86,13 +95,11 @@ fn count_next(
 }
 
 // The tallies after the passes of the first n children, one child after another.
-pub fn count_to(stream: Stream, context: Context, w: CellWords, n: u32) -> [Tally; 4]
+pub fn count_to(stream: Stream, context: Context, w: Parent, n: u32) -> [Tally; 4]
     requires passed { Passed stream.entries.now stream.first stream.count (env_of context) }
-    requires w_value { square_range w ≡ true }
-    requires lt_side { 1 < w.side }
     requires n_bound { n ≤ 4 }
     ensures answer { result ≡ worked_to
-        (drawing_of context.entry) (cell_of w) (words_of stream.entry) n }
+        (lent_passed context) (cell_of w.words) (words_passed stream) n }
 {
     let mut ts = no_tallies();
     for q in 0..n {
@@ -111,19 +118,17 @@ fn write_child(
     free: usize,
     made: usize,
     context: Context,
-    w: CellWords,
+    w: Parent,
     q: u32,
 )
     requires passed { Passed entries.old first count (env_of context) }
-    requires w_value { square_range w ≡ true }
-    requires lt_side { 1 < w.side }
     requires count_bound { first + count ≤ free }
     requires made_in_bounds { (free + made) * 4 ≤ length entries.old }
-    requires made_value { made ≡ entries_of_child (drawing_of context) (cell_of w) (words_from entries.old first count) q }
+    requires made_value { made ≡ entries_of_child (lent_of context) (cell_of w.words) (words_from entries.old first count) q }
     ensures entries { entries.new ≡ written entries.old free (words_of_child
-        (drawing_of context.entry) (cell_of w) (words_from entries.old first count) q) }
+        (lent_passed context) (cell_of w.words) (words_from entries.old first count) q) }
 {
-    let s = celltable::quarter_of(w, q);
+    let s = w.quarter(q);
     child_stream::write_child(entries, first, count, free, made, context, s);
 }
 
@@ -134,18 +139,16 @@ pub fn write_four(
     count: usize,
     free: usize,
     context: Context,
-    w: CellWords,
+    w: Parent,
     ts: [Tally; 4],
 )
     requires passed { Passed entries.old first count (env_of context) }
-    requires w_value { square_range w ≡ true }
-    requires lt_side { 1 < w.side }
     requires count_bound { first + count ≤ free }
-    requires ts_value { ts ≡ worked_to (drawing_of context) (cell_of w) (words_from entries.old first count) 4 }
-    requires count_in_bounds { (free + length (streams_to (drawing_of context) (cell_of w) (words_from entries.old first count) 4)) * 4
+    requires ts_value { ts ≡ worked_to (lent_of context) (cell_of w.words) (words_from entries.old first count) 4 }
+    requires count_in_bounds { (free + length (streams_to (lent_of context) (cell_of w.words) (words_from entries.old first count) 4)) * 4
         ≤ length entries.old }
     ensures entries { entries.new ≡ written entries.old free (streams_to
-        (drawing_of context.entry) (cell_of w) (words_from entries.old first count) 4) }
+        (lent_passed context) (cell_of w.words) (words_from entries.old first count) 4) }
 {
     let mut at = free;
     for q in 0..celltable::CHILDREN {
@@ -156,13 +159,11 @@ pub fn write_four(
 }
 
 // The words of child q of cell i, whose words are w; its stream begins at entry `first`.
-fn child_words(w: CellWords, i: u32, q: u32, first: u32, t: Tally) -> CellWords
-    requires w_value { square_range w ≡ true }
-    requires lt_side { 1 < w.side }
-    requires entries_bound { (t.entries ≤ 4096) × (t.lines ≤ 4096) }
-    ensures answer { result ≡ words_with (child (cell_of w) (quarter_at q)) first t.entries t.lines i }
+fn child_words(w: Parent, i: u32, q: u32, first: u32, t: Tally) -> CellWords
+    requires { (t.entries ≤ 4096) × (t.lines ≤ 4096) }
+    ensures answer { result ≡ words_with (child (cell_of w.words) (quarter_at q)) first t.entries t.lines i }
 {
-    let s = celltable::quarter_of(w, q);
+    let s = w.quarter(q);
     CellWords {
         x: s.x,
         y: s.y,
@@ -175,20 +176,18 @@ fn child_words(w: CellWords, i: u32, q: u32, first: u32, t: Tally) -> CellWords
     }
 }
 
-// Writes the cells of all four children of cell i from cell `used` on; their streams stand child by child from entry `free` on.
-pub fn put_four(cells: &mut [u32], i: u32, used: u32, free: u32, w: CellWords, ts: [Tally; 4])
-    requires w_value { square_range w ≡ true }
-    requires lt_side { 1 < w.side }
-    requires used_in_bounds { (used + 4) * 8 ≤ length cells.old }
-    requires used_bound { (used ≤ 4096) × (free ≤ 65536) }
+// Writes the cells of all four children of cell i behind the cells in use; their streams stand child by child behind the entries in use. That each tally
+// is small (`FewEach`) is no ghost field of Tally: `tally` of specs makes the tally of any list of elements.
+pub fn put_four(cells: &mut [u32], i: u32, in_use: InUse, w: Parent, ts: [Tally; 4])
+    requires used_in_bounds { (in_use.cells + 4) * 8 ≤ length cells.old }
     requires few_each { FewEach ts }
-    ensures cells { cells.new ≡ cells_by (cell_of w) ts cells.old i used free 4 }
+    ensures cells { cells.new ≡ cells_by (cell_of w.words) ts cells.old i in_use.cells in_use.entries 4 }
 {
-    let mut at = free;
+    let mut at = in_use.entries;
     for n in 0..celltable::CHILDREN {
         let t = ts[n as usize];
         let c = child_words(w, i, n, at, t);
-        let new = (used + n) as usize;
+        let new = (in_use.cells + n) as usize;
         celltable::put_cell(cells, new, c);
         at += t.entries as u32;
     }

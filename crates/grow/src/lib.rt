@@ -12,6 +12,7 @@ ghost use Rattle.grow.specs.declared.Tried.TheVariants.{Wanted};
 ghost use Rattle.grow.specs.Grow.{depth_at, wanted_by, tried_cell, tried, grown, answer_of, grow_answer, grow_tree};
 ghost use Rattle.grow.specs.code.Numbers.{past_n, split_n, stop_if, turn_by, tree_by};
 
+use celltable::Cells;
 use drawing::Drawing;
 use refusals::Refusal;
 use tables::Tree;
@@ -74,8 +75,13 @@ fn try_cell(cells: &[u32], s: Sweep, limits: Limits) -> Tried
         tried_cell limits.threshold limits.depth cells.now s.cell s.used s.free (cell_at cells.now s.cell) }
 {
     let i = s.cell as usize;
-    let w = celltable::read_cell(cells, i);
-    if !celltable::cell_fits(cells, i, s.used as usize, s.free as usize) {
+    let cells = Cells {
+        table: cells,
+        used: s.used as usize,
+        entries: s.free as usize,
+    };
+    let w = cells.cell(i);
+    if !cells.fits(i) {
         return Tried::Bad;
     }
     if w.child != 0 {

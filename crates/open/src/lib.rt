@@ -55,13 +55,13 @@ fn judge_room(tree: Tree, counts: Counts) -> Result<Planned, Refusal>
     let bounds = root_bounds(counts);
     // The counting answers the number of entries and, above it, the number of lines and curves.
     let size = root_stream::count_open(drawing, counts.records, bounds);
-    let n = (size % 65536) as usize;
+    let n = four_children::entries_in(size);
     if !has_room(tree.head.len(), tree.cells.len(), tree.entries.len(), n) {
         return Err(Refusal::Room);
     }
     Ok(Planned {
         entries: n as u32,
-        lines: (size / 65536 % 65536) as u32,
+        lines: four_children::lines_in(size) as u32,
         counts,
     })
 }

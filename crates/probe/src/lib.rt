@@ -9,7 +9,7 @@ ghost use Rattle.stream.specs.Grammar.{env, env_of, env_passed, bounds, check_st
 ghost use Rattle.probe.specs.Answers.{read_answer, square, leaf_on, square_fits, child_elements, child_room, answer_by, table_by, child_fits};
 ghost use Rattle.probe.specs.Answers.{number_in, tally_number, tally_answer};
 
-use celltable::CellWords;
+use celltable::{CellWords, Parent};
 use curves::Position;
 use four_children::Tally;
 use geometry::class::Square;
@@ -257,7 +257,8 @@ fn tally_number(stream: Stream, context: Context, s: Square, q: u32, k: u32, num
     ensures answer { result ≡
         tally_number stream.entry.entries.now stream.entry.first stream.entry.count (env_passed context) s q k number }
 {
-    let tallies = four_children::count_to(stream, context, leaf_on(s), q);
+    let words = leaf_on(s);
+    let tallies = four_children::count_to(stream, context, Parent { words }, q);
     number_in(tallies[k as usize], number)
 }
 

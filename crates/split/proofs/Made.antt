@@ -2,9 +2,8 @@
 use mathlib.Core.Path.{◌≡◌, refl, sym, ap, ◌∙◌}
 use mathlib.Core.Bool.{true}
 use mathlib.Core.List.{List}
-use Prim.Native.Nat.{ℕ, ◌+◌}
+use Prim.Native.Nat.{ℕ, ◌+◌, ◌<◌}
 use lib.ListN.{length, get_or, set}
-use Rattle.stream.specs.declared.Bounds.{Bounds}
 use Rattle.stream.specs.Table.{words_from}
 use Rattle.stream.specs.Grammar.{env, Passed}
 use Rattle.ranges.specs.Held.{lent}
@@ -28,22 +27,24 @@ abbrev pub sum_of : List Tally → ℕ
 sum_of ts = (get_or ts 0 no_tally).entries + (get_or ts 1 no_tally).entries + (get_or ts 2 no_tally).entries + (get_or ts 3 no_tally).entries
 
 module _ (t : Tree) (i : ℕ) (A : Accepted t i) (ts : List Tally) (T : ts ≡ worked_to (drawing t i) (cell_of (words t i)) (stream t i) 4) (used free : ℕ)
-    (w : CellWords) (b : Bounds) (eh : used ≡ get_or t.head 0 0) (ef : free ≡ get_or t.head 1 0) (ew : w ≡ words t i)
-    (eb : b ≡ bounds_of t.plan w) where
+    (w : CellWords) (eh : used ≡ get_or t.head 0 0) (ef : free ≡ get_or t.head 1 0) (ew : w ≡ words t i) where
   eu : used ≡ cells_used t.head
   eu = eh ∙ sym (used_is t.head (counts_long t A.able.counts))
 
-  pub made_stream : Passed t.entries w.first w.count (env t.areas t.xs t.ys b)
-  made_stream = rw (eb, ew) (able_stream t i A.able)
+  pub made_stream : Passed t.entries w.first w.count (env t.areas t.xs t.ys (bounds_of t.plan w))
+  made_stream = rw ew (able_stream t i A.able)
 
   pub made_square : square_range w ≡ true
   made_square = rw ew (able_square t i A.able)
 
-  pub made_tallies : ts ≡ worked_to (lent t.areas t.xs t.ys b) (cell_of w) (words_from t.entries w.first w.count) 4
-  made_tallies = rw (eb, ew) T
+  pub made_halves : 1 < w.side
+  made_halves = rw ew A.able.halves
+
+  made_tallies : ts ≡ worked_to (lent t.areas t.xs t.ys (bounds_of t.plan w)) (cell_of w) (words_from t.entries w.first w.count) 4
+  made_tallies = rw ew T
 
   pub made_few : FewEach ts
-  made_few = few_each t.entries t.areas t.xs t.ys b w.first w.count (cell_of w) ts made_stream made_tallies
+  made_few = few_each t.entries t.areas t.xs t.ys (bounds_of t.plan w) w.first w.count (cell_of w) ts made_stream made_tallies
 
   -- ---- the tables afterwards
   pub made_head : (x : List ℕ) → x ≡ set (set t.head 0 (used + 4)) 1 (free + sum_of ts) → x ≡ head_after t i (Ok 0)

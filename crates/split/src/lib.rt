@@ -2,25 +2,25 @@
 
 #![tactic(auto)]
 
-ghost use Rattle.std.specs.Prelude.{◌≡◌, true, ◌+◌, ◌*◌, ◌≤◌, ◌<◌, length, get_or, set};
-ghost use Rattle.stream.specs.Table.{words_from, written};
-ghost use Rattle.stream.specs.Grammar.{env, Passed};
-ghost use Rattle.celltable.specs.Table.{cell_at, put_child_at};
+ghost use Rattle.std.specs.Prelude.{◌≡◌, true, ◌+◌, ◌*◌, ◌≤◌, ◌<◌, length, get_or};
+ghost use Rattle.stream.specs.Table.{words_from, words_passed};
+ghost use Rattle.stream.specs.Grammar.{env_of, Passed};
+ghost use Rattle.celltable.specs.Table.{put_child_at};
 ghost use Rattle.celltable.specs.Ranges.{square_range, cell_of};
-ghost use Rattle.ranges.specs.Held.{lent};
+ghost use Rattle.ranges.specs.Held.{lent_passed};
 ghost use Rattle.four_children.specs.Children.{streams_to};
 ghost use Rattle.four_children.specs.code.Numbers.{no_tally, worked_to, cells_by, FewEach};
-ghost use Rattle.tables.specs.Tables.{tree, tree_of, tree_passed, tree_passed_mut};
-ghost use Rattle.split.specs.Split.{words, drawing as drawing_of, stream, made_by, room_answer, leaf_answer, cell_answer};
+ghost use Rattle.tables.specs.Tables.{tree, bounds_of, tree_passed, tree_passed_mut};
+ghost use Rattle.split.specs.Split.{words, drawing as drawing_of, stream, room_answer, leaf_answer, cell_answer};
 ghost use Rattle.split.specs.Split.{split_answer, head_after, cells_after, entries_after};
 ghost use Rattle.split.specs.code.Accepted.{Accepted};
 ghost use Rattle.split.specs.code.Judged.{planned};
 
-use celltable::CellWords;
+use celltable::{CellWords, Cells, InUse, Parent};
 use drawing::Drawing;
 use four_children::Tally;
 use refusals::Refusal;
-use stream::{Bounds, Context, Stream};
+use stream::{Context, Stream};
 use tables::Tree;
 
 // A split that no check refuses: the number of the first child, and the tallies of the four children.
@@ -41,86 +41,57 @@ fn entries_of(ts: [Tally; 4]) -> usize
 
 // ---- all checks, in their order
 // 11, where the four streams have `made` entries. `cells` and `entries` are the lengths of the tables.
-fn judge_room(
-    cells: usize,
-    entries: usize,
-    used: u32,
-    free: u32,
-    made: usize,
-) -> Result<u32, Refusal>
-    requires { (used ≤ 4096) × (free ≤ 65536) × (made ≤ 65536) }
-    ensures answer { result ≡ room_answer cells entries used free made }
+fn judge_room(cells: usize, entries: usize, in_use: InUse, made: usize) -> Result<u32, Refusal>
+    requires { made ≤ 65536 }
+    ensures answer { result ≡ room_answer cells entries in_use.cells in_use.entries made }
 {
-    if !tables::cells_held(used + celltable::CHILDREN, cells) {
+    if !tables::cells_held(in_use.cells + celltable::CHILDREN, cells) {
         return Err(Refusal::Room);
     }
-    if !tables::entries_held((free as usize) + made, entries) {
+    if !tables::entries_held((in_use.entries as usize) + made, entries) {
         return Err(Refusal::Room);
     }
-    Ok(used)
+    Ok(in_use.cells)
 }
 
-// The children of a leaf, whose words are w, are worked out, then 11.
+// The children of a leaf with this stream are worked out, then 11. `cells` is the length of the table of cells.
 fn judge_children(
-    tree: Tree,
-    bounds: Bounds,
-    used: u32,
-    free: u32,
-    w: CellWords,
+    stream: Stream,
+    context: Context,
+    cells: usize,
+    in_use: InUse,
+    w: Parent,
 ) -> Result<Planned, Refusal>
-    requires passed { let t = tree_of tree in Passed t.entries w.first w.count (env t.areas t.xs t.ys bounds) }
-    requires w_value { square_range w ≡ true }
-    requires lt_side { 1 < w.side }
-    requires used_bound { (used ≤ 4096) × (free ≤ 65536) }
-    ensures answer { let t = tree_passed tree in result ≡ planned
-        (room_answer (length t.cells) (length t.entries) used free (length (made_by t.areas t.xs t.ys bounds w t.entries)))
-        (worked_to (lent t.areas t.xs t.ys bounds) (cell_of w) (words_from t.entries w.first w.count) 4) }
+    requires { Passed stream.entries.now stream.first stream.count (env_of context) }
+    ensures answer { result ≡ planned
+        (room_answer cells (length stream.entry.entries.now) in_use.cells in_use.entries
+            (length (streams_to (lent_passed context) (cell_of w.words) (words_passed stream) 4)))
+        (worked_to (lent_passed context) (cell_of w.words) (words_passed stream) 4) }
 {
-    let drawing = tree.drawing;
-    let stream = Stream {
-        entries: tree.entries,
-        first: w.first as usize,
-        count: w.count as usize,
-    };
-    let context = Context {
-        areas: drawing.areas,
-        xs: drawing.xs,
-        ys: drawing.ys,
-        bounds,
-    };
     let children = four_children::count_to(stream, context, w, celltable::CHILDREN);
     let made = entries_of(children);
-    let child = judge_room(tree.cells.len(), tree.entries.len(), used, free, made)?;
+    let child = judge_room(cells, stream.entries.len(), in_use, made)?;
     Ok(Planned { child, children })
 }
 
-// 12 over the stream of a leaf and its line count, 10, 11.
+// 12 over the stream of a leaf, whose words are w, and its line count, 10, 11.
 fn judge_leaf(
     tree: Tree,
-    bounds: Bounds,
-    used: u32,
-    free: u32,
+    context: Context,
+    in_use: InUse,
     w: CellWords,
 ) -> Result<Planned, Refusal>
-    requires w_value { square_range w ≡ true }
-    requires used_bound { (used ≤ 4096) × (free ≤ 65536) }
-    ensures answer { let t = tree_passed tree in result ≡ planned
-        (leaf_answer t.areas t.xs t.ys bounds w t.entries (length t.cells) used free)
-        (worked_to (lent t.areas t.xs t.ys bounds) (cell_of w) (words_from t.entries w.first w.count) 4) }
+    requires { square_range w ≡ true }
+    ensures answer { let t = tree_passed tree in let c = context.entry in result ≡ planned
+        (leaf_answer c.areas.now c.xs.now c.ys.now c.bounds w t.entries (length t.cells) in_use.cells in_use.entries)
+        (worked_to (lent_passed context) (cell_of w) (words_from t.entries w.first w.count) 4) }
 {
-    let drawing = tree.drawing;
     let stream = Stream {
         entries: tree.entries,
         first: w.first as usize,
         count: w.count as usize,
     };
-    let context = Context {
-        areas: drawing.areas,
-        xs: drawing.xs,
-        ys: drawing.ys,
-        bounds,
-    };
-    let Some(c) = stream::check_stream(stream, free as usize, context) else {
+    let Some(c) = stream::check_stream(stream, in_use.entries as usize, context) else {
         return Err(Refusal::Broken);
     };
     if c.lines != w.lines {
@@ -129,32 +100,31 @@ fn judge_leaf(
     if w.side == 1 {
         return Err(Refusal::Smallest);
     }
-    judge_children(tree, bounds, used, free, w)
+    judge_children(stream, context, tree.cells.len(), in_use, Parent { words: w })
 }
 
-// 12 over cell i, whose words are w, 9, and then the leaf.
-fn judge_cell(
-    tree: Tree,
-    bounds: Bounds,
-    i: usize,
-    used: u32,
-    free: u32,
-    w: CellWords,
-) -> Result<Planned, Refusal>
-    requires used_bound { (used ≤ 4096) × (free ≤ 65536) }
-    requires i_lt_used { (i < used) × (used * 8 ≤ length tree.cells.now) }
-    requires w_value { w ≡ cell_at tree.cells.now i }
-    ensures answer { let t = tree_passed tree in result ≡ planned
-        (cell_answer t.areas t.xs t.ys bounds w t.entries t.cells i used free)
-        (worked_to (lent t.areas t.xs t.ys bounds) (cell_of w) (words_from t.entries w.first w.count) 4) }
+// 12 over cell i, 9, and then the leaf.
+fn judge_cell(tree: Tree, i: usize, in_use: InUse) -> Result<Planned, Refusal>
+    requires plan_long { 3 ≤ length tree.drawing.plan.now }
+    requires i_lt_used { (i < in_use.cells) × (in_use.cells * 8 ≤ length tree.cells.now) }
+    ensures answer { let t = tree_passed tree in let w = words t i in result ≡ planned
+        (cell_answer t.areas t.xs t.ys (bounds_of t.plan w) w t.entries t.cells i in_use.cells in_use.entries)
+        (worked_to (drawing_of t i) (cell_of w) (stream t i) 4) }
 {
-    if !celltable::cell_fits(tree.cells, i, used as usize, free as usize) {
+    let cells = Cells {
+        table: tree.cells,
+        used: in_use.cells as usize,
+        entries: in_use.entries as usize,
+    };
+    let w = cells.cell(i);
+    if !cells.fits(i) {
         return Err(Refusal::Broken);
     }
     if w.child != 0 {
         return Err(Refusal::AlreadySplit);
     }
-    judge_leaf(tree, bounds, used, free, w)
+    let context = tables::context_of(tree.drawing, w.y, w.side);
+    judge_leaf(tree, context, in_use, w)
 }
 
 // All checks of a split of cell i, in this order: 7, 8, 12, 9, 10, 11.
@@ -173,71 +143,23 @@ pub fn judge(tree: Tree, i: u32) -> Result<Planned, Refusal>
     if !tree.counts_fit() {
         return Err(Refusal::Broken);
     }
-    let free = tree.head[celltable::ENTRIES];
-    let n = i as usize;
-    let w = celltable::read_cell(tree.cells, n);
-    let bounds = tables::bounds_in(drawing.plan, w.y, w.side);
-    judge_cell(tree, bounds, n, used, free, w)
+    let in_use = InUse {
+        cells: used,
+        entries: tree.head[celltable::ENTRIES],
+    };
+    judge_cell(tree, i as usize, in_use)
 }
 
 // ---- what is written
-// The four children from cell `used` on, and the first of them at cell i.
-fn put_cells(cells: &mut [u32], i: u32, used: u32, free: u32, w: CellWords, ts: [Tally; 4])
-    requires w_value { square_range w ≡ true }
-    requires lt_side { 1 < w.side }
-    requires used_in_bounds { (used + 4) * 8 ≤ length cells.old }
-    requires used_bound { (used ≤ 4096) × (free ≤ 65536) }
+// The four children behind the cells in use, and the first of them at cell i.
+fn put_cells(cells: &mut [u32], i: u32, in_use: InUse, w: Parent, ts: [Tally; 4])
+    requires used_in_bounds { (in_use.cells + 4) * 8 ≤ length cells.old }
     requires few_each { FewEach ts }
     requires i_in_bounds { i * 8 + 8 ≤ length cells.old }
-    ensures cells { cells.new ≡ put_child_at (cells_by (cell_of w) ts cells.old i used free 4) i used }
+    ensures cells { cells.new ≡ put_child_at (cells_by (cell_of w.words) ts cells.old i in_use.cells in_use.entries 4) i in_use.cells }
 {
-    four_children::put_four(cells, i, used, free, w, ts);
-    celltable::put_child(cells, i as usize, used);
-}
-
-// Writes a split of cell i, whose words are w: there is room for it.
-fn put_split(
-    drawing: Drawing,
-    head: &mut [u32],
-    cells: &mut [u32],
-    entries: &mut [u32],
-    bounds: Bounds,
-    i: u32,
-    used: u32,
-    free: u32,
-    w: CellWords,
-    ts: [Tally; 4],
-)
-    requires passed { Passed entries.old w.first w.count (env drawing.areas.now drawing.xs.now drawing.ys.now bounds) }
-    requires w_value { square_range w ≡ true }
-    requires lt_side { 1 < w.side }
-    requires count_bound { w.first + w.count ≤ free }
-    requires ts_value { ts ≡ worked_to (lent drawing.areas.now drawing.xs.now drawing.ys.now bounds) (cell_of w)
-        (words_from entries.old w.first w.count) 4 }
-    requires count_in_bounds { (free + length (streams_to (lent drawing.areas.now drawing.xs.now drawing.ys.now bounds) (cell_of w)
-        (words_from entries.old w.first w.count) 4)) * 4 ≤ length entries.old }
-    requires few_each { FewEach ts }
-    requires used_in_bounds { (used + 4) * 8 ≤ length cells.old }
-    requires used_bound { (used ≤ 4096) × (free ≤ 65536) }
-    requires i_in_bounds { (i * 8 + 8 ≤ length cells.old) × (2 ≤ length head.old) }
-    ensures head { head.new ≡ set (set head.old 0 (used + 4)) 1 (free + ((get_or ts 0 no_tally).entries
-        + (get_or ts 1 no_tally).entries + (get_or ts 2 no_tally).entries + (get_or ts 3 no_tally).entries)) }
-    ensures cells { cells.new ≡ put_child_at (cells_by (cell_of w) ts cells.old i used free 4) i used }
-    ensures entries { let d = drawing.entry in entries.new ≡ written entries.old free
-        (streams_to (lent d.areas.now d.xs.now d.ys.now bounds) (cell_of w) (words_from entries.old w.first w.count) 4) }
-{
-    let first = w.first as usize;
-    let count = w.count as usize;
-    let context = Context {
-        areas: drawing.areas,
-        xs: drawing.xs,
-        ys: drawing.ys,
-        bounds,
-    };
-    four_children::write_four(entries, first, count, free as usize, context, w, ts);
-    put_cells(cells, i, used, free, w, ts);
-    let n = entries_of(ts);
-    tables::put_head(head, used + celltable::CHILDREN, free + (n as u32));
+    four_children::put_four(cells, i, in_use, w, ts);
+    celltable::put_child(cells, i as usize, in_use.cells);
 }
 
 // Writes a split of cell i that no check refuses, with the tallies of its four children.
@@ -256,15 +178,31 @@ fn make_split(
     ensures cells { cells.new ≡ cells_after (tree_passed_mut drawing head cells entries) i (Ok 0) }
     ensures entries { entries.new ≡ entries_after (tree_passed_mut drawing head cells entries) i (Ok 0) }
 {
-    let used = head[celltable::CELLS];
-    let free = head[celltable::ENTRIES];
-    let w = celltable::read_cell(cells, i as usize);
-    let bounds = tables::bounds_in(drawing.plan, w.y, w.side);
-    put_split(drawing, head, cells, entries, bounds, i, used, free, w, ts);
+    let in_use = InUse {
+        cells: head[celltable::CELLS],
+        entries: head[celltable::ENTRIES],
+    };
+    let free = in_use.entries as usize;
+    let table = Cells {
+        table: cells,
+        used: in_use.cells as usize,
+        entries: free,
+    };
+    let words = table.cell(i as usize);
+    let context = tables::context_of(drawing, words.y, words.side);
+    let w = Parent { words };
+    let first = words.first as usize;
+    let count = words.count as usize;
+    four_children::write_four(entries, first, count, free, context, w, ts);
+    put_cells(cells, i, in_use, w, ts);
+    let made = entries_of(ts) as u32;
+    tables::put_head(head, in_use.cells + celltable::CHILDREN, in_use.entries + made);
 }
 
 // Splits cell i: four cells of half its side, each with the stream that document 01 defines; answers the number of the first. Any tables may be
 // handed in. Refusals, in this order: 7, 8, 12, 9, 10, 11. Nothing is changed on a refusal.
+// Tables that are lent to be written are parameters by themselves, here and in `open` and `grow`: as fields, each contract would have to say of each
+// that the struct still lends the same table.
 pub fn split(
     drawing: Drawing,
     head: &mut [u32],

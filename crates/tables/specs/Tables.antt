@@ -3,6 +3,7 @@ use Rattle.std.specs.Prelude.{Bool, false, cond, ◌&&◌, List, ℕ, eqb, leb, 
 use denote.Triple.Both.{Both}
 use Rattle.std.specs.Borrow.{Bor, MutBor}
 use Rattle.stream.specs.declared.Bounds.{Bounds}
+use Rattle.stream.specs.declared.Context.{Context}
 use Rattle.stream.specs.Entry.{lines_in}
 use Rattle.stream.specs.Table.{words_from}
 use Rattle.stream.specs.Grammar.{Env, bounds, used_range, check_stream}
@@ -60,6 +61,11 @@ entries_used head = get_or head 1 0
 -- the areas and corners in use, and the rows of a cell
 abbrev pub bounds_of : List ℕ → CellWords → Bounds
 bounds_of plan w = bounds (get_or plan 1 0) (get_or plan 2 0) w.y w.side
+
+-- what a stream of a cell with these rows is read against: a drawing, with the areas and corners that its plan says are in use
+abbrev pub against : Drawing → (low side : ℕ) → Context
+against d low side =
+    record { areas = d.areas; xs = d.xs; ys = d.ys; bounds = bounds (get_or d.plan.now 1 0) (get_or d.plan.now 2 0) low side }
 
 -- 12 over the numbers in use: "cells in use from 1 to what the table holds; areas, corners and entries in use at most what their tables and
 -- limits hold"; a plan too short for its counts

@@ -5,13 +5,10 @@
 ghost use Rattle.std.specs.Prelude.{◌≡◌, ◌≤◌, length, get_or, set};
 ghost use Rattle.stream.specs.Grammar.{bounds};
 ghost use Rattle.celltable.specs.Ranges.{cells_held, entries_held};
-ghost use Rattle.tables.specs.Tables.{tree_passed, cells_used, counts_in};
+ghost use Rattle.tables.specs.Tables.{tree_passed, cells_used, counts_in, against};
 
 use drawing::Drawing;
 use stream::{Bounds, Context};
-
-// The limit of the cells, as a word.
-const MOST_CELLS: u32 = celltable::MOST_CELLS as u32;
 
 // The seven tables of a tree and of its drawing, as they are lent to a call that reads them.
 #[derive(Clone, Copy)]
@@ -22,10 +19,12 @@ pub struct Tree<'a> {
     pub entries: &'a [u32],
 }
 
+// Whether a table of cells of this length holds n cells in use, and below whether one of entries does: 1 to 4,096 of eight words, or up to 65,536 of four.
+// Two functions: one for both would take these three numbers as well.
 pub fn cells_held(n: u32, len: usize) -> bool
     ensures answer { result ≡ cells_held n len }
 {
-    (1 <= n) & (((n as usize) <= len / celltable::CELL_WORDS) & (n <= MOST_CELLS))
+    (1 <= n) & (((n as usize) <= len / celltable::CELL_WORDS) & ((n as usize) <= celltable::MOST_CELLS))
 }
 
 pub fn entries_held(n: usize, len: usize) -> bool
@@ -49,10 +48,23 @@ pub fn bounds_in(plan: &[u32], low: u32, side: u32) -> Bounds
     ensures answer { result ≡ bounds (get_or plan.now 1 0) (get_or plan.now 2 0) low side }
 {
     Bounds {
-        areas: laws::wide(plan[read::AREAS]),
-        corners: laws::wide(plan[read::CORNERS]),
+        areas: plan[read::AREAS] as usize,
+        corners: plan[read::CORNERS] as usize,
         low,
         side,
+    }
+}
+
+// What the stream of a cell with these rows is read against.
+pub fn context_of(drawing: Drawing, low: u32, side: u32) -> Context
+    requires { 3 ≤ length drawing.plan.now }
+    ensures answer { result ≡ against drawing.entry low side }
+{
+    Context {
+        areas: drawing.areas,
+        xs: drawing.xs,
+        ys: drawing.ys,
+        bounds: bounds_in(drawing.plan, low, side),
     }
 }
 
@@ -79,13 +91,8 @@ impl Tree<'_> {
         if d.plan.len() < read::PLAN_COUNTS {
             return false;
         }
-        let free = laws::wide(self.head[celltable::ENTRIES]);
-        let context = Context {
-            areas: d.areas,
-            xs: d.xs,
-            ys: d.ys,
-            bounds: bounds_in(d.plan, 0, 0),
-        };
+        let free = self.head[celltable::ENTRIES] as usize;
+        let context = context_of(d, 0, 0);
         context.used_range(n, free)
     }
 }

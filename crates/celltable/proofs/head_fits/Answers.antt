@@ -8,11 +8,4 @@ returns-then-head-lt-HEAD_WORDS c = record { answer = rw (lt-leb _ _ c.if-head-l
 
 pub returns : goal.returns
 unfolding head_range
-returns c =
-    record {
-      answer = rw (
-        le-leb _ _ c.if-head-lt-HEAD_WORDS.false,
-        c.wide-m.ensures.answer,
-        c.wide-n.ensures.answer,
-      );
-    }
+returns c = record { answer = rw (le-leb _ _ c.if-head-lt-HEAD_WORDS.false) }

@@ -1,27 +1,26 @@
 -- The path down over the numbers that the code holds. `Rattle.celltable.proofs.Meaning` says that it is `descend_in`.
 use Rattle.std.specs.Prelude.{ℕ, zero, suc, ◌+◌, ◌*◌, ◌/◌, ◌≤◌, ◌<◌, Bool, cond, ◌&&◌, ◌||◌, List, eqb, leb, Option, None, Some}
 use Rattle.celltable.specs.declared.CellWords.{CellWords}
-use Rattle.celltable.specs.declared.Half.{Half}
 use Rattle.celltable.specs.declared.Cursor.{Cursor}
 use Rattle.celltable.specs.declared.Down.{Down}
 use Rattle.celltable.specs.declared.Down.TheVariants.{Deeper, AtLeaf}
 use Rattle.celltable.specs.declared.Leaf.{Leaf}
 use Rattle.celltable.specs.Table.{cell_at}
-use Rattle.celltable.specs.Ranges.{child_range, entry_range, parent_range}
+use Rattle.celltable.specs.Ranges.{child_range, entry_range, half_at, parent_range}
 use Rattle.celltable.specs.Descent.{leaf_of}
 
--- where the low or the high half of a side begins
-abbrev pub half_n : (at half : ℕ) → Bool → Half
-half_n at half high = cond high (record { at = at + half; bit = 1 }) (record { at = at; bit = 0 })
+-- 1 for the high half of a side
+abbrev pub half_bit : Bool → ℕ
+half_bit high = cond high 1 0
 
 -- the cursor at the child that holds (px, py), of the four children from `first` on
 abbrev pub deeper_n : Cursor → (first px py : ℕ) → Cursor
 deeper_n c first px py =
     record {
       parent = c.cell;
-      cell = first + (half_n c.x (c.side / 2) (leb (c.x + c.side / 2) px)).bit + 2 * (half_n c.y (c.side / 2) (leb (c.y + c.side / 2) py)).bit;
-      x = (half_n c.x (c.side / 2) (leb (c.x + c.side / 2) px)).at;
-      y = (half_n c.y (c.side / 2) (leb (c.y + c.side / 2) py)).at;
+      cell = first + half_bit (leb (c.x + c.side / 2) px) + 2 * half_bit (leb (c.y + c.side / 2) py);
+      x = half_at c.x (c.side / 2) (leb (c.x + c.side / 2) px);
+      y = half_at c.y (c.side / 2) (leb (c.y + c.side / 2) py);
       side = c.side / 2;
       steps = c.steps + 1;
     }

@@ -25,11 +25,17 @@ bounds-tree-1 c =
     let h = told c.counts_fit.result (counts_in T) true c.counts_fit.ensures.answer c.if-not-counts_fit.false in
     (counts_fit T h).head_long
 
+pub invariant_of-cells : goal.invariant_of-cells
+invariant_of-cells c =
+    let T = tree_of c.args.tree in
+    let h = told c.counts_fit.result (counts_in T) true c.counts_fit.ensures.answer c.if-not-counts_fit.false in
+    record { in_table = (counts_cells T _ h refl).within }
+
 pub descend-requires : goal.descend-requires
 descend-requires c =
     let T = tree_of c.args.tree in
     let h = told c.counts_fit.result (counts_in T) true c.counts_fit.ensures.answer c.if-not-counts_fit.false in
-    counts_cells T c.wide-used.result h c.wide-used.ensures.answer
+    counts_cells T _ h refl
 
 pub check_leaf-requires : goal.check_leaf-requires
 check_leaf-requires c =
@@ -42,8 +48,8 @@ returns-in_default c =
     let T = tree_of c.args.tree in
     let h = told c.counts_fit.result (counts_in T) true c.counts_fit.ensures.answer c.if-not-counts_fit.false in
     record {
-      answer = read_astray T c.args.x c.args.y c.wide-used.result c.wide-free.result _ h
-          c.wide-used.ensures.answer c.wide-free.ensures.answer c.in_default.ensures.answer refl;
+      answer = read_astray T c.args.x c.args.y _ _ _ h
+          refl refl c.in_default.ensures.answer refl;
     }
 
 pub returns-in_default-check_leaf : goal.returns-in_default-check_leaf
@@ -51,8 +57,8 @@ returns-in_default-check_leaf c =
     let T = tree_of c.args.tree in
     let h = told c.counts_fit.result (counts_in T) true c.counts_fit.ensures.answer c.if-not-counts_fit.false in
     record {
-      answer = read_stopped T c.args.x c.args.y c.wide-used.result c.wide-free.result _ h
-          c.wide-used.ensures.answer c.wide-free.ensures.answer c.in-Some.ensures.answer _ refl c.in_default-check_leaf.ensures.answer;
+      answer = read_stopped T c.args.x c.args.y _ _ _ h
+          refl refl c.in-Some.ensures.answer _ refl c.in_default-check_leaf.ensures.answer;
     }
 
 pub returns-then-checked-leaf : goal.returns-then-checked-leaf
@@ -60,8 +66,8 @@ returns-then-checked-leaf c =
     let T = tree_of c.args.tree in
     let h = told c.counts_fit.result (counts_in T) true c.counts_fit.ensures.answer c.if-not-counts_fit.false in
     record {
-      answer = read_unfit T c.args.x c.args.y c.wide-used.result c.wide-free.result _ h
-          c.wide-used.ensures.answer c.wide-free.ensures.answer c.in-Some.ensures.answer _ _ refl c.in-Some-check_leaf.ensures.answer (ne_eqb _ _
+      answer = read_unfit T c.args.x c.args.y _ _ _ h
+          refl refl c.in-Some.ensures.answer _ _ refl c.in-Some-check_leaf.ensures.answer (ne_eqb _ _
           c.if-checked-leaf.true);
     }
 
@@ -70,7 +76,7 @@ returns c =
     let T = tree_of c.args.tree in
     let h = told c.counts_fit.result (counts_in T) true c.counts_fit.ensures.answer c.if-not-counts_fit.false in
     record {
-      answer = read_met T c.args.x c.args.y c.wide-used.result c.wide-free.result _ h
-          c.wide-used.ensures.answer c.wide-free.ensures.answer c.in-Some.ensures.answer _ _ refl c.in-Some-check_leaf.ensures.answer (eq-eqb _ _
+      answer = read_met T c.args.x c.args.y _ _ _ h
+          refl refl c.in-Some.ensures.answer _ _ refl c.in-Some-check_leaf.ensures.answer (eq-eqb _ _
           c.if-checked-leaf.false);
     }

@@ -2,8 +2,8 @@ use mathlib.Core.Path.{ap, ◌∙◌}
 use Rattle.pruning.specs.code.Weights.{total}
 use Rattle.cells.specs.Cells.{Cell}
 use Rattle.cells.specs.code.Making.{element_size}
-use Rattle.stream.specs.Table.{words_from}
-use Rattle.ranges.specs.Held.{lent}
+use Rattle.stream.specs.Table.{words_in}
+use Rattle.ranges.specs.Held.{lent_of}
 use Rattle.making.specs.Made.{elements_made}
 use Rattle.child_stream.specs.code.Numbers.{starts_in}
 use Rattle.four_children.specs.Children.{elements_of_child}
@@ -17,23 +17,23 @@ pub count_child-n-requires : goal.count_child-n-requires
 count_child-n-requires c = let a = c.args in
     record {
       passed = c.requires.passed;
-      square_in = kid_square a.w c.requires.w_value a.q c.quarter_of-s.result c.quarter_of-s.ensures.answer;
-      s_value = kid_back a.w c.requires.w_value a.q c.quarter_of-s.result c.quarter_of-s.ensures.answer;
+      square_in = kid_square a.w.words a.w.on_grid a.q c.quarter-s.result c.quarter-s.ensures.answer;
+      s_value = kid_back a.w.words a.w.on_grid a.q c.quarter-s.result c.quarter-s.ensures.answer;
     }
 
 pub returns : goal.returns
 returns c =
     let a = c.args in
-    let D = lent a.context.areas.now a.context.xs.now a.context.ys.now a.context.bounds in
-    let ws = words_from a.stream.entries.now a.stream.first a.stream.count in record {
+    let D = lent_of a.context in
+    let ws = words_in a.stream in record {
       answer = c.tally_of.ensures.answer
-          ∙ tally_is (elements_of_child D (cell_of a.w) ws a.q) c.count_child-n.result
+          ∙ tally_is (elements_of_child D (cell_of a.w.words) ws a.q) c.count_child-n.result
           (few_elements a.stream.entries.now a.context.areas.now a.context.xs.now a.context.ys.now a.context.bounds a.stream.first a.stream.count _
           c.requires.passed)
           (c.count_child-n.ensures.weight
           ∙ ap (λ (k : Cell). total element_size (elements_made D k ws))
-          (kid_in a.w c.requires.w_value a.q c.quarter_of-s.result c.quarter_of-s.ensures.answer))
+          (kid_in a.w.words a.w.on_grid a.q c.quarter-s.result c.quarter-s.ensures.answer))
           (c.count_child-n.ensures.starts
           ∙ ap (λ (k : Cell). starts_in (elements_made D k ws))
-          (kid_in a.w c.requires.w_value a.q c.quarter_of-s.result c.quarter_of-s.ensures.answer));
+          (kid_in a.w.words a.w.on_grid a.q c.quarter-s.result c.quarter-s.ensures.answer));
     }

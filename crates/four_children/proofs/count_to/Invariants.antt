@@ -1,7 +1,8 @@
 use Rattle.celltable.specs.Ranges.{cell_of}
-use Rattle.four_children.specs.code.Numbers.{drawing_of, words_of}
+use Rattle.stream.specs.Table.{words_in}
+use Rattle.ranges.specs.Held.{lent_of}
 use Rattle.four_children.proofs.Worked.{Working}
 use Rattle.four_children.proofs.count_to.Given as goal
 
 abbrev pub invariant-loop-q : goal.invariant-loop-q
-invariant-loop-q l = Working (drawing_of l.context) (cell_of l.w) (words_of l.stream) l.n l.q l.ts
+invariant-loop-q l = Working (lent_of l.context) (cell_of l.w.words) (words_in l.stream) l.n l.q l.ts

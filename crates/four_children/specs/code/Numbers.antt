@@ -6,23 +6,12 @@ use Rattle.cells.specs.Segments.{drawn, shortcut}
 use Rattle.cells.specs.Drawings.{Drawing}
 use Rattle.cells.specs.Elements.{Element, opens, bar, closes, bare, named, segment}
 use Rattle.stream.specs.declared.Words.{Words}
-use Rattle.stream.specs.declared.Context.{Context}
-use Rattle.stream.specs.declared.Stream.{Stream}
-use Rattle.stream.specs.Table.{words_from}
-use Rattle.ranges.specs.Held.{lent}
 use Rattle.celltable.specs.Table.{put_cell_at}
 use Rattle.celltable.specs.Descent.{quarter_at}
 use Rattle.child_stream.specs.declared.Count.{Count}
 use Rattle.child_stream.specs.code.Numbers.{starts_in}
 use Rattle.four_children.specs.declared.Tally.{Tally}
 use Rattle.four_children.specs.Children.{words_with, elements_of_child}
-
--- the drawing that a stream is read against, and the words of the stream
-abbrev pub drawing_of : Context → Drawing
-drawing_of c = lent c.areas.now c.xs.now c.ys.now c.bounds
-
-abbrev pub words_of : Stream → List Words
-words_of s = words_from s.entries.now s.first s.count
 
 -- how many elements are lines
 abbrev pub line_one : Element → ℕ

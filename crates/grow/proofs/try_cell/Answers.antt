@@ -9,4 +9,4 @@ pub wants-requires : goal.wants-requires
 wants-requires c =
     let s = c.args.s in
     let h : cell_range c.args.cells.now s.cell s.used s.free ≡ true = cc in
-    side_passes c.read_cell-w.result (ap square_range c.read_cell-w.ensures.answer ∙ passes_range c.args.cells.now s.cell s.used s.free h)
+    side_passes c.cell-w.result (ap square_range c.cell-w.ensures.answer ∙ passes_range c.args.cells.now s.cell s.used s.free h)

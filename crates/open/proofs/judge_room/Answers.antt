@@ -1,6 +1,5 @@
 use mathlib.Core.Path.{◌≡◌, refl}
 use mathlib.Core.Bool.{true, false}
-use Prim.Native.Nat.{◌%◌}
 use lib.ListN.{length}
 use Rattle.drawing.specs.Tables.{tables_of}
 use Rattle.tables.specs.Tables.{tree_of}
@@ -15,21 +14,23 @@ count_open-size-requires c =
 pub returns-then-not-has_room : goal.returns-then-not-has_room
 returns-then-not-has_room c =
     let t = c.args.tree in
-    let size = c.count_open-size.result in
-    let h : room_for (length t.head.now) (length t.cells.now) (length t.entries.now) (size % 65536) ≡ false = cc in
-    let n = count_words (tables_of t.drawing) c.args.counts c.requires size (size % 65536) c.count_open-size.ensures.answer refl in
-    record { answer = no_room (tree_of t) (size % 65536) n h }
+    let n = c.entries_in-n.result in
+    let h : room_for (length t.head.now) (length t.cells.now) (length t.entries.now) n ≡ false = cc in
+    record {
+      answer = no_room (tree_of t) n
+          (count_words (tables_of t.drawing) c.args.counts c.requires _ n c.count_open-size.ensures.answer c.entries_in-n.ensures.answer) h;
+    }
 
 pub returns : goal.returns
 returns c =
     let t = c.args.tree in
-    let size = c.count_open-size.result in
-    let h : room_for (length t.head.now) (length t.cells.now) (length t.entries.now) (size % 65536) ≡ true = cc in
-    let n = count_words (tables_of t.drawing) c.args.counts c.requires size (size % 65536) c.count_open-size.ensures.answer refl in
+    let n = c.entries_in-n.result in
+    let h : room_for (length t.head.now) (length t.cells.now) (length t.entries.now) n ≡ true = cc in
     record {
       answer = (
-        has_room (tree_of t) (size % 65536) n h,
+        has_room (tree_of t) n
+            (count_words (tables_of t.drawing) c.args.counts c.requires _ n c.count_open-size.ensures.answer c.entries_in-n.ensures.answer) h,
         c.requires,
-        count_lines (tables_of t.drawing) c.args.counts c.requires size _ c.count_open-size.ensures.answer refl,
+        count_lines (tables_of t.drawing) c.args.counts c.requires _ _ c.count_open-size.ensures.answer c.lines_in.ensures.answer,
       );
     }

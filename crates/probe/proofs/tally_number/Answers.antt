@@ -11,9 +11,10 @@ use Rattle.four_children.specs.code.Numbers.{no_tally, worked_to}
 use Rattle.probe.specs.Answers.{square_fits, number_in}
 use Rattle.probe.proofs.tally_number.Goals as goal
 
-pub count_to-tallies-requires-clause-w_value : goal.count_to-tallies-requires-clause-w_value
+pub invariant_of-count_to : goal.invariant_of-count_to
 unfolding square_fits
-count_to-tallies-requires-clause-w_value c = rw c.leaf_on.ensures.answer c.requires.s_value
+invariant_of-count_to c =
+    rw c.leaf_on-words.ensures.answer (record { on_grid = c.requires.s_value; halves = c.requires.lt_side.0 })
 
 pub returns : goal.returns
 returns c =
@@ -24,5 +25,5 @@ returns c =
           ∙ (c.number_in.ensures.answer
           ∙ (ap (λ (ts : List Tally). number_in (get_or ts a.k no_tally) a.number) c.count_to-tallies.ensures.answer
           ∙ ap (λ (w : CellWords). number_in (get_or (worked_to (lent v.areas.now v.xs.now v.ys.now v.bounds) (cell_of w)
-          (words_in a.stream) a.q) a.k no_tally) a.number) c.leaf_on.ensures.answer));
+          (words_in a.stream) a.q) a.k no_tally) a.number) c.leaf_on-words.ensures.answer));
     }

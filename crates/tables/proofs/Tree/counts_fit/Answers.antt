@@ -1,4 +1,4 @@
-use mathlib.Core.Path.{sym, ◌∙◌}
+use mathlib.Core.Path.{refl, sym, ◌∙◌}
 use lib.ListN.{length}
 use Rattle.celltable.proofs.Ranges.{head_long}
 use Rattle.tables.specs.Tables.{tree_of}
@@ -20,7 +20,7 @@ bounds-self-1 c =
 pub returns : goal.returns
 returns c =
     record {
-      answer = counts_yes (tree_of c.args.self) c.used_range.result c.wide-free.result c.bounds_in.result
-          (sym c.head_fits.ensures.answer ∙ c.if-not-head_fits.false) c.if-d-lt-PLAN_COUNTS.false c.wide-free.ensures.answer
-          c.bounds_in.ensures.answer c.used_range.ensures.answer;
+      answer = counts_yes (tree_of c.args.self) c.used_range.result _ _
+          (sym c.head_fits.ensures.answer ∙ c.if-not-head_fits.false) c.if-d-lt-PLAN_COUNTS.false refl refl
+          (rw c.context_of-context.ensures.answer at c.used_range.ensures.answer);
     }

@@ -1,5 +1,5 @@
 use Rattle.celltable.specs.Ranges.{cell_range}
-use Rattle.celltable.proofs.cell_fits.Goals as goal
+use Rattle.celltable.proofs.Cells.fits.Goals as goal
 
 pub returns : goal.returns
 unfolding cell_range
@@ -11,6 +11,6 @@ returns c =
         c.entries_fit.ensures.answer,
         c.children_fit.ensures.answer,
         c.square_fits.ensures.answer,
-        c.read_cell-w.ensures.answer,
+        c.cell-w.ensures.answer,
       );
     }
