@@ -9,9 +9,8 @@ ghost use Rattle.find_leaf.specs.code.Numbers.{leaf_checked, leaf_read, report_n
 
 use celltable::{Cells, Leaf};
 use curves::Position;
-use drawing::Drawing;
 use refusals::Refusal;
-use stream::{Checked, Context, Stream};
+use stream::{Checked, Stream};
 use tables::Tree;
 
 // A leaf as it is reported: its number, low corner, side, depth, how many entries and lines it has, and whether it has no line, curve or shortcut.
@@ -65,23 +64,12 @@ fn check_leaf(tree: Tree, free: usize, leaf: Leaf) -> Option<Checked>
     requires { 3 ≤ length tree.drawing.plan.now }
     ensures answer { result ≡ leaf_checked (tree_passed tree) free leaf }
 {
-    let Drawing {
-        plan,
-        areas,
-        xs,
-        ys,
-    } = tree.drawing;
     let stream = Stream {
         entries: tree.entries,
         first: leaf.first as usize,
         count: leaf.count as usize,
     };
-    let context = Context {
-        areas,
-        xs,
-        ys,
-        bounds: tables::bounds_in(plan, leaf.y, leaf.side),
-    };
+    let context = tables::context_of(tree.drawing, leaf.y, leaf.side);
     stream::check_stream(stream, free, context)
 }
 

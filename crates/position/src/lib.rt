@@ -14,7 +14,7 @@ use celltable::Leaf;
 use curves::Position;
 use paint::{area, colour};
 use refusals::Refusal;
-use stream::{Context, Stream};
+use stream::Stream;
 use tables::Tree;
 
 // What shows at a position: the set of areas, the material of the front one, and the colour. And how far that reaches: whether the leaf's stream holds no
@@ -54,18 +54,12 @@ fn set_in(tree: Tree, leaf: Leaf, at: Position) -> u64
     ensures answer { result ≡ set_read (tree_passed tree) leaf at.x at.y }
     ensures painted { Painted (tree_passed tree).areas result }
 {
-    let drawing = tree.drawing;
     let stream = Stream {
         entries: tree.entries,
         first: leaf.first as usize,
         count: leaf.count as usize,
     };
-    let context = Context {
-        areas: drawing.areas,
-        xs: drawing.xs,
-        ys: drawing.ys,
-        bounds: tables::bounds_in(drawing.plan, leaf.y, leaf.side),
-    };
+    let context = tables::context_of(tree.drawing, leaf.y, leaf.side);
     evaluate::read_stream(stream, context, at)
 }
 
