@@ -60,9 +60,6 @@ mix_left paint set = go 0 64 start (shares 255 0) refl
 
 -- ---- no sum passes 255 × 255
 
-one_channel : (left r w c : ℕ) → w ≤ left → c ≤ 255 → r + left * 255 ≤ 65025 → (r + w * c) + (left - w) * 255 ≤ 65025
-one_channel left r w c h k e = let p : w * c ≤ w * 255 = mul-le-mul (le_refl w) k in omega arith
-
 pub start_in_law : MixIn start
 start_in_law = record { left_in = omega arith; red_in = omega arith; green_in = omega arith; blue_in = omega arith }
 
