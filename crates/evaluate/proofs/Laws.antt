@@ -15,8 +15,8 @@ use Rattle.laws.proofs.Differences.{mag_abs}
 use Rattle.laws.proofs.Signed.{read_back}
 use Rattle.laws.proofs.Booleans.{clash}
 use Rattle.curves.specs.Curves.{curve_fits}
-use Rattle.geometry.specs.code.Reach.{EdgeIn, LineBelow}
-use Rattle.geometry.specs.Windings.{Line, line, curve, edge_of}
+use Rattle.geometry.specs.code.Reach.{LineBelow}
+use Rattle.geometry.specs.Windings.{Line, line, curve}
 use Rattle.cells.specs.Segments.{drawn, shortcut}
 use Rattle.cells.specs.Elements.{Element, segment}
 use Rattle.records.specs.Record.{corner_range, ranged, is_good}
@@ -84,18 +84,6 @@ module _ (xs ys : List ℕ) (used : ℕ) where
       ((met_in xs ys used a p.0).0, (met_in xs ys used b p.1).0)
   line_used (curve a) h = (met_in xs ys used (a + 2) (curve_parts a h).1).0
 
-  line_edge : (l : Line) → line_met xs ys used l ≡ true → EdgeIn (edge_of xs ys l)
-  line_edge (line a b) h =
-      let p = both (corner_met xs ys used a) (corner_met xs ys used b) h in
-      let u = met_in xs ys used a p.0 in
-      let v = met_in xs ys used b p.1 in
-      record { ends = record { first_x = omega arith; first_y = omega arith; second_x = omega arith; second_y = omega arith }; fits = tt }
-  line_edge (curve a) h =
-      let p = curve_parts a h in
-      let u = met_in xs ys used a p.0 in
-      let v = met_in xs ys used (a + 2) p.1 in
-      record { ends = record { first_x = omega arith; first_y = omega arith; second_x = omega arith; second_y = omega arith }; fits = p.2 }
-
 below_more : (m n : ℕ) (l : Line) → LineBelow m l → m ≤ n → LineBelow n l
 below_more m n (line a b) h k = (omega arith, omega arith)
 below_more m n (curve a) h k = omega arith
@@ -109,9 +97,6 @@ module _ (xs ys : List ℕ) (used : ℕ) (w : Words) (h : segment_range xs ys us
   line_below k =
       let u = line_used xs ys used (line_of w) in_line in
       (below_more used (length xs) (line_of w) u k.0, below_more used (length ys) (line_of w) u k.1)
-
-  pub entry_edge_in : EdgeIn (edge_of xs ys (line_of w))
-  entry_edge_in = line_edge xs ys used (line_of w) in_line
 
 -- ---- an entry that is a line, a curve or a shortcut
 

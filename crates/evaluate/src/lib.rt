@@ -163,7 +163,14 @@ fn moved(m: Machine, w: Words) -> Machine
 }
 
 // After the area of entry i, whose words are w. It is looked at in P only.
-fn read_area(stream: Stream, i: usize, context: Context, m: Machine, w: Words, at: Position) -> Reading
+fn read_area(
+    stream: Stream,
+    i: usize,
+    context: Context,
+    m: Machine,
+    w: Words,
+    at: Position,
+) -> Reading
     requires ranged { Ranged stream.entries.now i (stream.first + stream.count) (env_of context) }
     requires w_value { (w ≡ words_at stream.entries.now i) × (w.kind ≡ 4) }
     ensures onward { Onward (env_passed context).areas (env_passed context).xs (env_passed context).ys at.x at.y

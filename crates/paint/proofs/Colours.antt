@@ -7,20 +7,14 @@ use native.Mathlib.Numerals.{add-one}
 use native.Mathlib.Omega.{arith}
 use lib.Count.{count_trailing_zeros}
 use Rattle.paint.specs.Sets.{has, each_from, each}
-use Rattle.paint.specs.Areas.{PaintIn}
-use Rattle.paint.specs.Colours.{weight, add, start, mix_of, rounded, MixIn, ChannelsIn, ColourIn, Shares, shares, left, weights, share, shares_of}
+use Rattle.paint.specs.Colours.{weight, add, start, mix_of, MixIn, Shares, shares, left, weights, share, shares_of}
 use Rattle.paint.proofs.Sets.{has_none, has_below, lowest_has, each_left, each_turn, each_done, each_begin, left_has}
 use Rattle.paint.specs.declared.area.Paint.{Paint}
 use Rattle.paint.specs.declared.colour.Mix.{Mix}
-use Rattle.paint.specs.declared.colour.Channels.{Channels}
 
 -- a weight is at most what is left
 pub weight_le : (left alpha : ℕ) → alpha ≤ 255 → weight left alpha ≤ left
 weight_le left alpha h = let p : left * alpha ≤ left * 255 = mul-le-mul (le_refl left) h in omega arith
-
--- a product of two bytes
-pub bytes_product : (a b : ℕ) → a ≤ 255 → b ≤ 255 → a * b ≤ 65025
-bytes_product a b p q = mul-le-mul p q
 
 -- ---- what holds of the first and is kept by each step holds at the end
 
@@ -66,25 +60,8 @@ mix_left paint set = go 0 64 start (shares 255 0) refl
 
 -- ---- no sum passes 255 × 255
 
-one_channel : (left r w c : ℕ) → w ≤ left → c ≤ 255 → r + left * 255 ≤ 65025 → (r + w * c) + (left - w) * 255 ≤ 65025
-one_channel left r w c h k e = let p : w * c ≤ w * 255 = mul-le-mul (le_refl w) k in omega arith
-
-pub add_in : (p : Paint) → PaintIn p → (m : Mix) → MixIn m → MixIn (add p m)
-add_in p h m k =
-    let w = weight_le m.left p.alpha h.alpha_byte in
-    record {
-      left_in = omega arith;
-      red_in = one_channel m.left m.red (weight m.left p.alpha) p.red w h.red_byte k.red_in;
-      green_in = one_channel m.left m.green (weight m.left p.alpha) p.green w h.green_byte k.green_in;
-      blue_in = one_channel m.left m.blue (weight m.left p.alpha) p.blue w h.blue_byte k.blue_in;
-    }
-
 pub start_in_law : MixIn start
 start_in_law = record { left_in = omega arith; red_in = omega arith; green_in = omega arith; blue_in = omega arith }
-
--- a colour's channels are bytes, as the type of its code says
-pub rounded_in : (c : Channels) → ChannelsIn c → ColourIn (rounded c)
-rounded_in c h = record { red_in = omega arith; green_in = omega arith; blue_in = omega arith }
 
 -- ---- the loop over a shown set: what is left of the set, moved down, and the mix so far
 

@@ -4,8 +4,8 @@ use mathlib.Core.Bool.{cond}
 use Prim.Native.Nat.{ℕ, zero, suc, ◌+◌, ◌*◌, ◌/◌, ◌≤◌, ◌<◌}
 use native.Mathlib.Omega.{arith}
 use lib.Dec.{ltb}
-use Rattle.paint.specs.Colours.{rounded, ColourIn}
-use Rattle.paint.specs.Pixels.{sample_x, sample_y, plus, samples, mean, pixel_of, SamplesIn}
+use Rattle.paint.specs.Colours.{rounded}
+use Rattle.paint.specs.Pixels.{sample_x, sample_y, plus, samples, mean, pixel_of}
 use Rattle.paint.specs.declared.colour.Channels.{Channels}
 use Rattle.paint.specs.declared.colour.Colour.{Colour}
 
@@ -26,10 +26,6 @@ pixel_agrees at at' row pixel h = ap mean (samples_agree at at' row pixel 0 16 _
 -- sixteen equal sums give the rounding of a single position
 pub sixteen_equal : (s : ℕ) → (16 * s + 2040) / 4080 ≡ (s + 127) / 255
 sixteen_equal s = omega arith
-
--- a pixel's channels are bytes, as the type of its code says
-pub mean_in : (s : Channels) → SamplesIn 16 s → ColourIn (mean s)
-mean_in s h = record { red_in = omega arith; green_in = omega arith; blue_in = omega arith }
 
 -- ---- samples that all have one colour
 

@@ -3,13 +3,9 @@ use Rattle.std.proofs.Common.{Option, Some, Result, Ok, Err}
 use Rattle.laws.proofs.Booleans.{clash, cond_left, cond_right}
 use Rattle.refusals.specs.declared.Refusal.{Refusal}
 use Rattle.refusals.specs.Refusals.{at_place}
-use mathlib.Core.Path.{◌≡◌, refl, sym, ap, ap₂, ◌∙◌}
+use mathlib.Core.Path.{◌≡◌, refl, sym, ap, ◌∙◌}
 use mathlib.Core.Bool.{Bool, true, false, cond}
-use mathlib.Core.List.{List, [], ◌∷◌, ◌++◌}
-use lib.Seq.{sets-eq}
-use Rattle.std.proofs.lemmas.List.{take-append-drop}
-use Rattle.std.proofs.lemmas.Slice.{take-put_mid, drop-put_mid}
-use borrow.Rule.Slice.PartMut.{put_mid}
+use mathlib.Core.List.{List}
 use Prim.Native.Nat.{ℕ, zero, suc, ◌+◌, ◌-◌, ◌*◌, ◌≤◌, ◌<◌}
 use native.Mathlib.Omega.{arith}
 use lib.ListN.{length, set, length-set}
@@ -32,20 +28,6 @@ pub put_length : (out : List ℕ) (i : ℕ) (c : Colour) → length (put_pixel o
 put_length out i c =
     length-set (set (set out (i * 3) c.red) (i * 3 + 1) c.green) (i * 3 + 2) c.blue
     ∙ (length-set (set out (i * 3) c.red) (i * 3 + 1) c.green ∙ length-set out (i * 3) c.red)
-
--- the three bytes of a pixel, written as one part of the buffer
-pub put_written : (out part : List ℕ) (i k : ℕ) (c : Colour) → part ≡ c.red ∷ c.green ∷ c.blue ∷ [] → k ≡ 3 → i * 3 + 3 ≤ length out
-    → put_mid (i * 3) k out part ≡ put_pixel out i c
-put_written out part i k c e q h =
-    let vs : List ℕ = c.red ∷ c.green ∷ c.blue ∷ [] in
-    let n : ℕ = i * 3 + 3 in
-    let one : suc (i * 3) ≡ i * 3 + 1 = omega arith in
-    let two : suc (suc (i * 3)) ≡ i * 3 + 2 = omega arith in
-    rw (e, q) (
-    sym (take-append-drop n (put_mid (i * 3) 3 out vs))
-    ∙ ap₂ ◌++◌ (take-put_mid (i * 3) 3 out vs n refl (omega arith)) (drop-put_mid (i * 3) 3 out vs n (omega arith) (omega arith) refl)
-    ∙ (sym (sets-eq vs out (i * 3) (omega arith)) ∙ ap₂ (λ (a b : ℕ). set (set (set out (i * 3) c.red) a c.green) b c.blue) one two)
-    )
 
 module _ (t : Tree) (row : ℕ) where
   -- ---- what a pixel, or 12, says
@@ -116,11 +98,6 @@ module _ (t : Tree) (row : ℕ) where
       pub read : LastIn t last
       pub size : length out ≡ length out₀
       pub rest : fill_from t row first i (n - i) out ≡ fill_from t row first 0 n out₀
-
-    pub filling_begin : (out : List ℕ) (n : ℕ) (last : Option Shown) → LastIn t last → Filling out n 0 last out
-    filling_begin out n last h =
-        let z : n - 0 ≡ n = omega arith in
-        record { to = omega arith; read = h; size = refl; rest = ap (λ (k : ℕ). fill_from t row first 0 k out) z }
 
     pub filling_turn : (out₀ : List ℕ) (n i : ℕ) (last : Option Shown) (p : Pixel) (out out' : List ℕ)
         → i < n

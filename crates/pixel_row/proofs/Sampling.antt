@@ -39,9 +39,6 @@ pub plus_in : (i : ℕ) (s c : Channels) → SamplesIn i s → ChannelsIn c → 
 plus_in i s c h k =
     record { red_in = omega (arith, h.red_in, k.red_in); green_in = omega (arith, h.green_in, k.green_in); blue_in = omega (arith, h.blue_in, k.blue_in) }
 
-pub fewer_in : (i j : ℕ) (s : Channels) → i ≤ j → SamplesIn i s → SamplesIn j s
-fewer_in i j s l h = record { red_in = omega (arith, h.red_in, l); green_in = omega (arith, h.green_in, l); blue_in = omega (arith, h.blue_in, l) }
-
 pub plus_none : (c : Channels) → c ≡ plus no_channels c
 plus_none c = rw (none c.red, none c.green, none c.blue)
   where

@@ -21,7 +21,7 @@ use Rattle.making.proofs.Meaning.{lent_meaning}
 use Rattle.tables.specs.Tables.{Tree}
 use Rattle.find_leaf.specs.declared.LeafRead.{LeafRead}
 use Rattle.find_leaf.specs.Leaf.{position_range, leaf_stream, leaf_bounds, leaf_in}
-use Rattle.find_leaf.specs.code.Numbers.{leaf_env, read_n, read_by, leaf_read}
+use Rattle.find_leaf.specs.code.Numbers.{read_n, read_by, leaf_read}
 use Rattle.tables.proofs.Counts.{counts_fit}
 use Rattle.find_leaf.proofs.Landing.{leaf_landed, leaf_passed}
 use Rattle.find_leaf.proofs.Same.{LeafHolds, leaf_same}

@@ -16,20 +16,11 @@ chord c = let b = to_z-of_z w64 c.args.c c.ranges.c in ap₂ ◌*ℤ◌ b b
 legs : (c : Start) → let a = c.args in to_z w64 (of_z w64 a.f) *ℤ to_z w64 (of_z w64 a.s) ≡ a.f *ℤ a.s
 legs c = ap₂ ◌*ℤ◌ (to_z-of_z w64 c.args.f c.ranges.f) (to_z-of_z w64 c.args.s c.ranges.s)
 
-pub overflow_mul-result : goal.overflow_mul-result
-overflow_mul-result c = let a = c.args in fits_as (chord c) (chord_fits a.c a.f a.s c.requires.c_bound c.requires.f_bound c.requires.s_bound)
-
-pub overflow_mul-result-2 : goal.overflow_mul-result-2
-overflow_mul-result-2 c = let a = c.args in fits_as (legs c) (legs_fit a.c a.f a.s c.requires.c_bound c.requires.f_bound c.requires.s_bound)
-
 four : (c : Start)
     → let a = c.args in
     pos 4 *ℤ to_z w64 (of_z w64 (to_z w64 (of_z w64 a.f) *ℤ to_z w64 (of_z w64 a.s))) ≡ pos 4 *ℤ (a.f *ℤ a.s)
 four c = let a = c.args in
     ap (λ z. pos 4 *ℤ z) (reads (legs c) (legs_fit a.c a.f a.s c.requires.c_bound c.requires.f_bound c.requires.s_bound))
-
-pub overflow_mul-result-3 : goal.overflow_mul-result-3
-overflow_mul-result-3 c = let a = c.args in fits_as (four c) (four_fits a.c a.f a.s c.requires.c_bound c.requires.f_bound c.requires.s_bound)
 
 -- the whole form, as the machine subtracts it
 whole : (c : Start)
