@@ -141,7 +141,8 @@ pub struct Context<'a> {
     pub bounds: Bounds,
 }
 
-// A stream in the table of entries: its first entry, and how many it has.
+// A stream in the table of entries: its first entry, and how many it has. It is no slice of its words: a cell names a stream by these two numbers, and so do
+// `Passed` and the theorems, so that at each call a slice would have to be led back to the table, which is no plainer.
 #[derive(Clone, Copy)]
 pub struct Stream<'a> {
     pub entries: &'a [u32],
