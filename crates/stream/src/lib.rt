@@ -102,24 +102,21 @@ impl Words {
     pub fn is_curve(self) -> bool
         ensures answer { result ≡ is_curve self.kind }
     {
-        matches!(self.named(), Some(Kind::Curve))
+        self.kind == u32::from(Kind::Curve)
     }
 
     // Whether this is a line or a curve.
     pub fn is_line(self) -> bool
         ensures answer { result ≡ is_line self.kind }
     {
-        matches!(self.named(), Some(Kind::Line | Kind::Curve))
+        (self.kind == u32::from(Kind::Line)) | self.is_curve()
     }
 
     // Whether this is a line, a curve or a shortcut.
     pub fn is_segment(self) -> bool
         ensures answer { result ≡ is_segment self.kind }
     {
-        matches!(
-            self.named(),
-            Some(Kind::Line | Kind::Curve | Kind::Shortcut)
-        )
+        self.is_line() | (self.kind == u32::from(Kind::Shortcut))
     }
 }
 
