@@ -86,24 +86,21 @@ impl Words {
     pub fn is_curve(self) -> bool
         ensures answer { result ≡ is_curve self.kind }
     {
-        matches!(self.named(), Some(Kind::Curve))
+        self.kind == u32::from(Kind::Curve)
     }
 
     // Whether this is a line or a curve.
     pub fn is_line(self) -> bool
         ensures answer { result ≡ is_line self.kind }
     {
-        matches!(self.named(), Some(Kind::Line | Kind::Curve))
+        (self.kind == u32::from(Kind::Line)) | self.is_curve()
     }
 
     // Whether this is a line, a curve or a shortcut.
     pub fn is_segment(self) -> bool
         ensures answer { result ≡ is_segment self.kind }
     {
-        matches!(
-            self.named(),
-            Some(Kind::Line | Kind::Curve | Kind::Shortcut)
-        )
+        self.is_line() | (self.kind == u32::from(Kind::Shortcut))
     }
 }
 
@@ -125,7 +122,8 @@ pub struct Context<'a> {
     pub bounds: Bounds,
 }
 
-// A stream in the table of entries: its first entry, and how many it has.
+// A stream in the table of entries: its first entry, and how many it has. It is no slice of its words: a cell names a stream by these two numbers, and so do
+// `Passed` and the theorems, so that at each call a slice would have to be led back to the table, which is no plainer.
 #[derive(Clone, Copy)]
 pub struct Stream<'a> {
     pub entries: &'a [u32],
