@@ -5,7 +5,8 @@
 
 #![tactic(auto)]
 
-ghost use Rattle.std.specs.Prelude.{◌≡◌, ◌≤◌, ◌/◌, ◌%◌, [], ◌∷◌, cond, leb, length, sets};
+ghost use Rattle.std.specs.Prelude.{◌≡◌, ◌≤◌, ◌/◌, ◌%◌, [], ◌∷◌, cond, leb, length};
+ghost use Rattle.std.proofs.lemmas.List.Edits.{sets};
 ghost use Rattle.refusals.specs.declared.Refusal.TheVariants.{Room};
 ghost use Rattle.refusals.specs.Refusals.{number_of};
 ghost use Rattle.answers.specs.Answers.{packed, packed_low, packed_answer, read_number, write_number, read_low, write_low, open_number, split_number};
@@ -122,11 +123,13 @@ pub fn put_found(out: &mut [u32], a: Result<FoundLeaf, Refusal>) -> u64
 }
 
 // The six words of what shows, and the four of how far that reaches.
+// (`as` asks that the number fits, so the low half of the set is taken by its remainder.)
 fn spot_words(s: Spot) -> [u32; SPOT_WORDS]
-    ensures words { result ≡ (s.set % 4294967296) ∷ (s.set / 4294967296) ∷ s.material ∷ s.red ∷ s.green ∷ s.blue ∷ word_of s.uniform ∷ s.x ∷ s.y ∷ s.side ∷ [] }
+    ensures words { result ≡ (s.set % 4294967296) ∷ (s.set / 4294967296) ∷ s.material ∷ s.red ∷ s.green ∷ s.blue ∷
+        word_of s.uniform ∷ s.x ∷ s.y ∷ s.side ∷ [] }
 {
     [
-        s.set as u32,
+        (s.set % 4294967296) as u32,
         (s.set >> 32) as u32,
         s.material,
         s.red,
