@@ -10,8 +10,7 @@ use lib.ListN.{length, get_or}
 use borrow.Author.Tests.{eqb-true, eqb-false, ltb-true, leb-true, eq-eqb, ne_eqb, le-leb, lt-ltb, le-ltb}
 use Rattle.laws.proofs.Booleans.{and_left, and_right, and_both, cond_left, cond_right}
 use Rattle.celltable.proofs.Powers.{level_is, level_most}
-use Rattle.geometry.specs.code.Reach.{SquareIn}
-use Rattle.cells.specs.Cells.{level, square_of}
+use Rattle.cells.specs.Cells.{square_of}
 use Rattle.celltable.specs.declared.CellWords.{CellWords}
 use Rattle.celltable.specs.Table.{cell_at}
 use Rattle.celltable.specs.Ranges.{
@@ -88,10 +87,6 @@ child_in_use child used h f = ltb-true (child + 3) used (go (eqb child 0) refl h
     go true e q = absurd (f (eqb-true child 0 e))
     go false e q = q
 
--- such a child has a number far below what a word holds
-pub child_few : (t : List ℕ) (child used : ℕ) → CellsIn t used → child_range child used ≡ true → (child ≡ 0 → ⊥) → child < 65536
-child_few t child used r q z = omega (arith, child_in_use child used q z)
-
 -- a leaf has none
 pub leaf_child : (child used : ℕ) → child ≡ 0 → child_range child used ≡ true
 leaf_child child used z = rw (eq-eqb child 0 z)
@@ -106,11 +101,6 @@ child_more child used used' u h = go (eqb child 0) refl
 
 pub entries_more : (first count entries entries' : ℕ) → entries ≤ entries' → entry_range first count entries ≡ true → entry_range first count entries' ≡ true
 entries_more first count entries entries' n h = le-leb (first + count) entries' (omega (arith, leb-true (first + count) entries h))
-
--- a cell that is one of the four has no lower number than the first; a, b and d are the other tests
-pub child_least : (first i : ℕ) (a b d : Bool) → (a && (b && (leb first i && d))) ≡ true → first ≤ i
-child_least first i a b d h =
-    leb-true first i (and_left (leb first i) d (and_right b (leb first i && d) (and_right a (b && (leb first i && d)) h)))
 
 -- ---- the parent, test by test: w are the words of cell i
 module _ (t : List ℕ) (i used : ℕ) (w : CellWords) (e : w ≡ cell_at t i) where
@@ -194,13 +184,6 @@ module _ (t : List ℕ) (i used entries : ℕ) where
     -- its square is that of a cell, of level 0 to 16
     pub passes_cell : square_of (cell_of (cell_at t i)) ≡ square_in (cell_at t i)
     passes_cell = λ d. record { x = w.x; y = w.y; side = passes_fits.power d }
-
-    pub passes_level : level (cell_of (cell_at t i)) ≤ 16
-    passes_level = level_most 16 w.side
-
-    -- the square is in reach of the code of `geometry`
-    pub passes_square : SquareIn (square_in (cell_at t i))
-    passes_square = let f = passes_fits in record { some_side = omega arith; right = omega arith; top = omega arith }
 
     pub passes_child : ((cell_at t i).child ≡ 0 → ⊥) → (cell_at t i).child + 3 < used
     passes_child f = child_in_use w.child used passes_children f

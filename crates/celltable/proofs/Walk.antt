@@ -16,7 +16,7 @@ use Rattle.std.specs.Prelude.{Option, None, Some}
 use Rattle.celltable.specs.Table.{cell_at}
 use Rattle.celltable.specs.Ranges.{child_range, half_at}
 use Rattle.celltable.specs.Descent.{leaf_of}
-use Rattle.celltable.specs.code.Numbers.{half_bit, deeper_n, stands_n, numbers_n, met_n, step_n, go_on, walk_n, start_n, CursorIn}
+use Rattle.celltable.specs.code.Numbers.{half_bit, deeper_n, stands_n, numbers_n, met_n, step_n, go_on, walk_n, start_n}
 use Rattle.celltable.proofs.Ranges.{child_in_use}
 
 -- ---- what one step gives: w is the cell that was read, s and f are the outcomes of its tests
@@ -154,9 +154,6 @@ pub record Going (c : Cursor) (used n : ℕ) : Type 0 where
 
 pub going_start : (used : ℕ) → 1 ≤ used → Going start_n used 17
 going_start used h = record { in_use = h; east = omega arith; north = omega arith; counted = refl }
-
-pub going_in : (c : Cursor) (used n : ℕ) → 0 < n → Going c used n → CursorIn c used
-going_in c used n h g = record { in_use = g.in_use; east = g.east; north = g.north; steps_few = omega arith }
 
 pub going_on : (t : List ℕ) (used entries px py n : ℕ) (c c' : Cursor) (r : Option Down) → 0 < n → r ≡ step_n t used entries c px py → r ≡ Some (Deeper c')
     → Going c used n → Going c' used (n - 1)

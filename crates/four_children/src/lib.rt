@@ -76,13 +76,7 @@ pub fn no_tallies() -> [Tally; 4]
 }
 
 // Child q's pass: the whole of its parent's stream, before the next child's. The children before it have their tallies, those after it none.
-fn count_next(
-    mut ts: [Tally; 4],
-    q: u32,
-    stream: Stream,
-    context: Context,
-    w: Parent,
-) -> [Tally; 4]
+fn count_next(mut ts: [Tally; 4], q: u32, stream: Stream, context: Context, w: Parent) -> [Tally; 4]
     requires q_bound { q < 4 }
     requires passed { Passed stream.entries.now stream.first stream.count (env_of context) }
     requires ts_value { ts ≡ worked_to (lent_of context) (cell_of w.words) (words_in stream) q }

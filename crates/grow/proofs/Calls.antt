@@ -19,24 +19,7 @@ module _ (t : Tree) (n l : ℕ) where
   abbrev shallow : Bool
   shallow = leb l 16
 
-  -- 7
-  pub call_uneven : (length t.xs ≡ length t.ys → ⊥) → Err Argument ≡ grow_answer t n l
-  call_uneven f = pick_false even (cond shallow (answer_of (grown n l t)) (Err Argument)) (Err Argument) (ne_eqb (length t.xs) (length t.ys) f)
-
-  pub tree_uneven : (length t.xs ≡ length t.ys → ⊥) → t ≡ grow_tree t n l
-  tree_uneven f = pick_false even (cond shallow (grown n l t).after t) t (ne_eqb (length t.xs) (length t.ys) f)
-
   module _ (p : length t.xs ≡ length t.ys) where
-    pub call_deep : 16 < l → Err Argument ≡ grow_answer t n l
-    call_deep h =
-        pick_false shallow (answer_of (grown n l t)) (Err Argument) (lt-leb l 16 h)
-        ∙ pick_true even (cond shallow (answer_of (grown n l t)) (Err Argument)) (Err Argument) (eq-eqb (length t.xs) (length t.ys) p)
-
-    pub tree_deep : 16 < l → t ≡ grow_tree t n l
-    tree_deep h =
-        pick_false shallow (grown n l t).after t (lt-leb l 16 h)
-        ∙ pick_true even (cond shallow (grown n l t).after t) t (eq-eqb (length t.xs) (length t.ys) p)
-
     module _ (h : l ≤ 16) where
       pub call_grown : answer_of (grown n l t) ≡ grow_answer t n l
       call_grown =

@@ -43,21 +43,9 @@ module _ (t : Tree) (s : Sweep) (x : Result ℕ Refusal) (e : x ≡ split_answer
       ∙ (ap (λ (y : List ℕ). Ok (Some (split_n s (entries_used y)))) (head_is h' q)
       ∙ ap (λ (y : Result ℕ Refusal). by_answer y s (split_tree t i).head) (sym f ∙ e))
 
-  pub turn_refused : (r : Refusal) (u : Result (Option Sweep) Refusal) → x ≡ Err r → u ≡ stop_if (eqb (number_of r) 11) → u ≡ turn_by Wanted t s
-  turn_refused r u f g = g ∙ ap (λ (y : Result ℕ Refusal). by_answer y s (split_tree t i).head) (sym f ∙ e)
-
 -- ---- what is met at the cell, test by test
 pub side_passes : (w : CellWords) → square_range w ≡ true → side_range w.side ≡ true
 side_passes w h = cond_left (side_range w.side) (grid_range w.x w.side && grid_range w.y w.side) h
-
-pub leaf_bad : (a : Bool) (y : Tried) → a ≡ false → Bad ≡ cond a y Bad
-leaf_bad a y p = rw p
-
-pub cell_leaf : (a b : Bool) (x y : Tried) → a ≡ true → b ≡ true → x ≡ y → x ≡ cond a (cond b y Past) Bad
-cell_leaf a b x y p q e = rw (p, q) e
-
-pub cell_past : (a b : Bool) (y : Tried) → a ≡ true → b ≡ false → Past ≡ cond a (cond b y Past) Bad
-cell_past a b y p q = rw (p, q)
 
 -- with the numbers in use as the sweep holds them
 pub tried_here : (n l : ℕ) (t : Tree) (s : Sweep) (x : Tried)

@@ -11,7 +11,7 @@ use Rattle.celltable.specs.declared.CellWords.{CellWords}
 use Rattle.celltable.specs.Table.{put_child_at}
 use Rattle.celltable.specs.Ranges.{square_range, cell_of}
 use Rattle.four_children.specs.declared.Tally.{Tally}
-use Rattle.four_children.specs.code.Numbers.{no_tally, worked_to, cells_by, FewEach}
+use Rattle.four_children.specs.code.Numbers.{worked_to, cells_by, FewEach}
 use Rattle.four_children.proofs.Placed.{cells_by_four}
 use Rattle.tables.specs.Tables.{Tree, cells_used, entries_used, bounds_of}
 use Rattle.tables.proofs.Counts.{counts_long}
@@ -20,11 +20,7 @@ use Rattle.std.specs.Prelude.{Ok}
 use Rattle.split.specs.Split.{words, drawing, stream, made, head_after, cells_after}
 use Rattle.split.specs.code.Accepted.{Accepted}
 use Rattle.split.proofs.Accepted.{able_square, able_stream}
-use Rattle.split.proofs.Rooms.{few_each, sum_is}
-
--- the entries of all four children
-abbrev pub sum_of : List Tally → ℕ
-sum_of ts = (get_or ts 0 no_tally).entries + (get_or ts 1 no_tally).entries + (get_or ts 2 no_tally).entries + (get_or ts 3 no_tally).entries
+use Rattle.split.proofs.Rooms.{few_each, sum_of, sum_is}
 
 module _ (t : Tree) (i : ℕ) (A : Accepted t i) (ts : List Tally) (T : ts ≡ worked_to (drawing t i) (cell_of (words t i)) (stream t i) 4) (used free : ℕ)
     (w : CellWords) (eh : used ≡ get_or t.head 0 0) (ef : free ≡ get_or t.head 1 0) (ew : w ≡ words t i) where

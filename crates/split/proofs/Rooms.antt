@@ -1,7 +1,7 @@
 -- The room that a split asks for.
 use mathlib.Core.Path.{◌≡◌}
 use mathlib.Core.List.{List}
-use Prim.Native.Nat.{ℕ, ◌+◌}
+use Prim.Native.Nat.{ℕ, ◌+◌, ◌≤◌}
 use native.Mathlib.Omega.{arith}
 use lib.ListN.{length, get_or, length-append}
 use Rattle.cells.specs.Cells.{Cell}
@@ -39,6 +39,13 @@ few_each t areas xs ys b first count c ts p e =
           );
     }
 
+-- the entries of all four children
+abbrev pub sum_of : List Tally → ℕ
+sum_of ts = (get_or ts 0 no_tally).entries + (get_or ts 1 no_tally).entries + (get_or ts 2 no_tally).entries + (get_or ts 3 no_tally).entries
+
+pub sum_few : (ts : List Tally) → FewEach ts → sum_of ts ≤ 16384
+sum_few ts f = omega (arith, f.few 0 (omega arith), f.few 1 (omega arith), f.few 2 (omega arith), f.few 3 (omega arith))
+
 sum_four : (D : Drawing) (c : Cell) (ws : List Words)
     → length (streams_to D c ws 4) ≡ entries_of_child D c ws 0 + entries_of_child D c ws 1 + entries_of_child D c ws 2 + entries_of_child D c ws 3
 unfolding streams_to
@@ -56,8 +63,8 @@ sum_four D c ws =
     )
 
 pub sum_is : (D : Drawing) (c : Cell) (ws : List Words) (ts : List Tally) (n : ℕ) → ts ≡ worked_to D c ws 4
-    → n ≡ (get_or ts 0 no_tally).entries + (get_or ts 1 no_tally).entries + (get_or ts 2 no_tally).entries + (get_or ts 3 no_tally).entries → n
-    ≡ length (streams_to D c ws 4)
+    → n ≡ sum_of ts
+    → n ≡ length (streams_to D c ws 4)
 sum_is D c ws ts n e h =
     omega (
       arith,

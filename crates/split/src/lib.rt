@@ -65,7 +65,7 @@ fn judge_children(
     requires { Passed stream.entries.now stream.first stream.count (env_of context) }
     ensures answer { result ≡ planned
         (room_answer cells (length stream.entry.entries.now) in_use.cells in_use.entries
-            (length (streams_to (lent_passed context) (cell_of w.words) (words_passed stream) 4)))
+        (length (streams_to (lent_passed context) (cell_of w.words) (words_passed stream) 4)))
         (worked_to (lent_passed context) (cell_of w.words) (words_passed stream) 4) }
 {
     let children = four_children::count_to(stream, context, w, celltable::CHILDREN);
@@ -75,12 +75,7 @@ fn judge_children(
 }
 
 // 12 over the stream of a leaf, whose words are w, and its line count, 10, 11.
-fn judge_leaf(
-    tree: Tree,
-    context: Context,
-    in_use: InUse,
-    w: CellWords,
-) -> Result<Planned, Refusal>
+fn judge_leaf(tree: Tree, context: Context, in_use: InUse, w: CellWords) -> Result<Planned, Refusal>
     requires { square_range w ≡ true }
     ensures answer { let t = tree_passed tree in let c = context.entry in result ≡ planned
         (leaf_answer c.areas.now c.xs.now c.ys.now c.bounds w t.entries (length t.cells) in_use.cells in_use.entries)
@@ -100,7 +95,13 @@ fn judge_leaf(
     if w.side == 1 {
         return Err(Refusal::Smallest);
     }
-    judge_children(stream, context, tree.cells.len(), in_use, Parent { words: w })
+    judge_children(
+        stream,
+        context,
+        tree.cells.len(),
+        in_use,
+        Parent { words: w },
+    )
 }
 
 // 12 over cell i, 9, and then the leaf.
@@ -196,7 +197,11 @@ fn make_split(
     four_children::write_four(entries, first, count, free, context, w, ts);
     put_cells(cells, i, in_use, w, ts);
     let made = entries_of(ts) as u32;
-    tables::put_head(head, in_use.cells + celltable::CHILDREN, in_use.entries + made);
+    tables::put_head(
+        head,
+        in_use.cells + celltable::CHILDREN,
+        in_use.entries + made,
+    );
 }
 
 // Splits cell i: four cells of half its side, each with the stream that document 01 defines; answers the number of the first. Any tables may be

@@ -24,7 +24,8 @@ pub struct Tree<'a> {
 pub fn cells_held(n: u32, len: usize) -> bool
     ensures answer { result ≡ cells_held n len }
 {
-    (1 <= n) & (((n as usize) <= len / celltable::CELL_WORDS) & ((n as usize) <= celltable::MOST_CELLS))
+    let n = n as usize;
+    (1 <= n) & ((n <= len / celltable::CELL_WORDS) & (n <= celltable::MOST_CELLS))
 }
 
 pub fn entries_held(n: usize, len: usize) -> bool

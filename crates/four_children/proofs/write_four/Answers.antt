@@ -3,7 +3,7 @@ use Rattle.stream.specs.Table.{words_from}
 use Rattle.stream.specs.Grammar.{env_of}
 use Rattle.celltable.specs.Ranges.{cell_of}
 use Rattle.ranges.specs.Held.{lent_of}
-use Rattle.four_children.proofs.Filled.{entries_at, filled_begin, still_passed, still_behind, made_is, child_room_law, filled_turn, filled_end}
+use Rattle.four_children.proofs.Filled.{entries_at, filled_begin, still_passed, still_behind, made_is, child_room_law, filled_turn}
 use Rattle.four_children.proofs.write_four.Goals as goal
 
 pub loop-q-init : goal.loop-q-init
@@ -63,15 +63,3 @@ loop-q-preserved c =
     (filled_turn v D (cell_of a.w.words) a.entries.now a.first a.count a.free c.requires.passed c.requires.count_bound c.requires.count_in_bounds
     c.loop-q.q c.loop-q.at c.loop-q.entries c.loop-q.invariant (omega (arith, c.loop-q-test.true)) _
     c.write_child.ensures.entries)
-
-pub shape_of-entries : goal.shape_of-entries
-shape_of-entries c = c.loop-q.invariant.size
-
-pub returns : goal.returns
-returns c =
-    let a = c.args in
-    let v = env_of a.context in
-    let D = lent_of a.context in record {
-      entries = filled_end v D (cell_of a.w.words) a.entries.now a.first a.count a.free c.requires.passed c.requires.count_bound c.requires.count_in_bounds
-          c.loop-q.q c.loop-q.at c.loop-q.entries c.loop-q.invariant c.loop-q-test.false;
-    }

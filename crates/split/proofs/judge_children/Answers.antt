@@ -6,7 +6,7 @@ use Rattle.stream.specs.Table.{words_in}
 use Rattle.ranges.specs.Held.{lent_of}
 use Rattle.celltable.specs.Ranges.{cell_of}
 use Rattle.split.specs.Split.{room_answer}
-use Rattle.split.proofs.Rooms.{few_each, sum_is}
+use Rattle.split.proofs.Rooms.{few_each, sum_few, sum_is}
 use Rattle.split.proofs.Plans.{plan_is, plan_refused}
 use Rattle.split.proofs.judge_children.Goals as goal
 
@@ -23,7 +23,7 @@ judge_room-requires c =
     let x = c.args.context in
     let f = few_each s.entries.now x.areas.now x.xs.now x.ys.now x.bounds s.first s.count (cell_of c.args.w.words)
     c.count_to-children.result c.requires c.count_to-children.ensures.answer in
-    omega (arith, c.entries_of-made.ensures.answer, f.few 0 (omega arith), f.few 1 (omega arith), f.few 2 (omega arith), f.few 3 (omega arith))
+    omega (arith, c.entries_of-made.ensures.answer, sum_few c.count_to-children.result f)
 
 pub returns-in_err-child : goal.returns-in_err-child
 returns-in_err-child c =

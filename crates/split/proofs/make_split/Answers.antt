@@ -3,6 +3,7 @@ use native.Mathlib.Omega.{arith}
 use Rattle.tables.specs.Tables.{tree}
 use Rattle.tables.proofs.Counts.{counts_fit}
 use Rattle.split.proofs.Made.{made_stream, made_square, made_halves, made_few, made_head, made_rows}
+use Rattle.split.proofs.Rooms.{sum_few}
 use Rattle.split.proofs.make_split.Goals as goal
 
 pub context_of-context-requires : goal.context_of-context-requires
@@ -43,7 +44,7 @@ overflow_cast-made c =
     let a = c.args in
     let T = tree a.drawing.plan.now a.drawing.areas.now a.drawing.xs.now a.drawing.ys.now a.head.now a.cells.now a.entries.now in
     let f = made_few T a.i c.requires.accepted a.ts c.requires.ts_value _ _ _ refl refl c.cell-words.ensures.answer in
-    record { fits = omega (arith, c.entries_of-made.ensures.answer, f.few 0 (omega arith), f.few 1 (omega arith), f.few 2 (omega arith), f.few 3 (omega arith)) }
+    record { fits = omega (arith, c.entries_of-made.ensures.answer, sum_few a.ts f) }
 
 pub overflow_add-in_use-2 : goal.overflow_add-in_use-2
 overflow_add-in_use-2 c =
@@ -55,10 +56,7 @@ overflow_add-in_use-2 c =
         arith,
         (counts_fit T c.requires.accepted.able.counts).entries_few,
         c.entries_of-made.ensures.answer,
-        f.few 0 (omega arith),
-        f.few 1 (omega arith),
-        f.few 2 (omega arith),
-        f.few 3 (omega arith),
+        sum_few a.ts f,
       );
     }
 
