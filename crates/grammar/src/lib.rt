@@ -79,6 +79,7 @@ impl State {
         }
     }
 
+    // What each record asks: one of them asks nothing, and its arm is a constant.
     fn stands(self, r: Record) -> bool
         ensures answer { result ≡ stands_n self r }
     {
@@ -107,6 +108,7 @@ impl State {
         !matches!(r, Record::Next(..) | Record::Control(..)) && is_short(self.run)
     }
 
+    // What each record is counted by: two of them by nothing, and their arm is a constant.
     fn in_limit(self, r: Record) -> bool
         ensures answer { result ≡ in_limit_n self r }
     {
