@@ -110,9 +110,6 @@ module _ (xs ys : List ℕ) (used : ℕ) (w : Words) (h : segment_range xs ys us
       let u = line_used xs ys used (line_of w) in_line in
       (below_more used (length xs) (line_of w) u k.0, below_more used (length ys) (line_of w) u k.1)
 
-  pub entry_edge_in : EdgeIn (edge_of xs ys (line_of w))
-  entry_edge_in = line_edge xs ys used (line_of w) in_line
-
 -- ---- an entry that is a line, a curve or a shortcut
 
 -- its element

@@ -23,8 +23,7 @@ use Rattle.stream.proofs.Runs.{words_first, few_segments}
 use Rattle.stream.proofs.Passed.{in_range_law}
 use Rattle.evaluate.specs.declared.Reading.{Reading}
 use Rattle.evaluate.specs.Reading.{role_at, pass_at, opaque_at, set_at}
-use Rattle.evaluate.specs.code.Numbers.{segment_adds, segments_sum, SegmentsIn, moved_by, Ranged, set_from, Onward}
-use Rattle.evaluate.proofs.Laws.{in_segment}
+use Rattle.evaluate.specs.code.Numbers.{segment_adds, segments_sum, moved_by, Ranged, set_from, Onward}
 use Rattle.evaluate.proofs.Steps.{in_name, area_step, idle_step, other_step}
 
 -- ---- the lines, curves and shortcuts of an area
@@ -65,18 +64,6 @@ passed_ranged t first count i v p a l =
     entry_in k b m =
         let e : first + (k - first) ≡ k = omega arith in
         subst (λ (j : ℕ). in_range v (decode (words_at t j)) ≡ true) e (in_range_law v t first count (k - first) p.grammar (omega arith))
-
--- the lines, curves and shortcuts behind entry i
-pub ranged_segments : (t : List ℕ) (i e : ℕ) (v : Env) → Ranged t i e v → SegmentsIn t (i + 1) e v.xs v.ys v.used
-ranged_segments t i e v r =
-    record {
-      ordered = omega (arith, r.some);
-      within = r.within;
-      few = omega (arith, r.few);
-      corners_x = r.ready.xs;
-      corners_y = r.ready.ys;
-      range = λ k a l s. in_segment v (words_at t k) s (r.range k (omega arith) l);
-    }
 
 -- what an area asks
 pub ranged_name : (t : List ℕ) (i e : ℕ) (v : Env) (w : Words)

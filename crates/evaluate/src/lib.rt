@@ -195,7 +195,7 @@ fn read_next(stream: Stream, i: usize, context: Context, m: Machine, at: Point) 
         stream.entry.entries.now i (end_passed stream) m result }
 {
     let w = stream::read_entry(stream.entries, i);
-    if w.named() == Some(Kind::Area) {
+    if w.kind == u32::from(Kind::Area) {
         read_area(stream, i, context, m, w, at)
     } else {
         Reading {

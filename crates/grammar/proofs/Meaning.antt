@@ -24,7 +24,7 @@ use Rattle.grammar.specs.code.Machine.{advance_n, start_n, ended_n, scan_n}
 abbrev enc : Progress → State
 enc p =
     record {
-      stack = num p.groups;
+      groups = record { number = num p.groups };
       held = p.held;
       control = cond p.bends (Some (p.x1, p.y1)) None;
       run = p.run;

@@ -8,18 +8,19 @@ ghost use Rattle.grammar.specs.code.Machine.{role_n, breaks_n, stands_n, fits_n,
 ghost use Rattle.grammar.specs.code.Machine.{advance_n, start_n, end_state_n, ended_n};
 
 use curves::Point;
+use groups::Groups;
 use records::Record;
 use refusals::{Refusal, Refused};
 
 // The corners that a contour has at least.
 const LEAST_CORNERS: u32 = 3;
 
-// Where a reader stands. `stack`: the open groups (crate `groups`). `held`: an area or a corner stands straight before. `control`: the control
-// corner that does. `run`: the corners of the contour in progress but for control corners, 3 for more than 3. In a contour, (x0, y0) is its last
-// corner that is no control corner.
+// Where a reader stands. `held`: an area or a corner stands straight before; it says so by itself, since no value goes with it. `control`: the
+// control corner that does. `run`: the corners of the contour in progress but for control corners, 3 for more than 3. In a contour, (x0, y0) is its
+// last corner that is no control corner.
 #[derive(Clone, Copy)]
 pub struct State {
-    pub stack: u32,
+    pub groups: Groups,
     pub held: bool,
     pub control: Option<(u32, u32)>,
     pub run: u32,
@@ -53,9 +54,9 @@ fn more(run: u32) -> u32
 impl State {
     // The role that fits the side.
     fn role_here(self) -> u32
-        ensures answer { result ≡ role_n self.stack }
+        ensures answer { result ≡ role_n self.groups.number }
     {
-        if groups::on_paint(self.stack) {
+        if self.groups.on_paint() {
             records::PAINT
         } else {
             records::CLIP
@@ -84,11 +85,10 @@ impl State {
         match r {
             Record::Area(f) => f.role == self.role_here(),
             Record::First(..) => self.held,
-            Record::Next(..) => 0 < self.run,
+            Record::Next(..) | Record::Control(..) => 0 < self.run,
             Record::Open => true,
-            Record::Bar => groups::on_left(self.stack),
-            Record::Close => groups::on_right(self.stack),
-            Record::Control(..) => 0 < self.run,
+            Record::Bar => self.groups.on_left(),
+            Record::Close => self.groups.on_right(),
         }
     }
 
@@ -104,11 +104,7 @@ impl State {
     fn ends_short(self, r: Record) -> bool
         ensures answer { result ≡ ends_short_n self r }
     {
-        match r {
-            Record::Next(..) => false,
-            Record::Control(..) => false,
-            _ => is_short(self.run),
-        }
+        !matches!(r, Record::Next(..) | Record::Control(..)) && is_short(self.run)
     }
 
     fn in_limit(self, r: Record) -> bool
@@ -116,9 +112,8 @@ impl State {
     {
         match r {
             Record::Area(_) => self.areas < records::MOST_AREAS,
-            Record::Open => groups::has_room(self.stack),
-            Record::Bar => true,
-            Record::Close => true,
+            Record::Open => self.groups.has_room(),
+            Record::Bar | Record::Close => true,
             _ => self.corners < records::MOST_CORNERS,
         }
     }
@@ -166,15 +161,15 @@ impl State {
                 ..self
             },
             Record::Open => State {
-                stack: groups::opened(self.stack),
+                groups: self.groups.opened(),
                 ..self.no_contour()
             },
             Record::Bar => State {
-                stack: groups::barred(self.stack),
+                groups: self.groups.barred(),
                 ..self.no_contour()
             },
             Record::Close => State {
-                stack: groups::closed(self.stack),
+                groups: self.groups.closed(),
                 ..self.no_contour()
             },
             Record::Control(x, y) => State {
@@ -208,7 +203,7 @@ impl State {
     fn end(self, n: usize) -> Result<Counts, Refused>
         ensures answer { result ≡ end_state_n self n }
     {
-        if self.control.is_some() || self.stack != groups::NONE_OPEN {
+        if self.control.is_some() || self.groups != Groups::NONE_OPEN {
             return Err(Refused {
                 refusal: Refusal::Unfit,
                 place: n,
@@ -228,7 +223,7 @@ impl State {
     }
 }
 
-// What was decoded as record i, 2 and 3 among it.
+// What was decoded as record i, 2 and 3 among it. It takes a `Result`, as `ended` does: a bare state would ask more of callers, who would have to try each.
 pub fn advance(
     scan: Result<State, Refused>,
     decoded: Result<Record, Refusal>,
@@ -247,7 +242,7 @@ pub fn start() -> Result<State, Refused>
     ensures answer { result ≡ start_n }
 {
     Ok(State {
-        stack: groups::NONE_OPEN,
+        groups: Groups::NONE_OPEN,
         held: false,
         control: None,
         run: 0,

@@ -1,16 +1,13 @@
 -- An entry by its kind, with one case for lines, curves and shortcuts.
 use mathlib.Core.Path.{◌≡◌, refl, sym, ap, ◌∙◌}
-use mathlib.Core.Bool.{Bool, true, false, cond, ◌&&◌, ◌||◌}
-use mathlib.Core.List.{List}
-use Prim.Native.Nat.{ℕ, ◌+◌, ◌≤◌}
+use mathlib.Core.Bool.{Bool, true, false, cond, ◌||◌}
+use Prim.Native.Nat.{ℕ}
 use lib.Dec.{eqb}
-use lib.ListN.{get_or}
-use borrow.Author.Tests.{le-ltb, ne_eqb}
-use Rattle.curves.specs.Curves.{curve_fits}
+use borrow.Author.Tests.{ne_eqb}
 use Rattle.laws.proofs.Booleans.{clash}
 use Rattle.stream.specs.declared.Words.{Words}
 use Rattle.stream.specs.Entry.{Entry, opens, bar, closes, area, line, curve, shortcut, passes, bad, decode, is_curve, is_line, is_segment}
-use Rattle.stream.specs.Grammar.{Env, corner_met, curve_range, in_range}
+use Rattle.stream.specs.Grammar.{Env, in_range}
 use Rattle.stream.specs.code.Machine.{line_fits, segment_fits}
 
 -- a line, a curve or a shortcut is of no other kind
@@ -61,17 +58,3 @@ module _ (v : Env) (w : Words) where
   segment_range_law =
       chosen (is_line w.kind) (line_entry w) (shortcut w.p w.q w.r)
       ∙ ap (λ b. cond (is_line w.kind) b (in_range v (shortcut w.p w.q w.r))) line_range_law
-
--- ---- the corners of a curve
-module _ (xs ys : List ℕ) (used p : ℕ) where
-  -- its end is not in use
-  pub no_end : used ≤ p + 2 → false ≡ curve_range xs ys used p
-  no_end h =
-      rw (le-ltb (p + 2) used h)
-      (unmet (corner_met xs ys used p) (corner_met xs ys used (p + 1))
-      (curve_fits (get_or xs p 0) (get_or ys p 0) (get_or xs (p + 1) 0) (get_or ys (p + 1) 0) (get_or xs (p + 2) 0) (get_or ys (p + 2) 0)))
-    where
-      unmet : (a b f : Bool) → false ≡ ((a && (b && false)) && f)
-      unmet true true f = refl
-      unmet true false f = refl
-      unmet false b f = refl

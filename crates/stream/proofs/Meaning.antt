@@ -42,7 +42,7 @@ enc off = None
 
 -- no group is open at the end
 abbrev pub ends : Option Scan → Bool
-ends (Some s) = eqb s.stack 1
+ends (Some s) = eqb s.groups.number 1
 ends None = false
 
 -- a choice on both sides of an equation

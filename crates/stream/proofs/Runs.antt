@@ -290,7 +290,7 @@ other_step v s w apart = ap front (last (is_segment w.kind) refl)
         cond (eqb w.kind 1) (after_open_n s)
         (cond (eqb w.kind 2) (after_bar_n s)
         (cond (eqb w.kind 3) (after_close_n s)
-        (cond (eqb w.kind 4) (with_area_n s (area_fits_n v.areas v.used.areas s.stack w)) x)))
+        (cond (eqb w.kind 4) (with_area_n s (area_fits_n v.areas v.used.areas s.groups.number w)) x)))
 
     unheld : (f h : Bool) → s.held ≡ h → is_segment w.kind ≡ true → None ≡ with_line_n s f
     unheld f true e k = clash (sym (apart e) ∙ k)
@@ -336,12 +336,12 @@ module _ (v : Env) (t : List ℕ) (i e : ℕ) (s : Scan) (w : Words) (q : w ≡ 
 
     module _ (held : n.held ≡ true) where
       -- the scan of the run behind it
-      run_same : scan_n v (cond (run_fits v.xs v.ys v.used n.segments rest) (Some (mk n.stack true n.areas (n.segments + run_length rest))) None)
+      run_same : scan_n v (cond (run_fits v.xs v.ys v.used n.segments rest) (Some (mk n.groups.number true n.areas (n.segments + run_length rest))) None)
           (words_from t (i + 1 + run_length rest) (e - (i + 1) - run_length rest))
           ≡ scan_n v (Some s) (words_from t i (e - i))
       run_same =
-          run_step v t n.stack n.areas (e - (i + 1)) (i + 1) n.segments
-          ∙ (ap (λ b. scan_n v (Some (mk n.stack b n.areas n.segments)) rest) (sym held) ∙ from_step (Some n) g)
+          run_step v t n.groups.number n.areas (e - (i + 1)) (i + 1) n.segments
+          ∙ (ap (λ b. scan_n v (Some (mk n.groups.number b n.areas n.segments)) rest) (sym held) ∙ from_step (Some n) g)
 
       -- a run behind it that does not fit
       pub run_none : run_fits v.xs v.ys v.used n.segments rest ≡ false → scan_n v (Some s) (words_from t i (e - i)) ≡ None
@@ -349,7 +349,7 @@ module _ (v : Env) (t : List ℕ) (i e : ℕ) (s : Scan) (w : Words) (q : w ≡ 
           sym run_same
           ∙ (ap
           (λ b.
-          scan_n v (cond b (Some (mk n.stack true n.areas (n.segments + run_length rest))) None)
+          scan_n v (cond b (Some (mk n.groups.number true n.areas (n.segments + run_length rest))) None)
           (words_from t (i + 1 + run_length rest) (e - (i + 1) - run_length rest)))
           f
           ∙ scan_off v (words_from t (i + 1 + run_length rest) (e - (i + 1) - run_length rest)))
@@ -357,19 +357,19 @@ module _ (v : Env) (t : List ℕ) (i e : ℕ) (s : Scan) (w : Words) (q : w ≡ 
       -- one that does
       pub run_onward : (r : Run)
           → Ran v t (i + 1) e n.segments r
-          → Onward v t i e s (record { scan = mk n.stack n.held n.areas r.segments; lines = r.lines; next = r.next })
+          → Onward v t i e s (record { scan = mk n.groups.number n.held n.areas r.segments; lines = r.lines; next = r.next })
       run_onward r ran =
           let z : e - (i + 1 + run_length rest) ≡ e - (i + 1) - run_length rest = omega arith in
           record {
             later = omega (arith, ran.next);
             inside = omega (arith, ran.next, few_segments t (e - (i + 1)) (i + 1), l);
             apart = λ p _. ran.behind p;
-            same = ap (λ b. scan_n v (Some (mk n.stack b n.areas r.segments)) (words_from t r.next (e - r.next))) held
-                ∙ (ap₂ (λ m j. scan_n v (Some (mk n.stack true n.areas m)) (words_from t j (e - j))) ran.segments ran.next
-                ∙ (ap (λ j. scan_n v (Some (mk n.stack true n.areas (n.segments + run_length rest))) (words_from t (i + 1 + run_length rest) j)) z
+            same = ap (λ b. scan_n v (Some (mk n.groups.number b n.areas r.segments)) (words_from t r.next (e - r.next))) held
+                ∙ (ap₂ (λ m j. scan_n v (Some (mk n.groups.number true n.areas m)) (words_from t j (e - j))) ran.segments ran.next
+                ∙ (ap (λ j. scan_n v (Some (mk n.groups.number true n.areas (n.segments + run_length rest))) (words_from t (i + 1 + run_length rest) j)) z
                 ∙ (ap
                 (λ b.
-                scan_n v (cond b (Some (mk n.stack true n.areas (n.segments + run_length rest))) None)
+                scan_n v (cond b (Some (mk n.groups.number true n.areas (n.segments + run_length rest))) None)
                 (words_from t (i + 1 + run_length rest) (e - (i + 1) - run_length rest)))
                 (sym ran.fits)
                 ∙ run_same)));

@@ -53,10 +53,6 @@ put_keeps t m i w h =
 pub length_put : (t : List ℕ) (i : ℕ) (w : Words) → length (put_at t i w) ≡ length t
 length_put t i w = simp length-set
 
--- an entry that is written beyond a region leaves the region's entries as they were
-pub put_beyond : (t : List ℕ) (i n at : ℕ) (w : Words) → i + n ≤ at → words_from (put_at t at w) i n ≡ words_from t i n
-put_beyond t i n at w h = from_agree (put_at t at w) t ((i + n) * 4) i n (put_keeps t ((i + n) * 4) at w (omega arith)) (omega arith)
-
 -- ---- a list of entries, written one at a time
 pub written_nil : (t : List ℕ) (i : ℕ) → written t i [] ≡ t
 unfolding written flat

@@ -114,7 +114,7 @@ pub told_is : (v : Env) (ws : List Words) (s : Scan) (l : ℕ)
     → l ≡ lines_in ws
     → told_at s l ≡ told (accepts v ws) ws
 told_is v ws s l e h =
-    ap₂ (λ m n. cond (eqb s.stack 1) (fit m n) unfit) h (scan_size v ws s e)
+    ap₂ (λ m n. cond (eqb s.groups.number 1) (fit m n) unfit) h (scan_size v ws s e)
     ∙ ap (λ b. told b ws) (ap ends e ∙ accepts_is v ws)
 
 -- a stream that stops the code does not pass

@@ -4,15 +4,16 @@
 
 ghost use Rattle.std.specs.Prelude.{◌≡◌, false, ◌+◌, ◌*◌, ◌-◌, ◌≤◌, ◌<◌, length, None, Some, MatchOption};
 ghost use Rattle.stream.specs.Table.{words_at, words_from, put_at};
-ghost use Rattle.stream.specs.Grammar.{env_passed, corner_met, line_range, curve_range, shortcut_range, record_fits, role_fits, used_range};
+ghost use Rattle.stream.specs.Grammar.{env_of, env_passed, corner_met, line_range, curve_range, shortcut_range, role_fits, used_range};
 ghost use Rattle.stream.specs.Grammar.{ContextReady, accepts};
 ghost use Rattle.stream.specs.Entry.{is_curve, is_line, is_segment};
 ghost use Rattle.stream.specs.Kinds.{kind_number, kind_at};
-ghost use Rattle.stream.specs.code.Machine.{in_groups, after_open_n, after_bar_n, after_close_n, after_passes_n, with_area_n, area_fits_n, other_n};
-ghost use Rattle.stream.specs.code.Machine.{line_fits, segment_fits, run_fits, run_to, scan_n, end_passed, Apart, Ran, Onward};
+ghost use Rattle.stream.specs.code.Machine.{in_groups, with_area_n, area_fits_n, other_n};
+ghost use Rattle.stream.specs.code.Machine.{segment_fits, run_fits, run_to, scan_n, end_passed, Apart, Ran, Onward};
 ghost use Rattle.stream.specs.code.Checks.{told, told_at, checked};
 
 use curves::Point;
+use groups::Groups;
 use records::Record;
 use refusals::Refusal;
 
@@ -48,9 +49,6 @@ pub const MINUS_ONE: u32 = 4294967295;
 pub const MOST_ENTRIES: usize = 65536;
 
 pub const MOST_IN_STREAM: usize = records::MOST_RECORDS;
-
-// Areas in a stream.
-const MOST_AREAS: u32 = records::MOST_AREAS as u32;
 
 // The four words of an entry.
 #[derive(Clone, Copy)]
@@ -104,24 +102,21 @@ impl Words {
     pub fn is_curve(self) -> bool
         ensures answer { result ≡ is_curve self.kind }
     {
-        matches!(self.named(), Some(Kind::Curve))
+        self.kind == u32::from(Kind::Curve)
     }
 
     // Whether this is a line or a curve.
     pub fn is_line(self) -> bool
         ensures answer { result ≡ is_line self.kind }
     {
-        matches!(self.named(), Some(Kind::Line | Kind::Curve))
+        (self.kind == u32::from(Kind::Line)) | self.is_curve()
     }
 
     // Whether this is a line, a curve or a shortcut.
     pub fn is_segment(self) -> bool
         ensures answer { result ≡ is_segment self.kind }
     {
-        matches!(
-            self.named(),
-            Some(Kind::Line | Kind::Curve | Kind::Shortcut)
-        )
+        self.is_line() | (self.kind == u32::from(Kind::Shortcut))
     }
 }
 
@@ -143,7 +138,8 @@ pub struct Context<'a> {
     pub bounds: Bounds,
 }
 
-// A stream in the table of entries: its first entry, and how many it has.
+// A stream in the table of entries: its first entry, and how many it has. It is no slice of its words: a cell names a stream by these two numbers, and so do
+// `Passed` and the theorems, so that at each call a slice would have to be led back to the table, which is no plainer.
 #[derive(Clone, Copy)]
 pub struct Stream<'a> {
     pub entries: &'a [u32],
@@ -151,13 +147,13 @@ pub struct Stream<'a> {
     pub count: usize,
 }
 
-// Where a reader of a stream stands. `stack`: the open groups (crate `groups`). `held`: an area, a line, a curve or a shortcut stands straight
-// before. `areas`, `segments`: how many areas, and how many lines, curves and shortcuts, so far.
+// Where a reader of a stream stands. `held`: an area, a line, a curve or a shortcut stands straight before; it says so by itself, since no value goes
+// with it. `areas`, `segments`: how many areas, and how many lines, curves and shortcuts, so far.
 #[derive(Clone, Copy)]
 pub struct Scan {
-    pub stack: u32,
+    pub groups: Groups,
     pub held: bool,
-    pub areas: u32,
+    pub areas: usize,
     pub segments: u32,
 }
 
@@ -211,62 +207,60 @@ pub fn is_segment(kind: u32) -> bool
 
 // ---- the numbers of an entry
 // Whether an area's role fits a paint side, or a clip side.
-fn record_fits(r: Record, paint: bool) -> bool
-    ensures answer { result ≡ record_fits r paint }
-{
-    match r {
-        Record::Area(f) => f.role == if paint { records::PAINT } else { records::CLIP },
-        _ => false,
-    }
-}
-
 fn role_fits(d: Result<Record, Refusal>, paint: bool) -> bool
     ensures answer { result ≡ role_fits d paint }
 {
-    match d {
-        Ok(r) => record_fits(r, paint),
-        Err(_) => false,
-    }
+    let role = if paint { records::PAINT } else { records::CLIP };
+    matches!(d, Ok(Record::Area(f)) if f.role == role)
 }
 
-impl Context<'_> {
+// A context whose tables hold what its bounds speak of.
+#[derive(Clone, Copy)]
+struct ReadyContext<'a> {
+    context: Context<'a>,
+    ghost ready: { ContextReady context },
+}
+
+impl ReadyContext<'_> {
     // Whether corner i is in use and its coordinates are in range.
     fn corner_met(self, i: usize) -> bool
-        requires ready { ContextReady self }
-        ensures answer { result ≡ corner_met (env_passed self).xs (env_passed self).ys (env_passed self).used.corners i }
+        ensures answer { result ≡
+            corner_met (env_of self.entry.context).xs (env_of self.entry.context).ys (env_of self.entry.context).used.corners i }
     {
-        i < self.bounds.corners && (self.xs[i] <= records::GRID) & (self.ys[i] <= records::GRID)
+        let c = self.context;
+        i < c.bounds.corners && (c.xs[i] <= records::GRID) & (c.ys[i] <= records::GRID)
     }
 
     // Whether the area that is named is in range and fits here, and its start number is in range.
-    fn area_fits(self, stack: u32, w: Words) -> bool
-        requires ready { ContextReady self }
-        ensures answer { result ≡ area_fits_n (env_passed self).areas (env_passed self).used.areas stack w }
+    fn area_fits(self, groups: Groups, w: Words) -> bool
+        ensures answer { result ≡
+            area_fits_n (env_of self.entry.context).areas (env_of self.entry.context).used.areas groups.number w }
     {
-        let d = drawing::area_row(self.areas, self.bounds.areas, w.p as usize);
-        let fits = role_fits(d, groups::on_paint(stack));
+        let c = self.context;
+        let d = drawing::area_row(c.areas, c.bounds.areas, w.p as usize);
+        let fits = role_fits(d, groups.on_paint());
         fits & ((w.q <= MOST_START) | (LEAST_START <= w.q))
     }
 
     // Whether both corners of a line are in use and in range.
     fn line_range(self, w: Words) -> bool
-        requires ready { ContextReady self }
-        ensures answer { result ≡ line_range (env_passed self).xs (env_passed self).ys (env_passed self).used.corners w.p w.q }
+        ensures answer { result ≡
+            line_range (env_of self.entry.context).xs (env_of self.entry.context).ys (env_of self.entry.context).used.corners w.p w.q }
     {
         self.corner_met(w.p as usize) & self.corner_met(w.q as usize)
     }
 
     // Whether the three corners of a curve are in use and in range, and in order and span.
     fn curve_range(self, w: Words) -> bool
-        requires ready { ContextReady self }
-        ensures answer { result ≡ curve_range (env_passed self).xs (env_passed self).ys (env_passed self).used.corners w.p }
+        ensures answer { result ≡
+            curve_range (env_of self.entry.context).xs (env_of self.entry.context).ys (env_of self.entry.context).used.corners w.p }
     {
-        let xs = self.xs;
-        let ys = self.ys;
+        let xs = self.context.xs;
+        let ys = self.context.ys;
         let p = w.p as usize;
         let control = p + 1;
         let end = p + 2;
-        if self.bounds.corners <= end {
+        if self.context.bounds.corners <= end {
             return false;
         }
         let met = self.corner_met(p) & (self.corner_met(control) & self.corner_met(end));
@@ -284,37 +278,26 @@ impl Context<'_> {
         met & fits
     }
 
-    // Whether the numbers of a line or a curve are in range.
-    fn line_fits(self, w: Words) -> bool
-        requires ready { ContextReady self }
-        ensures answer { result ≡ line_fits (env_passed self).xs (env_passed self).ys (env_passed self).used.corners w }
-    {
-        if w.is_curve() {
-            self.curve_range(w)
-        } else {
-            self.line_range(w)
-        }
-    }
-
     // Whether a shortcut has the sign 1 or -1, and rows, all of them inside the cell.
     fn shortcut_range(self, w: Words) -> bool
-        ensures answer { result ≡ shortcut_range (env_passed self).used.low (env_passed self).used.side w.p w.q w.r }
+        ensures answer { result ≡
+            shortcut_range (env_of self.entry.context).used.low (env_of self.entry.context).used.side w.p w.q w.r }
     {
-        let low = self.bounds.low;
-        let beyond = (low as u64) + (self.bounds.side as u64);
+        let low = self.context.bounds.low;
+        let beyond = (low as u64) + (self.context.bounds.side as u64);
         ((w.p == PLUS_ONE) | (w.p == MINUS_ONE))
             & ((low <= w.q) & ((w.q < w.r) & ((w.r as u64) <= beyond)))
     }
 
     // Whether the numbers of a line, a curve or a shortcut are in range.
     fn segment_fits(self, w: Words) -> bool
-        requires ready { ContextReady self }
-        ensures answer { result ≡ segment_fits (env_passed self).xs (env_passed self).ys (env_passed self).used w }
+        ensures answer { result ≡
+            segment_fits (env_of self.entry.context).xs (env_of self.entry.context).ys (env_of self.entry.context).used w }
     {
-        if w.is_line() {
-            self.line_fits(w)
-        } else {
-            self.shortcut_range(w)
+        match w.named() {
+            Some(Kind::Curve) => self.curve_range(w),
+            Some(Kind::Line) => self.line_range(w),
+            _ => self.shortcut_range(w),
         }
     }
 }
@@ -322,53 +305,13 @@ impl Context<'_> {
 // ---- one entry more
 impl Scan {
     // The same areas and lines, in other groups.
-    fn in_groups(self, stack: u32) -> Scan
-        ensures answer { result ≡ in_groups self stack }
+    fn in_groups(self, groups: Groups) -> Scan
+        ensures answer { result ≡ in_groups self groups.number }
     {
         Scan {
-            stack,
+            groups,
             held: false,
             ..self
-        }
-    }
-
-    fn after_open(self) -> Option<Scan>
-        ensures answer { result ≡ after_open_n self }
-    {
-        if groups::has_room(self.stack) {
-            Some(self.in_groups(groups::opened(self.stack)))
-        } else {
-            None
-        }
-    }
-
-    fn after_bar(self) -> Option<Scan>
-        ensures answer { result ≡ after_bar_n self }
-    {
-        if groups::on_left(self.stack) {
-            Some(self.in_groups(groups::barred(self.stack)))
-        } else {
-            None
-        }
-    }
-
-    fn after_close(self) -> Option<Scan>
-        ensures answer { result ≡ after_close_n self }
-    {
-        if groups::on_right(self.stack) {
-            Some(self.in_groups(groups::closed(self.stack)))
-        } else {
-            None
-        }
-    }
-
-    fn after_passes(self) -> Option<Scan>
-        ensures answer { result ≡ after_passes_n self }
-    {
-        if groups::on_paint(self.stack) {
-            None
-        } else {
-            Some(self.in_groups(self.stack))
         }
     }
 
@@ -376,7 +319,7 @@ impl Scan {
     fn with_area(self, ok: bool) -> Option<Scan>
         ensures answer { result ≡ with_area_n self ok }
     {
-        if ok && self.areas < MOST_AREAS {
+        if ok && self.areas < records::MOST_AREAS {
             Some(Scan {
                 held: true,
                 areas: self.areas + 1,
@@ -388,18 +331,18 @@ impl Scan {
     }
 
     // One entry more, where a line, a curve or a shortcut does not fit: `scan_run` takes those that do.
-    fn step(self, context: Context, w: Words) -> Option<Scan>
-        requires ready { ContextReady context }
-        ensures answer { result ≡ other_n (env_passed context).areas (env_passed context).used.areas self w }
+    fn step(self, context: ReadyContext, w: Words) -> Option<Scan>
+        ensures answer { result ≡ other_n (env_of context.entry.context).areas (env_of context.entry.context).used.areas self w }
     {
-        match w.named()? {
-            Kind::Open => self.after_open(),
-            Kind::Bar => self.after_bar(),
-            Kind::Close => self.after_close(),
-            Kind::Area => self.with_area(context.area_fits(self.stack, w)),
-            Kind::Passes => self.after_passes(),
-            Kind::Line | Kind::Shortcut | Kind::Curve => None,
-        }
+        let groups = match w.named()? {
+            Kind::Area => return self.with_area(context.area_fits(self.groups, w)),
+            Kind::Open if self.groups.has_room() => self.groups.opened(),
+            Kind::Bar if self.groups.on_left() => self.groups.barred(),
+            Kind::Close if self.groups.on_right() => self.groups.closed(),
+            Kind::Passes if !self.groups.on_paint() => self.groups,
+            _ => return None,
+        };
+        Some(self.in_groups(groups))
     }
 }
 
@@ -430,17 +373,16 @@ fn run_to(lines: usize, before: usize, from: usize, next: usize) -> Option<Run>
 }
 
 // The lines, curves and shortcuts from entry `from` on, where `before` stand before, if all are in range and few enough.
-fn scan_run(stream: Stream, from: usize, context: Context, before: usize) -> Option<Run>
+fn scan_run(stream: Stream, from: usize, context: ReadyContext, before: usize) -> Option<Run>
     requires from_le_end { (from ≤ stream.first + stream.count)
         × (stream.first + stream.count ≤ from + 4096)
         × ((stream.first + stream.count) * 4 ≤ length stream.entries.now) }
-    requires ready { ContextReady context }
     requires before_bound { before < 4294967296 }
     ensures answer { MatchOption result
-        (run_fits (env_passed context).xs (env_passed context).ys (env_passed context).used before
+        (run_fits (env_of context.entry.context).xs (env_of context.entry.context).ys (env_of context.entry.context).used before
         (words_from stream.entry.entries.now from (end_passed stream - from))
         ≡ false)
-        (λ r. Ran (env_passed context) stream.entry.entries.now from (end_passed stream) before r) }
+        (λ r. Ran (env_of context.entry.context) stream.entry.entries.now from (end_passed stream) before r) }
 {
     let end = stream.first + stream.count;
     let mut lines: usize = 0;
@@ -476,15 +418,14 @@ pub struct Checked {
 }
 
 // Entry i, and the lines, curves and shortcuts that stand behind it.
-fn scan_next(stream: Stream, i: usize, context: Context, s: Scan) -> Option<Scanned>
+fn scan_next(stream: Stream, i: usize, context: ReadyContext, s: Scan) -> Option<Scanned>
     requires i_lt_end { (i < stream.first + stream.count)
         × (stream.first + stream.count ≤ i + 4096)
         × ((stream.first + stream.count) * 4 ≤ length stream.entries.now) }
-    requires ready { ContextReady context }
     requires apart { Apart stream.entries.now i (stream.first + stream.count) s }
     ensures onward { MatchOption result
-        (scan_n (env_passed context) (Some s) (words_from stream.entry.entries.now i (end_passed stream - i)) ≡ None)
-        (λ r. Onward (env_passed context) stream.entry.entries.now i (end_passed stream) s r) }
+        (scan_n (env_of context.entry.context) (Some s) (words_from stream.entry.entries.now i (end_passed stream - i)) ≡ None)
+        (λ r. Onward (env_of context.entry.context) stream.entry.entries.now i (end_passed stream) s r) }
 {
     let w = read_entry(stream.entries, i);
     let n = s.step(context, w)?;
@@ -512,7 +453,7 @@ fn tell(s: Scan, lines: usize) -> Option<Checked>
     requires { lines ≤ 4096 }
     ensures answer { result ≡ told_at s lines }
 {
-    if s.stack == groups::NONE_OPEN {
+    if s.groups == Groups::NONE_OPEN {
         Some(Checked {
             lines: lines as u32,
             segments: s.segments,
@@ -523,17 +464,16 @@ fn tell(s: Scan, lines: usize) -> Option<Checked>
 }
 
 // All the entries of a stream.
-fn scan_all(stream: Stream, context: Context) -> Option<Checked>
+fn scan_all(stream: Stream, context: ReadyContext) -> Option<Checked>
     requires count_in_bounds { (stream.first + stream.count) * 4 ≤ length stream.entries.now }
     requires count_bound { stream.count ≤ 4096 }
-    requires ready { ContextReady context }
     ensures answer { result ≡
-        told (accepts (env_passed context) (words_from stream.entry.entries.now stream.entry.first stream.entry.count))
+        told (accepts (env_of context.entry.context) (words_from stream.entry.entries.now stream.entry.first stream.entry.count))
         (words_from stream.entry.entries.now stream.entry.first stream.entry.count) }
 {
     let end = stream.first + stream.count;
     let mut s = Scan {
-        stack: groups::NONE_OPEN,
+        groups: Groups::NONE_OPEN,
         held: false,
         areas: 0,
         segments: 0,
@@ -551,21 +491,22 @@ fn scan_all(stream: Stream, context: Context) -> Option<Checked>
 }
 
 // ---- the check
-// Whether the numbers in use are at most what tables of these lengths hold.
-#[tactic(auto, unfolding(crate::specs::Grammar::used_range))]
-pub fn used_range(
-    entries: usize,
-    used: usize,
-    areas: usize,
-    xs: usize,
-    ys: usize,
-    b: Bounds,
-) -> bool
-    ensures answer { result ≡ used_range entries used areas xs ys b }
-{
-    ((used <= entries / ENTRY_WORDS) & (used <= MOST_ENTRIES))
-        & (((b.areas <= areas / records::AREA_WORDS) & (b.areas <= records::MOST_AREAS))
-            & ((b.corners <= xs) & ((b.corners <= ys) & (b.corners <= records::MOST_CORNERS))))
+impl Context<'_> {
+    // Whether the numbers in use are at most what the tables hold: `used` entries of a table with so many words, and the areas and the corners.
+    #[tactic(auto, unfolding(crate::specs::Grammar::used_range))]
+    pub fn used_range(self, entries: usize, used: usize) -> bool
+        ensures answer { result ≡
+            used_range entries used (length (env_passed self).areas) (length (env_passed self).xs) (length (env_passed self).ys)
+            (env_passed self).used }
+    {
+        let b = self.bounds;
+        let entries_fit = (used <= entries / ENTRY_WORDS) & (used <= MOST_ENTRIES);
+        let areas_fit = (b.areas <= self.areas.len() / records::AREA_WORDS)
+            & (b.areas <= records::MOST_AREAS);
+        let corners_fit = (b.corners <= self.xs.len())
+            & ((b.corners <= self.ys.len()) & (b.corners <= records::MOST_CORNERS));
+        entries_fit & (areas_fit & corners_fit)
+    }
 }
 
 // Whether these entries are a stream of the cell with this low row and this side, where `used` are in use, and how many lines and segments it holds.
@@ -574,19 +515,12 @@ pub fn check_stream(stream: Stream, used: usize, context: Context) -> Option<Che
     ensures answer { result ≡
         checked stream.entry.entries.now stream.entry.first stream.entry.count used (env_passed context) }
 {
-    let u = used_range(
-        stream.entries.len(),
-        used,
-        context.areas.len(),
-        context.xs.len(),
-        context.ys.len(),
-        context.bounds,
-    );
+    let u = context.used_range(stream.entries.len(), used);
     if u && stream.count <= used
         && stream.first <= used - stream.count
         && stream.count <= MOST_IN_STREAM
     {
-        scan_all(stream, context)
+        scan_all(stream, ReadyContext { context })
     } else {
         None
     }

@@ -8,7 +8,7 @@ ghost use Rattle.celltable.specs.Ranges.{cells_held, entries_held};
 ghost use Rattle.tables.specs.Tables.{tree_passed, cells_used, counts_in};
 
 use drawing::Drawing;
-use stream::Bounds;
+use stream::{Bounds, Context};
 
 // The limit of the cells, as a word.
 const MOST_CELLS: u32 = celltable::MOST_CELLS as u32;
@@ -80,7 +80,12 @@ impl Tree<'_> {
             return false;
         }
         let free = laws::wide(self.head[celltable::ENTRIES]);
-        let b = bounds_in(d.plan, 0, 0);
-        stream::used_range(n, free, d.areas.len(), d.xs.len(), d.ys.len(), b)
+        let context = Context {
+            areas: d.areas,
+            xs: d.xs,
+            ys: d.ys,
+            bounds: bounds_in(d.plan, 0, 0),
+        };
+        context.used_range(n, free)
     }
 }

@@ -22,14 +22,14 @@ Scan = Result State Refused
 
 -- no contour in progress
 abbrev pub mk : ℕ → Bool → ℕ → ℕ → State
-mk n h a c = record { stack = n; held = h; control = None; run = 0; areas = a; corners = c; x0 = 0; y0 = 0 }
+mk n h a c = record { groups = record { number = n }; held = h; control = None; run = 0; areas = a; corners = c; x0 = 0; y0 = 0 }
 
 abbrev pub no_contour_n : State → State
-no_contour_n s = mk s.stack false s.areas s.corners
+no_contour_n s = mk s.groups.number false s.areas s.corners
 
 -- one corner more of a contour
 abbrev pub corner_n : State → Option (ℕ × ℕ) → ℕ → (x0 y0 : ℕ) → State
-corner_n s b r x0 y0 = record { stack = s.stack; held = true; control = b; run = r; areas = s.areas; corners = s.corners + 1; x0 = x0; y0 = y0 }
+corner_n s b r x0 y0 = record { groups = s.groups; held = true; control = b; run = r; areas = s.areas; corners = s.corners + 1; x0 = x0; y0 = y0 }
 
 abbrev pub role_n : ℕ → ℕ
 role_n stack = cond (paint_n stack) 0 1
@@ -49,12 +49,12 @@ breaks_n s Close = false
 breaks_n s (Control x y) = false
 
 abbrev pub stands_n : State → Record → Bool
-stands_n s (Area f) = eqb f.role (role_n s.stack)
+stands_n s (Area f) = eqb f.role (role_n s.groups.number)
 stands_n s (First x y) = s.held
 stands_n s (Next x y) = ltb 0 s.run
 stands_n s Open = true
-stands_n s Bar = left_n s.stack
-stands_n s Close = right_n s.stack
+stands_n s Bar = left_n s.groups.number
+stands_n s Close = right_n s.groups.number
 stands_n s (Control x y) = ltb 0 s.run
 
 -- a control corner stands straight before
@@ -78,13 +78,13 @@ abbrev pub in_limit_n : State → Record → Bool
 in_limit_n s (Area f) = ltb s.areas 64
 in_limit_n s (First x y) = ltb s.corners 2048
 in_limit_n s (Next x y) = ltb s.corners 2048
-in_limit_n s Open = room_n s.stack
+in_limit_n s Open = room_n s.groups.number
 in_limit_n s Bar = true
 in_limit_n s Close = true
 in_limit_n s (Control x y) = ltb s.corners 2048
 
 abbrev pub area_n : State → State
-area_n s = mk s.stack true (s.areas + 1) s.corners
+area_n s = mk s.groups.number true (s.areas + 1) s.corners
 
 abbrev pub first_n : State → (x y : ℕ) → State
 first_n s x y = corner_n s None 1 x y
@@ -96,13 +96,13 @@ abbrev pub control_n : State → (x y : ℕ) → State
 control_n s x y = corner_n s (Some (x, y)) s.run s.x0 s.y0
 
 abbrev pub after_open_n : State → State
-after_open_n s = mk (open_n s.stack) false s.areas s.corners
+after_open_n s = mk (open_n s.groups.number) false s.areas s.corners
 
 abbrev pub after_bar_n : State → State
-after_bar_n s = mk (bar_n s.stack) false s.areas s.corners
+after_bar_n s = mk (bar_n s.groups.number) false s.areas s.corners
 
 abbrev pub after_close_n : State → State
-after_close_n s = mk (close_n s.stack) false s.areas s.corners
+after_close_n s = mk (close_n s.groups.number) false s.areas s.corners
 
 abbrev pub after_n : State → Record → State
 after_n s (Area f) = area_n s
@@ -136,7 +136,7 @@ start_n = Ok (mk 1 false 0 0)
 abbrev pub end_state_n : State → ℕ → Verdict
 end_state_n s n =
     cond (bends_n s.control) (Err (at_place Unfit n))
-    (cond (eqb s.stack 1) (cond (is_short s.run) (Err (at_place Short n)) (Ok (counts n s.areas s.corners))) (Err (at_place Unfit n)))
+    (cond (eqb s.groups.number 1) (cond (is_short s.run) (Err (at_place Short n)) (Ok (counts n s.areas s.corners))) (Err (at_place Unfit n)))
 
 abbrev pub ended_n : Scan → ℕ → Verdict
 ended_n (Ok s) n = end_state_n s n

@@ -13,13 +13,13 @@ returns-in_err-r c =
     let a = c.args.stream in
     record {
       answer = c.from_residual.ensures
-          ∙ told_none (env_of c.args.context) (words_from a.entries.now a.first a.count) (sym c.loop-i.invariant.same ∙ c.in_err-r.ensures.onward);
+          ∙ told_none (env_of c.args.context.context) (words_from a.entries.now a.first a.count) (sym c.loop-i.invariant.same ∙ c.in_err-r.ensures.onward);
     }
 
 pub returns : goal.returns
 returns c =
     let a = c.args.stream in
-    let v = env_of c.args.context in
+    let v = env_of c.args.context.context in
     record {
       answer = c.tell.ensures.answer
           ∙ told_is v (words_from a.entries.now a.first a.count) c.loop-i.s c.loop-i.lines

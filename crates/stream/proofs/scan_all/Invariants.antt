@@ -12,8 +12,8 @@ invariant-loop-i l =
     record {
       above : l.stream.first ≤ l.i;
       below : l.i ≤ l.end;
-      same : scan_n (env_of l.context) (Some l.s) (words_from l.stream.entries.now l.i (l.end - l.i))
-          ≡ scan_n (env_of l.context) (Some start_n)
+      same : scan_n (env_of l.context.context) (Some l.s) (words_from l.stream.entries.now l.i (l.end - l.i))
+          ≡ scan_n (env_of l.context.context) (Some start_n)
           (words_from l.stream.entries.now l.stream.first l.stream.count);
       apart : Apart l.stream.entries.now l.i l.end l.s;
       few : l.stream.first + l.lines ≤ l.i;

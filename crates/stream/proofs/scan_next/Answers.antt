@@ -12,7 +12,7 @@ returns-in_err-n c =
     let w = c.read_entry-w in
     record {
       onward = rw c.from_residual.ensures
-          (none_onward (env_of a.context) a.stream.entries.now a.i (a.stream.first + a.stream.count) a.s w.result w.ensures.answer c.requires.i_lt_end.0
+          (none_onward (env_of a.context.context) a.stream.entries.now a.i (a.stream.first + a.stream.count) a.s w.result w.ensures.answer c.requires.i_lt_end.0
           c.requires.apart (sym c.in_err-n.ensures.answer));
     }
 
@@ -21,7 +21,7 @@ returns-then-not-n c =
     let a = c.args in
     let w = c.read_entry-w in
     record {
-      onward = one_onward (env_of a.context) a.stream.entries.now a.i (a.stream.first + a.stream.count) a.s w.result w.ensures.answer
+      onward = one_onward (env_of a.context.context) a.stream.entries.now a.i (a.stream.first + a.stream.count) a.s w.result w.ensures.answer
           c.requires.i_lt_end.0 c.requires.apart c.in_ok-n.n (sym c.in_ok-n.ensures.answer) (not-true _ c.if-not-n.true);
     }
 
@@ -31,14 +31,14 @@ returns-in_err-r c =
     let w = c.read_entry-w in
     record {
       onward = rw c.from_residual-in_err-r.ensures
-          (run_none (env_of a.context) a.stream.entries.now a.i (a.stream.first + a.stream.count) a.s w.result w.ensures.answer c.requires.i_lt_end.0
+          (run_none (env_of a.context.context) a.stream.entries.now a.i (a.stream.first + a.stream.count) a.s w.result w.ensures.answer c.requires.i_lt_end.0
           c.requires.apart c.in_ok-n.n (sym c.in_ok-n.ensures.answer) (not-false _ c.if-not-n.false) c.in_err-r.ensures.answer);
     }
 
 pub overflow_cast-scan : goal.overflow_cast-scan
 overflow_cast-scan c =
     let a = c.args in
-    let v = env_of a.context in
+    let v = env_of a.context.context in
     let r = c.in_ok-r.ensures.answer in
     record {
       fits = omega (
@@ -54,6 +54,6 @@ returns c =
     let a = c.args in
     let w = c.read_entry-w in
     record {
-      onward = run_onward (env_of a.context) a.stream.entries.now a.i (a.stream.first + a.stream.count) a.s w.result w.ensures.answer
+      onward = run_onward (env_of a.context.context) a.stream.entries.now a.i (a.stream.first + a.stream.count) a.s w.result w.ensures.answer
           c.requires.i_lt_end.0 c.requires.apart c.in_ok-n.n (sym c.in_ok-n.ensures.answer) (not-false _ c.if-not-n.false) c.in_ok-r.r c.in_ok-r.ensures.answer;
     }

@@ -16,7 +16,7 @@ use Rattle.stream.proofs.scan_run.Goals as goal
 pub returns-then-not-is_segment : goal.returns-then-not-is_segment
 returns-then-not-is_segment c =
     let t = c.args.stream.entries.now in
-    let v = env_of c.args.context in
+    let v = env_of c.args.context.context in
     let e = c.args.stream.first + c.args.stream.count in
     let i = c.loop-i.i in
     let w = c.read_entry-w in
@@ -36,7 +36,7 @@ returns-then-not-segment_fits c =
     let w = c.read_entry-w in
     let lt : c.loop-i.i < e = omega arith in
     record {
-      answer = run_broken (env_of c.args.context) c.args.stream.entries.now c.args.from e c.args.before c.loop-i.i w.result w.ensures.answer lt
+      answer = run_broken (env_of c.args.context.context) c.args.stream.entries.now c.args.from e c.args.before c.loop-i.i w.result w.ensures.answer lt
           (sym c.is_segment.ensures.answer ∙ c.if-not-is_segment.false) (sym c.segment_fits.ensures.answer ∙ c.if-not-segment_fits.true)
           c.loop-i.invariant.fits;
     }
@@ -44,7 +44,7 @@ returns-then-not-segment_fits c =
 pub loop-i-preserved : goal.loop-i-preserved
 loop-i-preserved c =
     let t = c.args.stream.entries.now in
-    let v = env_of c.args.context in
+    let v = env_of c.args.context.context in
     let e = c.args.stream.first + c.args.stream.count in
     let i = c.loop-i.i in
     let w = c.read_entry-w in
@@ -67,7 +67,7 @@ loop-i-preserved c =
 pub returns : goal.returns
 returns c =
     let t = c.args.stream.entries.now in
-    let v = env_of c.args.context in
+    let v = env_of c.args.context.context in
     let e = c.args.stream.first + c.args.stream.count in
     let i = c.loop-i.invariant in
     let is : c.loop-i.i ≡ e = omega arith in

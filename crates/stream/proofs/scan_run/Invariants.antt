@@ -9,8 +9,8 @@ abbrev pub invariant-loop-i : goal.invariant-loop-i
 invariant-loop-i l =
     record {
       above : l.from ≤ l.i;
-      fits : each_fits l.context.xs.now l.context.ys.now l.context.bounds (words_from l.stream.entries.now l.i (l.end - l.i))
-          ≡ each_fits l.context.xs.now l.context.ys.now l.context.bounds (words_from l.stream.entries.now l.from (l.end - l.from));
+      fits : each_fits l.context.context.xs.now l.context.context.ys.now l.context.context.bounds (words_from l.stream.entries.now l.i (l.end - l.i))
+          ≡ each_fits l.context.context.xs.now l.context.context.ys.now l.context.context.bounds (words_from l.stream.entries.now l.from (l.end - l.from));
       length : l.i + run_length (words_from l.stream.entries.now l.i (l.end - l.i))
           ≡ l.from + run_length (words_from l.stream.entries.now l.from (l.end - l.from));
       few : l.from + l.lines ≤ l.i;

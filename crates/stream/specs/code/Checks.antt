@@ -19,7 +19,7 @@ told b ws = cond b (fit (lines_in ws) (segments_in ws)) unfit
 
 -- where the code stands at the end of a stream
 abbrev pub told_at : Scan → (lines : ℕ) → Option Checked
-told_at s l = cond (eqb s.stack 1) (fit l s.segments) unfit
+told_at s l = cond (eqb s.groups.number 1) (fit l s.segments) unfit
 
 abbrev pub checked : List ℕ → (first count used : ℕ) → Env → Option Checked
 checked t first count used v = told (check_stream t first count used v) (words_from t first count)

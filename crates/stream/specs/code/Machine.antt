@@ -14,7 +14,7 @@ use Rattle.stream.specs.Entry.{is_curve, is_line, is_segment, lines_in, start_ra
 use Rattle.stream.specs.Grammar.{Env, line_range, curve_range, shortcut_range, role_fits}
 
 abbrev pub mk : ℕ → Bool → ℕ → ℕ → Scan
-mk n h a l = record { stack = n; held = h; areas = a; segments = l }
+mk n h a l = record { groups = record { number = n }; held = h; areas = a; segments = l }
 
 abbrev pub start_n : Scan
 start_n = mk 1 false 0 0
@@ -26,20 +26,20 @@ abbrev pub in_groups : Scan → ℕ → Scan
 in_groups s n = mk n false s.areas s.segments
 
 abbrev pub after_open_n : Scan → Option Scan
-after_open_n s = cond (room_n s.stack) (Some (in_groups s (open_n s.stack))) None
+after_open_n s = cond (room_n s.groups.number) (Some (in_groups s (open_n s.groups.number))) None
 
 abbrev pub after_bar_n : Scan → Option Scan
-after_bar_n s = cond (left_n s.stack) (Some (in_groups s (bar_n s.stack))) None
+after_bar_n s = cond (left_n s.groups.number) (Some (in_groups s (bar_n s.groups.number))) None
 
 abbrev pub after_close_n : Scan → Option Scan
-after_close_n s = cond (right_n s.stack) (Some (in_groups s (close_n s.stack))) None
+after_close_n s = cond (right_n s.groups.number) (Some (in_groups s (close_n s.groups.number))) None
 
 abbrev pub after_passes_n : Scan → Option Scan
-after_passes_n s = cond (paint_n s.stack) None (Some (in_groups s s.stack))
+after_passes_n s = cond (paint_n s.groups.number) None (Some (in_groups s s.groups.number))
 
 -- an area whose numbers are in range and whose role fits
 abbrev pub with_area_n : Scan → Bool → Option Scan
-with_area_n s ok = cond ok (cond (ltb s.areas 64) (Some (mk s.stack true (s.areas + 1) s.segments)) None) None
+with_area_n s ok = cond ok (cond (ltb s.areas 64) (Some (mk s.groups.number true (s.areas + 1) s.segments)) None) None
 
 abbrev pub area_fits_n : List ℕ → ℕ → ℕ → Words → Bool
 area_fits_n areas used stack w = role_fits (area_row areas used w.p) (paint_n stack) && start_range w.q
@@ -53,14 +53,14 @@ segment_fits xs ys b w = cond (is_line w.kind) (line_fits xs ys b.corners w) (sh
 
 -- a line, a curve or a shortcut whose numbers are in range
 abbrev pub with_line_n : Scan → Bool → Option Scan
-with_line_n s ok = cond ok (cond s.held (cond (ltb s.segments 2048) (Some (mk s.stack true s.areas (s.segments + 1))) None) None) None
+with_line_n s ok = cond ok (cond s.held (cond (ltb s.segments 2048) (Some (mk s.groups.number true s.areas (s.segments + 1))) None) None) None
 
 abbrev pub step_n : Env → Scan → Words → Option Scan
 step_n v s w =
     cond (eqb w.kind 1) (after_open_n s)
     (cond (eqb w.kind 2) (after_bar_n s)
     (cond (eqb w.kind 3) (after_close_n s)
-    (cond (eqb w.kind 4) (with_area_n s (area_fits_n v.areas v.used.areas s.stack w))
+    (cond (eqb w.kind 4) (with_area_n s (area_fits_n v.areas v.used.areas s.groups.number w))
     (cond (is_segment w.kind) (with_line_n s (segment_fits v.xs v.ys v.used w))
     (cond (eqb w.kind 7) (after_passes_n s) None)))))
 
@@ -70,7 +70,7 @@ other_n areas used s w =
     cond (eqb w.kind 1) (after_open_n s)
     (cond (eqb w.kind 2) (after_bar_n s)
     (cond (eqb w.kind 3) (after_close_n s)
-    (cond (eqb w.kind 4) (with_area_n s (area_fits_n areas used s.stack w))
+    (cond (eqb w.kind 4) (with_area_n s (area_fits_n areas used s.groups.number w))
     (cond (eqb w.kind 7) (after_passes_n s) None))))
 
 unfoldable pub scan_n : Env → Option Scan → List Words → Option Scan

@@ -20,7 +20,7 @@ bounds-self-1 c =
 pub returns : goal.returns
 returns c =
     record {
-      answer = counts_yes (tree_of c.args.self) c.used_range.result c.wide-free.result c.bounds_in-b.result
+      answer = counts_yes (tree_of c.args.self) c.used_range.result c.wide-free.result c.bounds_in.result
           (sym c.head_fits.ensures.answer ∙ c.if-not-head_fits.false) c.if-d-lt-PLAN_COUNTS.false c.wide-free.ensures.answer
-          c.bounds_in-b.ensures.answer c.used_range.ensures.answer;
+          c.bounds_in.ensures.answer c.used_range.ensures.answer;
     }
