@@ -77,7 +77,7 @@ fn put_kept(out: &mut [u32], at: usize, left: Left, w: Words)
             let p = word_of(left.sign);
             put_below(
                 out,
-                    at,
+                at,
                 Words {
                     kind: u32::from(Kind::Shortcut),
                     p,
@@ -228,13 +228,7 @@ pub fn write_other(out: &mut [u32], areas: &[u32], m: &mut Maker, w: Words)
 
 // Goes on to the next entry, w, and writes what it makes.
 #[inline(always)]
-pub fn write_entry(
-    out: &mut [u32],
-    m: &mut Maker,
-    context: Context,
-    s: Square,
-    w: Words,
-)
+pub fn write_entry(out: &mut [u32], m: &mut Maker, context: Context, s: Square, w: Words)
     requires square_in { SquareIn s }
     requires asks { Asks (env_of context) m.old w }
     ensures pruner { counted m.new.pruner ≡

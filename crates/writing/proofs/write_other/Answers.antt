@@ -21,11 +21,17 @@ pub returns-clause-out : goal.returns-clause-out
 returns-clause-out c =
     let a = c.args in
     elim c.if-is_segment.branch [
-      then-is_segment w ↦
-          rw (w.out-is, w.m-is, w.put_delimiter.ensures.out, c.put_settled.ensures.out, w.weight.ensures.answer,
-          mark_segment (settled_put a.areas.now a.out.now a.m.now) a.m.now.pruner.weight a.w.kind
-          (settled_n a.areas.now (counted a.m.now.pruner) a.m.now.waiting) (sym c.is_segment.ensures.answer ∙ w.if-is_segment.true))
-    | else-is_segment w ↦
+      | then-is_segment w ↦
+          rw (
+            w.out-is,
+            w.m-is,
+            w.put_delimiter.ensures.out,
+            c.put_settled.ensures.out,
+            w.weight.ensures.answer,
+            mark_segment (settled_put a.areas.now a.out.now a.m.now) a.m.now.pruner.weight a.w.kind
+                (settled_n a.areas.now (counted a.m.now.pruner) a.m.now.waiting) (sym c.is_segment.ensures.answer ∙ w.if-is_segment.true),
+          )
+      | else-is_segment w ↦
           rw (w.out-is, w.m-is, w.put_mark.ensures.out, c.put_settled.ensures.out)
           (mark_is (settled_put a.areas.now a.out.now a.m.now) w.settle.new.self.pruner w.put_mark.new.p.weight a.w.kind
           (settled_n a.areas.now (counted a.m.now.pruner) a.m.now.waiting) w.settle.ensures.pruner)
