@@ -62,7 +62,8 @@ fn shortcut_left(s: Square, w: Words) -> Left
     }
 }
 
-// Of an entry of another kind: nothing.
+// Of an entry of another kind: nothing. (Put into its callers, so that no context is copied for each entry.)
+#[inline(always)]
 pub fn left_of(context: Context, s: Square, w: Words) -> Left
     requires corners_in_bounds { (context.bounds.corners ≤ length context.xs.now)
         × (context.bounds.corners ≤ length context.ys.now) }
