@@ -1,14 +1,14 @@
 -- The call, test by test.
 use mathlib.Core.Path.{◌≡◌, sym, ap, ◌∙◌}
 use mathlib.Core.Bool.{Bool, false, cond}
-use Prim.Native.Nat.{ℕ, ◌≤◌, ◌<◌}
+use Prim.Native.Nat.{ℕ, ◌≤◌}
 use lib.Dec.{eqb, leb}
 use lib.ListN.{length}
-use borrow.Author.Tests.{eq-eqb, ne_eqb, le-leb, lt-leb}
+use borrow.Author.Tests.{eq-eqb, le-leb}
 use Rattle.std.specs.Prelude.{Err}
 use Rattle.refusals.specs.declared.Refusal.TheVariants.{Argument, Broken}
 use Rattle.tables.specs.Tables.{Tree, cells_used, counts_in}
-use Rattle.laws.proofs.Choices.{pick_true, pick_false}
+use Rattle.laws.proofs.Choices.{pick_true}
 use Rattle.grow.specs.Grow.{lowest_from, Round, broken, round_by, round, not_passed, Grown, ended, go_on, grown, answer_of, grow_answer, grow_tree}
 use Rattle.grow.proofs.Fuel.{grown_step}
 

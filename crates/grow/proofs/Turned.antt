@@ -1,12 +1,10 @@
 -- A turn of the sweep by its numbers and by its tables.
 use mathlib.Core.Path.{◌≡◌, sym, ap, ◌∙◌}
-use mathlib.Core.Bool.{Bool, true, false, cond, ◌&&◌}
+use mathlib.Core.Bool.{true, ◌&&◌}
 use mathlib.Core.List.{List}
 use Prim.Native.Nat.{ℕ}
-use lib.Dec.{eqb}
-use Rattle.std.specs.Prelude.{Result, Ok, Err, Option, Some}
+use Rattle.std.specs.Prelude.{Result, Ok, Some}
 use Rattle.laws.proofs.Booleans.{cond_left}
-use Rattle.refusals.specs.Refusals.{number_of}
 use Rattle.refusals.specs.declared.Refusal.{Refusal}
 use Rattle.celltable.specs.declared.CellWords.{CellWords}
 use Rattle.celltable.specs.Ranges.{side_range, grid_range, square_range}
@@ -17,7 +15,7 @@ use Rattle.grow.specs.declared.Tried.{Tried}
 use Rattle.grow.specs.declared.Tried.TheVariants.{Bad, Past, Wanted}
 use Rattle.grow.specs.declared.Sweep.{Sweep}
 use Rattle.grow.specs.Grow.{tried_cell, tried}
-use Rattle.grow.specs.code.Numbers.{split_n, stop_if, by_answer, turn_by, tree_by}
+use Rattle.grow.specs.code.Numbers.{split_n, by_answer, turn_by, tree_by}
 
 -- ---- a leaf that is split, by the answer of the split and the head afterwards
 module _ (t : Tree) (s : Sweep) (x : Result ℕ Refusal) (e : x ≡ split_answer t s.cell) where

@@ -35,8 +35,8 @@ loop-k-preserved c =
     let next : 17 - c.loop-k.k - 1 ≡ 17 - (c.loop-k.k + 1) = omega arith in
     record {
       going = rw next at
-          (going_on a.self.table.now a.self.used a.self.entries a.x a.y (17 - c.loop-k.k) c.loop-k.c c.in-Deeper.next _ (omega arith) c.in_ok-next.ensures.answer
-          (ap Some c.in-Deeper.is) c.loop-k.invariant.going);
+          (going_on a.self.table.now a.self.used a.self.entries a.x a.y (17 - c.loop-k.k) c.loop-k.c c.in-Deeper.next _ (omega arith)
+          c.in_ok-next.ensures.answer (ap Some c.in-Deeper.is) c.loop-k.invariant.going);
       left = rw next at
           (walk_deeper a.self.table.now a.self.used a.self.entries a.x a.y (17 - c.loop-k.k) c.loop-k.c _ _ c.in-Deeper.next (omega arith)
           c.in_ok-next.ensures.answer (ap Some c.in-Deeper.is) c.loop-k.invariant.left);
