@@ -3,11 +3,8 @@ use mathlib.Core.Path.{ap, ◌∙◌}
 use Prim.Native.Nat.{◌+◌}
 use lib.ListN.{set}
 use native.Mathlib.Omega.{arith}
-use Rattle.read.proofs.Loops.{fill_read, fill_begin, fill_room, fill_turn, fill_done}
+use Rattle.read.proofs.Loops.{fill_read, fill_room, fill_turn, fill_done}
 use Rattle.read.proofs.fill.Goals as goal
-
-pub loop-i-init : goal.loop-i-init
-loop-i-init c = (search fill_begin, search fill_begin, search fill_begin, search fill_begin)
 
 pub put_area-area-requires : goal.put_area-area-requires
 put_area-area-requires c =
@@ -27,8 +24,7 @@ loop-i-preserved c =
     let l = c.loop-i-test.true in
     let d = fill_read _ _ _ _ _ l c.requires.n_value c.read_raw.ensures.answer c.named_of-r.ensures.answer in
     let k = ap (λ k. set c.loop-i.plan (3 + c.loop-i.i) k) (c.into.ensures ∙ c.kind.ensures.answer) in
-    let i = c.loop-i.invariant in
-    (
+    let i = c.loop-i.invariant in (
       fill_turn _ _ _ _ _ _ _ _ _ _ _ l d (omega arith) k i.0,
       fill_turn _ _ _ _ _ _ _ _ _ _ _ l d c.put_area-area.ensures.answer c.put_area-area.ensures.table i.1,
       fill_turn _ _ _ _ _ _ _ _ _ _ _ l d c.put_corner-corner.ensures.answer c.put_corner-corner.ensures.xs i.2,
