@@ -6,7 +6,8 @@ use mathlib.Core.Path.{◌≡◌, refl, sym, ap, ◌∙◌}
 use mathlib.Core.Bool.{Bool, true, false, cond, ◌&&◌}
 use mathlib.Core.List.{List, [], ◌∷◌, map}
 use native.Mathlib.Omega.{arith}
-use lib.ListN.{length, length-map}
+use lib.ListN.{length, set, length-map}
+use lib.Seq.{sets}
 use lib.Dec.{eqb, leb}
 use borrow.Author.Tests.{leb-true, eqb-true}
 use Rattle.refusals.specs.declared.Refusal.TheVariants.{Length}
@@ -19,7 +20,7 @@ use Rattle.grammar.specs.declared.Counts.{Counts}
 use Rattle.grammar.specs.Grammar.{checked}
 use Rattle.grammar.specs.Lists.{good_records, areas_in, corners_in}
 use Rattle.grammar.proofs.Laws.{sound}
-use Rattle.read.specs.Words.{words_of_kind, words_of_area, words_of_x, words_of_y, joined}
+use Rattle.read.specs.Words.{words_of_kind, words_of_area, words_of_x, words_of_y, joined, plan_words}
 use Rattle.read.specs.Reading.{decoded_from, decoded_in, records_in, verdict_of, holds, all_good, Filed}
 
 pub length_from : (b : List ℕ) (i n : ℕ) → length (decoded_from b i n) ≡ n
@@ -71,6 +72,10 @@ filed b k = go (eqb (length b % 16) 0) (leb (length b / 16) 4096) refl refl
           few = s.few;
           many = s.many;
         }
+
+-- a whole file's records are those from record 0
+pub good_from : (b : List ℕ) (k : Counts) → Filed b k → all_good (decoded_from b 0 k.records) ≡ true
+good_from b k f = ap (λ (n : ℕ). all_good (decoded_from b 0 n)) f.parts ∙ f.good
 
 -- ---- how many words
 pub kinds_length : (rs : List Record) → length (joined words_of_kind rs) ≡ length rs
@@ -131,6 +136,24 @@ module _ (b : List ℕ) (k : Counts) (c : Filed b k) where
 
   pub room_3 : (m : ℕ) → k.corners ≤ m → 0 + length (joined words_of_y (good_records (decoded_from b 0 k.records))) ≤ m
   room_3 m h = rw (← same_part, ys_length (records_in b)) (omega (arith, c.corners))
+
+  pub left_0 : (t t₁ t₂ : List ℕ)
+      → t₁ ≡ set (set (set t 0 k.records) 1 k.areas) 2 k.corners
+      → t₂ ≡ sets t₁ 3 (joined words_of_kind (good_records (decoded_from b 0 k.records)))
+      → t₂ ≡ sets t 0 (plan_words (records_in b))
+  left_0 t t₁ t₂ p q = q ∙ rw (p, ← same_part, c.records, c.areas, c.corners)
+
+  pub left_1 : (t t₁ : List ℕ) → t₁ ≡ sets t 0 (joined words_of_area (good_records (decoded_from b 0 k.records)))
+      → t₁ ≡ sets t 0 (joined words_of_area (records_in b))
+  left_1 t t₁ q = q ∙ rw (← same_part)
+
+  pub left_2 : (t t₁ : List ℕ) → t₁ ≡ sets t 0 (joined words_of_x (good_records (decoded_from b 0 k.records))) → t₁
+      ≡ sets t 0 (joined words_of_x (records_in b))
+  left_2 t t₁ q = q ∙ rw (← same_part)
+
+  pub left_3 : (t t₁ : List ℕ) → t₁ ≡ sets t 0 (joined words_of_y (good_records (decoded_from b 0 k.records))) → t₁
+      ≡ sets t 0 (joined words_of_y (records_in b))
+  left_3 t t₁ q = q ∙ rw (← same_part)
 
 -- ---- the room test
 pub record Holds (p a d : ℕ) (k : Counts) : Type 0 where

@@ -97,6 +97,13 @@ pub record Filling (f : Record → List ℕ) (b : List ℕ) (n : ℕ) (t₀ : Li
   pub room : at + length (joined f (good_records (decoded_from b i (n - i)))) ≤ length t
   pub rest : sets t at (joined f (good_records (decoded_from b i (n - i)))) ≡ sets t₀ first (joined f (good_records (decoded_from b 0 n)))
 
+pub fill_begin : (f : Record → List ℕ) (b : List ℕ) (n : ℕ) (t : List ℕ) (first : ℕ)
+    → first + length (joined f (good_records (decoded_from b 0 n))) ≤ length t
+    → Filling f b n t first t 0 first
+fill_begin f b n t first h =
+    let z : n - 0 ≡ n = omega arith in
+    record { size = refl; room = rw z h; rest = rw z }
+
 pub fill_room : (f : Record → List ℕ) (b : List ℕ) (n : ℕ) (t₀ : List ℕ) (first : ℕ) (t : List ℕ) (i at : ℕ) (d : Decoded)
     → i < n
     → d ≡ decoded_raw (raw_at b i)
