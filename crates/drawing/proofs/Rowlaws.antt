@@ -6,12 +6,11 @@ use mathlib.Core.List.{List, [], ◌∷◌}
 use native.Mathlib.Omega.{arith}
 use native.Mathlib.Numerals.{towards_suc}
 use lib.ListN.{length, get_or}
-use lib.Dec.{eqb, ltb, leb}
+use lib.Dec.{eqb, ltb}
 use borrow.Author.Tests.{ltb-true, lt-ltb, eqb-true}
 use Rattle.records.specs.Bytes.{Raw}
 use Rattle.records.specs.declared.Fields.{Fields}
 use Rattle.refusals.specs.declared.Refusal.{Refusal}
-use Rattle.refusals.specs.declared.Refusal.TheVariants as Refusals
 use Rattle.refusals.specs.declared.Refusal.TheVariants.{Field}
 use Rattle.records.specs.declared.Kind.{Kind}
 use Rattle.records.specs.declared.Kind.TheVariants as Kinds
@@ -19,14 +18,13 @@ use Rattle.records.specs.declared.Record.{Record}
 use Rattle.records.specs.declared.Record.TheVariants.{Area, First, Next, Open, Bar, Close, Control}
 use Rattle.records.specs.Record.{Decoded}
 use Rattle.std.specs.Prelude.{Result, Ok, Err}
-use Rattle.records.specs.Record.{in_range, ranged, is_corner, corner_of, delimiter_of, kind_of, is_good}
+use Rattle.records.specs.Record.{in_range, ranged, corner_of, delimiter_of, kind_of}
 use Rattle.records.specs.Bytes.{raw_at, raw_bytes, raw_of, decoded_raw, bytes_of}
 use Rattle.records.specs.Kinds.{kind_number, kind_at}
 use Rattle.records.proofs.Kindlaws.{kind_is, kind_first, of_kind}
 use Rattle.records.proofs.Laws.{ranged_told, Small, raw_back, raw_again}
 use Rattle.grammar.specs.declared.Counts.{Counts}
 use Rattle.grammar.specs.Lists.{area_one, corner_one}
-use Rattle.laws.proofs.Booleans.{clash}
 use Rattle.drawing.specs.declared.Cursor.{Cursor}
 use Rattle.read.specs.Words.{words_of_fields, words_of_area, words_of_x, words_of_y, words_from, Has}
 use Rattle.drawing.specs.Tables.{Tables, fields_at, area_row, corner_row, kind_row, record_at}

@@ -24,7 +24,7 @@ use Rattle.grammar.specs.code.Machine.{Step}
 use Rattle.grammar.specs.code.Machine.{Scan}
 use Rattle.grammar.specs.Grammar.{Verdict}
 use Rattle.grammar.specs.Grammar.{checked}
-use Rattle.grammar.specs.code.Machine.{breaks_n, fits_n, ends_short_n, in_limit_n, after_n, settled_n, advance_n, start_n, scan_n}
+use Rattle.grammar.specs.code.Machine.{breaks_n, fits_n, ends_short_n, in_limit_n, after_n, settled_n, advance_n, scan_n}
 use Rattle.grammar.specs.Lists.{good_records, area_one, corner_one}
 use Rattle.grammar.proofs.Laws.{sound, stopped_stays}
 use Rattle.drawing.specs.declared.Cursor.{Cursor}
@@ -108,11 +108,6 @@ scan_cursor (Ok s) (Ok r) i h = go (breaks_n s r) (fits_n s r) (ends_short_n s r
     go false true true d e = clash (sym e)
     go false true false false e = clash (sym e)
     go false true false true e = after_cursor s r
-
-pub walk_begin : (t : Tables) (u : Counts) (n : ℕ) (s : Scan)
-    → s ≡ start_n
-    → scan_n s 0 (rebuilt t u 0 (cursor_n s) (n - 0)) ≡ scan_n start_n 0 (rebuilt t u 0 (cursor 0 0) n)
-walk_begin t u n s e = rw (e, re_zero t u (cursor 0 0) n)
 
 walk : (t : Tables) (u : Counts) (i e : ℕ) (s s' whole : Scan) (d : Decoded) (c : Cursor)
     → i < e

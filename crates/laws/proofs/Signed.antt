@@ -1,17 +1,13 @@
 -- What a 64-bit signed number holds and reads back.
-use mathlib.Core.Path.{◌≡◌, refl, sym, ap, ◌∙◌, subst}
+use mathlib.Core.Path.{◌≡◌, sym, ap, ◌∙◌, subst}
 use Prim.Native.Nat.{ℕ, ◌+◌, ◌^◌, ◌≤◌, ◌<◌}
 use native.Mathlib.Omega.{arith}
 use lib.IntN.{ℤ, pos, nat_abs, sub_ℕ, ◌+ℤ◌, +ℤ_idl, +ℤ_idr, +ℤ_assoc}
 use lib.Signed.{mag}
 use mir.Syntax.{w64}
 use mir.Val.{SFits, to_z, of_z}
-use mir.ValLaws.{to_z-of_z, to_z_pos}
+use mir.ValLaws.{to_z-of_z}
 use Rattle.laws.proofs.Differences.{mag_sub, abs_add, mag_abs}
-
--- a number below 2^63, in an i64
-pub read_pos : (n : ℕ) → n < 2 ^ 63 → to_z w64 n ≡ pos n
-read_pos n h = to_z_pos w64 n h
 
 -- a signed number that fits, stored and read back
 pub read_back : (z : ℤ) → mag z < 2 ^ 63 → to_z w64 (of_z w64 z) ≡ z
@@ -60,10 +56,6 @@ module _ {k : ℕ} {sum left whole : ℤ} (s : Running k sum left whole) (v r re
 
 pub running_end : {k : ℕ} {sum whole : ℤ} → Running k sum (pos 0) whole → sum ≡ whole
 running_end {k} {sum} s = sym (+ℤ_idr sum) ∙ s.total
-
--- a sum that begins with a small number
-pub running_from : (k : ℕ) (z rest : ℤ) → nat_abs z ≤ k → k < 2 ^ 63 → Running k (to_z w64 (of_z w64 z)) rest (to_z w64 (of_z w64 z) +ℤ rest)
-running_from k z rest h l = let b = read_back z (mag_abs z (omega arith)) in record { small = rw b h; total = refl }
 
 -- nothing is left to add
 pub running_done : {k : ℕ} {sum rest whole : ℤ} → rest ≡ pos 0 → Running k sum rest whole → sum ≡ whole

@@ -15,7 +15,7 @@ use Rattle.records.specs.Record.{Decoded}
 use Rattle.records.specs.Bytes.{raw_at, named, decoded_raw}
 use Rattle.records.proofs.Laws.{told}
 use Rattle.grammar.specs.code.Machine.{Scan}
-use Rattle.grammar.specs.code.Machine.{advance_n, start_n, scan_n}
+use Rattle.grammar.specs.code.Machine.{advance_n, scan_n}
 use Rattle.grammar.proofs.Laws.{stopped_stays}
 use Rattle.grammar.specs.Lists.{good_records}
 use Rattle.read.specs.Words.{joined, on_good}
@@ -35,13 +35,7 @@ from_none b i e h =
     let q : e - i ≡ 0 = omega arith in
     rw q
 
-pub from_zero : (b : List ℕ) (n : ℕ) → decoded_from b 0 (n - 0) ≡ decoded_from b 0 n
-from_zero b n = ap (decoded_from b 0) (omega arith)
-
 -- ---- the check
-pub scan_begin : (b : List ℕ) (n : ℕ) (s : Scan) → s ≡ start_n → scan_n s 0 (decoded_from b 0 (n - 0)) ≡ scan_n start_n 0 (decoded_from b 0 n)
-scan_begin b n s e = rw (e, from_zero b n)
-
 pub scan_turn : (b : List ℕ) (i e : ℕ) (s s' whole : Scan) (r : Raw) (d : Decoded)
     → i < e
     → r ≡ raw_at b i
@@ -106,7 +100,9 @@ pub record Filling (f : Record → List ℕ) (b : List ℕ) (n : ℕ) (t₀ : Li
 pub fill_begin : (f : Record → List ℕ) (b : List ℕ) (n : ℕ) (t : List ℕ) (first : ℕ)
     → first + length (joined f (good_records (decoded_from b 0 n))) ≤ length t
     → Filling f b n t first t 0 first
-fill_begin f b n t first h = record { size = refl; room = rw (from_zero b n) h; rest = rw (from_zero b n) }
+fill_begin f b n t first h =
+    let z : n - 0 ≡ n = omega arith in
+    record { size = refl; room = rw z h; rest = rw z }
 
 pub fill_room : (f : Record → List ℕ) (b : List ℕ) (n : ℕ) (t₀ : List ℕ) (first : ℕ) (t : List ℕ) (i at : ℕ) (d : Decoded)
     → i < n

@@ -5,9 +5,8 @@
 ghost use Rattle.std.specs.Prelude.{◌≡◌, true, ◌+◌, ◌*◌, ◌≤◌, length, set};
 ghost use Rattle.std.proofs.lemmas.List.Edits.{sets};
 ghost use Rattle.grammar.specs.code.Machine.{scan_n, start_n};
-ghost use Rattle.grammar.specs.Lists.{good_records};
-ghost use Rattle.read.specs.Words.{words_of_kind, words_of_area, words_of_x, words_of_y, joined, plan_words, area_words, x_words, y_words};
-ghost use Rattle.read.specs.Reading.{decoded_from, all_good, records_lent, verdict_of, holds, read_lent, left_by, Filed};
+ghost use Rattle.read.specs.Words.{words_of_kind, words_of_area, words_of_x, words_of_y, plan_words, area_words, x_words, y_words};
+ghost use Rattle.read.specs.Reading.{decoded_from, records_lent, verdict_of, holds, read_lent, left_by, Filed};
 
 use grammar::{Counts, State};
 use records::{AREA_WORDS, RECORD_BYTES, Record};
@@ -82,38 +81,6 @@ fn put_corner(xs: &mut [u32], ys: &mut [u32], at: usize, r: Record) -> usize
     }
 }
 
-// Writes the words of all records in the four tables, behind the plan's three counts. The file was accepted, so nothing is tried again: that would read
-// records more slowly and be no plainer. The tables are lent to be written, here and below, so each is a parameter: a struct of them would need a clause
-// for each table in each contract, that it still lends the same.
-fn fill(
-    records: &[u8],
-    n: usize,
-    plan: &mut [u32],
-    areas: &mut [u32],
-    xs: &mut [u32],
-    ys: &mut [u32],
-)
-    requires n_in_bounds { n * 16 ≤ length records.now }
-    requires n_value { all_good (decoded_from records.now 0 n) ≡ true }
-    requires n_in_bounds_2 { 3 + length (joined words_of_kind (good_records (decoded_from records.now 0 n))) ≤ length plan.old }
-    requires n_in_bounds_3 { 0 + length (joined words_of_area (good_records (decoded_from records.now 0 n))) ≤ length areas.old }
-    requires n_in_bounds_4 { 0 + length (joined words_of_x (good_records (decoded_from records.now 0 n))) ≤ length xs.old }
-    requires n_in_bounds_5 { 0 + length (joined words_of_y (good_records (decoded_from records.now 0 n))) ≤ length ys.old }
-    ensures plan { plan.new ≡ sets plan.old 3 (joined words_of_kind (good_records (decoded_from records.now 0 n))) }
-    ensures areas { areas.new ≡ sets areas.old 0 (joined words_of_area (good_records (decoded_from records.now 0 n))) }
-    ensures xs { xs.new ≡ sets xs.old 0 (joined words_of_x (good_records (decoded_from records.now 0 n))) }
-    ensures ys { ys.new ≡ sets ys.old 0 (joined words_of_y (good_records (decoded_from records.now 0 n))) }
-{
-    let mut area = 0;
-    let mut corner = 0;
-    for i in 0..n {
-        let r = records::named_of(records::read_raw(records, i));
-        plan[PLAN_COUNTS + i] = r.kind().into();
-        area = put_area(areas, area, r);
-        corner = put_corner(xs, ys, corner, r);
-    }
-}
-
 // ---- reading
 // Tables of these lengths hold a drawing of this size.
 #[tactic(auto, unfolding(crate::specs::Reading::holds))]
@@ -132,7 +99,10 @@ fn put_header(plan: &mut [u32], k: Counts)
     plan[CORNERS] = k.corners as u32;
 }
 
-fn fill_all(
+// Writes an accepted file's counts and the words of its records in the four tables. Nothing is tried again, since that would take longer and be no plainer.
+// The tables are lent to be written, here and below, so each is a parameter: a struct of them would need a clause for each table in each contract, that
+// it still lends the same.
+fn fill(
     records: &[u8],
     plan: &mut [u32],
     areas: &mut [u32],
@@ -149,7 +119,14 @@ fn fill_all(
     ensures ys { ys.new ≡ sets ys.old 0 (y_words (records_lent records)) }
 {
     put_header(plan, k);
-    fill(records, k.records, plan, areas, xs, ys);
+    let mut area = 0;
+    let mut corner = 0;
+    for i in 0..k.records {
+        let r = records::named_of(records::read_raw(records, i));
+        plan[PLAN_COUNTS + i] = r.kind().into();
+        area = put_area(areas, area, r);
+        corner = put_corner(xs, ys, corner, r);
+    }
 }
 
 // Reads a file into four tables. Any tables may be handed in.
@@ -173,6 +150,6 @@ pub fn read(
     if !tables_hold(plan.len(), areas.len(), xs.len(), counts) {
         return Err(Refusal::Room.into());
     }
-    fill_all(records, plan, areas, xs, ys, counts);
+    fill(records, plan, areas, xs, ys, counts);
     Ok(counts)
 }

@@ -5,44 +5,29 @@
 ghost use Rattle.std.specs.Prelude.{◌≡◌};
 ghost use Rattle.refusals.specs.Refusals.{number_of, at_place};
 
-// Why a call was refused.
+// Why a call was refused, and the number of that.
 #[derive(Clone, Copy, Debug, PartialEq, Eq)]
 pub enum Refusal {
-    Length,
-    Kind,
-    Field,
-    Unfit,
-    Short,
-    Limit,
-    Argument,
-    NoCell,
-    AlreadySplit,
-    Smallest,
-    Room,
-    Broken,
-    Curve,
+    Length = 1,
+    Kind = 2,
+    Field = 3,
+    Unfit = 4,
+    Short = 5,
+    Limit = 6,
+    Argument = 7,
+    NoCell = 8,
+    AlreadySplit = 9,
+    Smallest = 10,
+    Room = 11,
+    Broken = 12,
+    Curve = 13,
 }
 
-// The number of a refusal.
 impl From<Refusal> for u32 {
     ghost from_gives = { λ r n. n ≡ number_of r };
 
     fn from(refusal: Refusal) -> u32 {
-        match refusal {
-            Refusal::Length => 1,
-            Refusal::Kind => 2,
-            Refusal::Field => 3,
-            Refusal::Unfit => 4,
-            Refusal::Short => 5,
-            Refusal::Limit => 6,
-            Refusal::Argument => 7,
-            Refusal::NoCell => 8,
-            Refusal::AlreadySplit => 9,
-            Refusal::Smallest => 10,
-            Refusal::Room => 11,
-            Refusal::Broken => 12,
-            Refusal::Curve => 13,
-        }
+        refusal as u32
     }
 }
 

@@ -162,6 +162,7 @@ pub fn count_open(drawing: Drawing, records: usize, bounds: Bounds) -> u64
     let mut m = Maker::begun();
     let mut source = Source::begun();
     let mut i = 0;
+    // A curve takes two records, so no `for` over the records goes on by one.
     while let Some(kind) = kind_at(drawing.plan, i, records) {
         let behind = kind_at(drawing.plan, i + 1, records);
         let w = source.entry(kind, behind);
@@ -196,6 +197,7 @@ pub fn write_open(
     let mut m = Maker::begun();
     let mut source = Source::begun();
     let mut i = 0;
+    // A curve takes two records, so no `for` over the records goes on by one.
     while let Some(kind) = kind_at(drawing.plan, i, records) {
         let behind = kind_at(drawing.plan, i + 1, records);
         let w = source.entry(kind, behind);

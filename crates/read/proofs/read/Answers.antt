@@ -28,8 +28,8 @@ returns-then-not-tables_hold-clause-answer c =
       c.into-then-not-tables_hold.ensures,
     )
 
-pub fill_all-requires : goal.fill_all-requires
-fill_all-requires c =
+pub fill-requires : goal.fill-requires
+fill-requires c =
     record {
       filed = filed _ _ (sym c.check_records.ensures.answer ∙ c.in_ok-counts.was);
       records_in_bounds = let h = held _ _ _ _ (sym c.tables_hold.ensures.answer ∙ c.if-not-tables_hold.false) in

@@ -1,9 +1,6 @@
 -- `read::scan_records` meets its contract: what is left to scan gives what the whole gives.
-use Rattle.read.proofs.Loops.{scan_begin, scan_turn, scan_stops, scan_done}
+use Rattle.read.proofs.Loops.{scan_turn, scan_stops, scan_done}
 use Rattle.read.proofs.scan_records.Goals as goal
-
-pub loop-i-init : goal.loop-i-init
-loop-i-init c = search scan_begin
 
 pub returns-then-is_err : goal.returns-then-is_err
 returns-then-is_err c = record { answer = search scan_stops }

@@ -1,10 +1,6 @@
 use native.Mathlib.Omega.{arith}
-use Rattle.std.proofs.lemmas.List.Edits.{paste_none}
 use Rattle.records.proofs.Laws.{copied_more, copied_all}
 use Rattle.records.proofs.put_words.Goals as goal
-
-pub loop-k-init : goal.loop-k-init
-loop-k-init c = paste_none c.args.out.now c.args.at c.args.words.now
 
 pub loop-k-preserved : goal.loop-k-preserved
 loop-k-preserved c = copied_more c.args.out.now c.args.words.now c.args.at (omega arith) _ _ (omega arith) c.loop-k.invariant

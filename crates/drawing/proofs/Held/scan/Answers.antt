@@ -1,9 +1,6 @@
 -- `drawing::Held::scan` meets its contract: what is left to scan gives what the whole gives.
-use Rattle.drawing.proofs.Rows.{walk_begin, walk_turn, walk_stops, walk_done}
+use Rattle.drawing.proofs.Rows.{walk_turn, walk_stops, walk_done}
 use Rattle.drawing.proofs.Held.scan.Goals as goal
-
-pub loop-i-init : goal.loop-i-init
-loop-i-init c = search walk_begin
 
 pub returns-then-is_err : goal.returns-then-is_err
 returns-then-is_err c = record { answer = search walk_stops }
