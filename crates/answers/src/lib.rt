@@ -142,7 +142,7 @@ fn spot_words(s: Spot) -> [u32; SPOT_WORDS]
     ]
 }
 
-// What shows, or 11.
+// What shows, or 11. `put_found` has the same two arms: what is written and what is answered is each type's own, so a trait for two would be no plainer.
 pub fn put_shown(out: &mut [u32], a: Result<Spot, Refusal>) -> u64
     ensures answer { result ≡ spot_number (spot_room a (length out.old)) }
     ensures out { out.new ≡ spot_written a out.old }

@@ -10,10 +10,3 @@ pub fn difference(a: u32, b: u32) -> i64
 {
     i64::from(a) - i64::from(b)
 }
-
-// A word as an index.
-pub fn wide(x: u32) -> usize
-    ensures answer { result ≡ x }
-{
-    x as usize
-}

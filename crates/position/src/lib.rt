@@ -47,7 +47,8 @@ pub struct Read {
 }
 
 // ---- a leaf that was found
-// The shown set at a position, read from the stream of a leaf.
+// The shown set at a position, read from the stream of a leaf. It makes the stream and its context as `find_leaf::check_leaf` does, and then reads where that
+// one checks: two lines of each are alike, and one function for both would be no plainer.
 fn set_in(tree: Tree, leaf: Leaf, at: Position) -> u64
     requires in_bounds { 3 ≤ length tree.drawing.plan.now }
     requires passed { Passed tree.entries.now leaf.first leaf.count (leaf_env (tree_of tree) leaf) }

@@ -44,7 +44,7 @@ pub fn put_head(head: &mut [u32], cells: u32, entries: u32)
 }
 
 // The areas and corners in use, and the rows of a cell.
-pub fn bounds_in(plan: &[u32], low: u32, side: u32) -> Bounds
+fn bounds_in(plan: &[u32], low: u32, side: u32) -> Bounds
     requires { 3 ≤ length plan.now }
     ensures answer { result ≡ bounds (get_or plan.now 1 0) (get_or plan.now 2 0) low side }
 {
