@@ -216,7 +216,7 @@ fn held_by(p: CellWords, w: CellWords, i: usize, used: usize) -> bool
 impl Cells<'_> {
     // The words of cell i.
     pub fn cell(self, i: usize) -> CellWords
-        requires { i < self.used }
+        requires { i * 8 + 8 ≤ length self.table.now }
         ensures answer { result ≡ cell_at self.entry.table.now i }
     {
         let at = i * CELL_WORDS;
