@@ -186,11 +186,6 @@ module _ (t : Tree) where
             rw z (record { is_known = leaf_known s.leaf l; is_set = refl; is_shown = sym k; is_last = last_in s (sym k) })
         go (Err w) k q = absurd (let z : ◌≡◌ {A = ℕ} 0 1 = cc in omega arith)
 
-    pub spot_read : (r : Read) → Ok r ≡ read_there t x y → Ok (spot_of t.areas r.shown.leaf (is_some r.shown.set) r.set) ≡ spot_in t x y
-    spot_read r e =
-        let k = read_says r e in
-        spot_known r.shown r.set k.is_shown (k.is_set ∙ sym (leaf_set r.shown.leaf (shown_in_law r.shown k.is_shown).is_leaf_law))
-
     pub read_refused : (r : Refusal) → Err r ≡ read_there t x y → Err r ≡ shown_there t x y
     unfolding read_there
     read_refused r e = go (shown_there t x y) refl e

@@ -162,7 +162,9 @@ pub fn position(tree: Tree, x: u32, y: u32) -> Result<Spot, Refusal>
     let Some(at) = find_leaf::position_at(x, y) else {
         return Err(Refusal::Argument);
     };
-    let Read { shown, set } = read_at(tree, None, at)?;
+    // These two and not `read_at`: nothing was read before, and so the call takes 50 instructions fewer.
+    let shown = leaf_anew(tree, at)?;
+    let set = set_for(tree, shown, at);
     let spot = spot_of(tree.drawing.areas, shown.leaf, shown.set.is_some(), set);
     Ok(spot)
 }
