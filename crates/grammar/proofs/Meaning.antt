@@ -18,7 +18,7 @@ use Rattle.records.specs.Record.{Decoded}
 use Rattle.grammar.specs.declared.State.{State}
 use Rattle.grammar.specs.code.Machine.{Scan}
 use Rattle.grammar.specs.Grammar.{Progress, breaks, stands, fits, ends_short, in_limit, after, Course, at, stopped, next, met, course, begin, final, checked}
-use Rattle.grammar.specs.code.Machine.{curve_breaks, bends_n, breaks_n, stands_n, fits_n, ends_short_n, in_limit_n, after_n, step_n, settled_n}
+use Rattle.grammar.specs.code.Machine.{point, curve_breaks, bends_n, breaks_n, stands_n, fits_n, ends_short_n, in_limit_n, after_n, step_n, settled_n}
 use Rattle.grammar.specs.code.Machine.{advance_n, start_n, ended_n, scan_n}
 
 abbrev enc : Progress → State
@@ -26,12 +26,11 @@ enc p =
     record {
       groups = record { number = num p.groups };
       held = p.held;
-      control = cond p.bends (Some (p.x1, p.y1)) None;
+      control = cond p.bends (Some (point p.x1 p.y1)) None;
       run = p.run;
       areas = p.areas;
       corners = p.corners;
-      x0 = p.x0;
-      y0 = p.y0;
+      last = point p.x0 p.y0;
     }
 
 abbrev enc_c : Course → Scan
@@ -39,11 +38,11 @@ enc_c (at p) = Ok (enc p)
 enc_c (stopped x i) = Err (at_place x i)
 
 -- ---- one record
-bends_is : (b : Bool) (x y : ℕ) → bends_n (cond b (Some (x, y)) None) ≡ b
+bends_is : (b : Bool) (x y : ℕ) → bends_n (cond b (Some (point x y)) None) ≡ b
 bends_is true x y = refl
 bends_is false x y = refl
 
-curve_is : (b : Bool) (x0 y0 x1 y1 x y : ℕ) → curve_breaks x0 y0 (cond b (Some (x1, y1)) None) x y ≡ b && not (curve_fits x0 y0 x1 y1 x y)
+curve_is : (b : Bool) (x0 y0 x1 y1 x y : ℕ) → curve_breaks (point x0 y0) (cond b (Some (point x1 y1)) None) x y ≡ b && not (curve_fits x0 y0 x1 y1 x y)
 curve_is true x0 y0 x1 y1 x y = refl
 curve_is false x0 y0 x1 y1 x y = refl
 

@@ -15,19 +15,21 @@ use refusals::{Refusal, Refused};
 // The corners that a contour has at least.
 const LEAST_CORNERS: u32 = 3;
 
+// The last corner where no contour is in progress, which nothing reads.
+const NO_CORNER: Point = Point { x: 0, y: 0 };
+
 // Where a reader stands. `held`: an area or a corner stands straight before; it says so by itself, since no value goes with it. `control`: the
-// control corner that does. `run`: the corners of the contour in progress but for control corners, 3 for more than 3. In a contour, (x0, y0) is its
-// last corner that is no control corner.
+// control corner that does. `run`: the corners of the contour in progress but for control corners, 3 for more than 3. `last`: in a contour, its last
+// corner that is no control corner.
 #[derive(Clone, Copy)]
 pub struct State {
     pub groups: Groups,
     pub held: bool,
-    pub control: Option<(u32, u32)>,
+    pub control: Option<Point>,
     pub run: u32,
     pub areas: usize,
     pub corners: usize,
-    pub x0: u32,
-    pub y0: u32,
+    pub last: Point,
 }
 
 #[derive(Clone, Copy, Debug, PartialEq, Eq)]
@@ -68,12 +70,8 @@ impl State {
         ensures answer { result ≡ breaks_n self r }
     {
         match (self.control, r) {
-            (Some((x1, y1)), Record::Next(x, y)) => {
-                let first = Point {
-                    x: self.x0,
-                    y: self.y0,
-                };
-                !curves::curve_fits(first, Point { x: x1, y: y1 }, Point { x, y })
+            (Some(control), Record::Next(x, y)) => {
+                !curves::curve_fits(self.last, control, Point { x, y })
             }
             _ => false,
         }
@@ -128,8 +126,7 @@ impl State {
             held: false,
             control: None,
             run: 0,
-            x0: 0,
-            y0: 0,
+            last: NO_CORNER,
             ..self
         }
     }
@@ -149,8 +146,7 @@ impl State {
                 control: None,
                 run: 1,
                 corners: self.corners + 1,
-                x0: x,
-                y0: y,
+                last: Point { x, y },
                 ..self
             },
             Record::Next(x, y) => State {
@@ -158,8 +154,7 @@ impl State {
                 control: None,
                 run: more(self.run),
                 corners: self.corners + 1,
-                x0: x,
-                y0: y,
+                last: Point { x, y },
                 ..self
             },
             Record::Open => State {
@@ -176,7 +171,7 @@ impl State {
             },
             Record::Control(x, y) => State {
                 held: true,
-                control: Some((x, y)),
+                control: Some(Point { x, y }),
                 corners: self.corners + 1,
                 ..self
             },
@@ -250,8 +245,7 @@ pub fn start() -> Result<State, Refused>
         run: 0,
         areas: 0,
         corners: 0,
-        x0: 0,
-        y0: 0,
+        last: NO_CORNER,
     })
 }
 

@@ -1,6 +1,7 @@
 -- The grammar over the state that the code holds. `Rattle.grammar.proofs.Meaning` says that it is the same.
 use Rattle.std.specs.Prelude.{ℕ, ◌+◌, Bool, true, false, not, cond, List, [], ◌∷◌, Option, Some, None, Result, Ok, Err, eqb, ltb}
 use Rattle.curves.specs.Curves.{curve_fits}
+use Rattle.curves.specs.declared.Point.{Point}
 use Rattle.groups.specs.code.Stack.{paint_n, left_n, right_n, room_n, open_n, bar_n, close_n}
 use Rattle.refusals.specs.declared.Refusal.{Refusal}
 use Rattle.refusals.specs.declared.Refusal.TheVariants.{Unfit, Short, Limit, Curve}
@@ -20,29 +21,32 @@ Step = Result State Refusal
 abbrev pub Scan : Type 0
 Scan = Result State Refused
 
+abbrev pub point : (x y : ℕ) → Point
+point x y = record { x = x; y = y }
+
 -- no contour in progress
 abbrev pub mk : ℕ → Bool → ℕ → ℕ → State
-mk n h a c = record { groups = record { number = n }; held = h; control = None; run = 0; areas = a; corners = c; x0 = 0; y0 = 0 }
+mk n h a c = record { groups = record { number = n }; held = h; control = None; run = 0; areas = a; corners = c; last = point 0 0 }
 
 abbrev pub no_contour_n : State → State
 no_contour_n s = mk s.groups.number false s.areas s.corners
 
 -- one corner more of a contour
-abbrev pub corner_n : State → Option (ℕ × ℕ) → ℕ → (x0 y0 : ℕ) → State
-corner_n s b r x0 y0 = record { groups = s.groups; held = true; control = b; run = r; areas = s.areas; corners = s.corners + 1; x0 = x0; y0 = y0 }
+abbrev pub corner_n : State → Option Point → ℕ → Point → State
+corner_n s b r p = record { groups = s.groups; held = true; control = b; run = r; areas = s.areas; corners = s.corners + 1; last = p }
 
 abbrev pub role_n : ℕ → ℕ
 role_n stack = cond (paint_n stack) 0 1
 
--- a curve from (x0, y0) by a control corner, where there is one, to (x, y) breaks the order or span
-abbrev pub curve_breaks : (x0 y0 : ℕ) → Option (ℕ × ℕ) → (x y : ℕ) → Bool
-curve_breaks x0 y0 None x y = false
-curve_breaks x0 y0 (Some c) x y = not (curve_fits x0 y0 c.0 c.1 x y)
+-- a curve from a corner by a control corner, where there is one, to (x, y) breaks the order or span
+abbrev pub curve_breaks : Point → Option Point → (x y : ℕ) → Bool
+curve_breaks p None x y = false
+curve_breaks p (Some c) x y = not (curve_fits p.x p.y c.x c.y x y)
 
 abbrev pub breaks_n : State → Record → Bool
 breaks_n s (Area f) = false
 breaks_n s (First x y) = false
-breaks_n s (Next x y) = curve_breaks s.x0 s.y0 s.control x y
+breaks_n s (Next x y) = curve_breaks s.last s.control x y
 breaks_n s Open = false
 breaks_n s Bar = false
 breaks_n s Close = false
@@ -58,7 +62,7 @@ stands_n s Close = right_n s.groups.number
 stands_n s (Control x y) = ltb 0 s.run
 
 -- a control corner stands straight before
-abbrev pub bends_n : Option (ℕ × ℕ) → Bool
+abbrev pub bends_n : Option Point → Bool
 bends_n None = false
 bends_n (Some c) = true
 
@@ -87,13 +91,13 @@ abbrev pub area_n : State → State
 area_n s = mk s.groups.number true (s.areas + 1) s.corners
 
 abbrev pub first_n : State → (x y : ℕ) → State
-first_n s x y = corner_n s None 1 x y
+first_n s x y = corner_n s None 1 (point x y)
 
 abbrev pub next_n : State → (x y : ℕ) → State
-next_n s x y = corner_n s None (one_more s.run) x y
+next_n s x y = corner_n s None (one_more s.run) (point x y)
 
 abbrev pub control_n : State → (x y : ℕ) → State
-control_n s x y = corner_n s (Some (x, y)) s.run s.x0 s.y0
+control_n s x y = corner_n s (Some (point x y)) s.run s.last
 
 abbrev pub after_open_n : State → State
 after_open_n s = mk (open_n s.groups.number) false s.areas s.corners
