@@ -26,17 +26,22 @@ loop-kind-init c =
 pub kind_at-requires : goal.kind_at-requires
 kind_at-requires c =
     let a = c.args in
-    record { records_in_bounds = (base (tables_of a.drawing) a.records a.bounds c.requires.opened).long; is_kind = is_kind _ _ _ _ _ c.loop-kind.invariant.ahead }
+    let B = base (tables_of a.drawing) a.records a.bounds c.requires.opened in
+    record { records_in_bounds = B.long; is_kind = is_kind _ _ _ _ _ c.loop-kind.invariant.ahead }
 
 pub overflow_add-i : goal.overflow_add-i
 overflow_add-i c =
     let a = c.args in
-    record { fits = omega (arith, (base (tables_of a.drawing) a.records a.bounds c.requires.opened).few, (some_here a.drawing.plan.now a.records c.loop-kind.i c.kind_at.ensures.answer c.in-Some.is)) }
+    let B = base (tables_of a.drawing) a.records a.bounds c.requires.opened in
+    let h = some_here a.drawing.plan.now a.records c.loop-kind.i c.kind_at.ensures.answer c.in-Some.is in
+    record { fits = omega (arith, B.few, h) }
 
 pub kind_at-behind-requires : goal.kind_at-behind-requires
 kind_at-behind-requires c =
     let a = c.args in
-    record { records_in_bounds = (base (tables_of a.drawing) a.records a.bounds c.requires.opened).long; is_kind = is_kind_behind _ _ _ _ _ c.loop-kind.invariant.ahead (some_here _ _ _ c.kind_at.ensures.answer c.in-Some.is) }
+    let B = base (tables_of a.drawing) a.records a.bounds c.requires.opened in
+    let h = some_here a.drawing.plan.now a.records c.loop-kind.i c.kind_at.ensures.answer c.in-Some.is in
+    record { records_in_bounds = B.long; is_kind = is_kind_behind _ _ _ _ _ c.loop-kind.invariant.ahead h }
 
 pub entry-w-requires : goal.entry-w-requires
 entry-w-requires c =
@@ -46,6 +51,7 @@ entry-w-requires c =
 pub write_entry-requires : goal.write_entry-requires
 write_entry-requires c =
     let a = c.args in
+    let h = some_here a.drawing.plan.now a.records c.loop-kind.i c.kind_at.ensures.answer c.in-Some.is in
     let d = a.drawing in
     let t = tables_of d in
     let v = env d.areas.now d.xs.now d.ys.now a.bounds in
@@ -58,7 +64,7 @@ write_entry-requires c =
       asks = loop_asks v (drawing_in t) d.plan.now a.records (words_in t) B c.loop-kind.i c.loop-kind.source c.loop-kind.m
           (looping v (drawing_in t) d.plan.now a.records (words_in t) B a.made a.entries.now c.requires.made_in_bounds c.loop-kind.i c.loop-kind.source
           c.loop-kind.m c.loop-kind.entries c.loop-kind.invariant)
-          (some_here _ _ _ c.kind_at.ensures.answer c.in-Some.is) _
+          h _
           (read_entry c.loop-kind.source c.entry-w.ensures.answer (kind_read c.kind_at.ensures.answer c.in-Some.is) c.kind_at-behind.ensures.answer);
     }
 
@@ -70,18 +76,22 @@ after-source-requires c =
 pub overflow_add-i-in-Some : goal.overflow_add-i-in-Some
 overflow_add-i-in-Some c =
     let a = c.args in
-    record { fits = omega (arith, (base (tables_of a.drawing) a.records a.bounds c.requires.opened).few, (some_here a.drawing.plan.now a.records c.loop-kind.i c.kind_at.ensures.answer c.in-Some.is), c.stride-i.ensures.range) }
+    let B = base (tables_of a.drawing) a.records a.bounds c.requires.opened in
+    let h = some_here a.drawing.plan.now a.records c.loop-kind.i c.kind_at.ensures.answer c.in-Some.is in
+    record { fits = omega (arith, B.few, h, c.stride-i.ensures.range) }
 
 pub loop-kind-preserved : goal.loop-kind-preserved
 loop-kind-preserved c =
     let a = c.args in
+    let h = some_here a.drawing.plan.now a.records c.loop-kind.i c.kind_at.ensures.answer c.in-Some.is in
     let d = a.drawing in
     let t = tables_of d in
     let w = c.entry-w.result in
     let s = c.root_square-s.result in
     fill_turn (env d.areas.now d.xs.now d.ys.now a.bounds) (drawing_in t) d.plan.now a.records (words_in t)
-    (base t a.records a.bounds c.requires.opened) a.made a.entries.now c.requires.made_in_bounds c.loop-kind.i c.loop-kind.source c.loop-kind.m c.loop-kind.entries
-    c.loop-kind.invariant (some_here _ _ _ c.kind_at.ensures.answer c.in-Some.is) _ w s (left_class d.xs.now d.ys.now s w) (left_sign d.xs.now d.ys.now w) c.after-source.result _ _
+    (base t a.records a.bounds c.requires.opened) a.made a.entries.now c.requires.made_in_bounds c.loop-kind.i c.loop-kind.source c.loop-kind.m
+    c.loop-kind.entries
+    c.loop-kind.invariant h _ w s (left_class d.xs.now d.ys.now s w) (left_sign d.xs.now d.ys.now w) c.after-source.result _ _
     (read_entry c.loop-kind.source c.entry-w.ensures.answer (kind_read c.kind_at.ensures.answer c.in-Some.is) c.kind_at-behind.ensures.answer)
     c.entry-w.type_inv.1.1.1.1.0.1 c.root_square-s.ensures.answer refl refl c.write_entry.ensures.pruner c.write_entry.ensures.waiting
     c.write_entry.ensures.out
@@ -91,6 +101,7 @@ loop-kind-preserved c =
 pub put_settled-requires : goal.put_settled-requires
 put_settled-requires c =
     let a = c.args in
+    let h = none_left a.drawing.plan.now a.records c.loop-kind.i c.loop-kind.source _ c.loop-kind.invariant.ahead c.kind_at.ensures.answer c.in_default.is in
     let d = a.drawing in
     let t = tables_of d in
     let v = env d.areas.now d.xs.now d.ys.now a.bounds in
@@ -101,18 +112,19 @@ put_settled-requires c =
       inside = end_inside v (drawing_in t) d.plan.now a.records (words_in t) B c.loop-kind.i c.loop-kind.source c.loop-kind.m
           (looping v (drawing_in t) d.plan.now a.records (words_in t) B a.made a.entries.now c.requires.made_in_bounds c.loop-kind.i c.loop-kind.source
           c.loop-kind.m c.loop-kind.entries c.loop-kind.invariant)
-          (none_left _ _ _ _ _ c.loop-kind.invariant.ahead c.kind_at.ensures.answer c.in_default.is);
+          h;
     }
 
 pub returns : goal.returns
 returns c =
     let a = c.args in
+    let h = none_left a.drawing.plan.now a.records c.loop-kind.i c.loop-kind.source _ c.loop-kind.invariant.ahead c.kind_at.ensures.answer c.in_default.is in
     let d = a.drawing in
     let t = tables_of d in
     let e = base_made t a.records a.bounds c.requires.opened in
     record {
       entries = fill_end (env d.areas.now d.xs.now d.ys.now a.bounds) (drawing_in t) d.plan.now a.records (words_in t)
           (base t a.records a.bounds c.requires.opened) a.made a.entries.now c.requires.made_in_bounds c.loop-kind.i c.loop-kind.source c.loop-kind.m
-          c.loop-kind.entries c.loop-kind.invariant (none_left _ _ _ _ _ c.loop-kind.invariant.ahead c.kind_at.ensures.answer c.in_default.is) (c.requires.made_value ∙ ap length (sym e)) _ c.put_settled.ensures.out
+          c.loop-kind.entries c.loop-kind.invariant h (c.requires.made_value ∙ ap length (sym e)) _ c.put_settled.ensures.out
           ∙ ap (written a.entries.now 0) (words_opened_law t (drawing_in t) (words_in t) e);
     }
