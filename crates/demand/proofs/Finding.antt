@@ -9,7 +9,7 @@ use native.Mathlib.Decide.{ℕ_discrete}
 use lib.ListN.{length}
 use Rattle.cells.specs.Cells.{Position, at, OnGrid, Cell, level, root, Holds, child, quarter_of}
 use Rattle.cells.proofs.Cells.{root_holds, child_holds, level_child}
-use Rattle.std.specs.Prelude.{Option, None, Some}
+use Rattle.std.specs.Prelude.{Option, Some}
 use Rattle.celltable.specs.declared.Leaf.{Leaf}
 use Rattle.celltable.specs.Descent.{place_of, on_square, leaf_of, down_from, descend_in}
 use Rattle.celltable.proofs.Landing.{down_leaf, down_split}

@@ -1,5 +1,5 @@
 -- Rows of pixels over sound tables are those worked out with no tree, and 12 meets no pixel.
-use Rattle.std.proofs.Common.{Result, Ok, Err}
+use Rattle.std.proofs.Common.{Ok, Err}
 use Rattle.refusals.specs.Refusals.{at_place}
 use mathlib.Core.Path.{◌≡◌, refl, ap, ◌∙◌}
 use mathlib.Core.Bool.{Bool, true, false, cond}
