@@ -2,12 +2,12 @@
 use mathlib.Core.Path.{◌≡◌, refl, sym, ap, ◌∙◌}
 use mathlib.Core.Bool.{Bool, true, false}
 use mathlib.Core.List.{List, [], ◌∷◌}
-use Prim.Native.Nat.{ℕ, zero, suc, ◌+◌, ◌≤◌, ◌<◌}
+use Prim.Native.Nat.{ℕ, zero, suc, ◌≤◌, ◌<◌}
 use native.Mathlib.Omega.{arith}
 use native.Mathlib.Nat.{not-suc-le-zero, le_of_suc-le-suc}
 use lib.Dec.{ltb}
-use lib.ListN.{length, get_or, set, length-set}
-use lib.Seq.{get_or-set_same, get_or-set_other, ext_get_or}
+use lib.ListN.{length, get_or}
+use lib.Seq.{ext_get_or}
 use lib.IntN.{ℤ, pos}
 use borrow.Author.Tests.{ltb-true, ltb-false}
 use Rattle.child_stream.specs.code.Numbers.{first_of, filled}
@@ -84,29 +84,7 @@ pub record Cleared (zs₀ : List ℤ) (count i : ℕ) (zs : List ℤ) : Type 0 w
   pub zeros : (j : ℕ) → count ≤ j → j < i → get_or zs j (pos 0) ≡ pos 0
 
 module _ (zs₀ : List ℤ) (long : length zs₀ ≡ 64) (count : ℕ) where
-  pub clear_begin : Cleared zs₀ count count zs₀
-  clear_begin = record { from = omega arith; size = refl; kept = λ j h. refl; zeros = λ j h l. absurd (omega arith) }
-
   module _ (i : ℕ) (zs : List ℤ) (k : Cleared zs₀ count i zs) where
-    pub clear_turn : i < 64 → Cleared zs₀ count (i + 1) (set zs i (pos 0))
-    clear_turn h =
-        record {
-          from = omega (arith, k.from);
-          size = length-set zs i (pos 0) ∙ k.size;
-          kept = λ j l. get_or-set_other zs i j (pos 0) (pos 0) (λ e. omega (arith, k.from)) ∙ k.kept j l;
-          zeros = zeros_then;
-        }
-      where
-        zeros_then : (j : ℕ) → count ≤ j → j < i + 1 → get_or (set zs i (pos 0)) j (pos 0) ≡ pos 0
-        zeros_then j a b = go (ltb j i) refl
-          where
-            go : (t : Bool) → ltb j i ≡ t → get_or (set zs i (pos 0)) j (pos 0) ≡ pos 0
-            go true t = let n : j < i = ltb-true j i t in get_or-set_other zs i j (pos 0) (pos 0) (λ e. omega arith) ∙ k.zeros j a n
-            go false t =
-                let n : i ≤ j = ltb-false j i t in
-                let e : j ≡ i = omega arith in
-                rw e (get_or-set_same zs i (pos 0) (pos 0) (omega (arith, k.size)))
-
     pub clear_end : 64 ≤ i → zs ≡ first_of count zs₀
     clear_end h = ext_get_or (pos 0) zs (first_of count zs₀) (k.size ∙ sym (length_first count zs₀)) each
       where

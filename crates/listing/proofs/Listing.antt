@@ -80,9 +80,6 @@ pub record Listing (t : Tree) (r₀ r : List ℕ) (k n : ℕ) : Type 0 where
   pub count : n + length (lines_from t k (256 - k)) ≡ length (listed t)
   pub rest : written r n (lines_from t k (256 - k)) ≡ written r₀ 0 (listed t)
 
-pub list_begin : (t : Tree) (r : List ℕ) → Listing t r r 0 0
-list_begin t r = record { size = refl; few = omega arith; low = omega arith; count = omega arith; rest = refl }
-
 pub list_turn : (t : Tree) (r₀ r r' : List ℕ) (k n n' : ℕ) (p : Option Line)
     → k < 256
     → p ≡ corner_at t k
