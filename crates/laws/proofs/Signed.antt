@@ -1,5 +1,5 @@
 -- What a 64-bit signed number holds and reads back.
-use mathlib.Core.Path.{◌≡◌, sym, ap, ◌∙◌, subst}
+use mathlib.Core.Path.{◌≡◌, refl, sym, ap, ◌∙◌, subst}
 use Prim.Native.Nat.{ℕ, ◌+◌, ◌^◌, ◌≤◌, ◌<◌}
 use native.Mathlib.Omega.{arith}
 use lib.IntN.{ℤ, pos, nat_abs, sub_ℕ, ◌+ℤ◌, +ℤ_idl, +ℤ_idr, +ℤ_assoc}
@@ -56,6 +56,10 @@ module _ {k : ℕ} {sum left whole : ℤ} (s : Running k sum left whole) (v r re
 
 pub running_end : {k : ℕ} {sum whole : ℤ} → Running k sum (pos 0) whole → sum ≡ whole
 running_end {k} {sum} s = sym (+ℤ_idr sum) ∙ s.total
+
+-- a sum that begins with a small number
+pub running_from : (k : ℕ) (z rest : ℤ) → nat_abs z ≤ k → k < 2 ^ 63 → Running k (to_z w64 (of_z w64 z)) rest (to_z w64 (of_z w64 z) +ℤ rest)
+running_from k z rest h l = let b = read_back z (mag_abs z (omega arith)) in record { small = rw b h; total = refl }
 
 -- nothing is left to add
 pub running_done : {k : ℕ} {sum rest whole : ℤ} → rest ≡ pos 0 → Running k sum rest whole → sum ≡ whole
