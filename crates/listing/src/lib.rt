@@ -35,17 +35,16 @@ pub struct Line {
 
 // Corner k of the 256 places that a low corner can have at a depth of at most 4, in steps of 4,096. The bits of k are taken apart as a key puts
 // those of x and y together, so the key of corner k is k * 2^24, and counting k upward goes through the corners in key order.
-fn every_other(k: u32) -> u32
-    requires { k < 256 }
+fn every_other(k: u8) -> u32
     ensures answer { result ≡ every_other k }
     ensures range { result < 16 }
 {
+    let k = u32::from(k);
     k % 2 + 2 * (k / 4 % 2) + (4 * (k / 16 % 2) + 8 * (k / 64 % 2))
 }
 
 #[tactic(auto, unfolding(crate::specs::Listed::corner_x))]
-fn corner_x(k: u32) -> u32
-    requires { k < 256 }
+fn corner_x(k: u8) -> u32
     ensures answer { result ≡ corner_x k }
     ensures range { result < 65536 }
 {
@@ -53,8 +52,7 @@ fn corner_x(k: u32) -> u32
 }
 
 #[tactic(auto, unfolding(crate::specs::Listed::corner_y))]
-fn corner_y(k: u32) -> u32
-    requires { k < 256 }
+fn corner_y(k: u8) -> u32
     ensures answer { result ≡ corner_y k }
     ensures range { result < 65536 }
 {
@@ -79,8 +77,7 @@ fn if_low(leaf: FoundLeaf, x: u32, y: u32) -> Option<Line>
 }
 
 // The line of corner k, if it is a leaf's low corner.
-fn corner_at(tree: Tree, k: u32) -> Option<Line>
-    requires { k < 256 }
+fn corner_at(tree: Tree, k: u8) -> Option<Line>
     ensures answer { result ≡ corner_at (tree_passed tree) k }
 {
     let x = corner_x(k);
@@ -107,7 +104,7 @@ pub fn list_leaves(tree: Tree, rows: &mut [u32]) -> usize
 {
     let mut n = 0;
     for k in 0..LOW_CORNERS {
-        if let Some(line) = corner_at(tree, k) {
+        if let Some(line) = corner_at(tree, k as u8) {
             put_line(rows, n, line);
             n += 1;
         }
