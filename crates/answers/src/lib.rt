@@ -91,7 +91,7 @@ fn put(out: &mut [u32], words: &[u32], number: u32) -> u64
     if out.len() < words.len() {
         return refused(Refusal::Room);
     }
-    records::put_words(out, 0, words);
+    records::put(out, 0, words);
     pack(Ok(number as usize))
 }
 

@@ -5,7 +5,8 @@ ghost use Rattle.curves.specs.code.Reach.{EndsIn};
 
 use crate::{Point, Position};
 
-// The lower end of a line or a curve, and its upper one.
+// The lower end of a line or a curve, and its upper one. As two Positions, in place of the ghost field, they are no plainer: `Edge::counts` would turn both
+// corners of every edge into Positions, where `curve` turns the control corner alone.
 #[derive(Clone, Copy)]
 pub struct Ends {
     pub low: Point,

@@ -175,7 +175,7 @@ impl<'a> Held<'a> {
             let Ok(r) = self.row(i, c) else {
                 unreachable!()
             };
-            records::put_raw(out, at, records::raw_of(r));
+            records::put(out, at, &records::raw_of(r));
             at += RECORD_BYTES;
             c = c.past(r);
         }

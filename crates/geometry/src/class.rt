@@ -7,8 +7,8 @@ ghost use Rattle.geometry.specs.Classes.{edge_class, cut};
 use crate::edge::Edge;
 use curves::Position;
 
-// The square of a cell: its low corner and its side. Contracts ask its range (SquareIn), which no ghost field holds: `celltable::quarter_of` makes the
-// square of any words.
+// The square of a cell: its low corner and its side. Contracts ask its range (SquareIn), which no ghost field holds: definitions of specs build squares
+// (`square_of` of a cell), and each would carry a proof; and `probe` makes squares of any numbers, which it tries afterwards.
 #[derive(Clone, Copy)]
 pub struct Square {
     pub x: u32,
@@ -16,7 +16,8 @@ pub struct Square {
     pub side: u32,
 }
 
-// The class of a segment in a square. A shortcut has the rows from its first number to the one before its second.
+// The class of a segment in a square. A shortcut has the rows from its first number to the one before its second: two numbers, since a `Range` is not
+// `Copy`, and a class is.
 #[derive(Clone, Copy)]
 pub enum Class {
     Dropped,
@@ -42,8 +43,8 @@ fn counts_in_both(e: Edge, first: Position, last: Position) -> bool
 }
 
 impl Square {
-    // The class of an edge in a square, by at most four products: the leftmost column shows whether it counts nowhere, the rightmost
-    // whether it counts everywhere, each in the first row and in the last.
+    // The class of an edge in a square, by at most four tests, each one product where the edge is straight: the leftmost column shows whether it counts
+    // nowhere, the rightmost whether it counts everywhere, each in the first row and in the last.
     pub fn classify(self, e: Edge) -> Class
         requires edge_in { EdgeIn e }
         requires square_in { SquareIn self }
@@ -75,7 +76,7 @@ impl Square {
         }
     }
 
-    // Rows lo to hi - 1 in which every position counts, cut to a square's rows.
+    // Rows lo to hi - 1 in which every position counts, cut to a square's rows. Two numbers, as a shortcut has them.
     #[tactic(auto, unfolding(crate::specs::Classes::cut, crate::specs::Classes::verdict))]
     pub fn cut_rows(self, lo: u32, hi: u32) -> Class
         requires { SquareIn self }

@@ -2,7 +2,8 @@
 ghost use Rattle.std.specs.Prelude.{◌≡◌};
 ghost use Rattle.geometry.specs.FillRules.{passes};
 
-// The fill rules 0 and 1 of the document.
+// The fill rules 0 and 1 of the document. A word of the table becomes a rule in `evaluate::area_passes` alone: the table and the numbers are of
+// `records`, which geometry does not use.
 #[derive(Clone, Copy)]
 pub enum FillRule {
     NonZero,

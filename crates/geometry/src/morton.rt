@@ -38,7 +38,8 @@ fn spread_half(x: u16) -> u32
     spread_byte(low) + 65536 * spread_byte(high)
 }
 
-// The key of (x, y): bit i of x at 2i, bit i of y at 2i + 1.
+// The key of (x, y): bit i of x at 2i, bit i of y at 2i + 1. The bounds stay clauses: callers have coordinates as words, and would convert each
+// before the call as it is converted here.
 pub fn key(x: u32, y: u32) -> u32
     requires x_bound { x < 65536 }
     requires y_bound { y < 65536 }

@@ -1,5 +1,6 @@
 // The winding of an area at a position, with no tree. Corners are two tables, xs and ys, as document 01 and the C interface lend them; that each lies in
-// range (CornersIn) stays a clause, since `edge_between` and `curve_from` read any tables.
+// range (CornersIn) stays a clause, since `edge_between` and `curve_from` read any tables. A struct of the two slices, or of `first` and `end`, is no
+// plainer: definitions (`edge_of`, `winding`, `next_corner`) take each by itself, so every clause would name the fields one by one.
 ghost use Rattle.std.specs.Prelude.{◌≡◌, T, length, ◌+◌, ◌-◌, ◌≤◌, ◌<◌};
 ghost use Rattle.geometry.specs.code.Reach.{CornersIn};
 ghost use Rattle.geometry.specs.Windings.{line, curve, corner_of, edge_of, next_corner, straight_lines, adds, sum_of, winding, contours_to, follow};

@@ -1,5 +1,6 @@
 // The open groups of a drawing or a stream as one number: 1 where none is open, and a digit in base 4 more for each, the innermost last.
 // 0 and 1 are the left and the right side of a group opened on a paint side, 2 and 3 those of one opened on a clip side.
+// A number, and no array of an enum of four sides: it is state by value without an array (docs/DECISIONS.md), and any word is one.
 
 #![tactic(auto)]
 

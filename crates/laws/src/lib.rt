@@ -1,4 +1,4 @@
-// The laws that every crate cites, and the one signed operation that all of them build on.
+// The laws that crates cite in their proofs, and the difference of two coordinates, of which the products of `curves` are made.
 
 #![tactic(auto)]
 

@@ -16,7 +16,7 @@ pub struct Paint {
 }
 
 impl Paint {
-    // The paint of area n: words 2 to 6 of its row of 8.
+    // The paint of area n: words 2 to 6 of its row of 8. `drawing::fields_at` reads the same row as seven words; a sample needs these five alone.
     pub fn of_area(areas: &[u32], n: usize) -> Paint
         requires { n * 8 + 8 ≤ length areas.now }
         ensures answer { result ≡ paint_at areas.now n }
@@ -32,8 +32,8 @@ impl Paint {
     }
 }
 
-// The material of the lowest numbered area of a set, or 0 if it is empty. That the table has a row for each area of the set (Painted) is a fact about a
-// table and a set that come from different places, so it stays a clause.
+// The material of the lowest numbered area of a set, or 0 if it is empty. That the table has a row for each area of the set, with alpha and channels at
+// most 255 (Painted), is a fact about a table and a set that come from different places, so it stays a clause.
 pub fn material_of(areas: &[u32], shown: u64) -> u32
     requires { Painted areas.now shown }
     ensures answer { result ≡ material_of (paint_at areas.now) shown }

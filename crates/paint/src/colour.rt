@@ -5,6 +5,7 @@ ghost use Rattle.paint.specs.Colours.{weight, add, over, sums_of, rounded, round
 ghost use Rattle.paint.specs.Pixels.{plus, mean, SamplesIn};
 
 use crate::area::Paint;
+use crate::pixel::SAMPLES;
 use crate::set;
 
 // What the weights and what is left always make, and its half, for rounding.
@@ -13,12 +14,13 @@ const WHOLE: u32 = 255;
 const HALF: u32 = WHOLE / 2;
 
 // What they make in the samples of a pixel together.
-const PIXEL_WHOLE: u32 = 4080;
+const PIXEL_WHOLE: u32 = WHOLE * SAMPLES;
 
 // Each channel of the ground.
 pub const WHITE: u32 = 255;
 
-// What is left of 255 behind some areas, and the sums of their weights times their channels.
+// What is left of 255 behind some areas, and the sums of their weights times their channels. These are no `Channels` in one field: each area changes all
+// four numbers, and the definitions of specs would say `sums.red` for `red`.
 #[derive(Clone, Copy)]
 pub struct Mix {
     pub left: u32,
@@ -28,7 +30,8 @@ pub struct Mix {
 }
 
 // The three unrounded channel sums. These and Colour stay two structs: contracts would read one generic struct as three numbers at both types,
-// so that nothing there would tell sums from channels.
+// so that nothing there would tell sums from channels. That each sum is at most 65,025 (ChannelsIn) is no ghost field: the sums of up to sixteen samples
+// are Channels too.
 #[derive(Clone, Copy)]
 pub struct Channels {
     pub red: u32,
@@ -105,7 +108,7 @@ impl Mix {
 }
 
 impl Channels {
-    // Each sum divided by what weights make in it together, and rounded.
+    // Each sum divided by `whole`, which is what the weights and what is left make, and rounded.
     fn rounded_by(self, whole: u32) -> Colour
         requires some { 0 < whole }
         requires whole_bound { whole ≤ 65536 }
@@ -152,7 +155,8 @@ impl Channels {
     }
 }
 
-// The three unrounded channel sums of a shown set.
+// The three unrounded channel sums of a shown set. `rest &= rest - 1` would do without `first`, but the proof follows the set by halves, as the shift
+// goes (`rest` is shown / 2 ^ first), and std has no law of what that mask clears.
 pub fn channel_sums(areas: &[u32], shown: u64) -> Channels
     requires { Painted areas.now shown }
     ensures answer { result ≡ sums_of (paint_at areas.now) shown }

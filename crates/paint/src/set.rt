@@ -1,4 +1,4 @@
-// A set of areas as a 64-bit mask: area n is bit n.
+// A set of areas as a 64-bit mask, as document 01 has it: area n is bit n.
 ghost use Rattle.std.specs.Prelude.{◌≡◌, ◌<◌, MatchOption};
 ghost use Rattle.std.specs.Int.Count.{count_trailing_zeros};
 ghost use Rattle.paint.specs.Sets.{with_area};

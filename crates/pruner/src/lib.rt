@@ -13,7 +13,8 @@ ghost use Rattle.pruner.specs.code.Numbers.{counted, skip_of, skip_number, frame
 // The groups that can be open.
 const MOST_GROUPS: usize = 8;
 
-// Where an open group stands: on its left side, or on its right side: kept, `Through` where its left always passes, `Dead` where its left is empty.
+// Where an open group stands: `Left` on its left side; on its right side `Right` where the group is kept, `Through` where its left always passes, `Dead`
+// where its left is empty.
 #[derive(Clone, Copy, Debug, PartialEq, Eq)]
 pub enum Mode {
     Left,
@@ -40,14 +41,15 @@ pub struct Frame {
 
 // `weight`: that of what is written. `base`: the weight of what stands before the side. `skip`: None where the side is read on, Some(m) where it is
 // skipped and m groups were opened since. `depth`: how many frames are in use.
-// The bounds on the weights are no ghost fields: a step may end at the bound that it asks for.
+// The bounds on the weights are no ghost fields: a step may end at the bound that it asks for. Nor is that `depth` is at most 8: `after_item`, and
+// `after_open` where a side is skipped, take any depth.
 #[derive(Clone, Copy, Debug, PartialEq, Eq)]
 pub struct Pruner {
     pub weight: u64,
     pub base: u64,
     pub skip: Option<u32>,
     pub depth: usize,
-    // `ArrayVec<Frame, 8>` is no plainer: it is not `Copy`, and writers read a pruner after it went on.
+    // `ArrayVec<Frame, 8>` is no plainer: it is not `Copy`, and `Maker::weight` works on a copy.
     pub frames: [Frame; MOST_GROUPS],
 }
 
@@ -82,7 +84,8 @@ impl Pruner {
         self.frames[d] = f;
     }
 
-    // An item of a paint side or of a clip side, of this class and weight.
+    // An item of a paint side or of a clip side, of this class and weight. One method for both sides, where the machine has two: `Maker::settle` has the side
+    // as a value, and the machine's two methods take different arguments.
     pub fn after_item(&mut self, paint: bool, class: ItemClass, weight: u64)
         requires weight_bound { self.old.weight + weight < 2 ^ 62 }
         requires base_bound { self.old.base < 2 ^ 62 }

@@ -57,7 +57,7 @@ fn put_area(table: &mut [u32], at: usize, r: Record) -> usize
         let words = [
             f.role, f.rule, f.alpha, f.red, f.green, f.blue, f.material, 0,
         ];
-        records::put_words(table, at, &words);
+        records::put(table, at, &words);
         return at + AREA_WORDS;
     }
     at

@@ -332,11 +332,11 @@ part_sets a k xs ys zs s e h =
     ∙ (sym (sets-eq ys xs a (omega arith)) ∙ ap (sets xs a) s)
 
 -- a loop that copies the whole of s, a turn and the end of it
-module _ (d s : List ℕ) (at : ℕ) (h : at + length s ≤ length d) where
-  pub copied_more : (t : List ℕ) (k : ℕ) → k < length s → t ≡ paste d at s k → set t (at + k) (get_or s k 0) ≡ paste d at s (k + 1)
-  copied_more t k l e = rw e (paste_more d at s k 0 (omega arith) l)
+module _ {A : Type 0} (d s : List A) (at : ℕ) (h : at + length s ≤ length d) where
+  pub copied_more : (t : List A) (k : ℕ) (z : A) → k < length s → t ≡ paste d at s k → set t (at + k) (get_or s k z) ≡ paste d at s (k + 1)
+  copied_more t k z l e = rw e (paste_more d at s k z (omega arith) l)
 
-  pub copied_all : (t : List ℕ) (k : ℕ) → k ≤ length s → length s ≤ k → t ≡ paste d at s k → t ≡ sets d at s
+  pub copied_all : (t : List A) (k : ℕ) → k ≤ length s → length s ≤ k → t ≡ paste d at s k → t ≡ sets d at s
   copied_all t k a b e =
       let n : k ≡ length s = omega arith in
       let p : paste d at s k ≡ take at d ++ (s ++ drop (at + length s) d) =

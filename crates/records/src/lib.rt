@@ -111,7 +111,8 @@ pub struct Fields {
     pub material: u32,
 }
 
-// What sixteen bytes, or a row of a drawing's tables, say.
+// What sixteen bytes, or a row of a drawing's tables, say. A corner is two numbers, and no struct of x and y: the definitions of specs build records by
+// `First x y`, and a record is made of any words before its range is tried, so that a struct would say nothing of them.
 #[derive(Clone, Copy, Debug, PartialEq, Eq)]
 pub enum Record {
     Area(Fields),
@@ -142,7 +143,8 @@ impl Record {
 // The bytes of a record.
 pub type Raw = [u8; RECORD_BYTES];
 
-// The sixteen bytes of record i.
+// The sixteen bytes of record i, place by place, as `raw_at` of the specs names them. A loop over an array of zeros would need a proof that takes its result
+// apart into the same sixteen places.
 pub fn read_raw(records: &[u8], i: usize) -> Raw
     requires { i * 16 + 16 ≤ length records.now }
     ensures answer { raw_at result 0 ≡ raw_at records.now i }
@@ -168,26 +170,16 @@ pub fn read_raw(records: &[u8], i: usize) -> Raw
     ]
 }
 
-// Bytes and words are put one by one, and not by `copy_from_slice`, nor gone over by a slice's `iter`: the code of these keeps pointers in structs,
-// whose size depends on the processor, and the ports (docs/PORTING.md) are made of a module in which no pointer lies so.
+// Bytes and words are read and put one by one, and not by `copy_from_slice`, nor gone over by a slice's `iter`: the code of these keeps pointers in
+// structs, whose size depends on the processor, and the ports (docs/PORTING.md) are made of a module in which no pointer stands in a struct.
 
-// Writes sixteen bytes.
-pub fn put_raw(out: &mut [u8], at: usize, r: Raw)
-    requires { at + 16 ≤ length out.old }
-    ensures out { out.new ≡ sets out.old at r }
+// Writes bytes or words from place `at` on.
+pub fn put<T: Copy>(out: &mut [T], at: usize, values: &[T])
+    requires { at + length values.now ≤ length out.old }
+    ensures out { out.new ≡ sets out.old at values.now }
 {
-    for k in 0..RECORD_BYTES {
-        out[at + k] = r[k];
-    }
-}
-
-// Writes words from place `at` on.
-pub fn put_words(out: &mut [u32], at: usize, words: &[u32])
-    requires { at + length words.now ≤ length out.old }
-    ensures out { out.new ≡ sets out.old at words.now }
-{
-    for k in 0..words.len() {
-        out[at + k] = words[k];
+    for k in 0..values.len() {
+        out[at + k] = values[k];
     }
 }
 
@@ -249,9 +241,7 @@ fn in_range(r: Record) -> bool
 {
     match r {
         Record::Area(f) => area_range(f),
-        Record::First(x, y) => corner_range(x, y),
-        Record::Next(x, y) => corner_range(x, y),
-        Record::Control(x, y) => corner_range(x, y),
+        Record::First(x, y) | Record::Next(x, y) | Record::Control(x, y) => corner_range(x, y),
         _ => true,
     }
 }
@@ -313,7 +303,8 @@ fn fields_of(r: Raw) -> Fields
     }
 }
 
-// The record that the named bytes say, of any bytes: a kind 0 is taken as a control corner, and one over 7 as a close.
+// The record that the named bytes say, of any bytes: a kind 0 is taken as a control corner, and one over 7 as a close. `decoded_raw` and `read::fill` ask
+// it of bytes whose kind was tried, but a public function that was promised for any bytes may not ask for less.
 #[tactic(auto, using(crate::proofs::Kindlaws::named_is))]
 pub fn named_of(r: Raw) -> Record
     ensures answer { result ≡ named (raw_at r 0) }

@@ -13,15 +13,15 @@ pub unreachable-requires : goal.unreachable-requires
 unreachable-requires c =
     clash (ap is_good (sym c.in_default.is ∙ c.row.ensures.answer) ∙ copy_good _ _ _ _ _ _ _ _ c.loop-i-test.true c.loop-i.invariant.2)
 
-pub put_raw-requires : goal.put_raw-requires
-put_raw-requires c = copy_room _ _ _ _ _ _ _ _ _ c.loop-i-test.true (sym c.in-Ok.is ∙ c.row.ensures.answer) c.loop-i.invariant.2
+pub put-requires : goal.put-requires
+put-requires c = copy_room _ _ _ _ _ _ _ _ _ c.loop-i-test.true (sym c.in-Ok.is ∙ c.row.ensures.answer) c.loop-i.invariant.2
 
 pub loop-i-preserved : goal.loop-i-preserved
 loop-i-preserved c =
     let r = sym c.in-Ok.is ∙ c.row.ensures.answer in (
       past_area _ _ _ (Ok c.in-Ok.r) c.loop-i.invariant.0 c.past-c.ensures.answer,
       past_corner _ _ _ (Ok c.in-Ok.r) c.loop-i.invariant.1 c.past-c.ensures.answer,
-      copy_turn _ _ _ _ _ _ _ _ _ _ _ _ c.loop-i-test.true r refl (bytes_table _ _ _ _ _ c.raw_of.ensures.answer c.put_raw.ensures.out)
+      copy_turn _ _ _ _ _ _ _ _ _ _ _ _ c.loop-i-test.true r refl (bytes_table _ _ _ _ _ c.raw_of.ensures.answer c.put.ensures.out)
           c.past-c.ensures.answer c.loop-i.invariant.2,
     )
 
