@@ -1,6 +1,7 @@
 -- The loops over a drawing's tables, as plain laws.
 use Rattle.std.specs.Result.{is_err}
 use Rattle.std.specs.Prelude.{Ok, Err}
+use Rattle.refusals.specs.declared.Refused.{Refused}
 use Rattle.refusals.specs.Refusals.{at_place}
 use Prim.Native.Nat.{ℕ, zero, suc, ◌+◌, ◌*◌, ◌-◌, ◌≤◌, ◌<◌}
 use mathlib.Core.Path.{◌≡◌, refl, sym, ap, ap₂, ◌∙◌, subst}
@@ -24,7 +25,8 @@ use Rattle.grammar.specs.code.Machine.{Step}
 use Rattle.grammar.specs.code.Machine.{Scan}
 use Rattle.grammar.specs.Grammar.{Verdict}
 use Rattle.grammar.specs.Grammar.{checked}
-use Rattle.grammar.specs.code.Machine.{breaks_n, fits_n, ends_short_n, in_limit_n, after_n, settled_n, advance_n, scan_n}
+use Rattle.grammar.proofs.Meaning.{checked_is}
+use Rattle.grammar.specs.code.Machine.{breaks_n, fits_n, ends_short_n, in_limit_n, after_n, settled_n, advance_n, scan_n, start_n, ended_n}
 use Rattle.grammar.specs.Lists.{good_records, area_one, corner_one}
 use Rattle.grammar.proofs.Laws.{sound, stopped_stays}
 use Rattle.drawing.specs.declared.Cursor.{Cursor}
@@ -32,7 +34,6 @@ use Rattle.read.specs.Words.{joined, on_good, file_of}
 use Rattle.records.specs.Record.{is_good}
 use Rattle.read.specs.Reading.{holds, all_good}
 use Rattle.drawing.specs.Tables.{Tables, Ready, cursor, record_at, past_record, past_of, rebuilt, used_of, rebuilt_in, agreed, counts_judged, drawing_verdict}
-use Rattle.drawing.specs.code.Scanned.{cursor_n}
 use Rattle.read.proofs.Writes.{length_on, turn_table}
 use Rattle.read.proofs.Files.{file_length, Holds, held, all_good_law}
 
@@ -85,6 +86,10 @@ past_corner i c c' (Ok r) h e = rw e (omega (arith, corner_one_law r))
 past_corner i c c' (Err x) h e = rw e (omega arith)
 
 -- ---- the check: the cursor is told by the scan
+abbrev cursor_n : Scan → Cursor
+cursor_n (Ok s) = cursor s.areas s.corners
+cursor_n (Err e) = cursor 0 0
+
 after_cursor : (s : State) (r : Record) → cursor_n (Ok (after_n s r)) ≡ past_record (cursor_n (Ok s)) r
 after_cursor s (Area f) = ap (cursor (s.areas + 1)) (sym (add-zero s.corners))
 after_cursor s (First x y) = ap (λ (a : ℕ). cursor a (s.corners + 1)) (sym (add-zero s.areas))
@@ -119,35 +124,39 @@ walk : (t : Tables) (u : Counts) (i e : ℕ) (s s' whole : Scan) (d : Decoded) (
 unfolding scan_n
 walk t u i e s s' whole d c h p q k inv = rw (q, p, k) (rw (re_step t u i e (cursor_n s) h) at inv)
 
-pub walk_turn : (t : Tables) (u : Counts) (i e : ℕ) (s s' whole : Scan) (d : Decoded) (c : Cursor) (b : Bool)
+pub walk_turn : (t : Tables) (u : Counts) (i e : ℕ) (s s' : State) (whole : Scan) (d : Decoded) (c : Cursor)
     → i < e
-    → c ≡ cursor_n s
+    → c ≡ cursor s.areas s.corners
     → d ≡ record_at t u i c
-    → s' ≡ advance_n s d i
-    → b ≡ is_err s'
-    → b ≡ false
-    → scan_n s i (rebuilt t u i (cursor_n s) (e - i)) ≡ whole
-    → scan_n s' (i + 1) (rebuilt t u (i + 1) (cursor_n s') (e - (i + 1))) ≡ whole
-walk_turn t u i e s s' whole d c b h k p q o v inv =
-    let n : cursor_n s' ≡ past_of c d =
-    ap cursor_n q ∙ (scan_cursor s d i (sym (ap is_err q) ∙ (sym o ∙ v)) ∙ ap (λ (x : Cursor). past_of x d) (sym k)) in
-    ap (λ (x : Cursor). scan_n s' (i + 1) (rebuilt t u (i + 1) x (e - (i + 1)))) n ∙ walk t u i e s s' whole d c h p q k inv
+    → Ok s' ≡ advance_n (Ok s) d i
+    → scan_n (Ok s) i (rebuilt t u i (cursor s.areas s.corners) (e - i)) ≡ whole
+    → scan_n (Ok s') (i + 1) (rebuilt t u (i + 1) (cursor s'.areas s'.corners) (e - (i + 1))) ≡ whole
+walk_turn t u i e s s' whole d c h k p q inv =
+    let n : cursor_n (Ok s') ≡ past_of c d =
+    ap cursor_n q ∙ (scan_cursor (Ok s) d i (sym (ap is_err q)) ∙ ap (λ (x : Cursor). past_of x d) (sym k)) in
+    ap (λ (x : Cursor). scan_n (Ok s') (i + 1) (rebuilt t u (i + 1) x (e - (i + 1)))) n ∙ walk t u i e (Ok s) (Ok s') whole d c h p q k inv
 
-pub walk_stops : (t : Tables) (u : Counts) (i e : ℕ) (s s' whole : Scan) (d : Decoded) (c : Cursor) (b : Bool)
+pub walk_stops : (t : Tables) (u : Counts) (i e : ℕ) (s : State) (whole : Scan) (d : Decoded) (c : Cursor) (f : Refused)
     → i < e
-    → c ≡ cursor_n s
+    → c ≡ cursor s.areas s.corners
     → d ≡ record_at t u i c
-    → s' ≡ advance_n s d i
-    → b ≡ is_err s'
-    → b ≡ true
-    → scan_n s i (rebuilt t u i (cursor_n s) (e - i)) ≡ whole
-    → s' ≡ whole
-walk_stops t u i e s s' whole d c b h k p q o v inv =
-    sym (stopped_stays s' (i + 1) (rebuilt t u (i + 1) (past_of c d) (e - (i + 1))) (sym o ∙ v)) ∙ walk t u i e s s' whole d c h p q k inv
+    → Err f ≡ advance_n (Ok s) d i
+    → scan_n (Ok s) i (rebuilt t u i (cursor s.areas s.corners) (e - i)) ≡ whole
+    → Err f ≡ whole
+walk_stops t u i e s whole d c f h k p q inv =
+    sym (stopped_stays (Err f) (i + 1) (rebuilt t u (i + 1) (past_of c d) (e - (i + 1))) refl) ∙ walk t u i e (Ok s) (Err f) whole d c h p q k inv
 
-pub walk_done : (t : Tables) (u : Counts) (i e : ℕ) (s whole : Scan) → e ≤ i → scan_n s i (rebuilt t u i (cursor_n s) (e - i)) ≡ whole → s ≡ whole
+pub walk_done : (t : Tables) (u : Counts) (i e : ℕ) (s : State) (whole : Scan)
+    → e ≤ i
+    → scan_n (Ok s) i (rebuilt t u i (cursor s.areas s.corners) (e - i)) ≡ whole
+    → Ok s ≡ whole
 unfolding scan_n
-walk_done t u i e s whole h inv = rw (re_none t u i e (cursor_n s) h) at inv
+walk_done t u i e s whole h inv = rw (re_none t u i e (cursor s.areas s.corners) h) at inv
+
+pub walk_ends : (t : Tables) (u : Counts) (n : ℕ) (s : Scan)
+    → s ≡ scan_n start_n 0 (rebuilt t u 0 (cursor 0 0) n)
+    → ended_n s n ≡ checked (rebuilt t u 0 (cursor 0 0) n)
+walk_ends t u n s h = ap (λ (v : Scan). ended_n v n) h ∙ checked_is (rebuilt t u 0 (cursor 0 0) n) n (sym (re_length t u 0 (cursor 0 0) n))
 
 -- ---- the bytes: the buffer is b and was b₀; the records from i to n are to come, and their bytes go to `at`
 pub record Copying (t : Tables) (u : Counts) (n : ℕ) (b₀ b : List ℕ) (i at : ℕ) (c : Cursor) : Type 0 where

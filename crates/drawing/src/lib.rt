@@ -4,13 +4,12 @@
 
 ghost use Rattle.std.specs.Prelude.{◌≡◌, true, ◌+◌, ◌*◌, ◌≤◌, ◌<◌, length};
 ghost use Rattle.std.proofs.lemmas.List.Edits.{sets};
-ghost use Rattle.grammar.specs.code.Machine.{scan_n, start_n};
+ghost use Rattle.grammar.specs.Grammar.{checked};
 ghost use Rattle.grammar.specs.Lists.{good_records};
 ghost use Rattle.records.specs.Bytes.{bytes_of};
 ghost use Rattle.read.specs.Words.{file_of, on_good};
 ghost use Rattle.records.specs.Kinds.{kind_number};
 ghost use Rattle.read.specs.Reading.{all_good};
-ghost use Rattle.drawing.specs.code.Scanned.{cursor_n};
 ghost use Rattle.drawing.specs.Tables.{tables_of, drawing_passed, Ready, cursor, fields_at, area_row, corner_row, record_at, past_record};
 ghost use Rattle.drawing.specs.Tables.{rebuilt, drawn_in, agreed, counts_judged, drawing_verdict, write_answer, out_after};
 
@@ -36,6 +35,8 @@ pub struct Cursor {
 }
 
 // ---- a drawing in its tables
+// Crate `paint` reads five words of the same row (`Paint::of_area`). Neither crate stands above the other, and a paint without role and rule is what a set
+// of areas adds up, so one function for both would lie in a third crate and be cut down again in `paint`.
 fn fields_at(areas: &[u32], i: usize) -> Fields
     requires { i * 8 + 8 ≤ length areas.now }
     ensures answer { result ≡ fields_at areas.now i }
@@ -84,15 +85,12 @@ impl Cursor {
 }
 
 // The areas and the corners that a scan has met.
-fn cursor_of(scan: Result<State, Refused>) -> Cursor
-    ensures answer { result ≡ cursor_n scan }
+fn cursor_of(state: State) -> Cursor
+    ensures answer { result ≡ cursor state.areas state.corners }
 {
-    match scan {
-        Ok(state) => Cursor {
-            area: state.areas,
-            corner: state.corners,
-        },
-        Err(_) => Cursor { area: 0, corner: 0 },
+    Cursor {
+        area: state.areas,
+        corner: state.corners,
     }
 }
 
@@ -115,7 +113,8 @@ struct Held<'a> {
 }
 
 impl<'a> Held<'a> {
-    // Corner i, where it is in use.
+    // Corner i, where it is in use. In `records::named_of` the three kinds are arms of a match over all kinds, so a function of a kind, x and y would save
+    // no match there and would be public for this one alone.
     #[tactic(auto, unfolding(crate::specs::Tables::corner_row, records::specs::Record::corner_of))]
     fn corner_row(self, kind: Kind, i: usize) -> Result<Record, Refusal>
         ensures answer { result
@@ -148,18 +147,15 @@ impl<'a> Held<'a> {
         }
     }
 
-    fn scan(self) -> Result<State, Refused>
-        ensures answer { result ≡ scan_n start_n 0 (rebuilt (tables_of self.entry.drawing) self.entry.used 0 (cursor 0 0) self.entry.used.records) }
+    // How many records, areas and corners the rows have, or the first refusal and its place.
+    fn check(self) -> Result<Counts, Refused>
+        ensures answer { result ≡ checked (rebuilt (tables_of self.entry.drawing) self.entry.used 0 (cursor 0 0) self.entry.used.records) }
     {
-        let mut s = grammar::start();
+        let mut s = State::begun();
         for i in 0..self.used.records {
-            let d = self.row(i, cursor_of(s));
-            s = grammar::advance(s, d, i);
-            if s.is_err() {
-                return s;
-            }
+            s = s.advance(self.row(i, cursor_of(s)), i)?;
         }
-        s
+        s.ended(self.used.records)
     }
 
     // Writes the records of a drawing that passed: each of its rows is one.
@@ -170,13 +166,11 @@ impl<'a> Held<'a> {
             (file_of (good_records (rebuilt (tables_of self.entry.drawing) self.entry.used 0 (cursor 0 0) self.entry.used.records))) }
     {
         let mut c = Cursor { area: 0, corner: 0 };
-        let mut at = 0;
         for i in 0..self.used.records {
             let Ok(r) = self.row(i, c) else {
                 unreachable!()
             };
-            records::put(out, at, &records::raw_of(r));
-            at += RECORD_BYTES;
+            records::put(out, i * RECORD_BYTES, &records::raw_of(r));
             c = c.past(r);
         }
     }
@@ -198,10 +192,10 @@ impl<'a> Drawing<'a> {
             drawing: self,
             used,
         };
-        agreed_with(grammar::ended(held.scan(), used.records), used)
+        agreed_with(held.check(), used)
     }
 
-    // Whether lent tables hold a drawing: 7, then 12.
+    // The counts of the drawing that the lent tables hold: 7 for xs and ys of unequal length, then 12 for tables that hold none.
     #[tactic(auto, unfolding(crate::specs::Tables::drawing_verdict))]
     pub fn check(self) -> Result<Counts, Refused>
         ensures answer { result ≡ drawing_verdict (drawing_passed self) }

@@ -2,10 +2,10 @@
 
 #![tactic(auto)]
 
-ghost use Rattle.std.specs.Prelude.{◌≡◌, true, ◌<◌};
+ghost use Rattle.std.specs.Prelude.{◌≡◌, true, ◌<◌, Ok};
 ghost use Rattle.grammar.specs.Grammar.{is_short, one_more};
 ghost use Rattle.grammar.specs.code.Machine.{role_n, breaks_n, stands_n, fits_n, ends_short_n, in_limit_n, no_contour_n, after_n, step_n};
-ghost use Rattle.grammar.specs.code.Machine.{advance_n, start_n, end_state_n, ended_n};
+ghost use Rattle.grammar.specs.code.Machine.{advance_n, start_n, ended_n};
 
 use curves::Point;
 use groups::Groups;
@@ -20,7 +20,8 @@ const NO_CORNER: Point = Point { x: 0, y: 0 };
 
 // Where a reader stands. `held`: an area or a corner stands straight before; it says so by itself, since no value goes with it. `control`: the
 // control corner that does. `run`: the corners of the contour in progress but for control corners, 3 for more than 3. `last`: in a contour, its last
-// corner that is no control corner.
+// corner that is no control corner; where `run` is 0 nothing reads it. It is no `Option`: the definitions of specs build the state with a point there, and
+// `run` stays beside it in any case, since it counts.
 #[derive(Clone, Copy)]
 pub struct State {
     pub groups: Groups,
@@ -54,6 +55,21 @@ fn more(run: u32) -> u32
 }
 
 impl State {
+    // Before the first record.
+    pub fn begun() -> State
+        ensures answer { Ok result ≡ start_n }
+    {
+        State {
+            groups: Groups::NONE_OPEN,
+            held: false,
+            control: None,
+            run: 0,
+            areas: 0,
+            corners: 0,
+            last: NO_CORNER,
+        }
+    }
+
     // The role that fits the side.
     fn role_here(self) -> u32
         ensures answer { result ≡ role_n self.groups.number }
@@ -178,7 +194,7 @@ impl State {
         }
     }
 
-    // One record more: 13, 4, 5, 6, or on.
+    // One record more: 13 for a curve out of order or span, 4 for a record that does not fit, 5 for a contour that it ends short, 6 for a limit, or on.
     fn stepped(self, r: Record) -> Result<State, Refusal>
         ensures answer { result ≡ step_n self r }
     {
@@ -197,8 +213,18 @@ impl State {
         Ok(self.after(r))
     }
 
-    fn end(self, n: usize) -> Result<Counts, Refused>
-        ensures answer { result ≡ end_state_n self n }
+    // What was decoded as record i. A refusal of its own, 2 for an unknown kind or 3 for a field out of range, stands at place i as the others do.
+    pub fn advance(self, decoded: Result<Record, Refusal>, i: usize) -> Result<State, Refused>
+        ensures answer { result ≡ advance_n (Ok self) decoded i }
+    {
+        decoded
+            .and_then(|r| self.stepped(r))
+            .map_err(|refusal| Refused { refusal, place: i })
+    }
+
+    // The end, after n records: 4 for a control corner or a group left open, then 5 for a short contour.
+    pub fn ended(self, n: usize) -> Result<Counts, Refused>
+        ensures answer { result ≡ ended_n (Ok self) n }
     {
         if self.control.is_some() || self.groups != Groups::NONE_OPEN {
             return Err(Refused {
@@ -218,40 +244,4 @@ impl State {
             corners: self.corners,
         })
     }
-}
-
-// What was decoded as record i, 2 and 3 among it. It takes a `Result`, as `ended` does: a bare state would ask more of callers, who would have to try each.
-pub fn advance(
-    scan: Result<State, Refused>,
-    decoded: Result<Record, Refusal>,
-    i: usize,
-) -> Result<State, Refused>
-    ensures answer { result ≡ advance_n scan decoded i }
-{
-    let state = scan?;
-    decoded
-        .and_then(|r| state.stepped(r))
-        .map_err(|refusal| Refused { refusal, place: i })
-}
-
-// Before the first record.
-pub fn start() -> Result<State, Refused>
-    ensures answer { result ≡ start_n }
-{
-    Ok(State {
-        groups: Groups::NONE_OPEN,
-        held: false,
-        control: None,
-        run: 0,
-        areas: 0,
-        corners: 0,
-        last: NO_CORNER,
-    })
-}
-
-// The end, after n records: 4, then 5.
-pub fn ended(scan: Result<State, Refused>, n: usize) -> Result<Counts, Refused>
-    ensures answer { result ≡ ended_n scan n }
-{
-    scan?.end(n)
 }

@@ -1,9 +1,9 @@
 -- The loops over a file, as plain laws: where a loop begins, a turn, where it ends.
-use Rattle.std.specs.Result.{is_err}
 use Rattle.std.specs.Prelude.{Ok, Err}
+use Rattle.refusals.specs.declared.Refused.{Refused}
 use Prim.Native.Nat.{ℕ, zero, suc, ◌+◌, ◌-◌, ◌≤◌, ◌<◌}
 use mathlib.Core.Path.{◌≡◌, refl, sym, ap, ◌∙◌, subst}
-use mathlib.Core.Bool.{Bool, true}
+use mathlib.Core.Bool.{true}
 use mathlib.Core.List.{List, [], ◌∷◌}
 use native.Mathlib.Omega.{arith}
 use lib.ListN.{length}
@@ -47,17 +47,15 @@ unfolding scan_n
 scan_turn b i e s s' whole r d h o p q inv = rw (q, p, o) (rw (from_step b i e h) at inv)
 
 -- a scan that stopped is the whole
-pub scan_stops : (b : List ℕ) (i e : ℕ) (s s' whole : Scan) (r : Raw) (d : Decoded) (t : Bool)
+pub scan_stops : (b : List ℕ) (i e : ℕ) (s whole : Scan) (r : Raw) (d : Decoded) (f : Refused)
     → i < e
     → r ≡ raw_at b i
     → d ≡ decoded_raw r
-    → s' ≡ advance_n s d i
-    → t ≡ is_err s'
-    → t ≡ true
+    → Err f ≡ advance_n s d i
     → scan_n s i (decoded_from b i (e - i)) ≡ whole
-    → s' ≡ whole
-scan_stops b i e s s' whole r d t h o p q u v inv =
-    sym (stopped_stays s' (i + 1) (decoded_from b (i + 1) (e - (i + 1))) (sym u ∙ v)) ∙ scan_turn b i e s s' whole r d h o p q inv
+    → Err f ≡ whole
+scan_stops b i e s whole r d f h o p q inv =
+    sym (stopped_stays (Err f) (i + 1) (decoded_from b (i + 1) (e - (i + 1))) refl) ∙ scan_turn b i e s (Err f) whole r d h o p q inv
 
 pub scan_done : (b : List ℕ) (i e : ℕ) (s whole : Scan) → e ≤ i → scan_n s i (decoded_from b i (e - i)) ≡ whole → s ≡ whole
 unfolding scan_n

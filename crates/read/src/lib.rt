@@ -26,14 +26,11 @@ fn scan_records(records: &[u8], n: usize) -> Result<State, Refused>
     requires { n * 16 ≤ length records.now }
     ensures answer { result ≡ scan_n start_n 0 (decoded_from records.now 0 n) }
 {
-    let mut s = grammar::start();
+    let mut s = State::begun();
     for i in 0..n {
-        s = grammar::advance(s, records::decoded_raw(records::read_raw(records, i)), i);
-        if s.is_err() {
-            return s;
-        }
+        s = s.advance(records::decoded_raw(records::read_raw(records, i)), i)?;
     }
-    s
+    Ok(s)
 }
 
 // The first refusal of a file and its place, or what it holds.
@@ -44,7 +41,7 @@ pub fn check_records(records: &[u8]) -> Result<Counts, Refused>
     if records.len() % RECORD_BYTES != 0 || n > records::MOST_RECORDS {
         return Err(Refusal::Length.into());
     }
-    grammar::ended(scan_records(records, n), n)
+    scan_records(records, n)?.ended(n)
 }
 
 // ---- a record into a table
@@ -99,7 +96,7 @@ fn put_header(plan: &mut [u32], k: Counts)
     plan[CORNERS] = k.corners as u32;
 }
 
-// Writes an accepted file's counts and the words of its records in the four tables. Nothing is tried again, since that would take longer and be no plainer.
+// Writes an accepted file's counts and the words of its records in the four tables. No record is checked again, since that would take longer and be no plainer.
 // The tables are lent to be written, here and below, so each is a parameter: a struct of them would need a clause for each table in each contract, that
 // it still lends the same.
 fn fill(

@@ -1,6 +1,7 @@
-use mathlib.Core.Path.{refl, sym, ap, ◌∙◌}
+use mathlib.Core.Path.{sym, ap, ◌∙◌}
 use Rattle.std.specs.Prelude.{Ok}
 use borrow.Author.Rules.{rules}
+use native.Mathlib.Omega.{arith}
 use Rattle.records.specs.Record.{is_good}
 use Rattle.laws.proofs.Booleans.{clash}
 use Rattle.drawing.proofs.Rows.{copy_begin, copy_good, copy_room, copy_turn, copy_done, past_area, past_corner, bytes_table}
@@ -21,7 +22,7 @@ loop-i-preserved c =
     let r = sym c.in-Ok.is ∙ c.row.ensures.answer in (
       past_area _ _ _ (Ok c.in-Ok.r) c.loop-i.invariant.0 c.past-c.ensures.answer,
       past_corner _ _ _ (Ok c.in-Ok.r) c.loop-i.invariant.1 c.past-c.ensures.answer,
-      copy_turn _ _ _ _ _ _ _ _ _ _ _ _ c.loop-i-test.true r refl (bytes_table _ _ _ _ _ c.raw_of.ensures.answer c.put.ensures.out)
+      copy_turn _ _ _ _ _ _ _ _ _ _ _ _ c.loop-i-test.true r (omega arith) (bytes_table _ _ _ _ _ c.raw_of.ensures.answer c.put.ensures.out)
           c.past-c.ensures.answer c.loop-i.invariant.2,
     )
 
