@@ -13,7 +13,7 @@ ghost use Rattle.lister.specs.Text.{line_text, lines_text, refused_text, outcome
 use drawing::Drawing;
 use grow::{Growth, Limits};
 use listing::Line;
-use refusals::Refusal;
+use refusals::{Refusal, Refused};
 use std::io;
 use std::io::{ErrorKind, Read, Write};
 use tables::Tree;
@@ -28,7 +28,9 @@ const THRESHOLD: u32 = 0;
 
 const DEPTH_LIMIT: u32 = 4;
 
-// What is printed of a drawing that is not refused: so many lines, with `full` after them or without.
+// What is printed of a drawing that is not refused: so many lines, with `full` after them or without, which is an answer by itself, as `uniform` of a
+// `FoundLeaf` is. That there are 256 lines at most stays a clause: `outcome_of`, the definition, makes a `Listed` of any number of lines, so with a
+// ghost field it would carry a proof.
 #[derive(Clone, Copy)]
 pub struct Listed {
     pub lines: usize,
@@ -36,7 +38,7 @@ pub struct Listed {
 }
 
 // "cell, key, side, entries, lines"
-// No `Display` for a line: this is the one place that prints one.
+// No `Display` for a line, nor for a refusal below: each is printed by one function, to a writer.
 fn print_line<W: Write>(out: &mut W, l: Line) -> io::Result<()>
     ensures { OnOk result (Appends (W.contents out.old) (W.contents out.new) (line_text l)) }
 {
@@ -48,13 +50,13 @@ fn print_line<W: Write>(out: &mut W, l: Line) -> io::Result<()>
 }
 
 // "A refused drawing prints only `refused N at P`."
-fn print_refused<W: Write>(out: &mut W, r: Refusal, place: usize) -> io::Result<()>
-    ensures { OnOk result (Appends (W.contents out.old) (W.contents out.new) (refused_text r place)) }
+fn print_refused<W: Write>(out: &mut W, r: Refused) -> io::Result<()>
+    ensures { OnOk result (Appends (W.contents out.old) (W.contents out.new) (refused_text r.refusal r.place)) }
 {
-    writeln!(out, "refused {} at {place}", u32::from(r))
+    writeln!(out, "refused {} at {}", u32::from(r.refusal), r.place)
 }
 
-// The first n lines of the table.
+// The first n lines of the table. `listing` hands out line i of a table, so a loop over pieces of the table would call it with line 0 of each.
 fn print_lines<W: Write>(out: &mut W, rows: &[u32], n: usize) -> io::Result<()>
     requires { n * 5 ≤ length rows.now }
     ensures { OnOk result (Appends (W.contents out.old) (W.contents out.new) (lines_text (lines_in rows.now 0 n))) }
@@ -75,7 +77,8 @@ fn outcome_of(grown: Result<Growth, Refusal>, lines: usize) -> Result<Listed, Re
     Ok(Listed { lines, full })
 }
 
-// "grows with threshold 0 and depth limit 4", then writes the line of each leaf.
+// "grows with threshold 0 and depth limit 4", then writes the line of each leaf. The tables are lent to be written, here and below, so each is a
+// parameter: as fields, each contract would have to say of each that the same table is lent.
 fn list_grown(
     drawing: Drawing,
     head: &mut [u32],
@@ -136,7 +139,7 @@ fn print_outcome<W: Write>(
             }
             Ok(())
         }
-        Err(r) => print_refused(out, r, 0),
+        Err(r) => print_refused(out, r.into()),
     }
 }
 
@@ -171,14 +174,16 @@ fn print_file<W: Write>(out: &mut W, records: &[u8]) -> io::Result<()>
                 ys: &ys,
             },
         ),
-        Err(e) => print_refused(out, e.refusal, e.place),
+        Err(e) => print_refused(out, e),
     }
 }
 
 // A file may have 4,096 records of 16 bytes, which is 65,536: one byte more shows that it is longer, and is refused for its length.
 const MOST_READ: usize = records::MOST_RECORDS * records::RECORD_BYTES + 1;
 
-// Reads the file into the table, until the file ends or the table is full: no more of it is read. A read that a signal interrupts is tried again.
+// Reads the file into the table and gives how many bytes it read: it ends where the file ends or the table is full, and reads no more of the file. A
+// read that a signal interrupts is tried again. std's `read_to_end` fills a `Vec`, which needs a heap, and `read_exact` fails at a file that is shorter
+// than the table and does not say how long it is. A loop is proved to end, and any number of reads may be interrupted, so this one counts its turns.
 fn read_file<R: Read + Drop>(mut file: R, records: &mut [u8]) -> io::Result<usize>
     ensures range { IfOk result (λ n. n ≤ length records.new) }
     ensures bytes { IfOk result (λ n. IfSome (R.remaining file) (λ bytes. take n records.new ≡ take (length records.old) bytes)) }

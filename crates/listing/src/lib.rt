@@ -17,7 +17,8 @@ const LOW_CORNERS: u32 = 256;
 // The step from one of them to the next, in x and in y.
 const STEP: u32 = 4096;
 
-// The words of a line.
+// The words of a line. A list is rows of words in a table that the caller lends, as document 01's tables are lent, and the contract of `list_leaves`
+// says what the table holds then: an `ArrayVec<Line, 256>` would put another promise in its place.
 const LINE_WORDS: usize = 5;
 
 // The words of the longest list.
@@ -33,8 +34,7 @@ pub struct Line {
     pub lines: u32,
 }
 
-// Corner k of the 256 places that a low corner can have at a depth of at most 4, in steps of 4,096. The bits of k are taken apart as a key puts
-// those of x and y together, so the key of corner k is k * 2^24, and counting k upward goes through the corners in key order.
+// Bits 0, 2, 4 and 6 of k, side by side.
 fn every_other(k: u8) -> u32
     ensures answer { result ≡ every_other k }
     ensures range { result < 16 }
@@ -43,6 +43,8 @@ fn every_other(k: u8) -> u32
     k % 2 + 2 * (k / 4 % 2) + (4 * (k / 16 % 2) + 8 * (k / 64 % 2))
 }
 
+// Corner k of the 256 places that a low corner can have at a depth of at most 4, in steps of 4,096. The bits of k are taken apart as a key puts
+// those of x and y together, so the key of corner k is k * 2^24, and counting k upward goes through the corners in key order.
 #[tactic(auto, unfolding(crate::specs::Listed::corner_x))]
 fn corner_x(k: u8) -> u32
     ensures answer { result ≡ corner_x k }
@@ -59,7 +61,7 @@ fn corner_y(k: u8) -> u32
     STEP * every_other(k / 2)
 }
 
-// The line of a leaf, if (x, y) is its low corner.
+// The line of a leaf, if (x, y) is its low corner. The clause is that of a key; a `Position` reaches 2^26, so it would not give it.
 fn if_low(leaf: FoundLeaf, x: u32, y: u32) -> Option<Line>
     requires { (x < 65536) × (y < 65536) }
     ensures answer { result ≡ if_low x y leaf }
@@ -95,7 +97,8 @@ fn put_line(rows: &mut [u32], n: usize, l: Line)
 }
 
 // Writes the lines of all leaves of a depth of at most 4, in key order, and gives how many there are; deeper leaves are left out. Any tables may be
-// handed in: a corner whose leaf would be refused has no line. A longer table may be lent than the array of a list.
+// handed in: a corner whose leaf would be refused has no line. The table may be longer than the longest list; what it
+// holds behind the lines stays. A corner may have no line, so `n` is counted beside k.
 pub fn list_leaves(tree: Tree, rows: &mut [u32]) -> usize
     requires { 1280 ≤ length rows.old }
     ensures answer { result ≡ length (listed (tree_passed tree)) }

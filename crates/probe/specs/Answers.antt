@@ -1,5 +1,5 @@
 -- What the calls for the tests answer, by the check of the stream that is handed in.
-use Rattle.std.specs.Prelude.{ℕ, ◌+◌, ◌-◌, ◌/◌, ◌%◌, Bool, false, cond, ◌&&◌, List, eqb, leb, ltb, length, get_or, ℤ, pos}
+use Rattle.std.specs.Prelude.{Option, Some, None, ℕ, ◌+◌, ◌-◌, ◌/◌, ◌%◌, Bool, false, cond, ◌&&◌, List, eqb, leb, ltb, length, get_or, ℤ, pos}
 use Rattle.geometry.specs.declared.class.Square.{Square}
 use Rattle.cells.specs.Elements.{Element}
 use Rattle.celltable.specs.declared.CellWords.{CellWords}
@@ -49,6 +49,11 @@ child_room t first count used v s = leb (used + length (child_elements t first c
 
 abbrev pub child_fits : List ℕ → (first count used : ℕ) → Env → Square → Bool
 child_fits t first count used v s = cond (check_stream t first count used v) (cond (square_fits s) (child_room t first count used v s) false) false
+
+-- what the call gives of it: the number of its entries and 1 more, or 0
+abbrev pub number_of : Option ℕ → ℕ
+number_of (Some n) = n + 1
+number_of None = 0
 
 -- the number of its entries and 1 more, or 0
 abbrev pub answer_by : Bool → List ℕ → (first count : ℕ) → Env → Square → ℕ

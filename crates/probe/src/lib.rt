@@ -1,12 +1,12 @@
 // Calls for the tests only, exported for C: the check of a lent stream, its reading at a position, the making of a child's stream, and the tallies of
-// the children after each pass, so that the tests can run them before a call for makers reaches them. No maker builds them in. Any tables and numbers
-// may be handed in; a slice passes as a pointer and then its length.
+// the children after each pass, so that the tests can run each by itself, on streams that no call for makers makes. No maker builds them in. Any tables
+// and numbers may be handed in; a slice passes as a pointer and then its length, so each call takes each table and each number by itself.
 
 #![tactic(auto)]
 
-ghost use Rattle.std.specs.Prelude.{◌≡◌, true, cond, ◌≤◌, ◌<◌, length};
+ghost use Rattle.std.specs.Prelude.{◌≡◌, true, cond, ◌≤◌, ◌<◌, length, IfSome};
 ghost use Rattle.stream.specs.Grammar.{env, env_of, env_passed, bounds, check_stream, Passed};
-ghost use Rattle.probe.specs.Answers.{read_answer, square, leaf_on, square_fits, child_elements, child_room, answer_by, table_by, child_fits};
+ghost use Rattle.probe.specs.Answers.{read_answer, square, leaf_on, square_fits, child_elements, child_room, number_of, answer_by, table_by, child_fits};
 ghost use Rattle.probe.specs.Answers.{number_in, tally_number, tally_answer};
 
 use celltable::{CellWords, Parent};
@@ -17,6 +17,32 @@ use stream::{Bounds, Context, Stream};
 
 // The last position, in x and in y.
 const LAST: u32 = celltable::GRID - 1;
+
+// What a stream of a cell with these rows is read against.
+fn context_of<'a>(
+    areas: &'a [u32],
+    xs: &'a [u32],
+    ys: &'a [u32],
+    areas_used: usize,
+    corners_used: usize,
+    low: u32,
+    side: u32,
+) -> Context<'a>
+    ensures answer { result ≡
+        record { areas = areas.entry; xs = xs.entry; ys = ys.entry; bounds = bounds areas_used corners_used low side } }
+{
+    Context {
+        areas,
+        xs,
+        ys,
+        bounds: Bounds {
+            areas: areas_used,
+            corners: corners_used,
+            low,
+            side,
+        },
+    }
+}
 
 // Whether the stream passes the check.
 fn stream_passes(stream: Stream, used: usize, context: Context) -> bool
@@ -50,22 +76,8 @@ pub extern "C" fn probe_check(
         first,
         count,
     };
-    let context = Context {
-        areas,
-        xs,
-        ys,
-        bounds: Bounds {
-            areas: areas_used,
-            corners: corners_used,
-            low,
-            side,
-        },
-    };
-    if stream_passes(stream, used, context) {
-        1
-    } else {
-        0
-    }
+    let context = context_of(areas, xs, ys, areas_used, corners_used, low, side);
+    u32::from(stream_passes(stream, used, context))
 }
 
 // The shown set at (x, y) of the stream, if it passes the check and (x, y) is a position; else 0.
@@ -94,17 +106,7 @@ pub extern "C" fn probe_read(
         first,
         count,
     };
-    let context = Context {
-        areas,
-        xs,
-        ys,
-        bounds: Bounds {
-            areas: areas_used,
-            corners: corners_used,
-            low,
-            side,
-        },
-    };
+    let context = context_of(areas, xs, ys, areas_used, corners_used, low, side);
     if stream_passes(stream, used, context) && (x <= LAST) & (y <= LAST) {
         evaluate::read_stream(stream, context, Position { x, y })
     } else {
@@ -130,7 +132,7 @@ fn leaf_on(s: Square) -> CellWords
 }
 
 // Whether this is the square of a cell: its side a power of two up to 65,536, its corner on the grid of that side, all of it below 65,536. It stays a
-// clause: `geometry` and what makes streams take a Square of any such range, and a second type of square would be turned into it at each call.
+// clause: `geometry` and what makes streams take any Square that is `SquareIn`, and a second type of square would be turned into it at each call.
 #[tactic(auto, unfolding(crate::specs::Answers::square_fits))]
 fn square_fits(s: Square) -> bool
     ensures answer { result ≡ square_fits s }
@@ -146,10 +148,11 @@ fn entries_made(stream: Stream, context: Context, s: Square) -> usize
         length (child_elements stream.entry.entries.now stream.entry.first stream.entry.count (env_passed context) s) }
     ensures range { result < 65536 }
 {
-    (child_stream::count_child(stream, context, s).weight % 65536) as usize
+    four_children::entries_in(child_stream::count_child(stream, context, s).weight)
 }
 
-// Writes the child's stream behind the entries in use, if it fits there: the number of its entries and 1 more, or 0.
+// Writes the child's stream behind the entries in use, if it fits there: the number of its entries. The table is lent to be written, so it and the
+// stream's place in it are parameters: as a field of a `Stream`, the clause `entries` would have to say that the same table is lent.
 fn write_if_room(
     entries: &mut [u32],
     first: usize,
@@ -157,10 +160,11 @@ fn write_if_room(
     used: usize,
     context: Context,
     s: Square,
-) -> u64
+) -> Option<usize>
     requires b_value { check_stream entries.old first count used (env_of context) ≡ true }
     requires s_value { square_fits s ≡ true }
-    ensures answer { result ≡
+    ensures range { IfSome result (λ n. n < 65536) }
+    ensures answer { number_of result ≡
         answer_by (child_room entries.old first count used (env_passed context) s)
         entries.old first count (env_passed context) s }
     ensures entries { entries.new ≡
@@ -175,9 +179,9 @@ fn write_if_room(
     let n = entries_made(stream, context, s);
     if used + n <= entries.len() / stream::ENTRY_WORDS {
         child_stream::write_child(entries, first, count, used, n, context, s);
-        (n as u64) + 1
+        Some(n)
     } else {
-        0
+        None
     }
 }
 
@@ -216,27 +220,20 @@ pub extern "C" fn probe_child(
         first,
         count,
     };
-    let context = Context {
-        areas,
-        xs,
-        ys,
-        bounds: Bounds {
-            areas: areas_used,
-            corners: corners_used,
-            low,
-            side,
-        },
-    };
+    let context = context_of(areas, xs, ys, areas_used, corners_used, low, side);
     let s = Square { x, y, side: half };
-    if stream_passes(stream, used, context) && square_fits(s) {
-        write_if_room(entries, first, count, used, context, s)
-    } else {
-        0
+    if !stream_passes(stream, used, context) || !square_fits(s) {
+        return 0;
+    }
+    match write_if_room(entries, first, count, used, context, s) {
+        Some(n) => n as u64 + 1,
+        None => 0,
     }
 }
 
 // ---- the tallies of the four children
-// A number of a tally: 0 its entries, 1 its lines, 2 how many start numbers it has, 3 + j start number j.
+// A number of a tally: 0 its entries, 1 its lines, 2 how many start numbers it has, 3 + j start number j. The C call asks for one number, by its
+// place. A tally's counts are of any size by their type, so no conversion of std fits them: `as` and `from` ask that the number fits.
 fn number_in(t: Tally, number: usize) -> i64
     ensures answer { result ≡ number_in t number }
 {
@@ -291,17 +288,7 @@ pub extern "C" fn probe_tally(
         first,
         count,
     };
-    let context = Context {
-        areas,
-        xs,
-        ys,
-        bounds: Bounds {
-            areas: areas_used,
-            corners: corners_used,
-            low,
-            side,
-        },
-    };
+    let context = context_of(areas, xs, ys, areas_used, corners_used, low, side);
     let s = Square { x, y: low, side };
     if stream_passes(stream, used, context)
         && square_fits(s)

@@ -16,6 +16,7 @@ use paint::pixel::PixelAt;
 use std::io;
 
 // What follows is printed by functions and not by `Display`: each is printed at this one place, and as a sentence about a spot.
+
 // The winding of the contour (0, 0), (p, q), (w, w).
 fn write_winding(rt: &impl Print, p: u32, q: u32, w: u32, at: Position) -> io::Result<()>
     requires { EndsIn p q w w }

@@ -1,3 +1,4 @@
+use mathlib.Core.Path.{◌∙◌}
 use Rattle.probe.proofs.Laws.{square_in_law, square_cell, made_count}
 use Rattle.probe.proofs.entries_made.Goals as goal
 
@@ -11,5 +12,6 @@ pub returns-clause-answer : goal.returns-clause-answer
 returns-clause-answer c =
     let v = c.args.context in
     let s = c.args.stream in
-    made_count s.entries.now s.first s.count v.areas.now v.xs.now v.ys.now v.bounds c.args.s
+    c.entries_in.ensures.answer
+    ∙ made_count s.entries.now s.first s.count v.areas.now v.xs.now v.ys.now v.bounds c.args.s
     c.count_child.result.weight c.requires.passed c.count_child.ensures.weight
