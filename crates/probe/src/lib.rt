@@ -5,7 +5,7 @@
 #![tactic(auto)]
 
 ghost use Rattle.std.specs.Prelude.{◌≡◌, true, cond, ◌≤◌, ◌<◌, length};
-ghost use Rattle.stream.specs.Grammar.{env, env_of, env_passed, bounds, check_stream, Passed};
+ghost use Rattle.stream.specs.Grammar.{env, env_of, env_passed, bounds, check_stream};
 ghost use Rattle.probe.specs.Answers.{read_answer, square, leaf_on, square_fits, child_elements, child_room, answer_by, table_by, child_fits};
 ghost use Rattle.probe.specs.Answers.{number_in, tally_number, tally_answer};
 
@@ -13,7 +13,7 @@ use celltable::{CellWords, Parent};
 use curves::Position;
 use four_children::Tally;
 use geometry::class::Square;
-use stream::{Bounds, Context, Stream};
+use stream::{Bounds, Context, PassedStream, Stream};
 
 // The last position, in x and in y.
 const LAST: u32 = celltable::GRID - 1;
@@ -106,7 +106,7 @@ pub extern "C" fn probe_read(
         },
     };
     if stream_passes(stream, used, context) && (x <= LAST) & (y <= LAST) {
-        evaluate::read_stream(stream, context, Position { x, y })
+        evaluate::read_stream(PassedStream { stream, context }, Position { x, y })
     } else {
         0
     }
@@ -139,14 +139,13 @@ fn square_fits(s: Square) -> bool
 }
 
 // How many entries the child's stream has.
-fn entries_made(stream: Stream, context: Context, s: Square) -> usize
-    requires passed { Passed stream.entries.now stream.first stream.count (env_of context) }
+fn entries_made(passed: PassedStream, s: Square) -> usize
     requires s_value { square_fits s ≡ true }
-    ensures answer { result ≡
-        length (child_elements stream.entry.entries.now stream.entry.first stream.entry.count (env_passed context) s) }
+    ensures answer { let t = passed.entry.stream in
+        result ≡ length (child_elements t.entries.now t.first t.count (env_of passed.entry.context) s) }
     ensures range { result < 65536 }
 {
-    (child_stream::count_child(stream, context, s).weight % 65536) as usize
+    (child_stream::count_child(passed, s).weight % 65536) as usize
 }
 
 // Writes the child's stream behind the entries in use, if it fits there: the number of its entries and 1 more, or 0.
@@ -172,7 +171,7 @@ fn write_if_room(
         first,
         count,
     };
-    let n = entries_made(stream, context, s);
+    let n = entries_made(PassedStream { stream, context }, s);
     if used + n <= entries.len() / stream::ENTRY_WORDS {
         child_stream::write_child(entries, first, count, used, n, context, s);
         (n as u64) + 1
@@ -250,15 +249,14 @@ fn number_in(t: Tally, number: usize) -> i64
 }
 
 // The number of child k after the passes of the first q children of the square.
-fn tally_number(stream: Stream, context: Context, s: Square, q: u32, k: u32, number: usize) -> i64
-    requires passed { Passed stream.entries.now stream.first stream.count (env_of context) }
+fn tally_number(passed: PassedStream, s: Square, q: u32, k: u32, number: usize) -> i64
     requires s_value { square_fits s ≡ true }
     requires lt_side { (1 < s.side) × (q ≤ 4) × (k < 4) }
-    ensures answer { result ≡
-        tally_number stream.entry.entries.now stream.entry.first stream.entry.count (env_passed context) s q k number }
+    ensures answer { let t = passed.entry.stream in
+        result ≡ tally_number t.entries.now t.first t.count (env_of passed.entry.context) s q k number }
 {
     let words = leaf_on(s);
-    let tallies = four_children::count_to(stream, context, Parent { words }, q);
+    let tallies = four_children::count_to(passed, Parent { words }, q);
     number_in(tallies[k as usize], number)
 }
 
@@ -307,7 +305,7 @@ pub extern "C" fn probe_tally(
         && square_fits(s)
         && (1 < side) & (q <= celltable::CHILDREN) & (k < celltable::CHILDREN)
     {
-        tally_number(stream, context, s, q, k, number)
+        tally_number(PassedStream { stream, context }, s, q, k, number)
     } else {
         0
     }
