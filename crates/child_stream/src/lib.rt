@@ -7,7 +7,7 @@ ghost use Rattle.geometry.specs.code.Reach.{SquareIn};
 ghost use Rattle.cells.specs.Cells.{square_of};
 ghost use Rattle.cells.specs.code.Making.{element_size};
 ghost use Rattle.pruning.specs.code.Weights.{total};
-ghost use Rattle.stream.specs.Table.{words_from, words_passed, written};
+ghost use Rattle.stream.specs.Table.{words_from, words_in, written};
 ghost use Rattle.stream.specs.Grammar.{env_of, Passed};
 ghost use Rattle.ranges.specs.Held.{lent_of, lent_passed};
 ghost use Rattle.making.specs.Made.{elements_made, words_made};
@@ -16,7 +16,7 @@ ghost use Rattle.child_stream.specs.code.Numbers.{starts, noted_n, first_of, sta
 
 use geometry::class::Square;
 use making::Maker;
-use stream::{Context, Stream};
+use stream::{Context, PassedStream};
 
 // ---- the start numbers of the areas
 // How many, and the numbers, with zeros behind them: the `starts` of document 01's "child tallies (entries, lines, starts)". They are proved to be those
@@ -59,13 +59,16 @@ pub struct Count {
 }
 
 // What the child's stream weighs, and its start numbers, in one pass over its parent's.
-pub fn count_child(parent: Stream, context: Context, s: Square) -> Count
-    requires passed { Passed parent.entries.now parent.first parent.count (env_of context) }
+pub fn count_child(passed: PassedStream, s: Square) -> Count
     requires square_in { SquareIn s }
     requires s_value { square_of (cell_in s) ≡ s }
-    ensures weight { result.weight ≡ total element_size (elements_made (lent_passed context) (cell_in s) (words_passed parent)) }
-    ensures starts { result.starts ≡ starts_in (elements_made (lent_passed context) (cell_in s) (words_passed parent)) }
+    ensures weight { result.weight ≡
+        total element_size (elements_made (lent_of passed.entry.context) (cell_in s) (words_in passed.entry.stream)) }
+    ensures starts { result.starts ≡
+        starts_in (elements_made (lent_of passed.entry.context) (cell_in s) (words_in passed.entry.stream)) }
 {
+    let parent = passed.stream;
+    let context = passed.context;
     let mut m = Maker::begun();
     let mut at = [0i16; records::MOST_AREAS];
     for i in parent.first..parent.first + parent.count {

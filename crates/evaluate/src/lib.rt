@@ -11,8 +11,8 @@ ghost use Rattle.geometry.specs.Windings.{edge_of, adds};
 ghost use Rattle.paint.specs.Sets.{with_area};
 ghost use Rattle.pruning.specs.Registers.{on_item};
 ghost use Rattle.machine.specs.code.Registers.{meant};
-ghost use Rattle.stream.specs.Table.{words_at, words_from, words_passed};
-ghost use Rattle.stream.specs.Grammar.{env_of, env_passed, Passed};
+ghost use Rattle.stream.specs.Table.{words_at, words_from, words_in};
+ghost use Rattle.stream.specs.Grammar.{env_of, env_passed};
 ghost use Rattle.stream.specs.code.Machine.{run_length, end_passed};
 ghost use Rattle.evaluate.specs.Reading.{role_at, pass_at, opaque_at, set_at};
 ghost use Rattle.evaluate.specs.code.Numbers.{line_of, segment_range, segment_adds, segments_sum, moved_by, SegmentsIn, Ranged, Onward};
@@ -23,7 +23,7 @@ use geometry::fill::FillRule;
 use geometry::{fill, winding};
 use machine::Machine;
 use records::AREA_WORDS;
-use stream::{Context, Kind, Stream, Words};
+use stream::{Context, Kind, PassedStream, Stream, Words};
 
 // What a shortcut adds in row y.
 fn shortcut_adds(w: Words, y: u32) -> i64
@@ -207,12 +207,12 @@ fn read_next(stream: Stream, i: usize, context: Context, m: Machine, at: Positio
     }
 }
 
-// The shown set at a position of a stream, up to the area that stops the machine. The stream has passed `stream::check_stream`.
-pub fn read_stream(stream: Stream, context: Context, at: Position) -> u64
-    requires { Passed stream.entries.now stream.first stream.count (env_of context) }
-    ensures answer { result ≡
-        set_at (env_passed context).areas (env_passed context).xs (env_passed context).ys at.x at.y (words_passed stream) }
+// The shown set at a position of a stream, up to the area that stops the machine.
+pub fn read_stream(s: PassedStream, at: Position) -> u64
+    ensures answer { result ≡ set_at (env_of s.entry.context).areas (env_of s.entry.context).xs (env_of s.entry.context).ys
+        at.x at.y (words_in s.entry.stream) }
 {
+    let stream = s.stream;
     let end = stream.first + stream.count;
     let mut m = Machine::begun();
     let mut i = stream.first;
@@ -221,7 +221,7 @@ pub fn read_stream(stream: Stream, context: Context, at: Position) -> u64
         if m.state == machine::STOPPED {
             return m.set;
         }
-        let r = read_next(stream, i, context, m, at);
+        let r = read_next(stream, i, s.context, m, at);
         m = r.machine;
         i = r.next;
     }

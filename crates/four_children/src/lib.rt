@@ -3,7 +3,7 @@
 #![tactic(auto)]
 
 ghost use Rattle.std.specs.Prelude.{◌≡◌, [], ◌∷◌, ◌+◌, ◌*◌, ◌/◌, ◌%◌, ◌≤◌, ◌<◌, length};
-ghost use Rattle.stream.specs.Table.{words_from, words_in, words_passed, written};
+ghost use Rattle.stream.specs.Table.{words_from, words_in, written};
 ghost use Rattle.stream.specs.Grammar.{env_of, Passed};
 ghost use Rattle.celltable.specs.Ranges.{cell_of};
 ghost use Rattle.ranges.specs.Held.{lent_of, lent_passed};
@@ -14,7 +14,7 @@ ghost use Rattle.celltable.specs.Descent.{quarter_at};
 
 use celltable::{CellWords, InUse, Parent};
 use child_stream::{Count, Starts};
-use stream::{Context, Stream};
+use stream::{Context, PassedStream};
 
 // What a child's stream has; document 01 asks for an "array of four child tallies (entries, lines, starts) passed and returned by value". `entries`
 // decides 11 and where the child's stream begins, `lines` is the child's line count. `starts` are those of that stream too (`EachPass`); no call reads
@@ -50,13 +50,12 @@ fn tally_of(k: Count) -> Tally
 }
 
 // The tally of child q of the cell whose words are w.
-fn count_one(stream: Stream, context: Context, w: Parent, q: u32) -> Tally
-    requires passed { Passed stream.entries.now stream.first stream.count (env_of context) }
+fn count_one(passed: PassedStream, w: Parent, q: u32) -> Tally
     ensures answer { result ≡ tally (elements_of_child
-        (lent_passed context) (cell_of w.words) (words_passed stream) q) }
+        (lent_of passed.entry.context) (cell_of w.words) (words_in passed.entry.stream) q) }
 {
     let s = w.quarter(q);
-    let n = child_stream::count_child(stream, context, s);
+    let n = child_stream::count_child(passed, s);
     tally_of(n)
 }
 
@@ -76,29 +75,27 @@ pub fn no_tallies() -> [Tally; 4]
 }
 
 // Child q's pass: the whole of its parent's stream, before the next child's. The children before it have their tallies, those after it none.
-fn count_next(mut ts: [Tally; 4], q: u32, stream: Stream, context: Context, w: Parent) -> [Tally; 4]
+fn count_next(mut ts: [Tally; 4], q: u32, passed: PassedStream, w: Parent) -> [Tally; 4]
     requires q_bound { q < 4 }
-    requires passed { Passed stream.entries.now stream.first stream.count (env_of context) }
-    requires ts_value { ts ≡ worked_to (lent_of context) (cell_of w.words) (words_in stream) q }
+    requires ts_value { ts ≡ worked_to (lent_of passed.context) (cell_of w.words) (words_in passed.stream) q }
     ensures answer { result ≡ worked_to
-        (lent_passed context) (cell_of w.words) (words_passed stream) (q + 1) }
+        (lent_of passed.entry.context) (cell_of w.words) (words_in passed.entry.stream) (q + 1) }
 {
-    let t = count_one(stream, context, w, q);
+    let t = count_one(passed, w, q);
     ts[q as usize] = t;
     ts
 }
 
 // The tallies after the passes of the first n children, one child after another.
-pub fn count_to(stream: Stream, context: Context, w: Parent, n: u32) -> [Tally; 4]
-    requires passed { Passed stream.entries.now stream.first stream.count (env_of context) }
+pub fn count_to(passed: PassedStream, w: Parent, n: u32) -> [Tally; 4]
     requires n_bound { n ≤ 4 }
     ensures answer { result ≡ worked_to
-        (lent_passed context) (cell_of w.words) (words_passed stream) n }
+        (lent_of passed.entry.context) (cell_of w.words) (words_in passed.entry.stream) n }
 {
     let mut ts = no_tallies();
     for q in 0..n {
         // the check does not cover a call's result that is laid in an array at once
-        let next = count_next(ts, q, stream, context, w);
+        let next = count_next(ts, q, passed, w);
         ts = next;
     }
     ts

@@ -14,7 +14,7 @@ use celltable::Leaf;
 use curves::Position;
 use paint::{area, colour};
 use refusals::Refusal;
-use stream::Stream;
+use stream::{PassedStream, Stream};
 use tables::Tree;
 
 // What shows at a position: the set of areas, the material of the front one, and the colour. And how far that reaches: whether the leaf's stream holds no
@@ -61,7 +61,7 @@ fn set_in(tree: Tree, leaf: Leaf, at: Position) -> u64
         count: leaf.count as usize,
     };
     let context = tables::context_of(tree.drawing, leaf.y, leaf.side);
-    evaluate::read_stream(stream, context, at)
+    evaluate::read_stream(PassedStream { stream, context }, at)
 }
 
 // A set with its material and its colour, and the leaf from which it was read.

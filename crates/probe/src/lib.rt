@@ -4,16 +4,22 @@
 
 #![tactic(auto)]
 
+<<<<<<< HEAD
 ghost use Rattle.std.specs.Prelude.{◌≡◌, true, cond, ◌≤◌, ◌<◌, length, IfSome};
 ghost use Rattle.stream.specs.Grammar.{env, env_of, env_passed, bounds, check_stream, Passed};
 ghost use Rattle.probe.specs.Answers.{read_answer, square, leaf_on, square_fits, child_elements, child_room, number_of, answer_by, table_by, child_fits};
+=======
+ghost use Rattle.std.specs.Prelude.{◌≡◌, true, cond, ◌≤◌, ◌<◌, length};
+ghost use Rattle.stream.specs.Grammar.{env, env_of, env_passed, bounds, check_stream};
+ghost use Rattle.probe.specs.Answers.{read_answer, square, leaf_on, square_fits, child_elements, child_room, answer_by, table_by, child_fits};
+>>>>>>> d7eb81cc26dc5e3016fba0c1f0b6475d2d351800
 ghost use Rattle.probe.specs.Answers.{number_in, tally_number, tally_answer};
 
 use celltable::{CellWords, Parent};
 use curves::Position;
 use four_children::Tally;
 use geometry::class::Square;
-use stream::{Bounds, Context, Stream};
+use stream::{Bounds, Context, PassedStream, Stream};
 
 // The last position, in x and in y.
 const LAST: u32 = celltable::GRID - 1;
@@ -108,7 +114,7 @@ pub extern "C" fn probe_read(
     };
     let context = context_of(areas, xs, ys, areas_used, corners_used, low, side);
     if stream_passes(stream, used, context) && (x <= LAST) & (y <= LAST) {
-        evaluate::read_stream(stream, context, Position { x, y })
+        evaluate::read_stream(PassedStream { stream, context }, Position { x, y })
     } else {
         0
     }
@@ -141,14 +147,17 @@ fn square_fits(s: Square) -> bool
 }
 
 // How many entries the child's stream has.
-fn entries_made(stream: Stream, context: Context, s: Square) -> usize
-    requires passed { Passed stream.entries.now stream.first stream.count (env_of context) }
+fn entries_made(passed: PassedStream, s: Square) -> usize
     requires s_value { square_fits s ≡ true }
-    ensures answer { result ≡
-        length (child_elements stream.entry.entries.now stream.entry.first stream.entry.count (env_passed context) s) }
+    ensures answer { let t = passed.entry.stream in
+        result ≡ length (child_elements t.entries.now t.first t.count (env_of passed.entry.context) s) }
     ensures range { result < 65536 }
 {
+<<<<<<< HEAD
     four_children::entries_in(child_stream::count_child(stream, context, s).weight)
+=======
+    (child_stream::count_child(passed, s).weight % 65536) as usize
+>>>>>>> d7eb81cc26dc5e3016fba0c1f0b6475d2d351800
 }
 
 // Writes the child's stream behind the entries in use, if it fits there: the number of its entries. The table is lent to be written, so it and the
@@ -176,7 +185,7 @@ fn write_if_room(
         first,
         count,
     };
-    let n = entries_made(stream, context, s);
+    let n = entries_made(PassedStream { stream, context }, s);
     if used + n <= entries.len() / stream::ENTRY_WORDS {
         child_stream::write_child(entries, first, count, used, n, context, s);
         Some(n)
@@ -247,15 +256,14 @@ fn number_in(t: Tally, number: usize) -> i64
 }
 
 // The number of child k after the passes of the first q children of the square.
-fn tally_number(stream: Stream, context: Context, s: Square, q: u32, k: u32, number: usize) -> i64
-    requires passed { Passed stream.entries.now stream.first stream.count (env_of context) }
+fn tally_number(passed: PassedStream, s: Square, q: u32, k: u32, number: usize) -> i64
     requires s_value { square_fits s ≡ true }
     requires lt_side { (1 < s.side) × (q ≤ 4) × (k < 4) }
-    ensures answer { result ≡
-        tally_number stream.entry.entries.now stream.entry.first stream.entry.count (env_passed context) s q k number }
+    ensures answer { let t = passed.entry.stream in
+        result ≡ tally_number t.entries.now t.first t.count (env_of passed.entry.context) s q k number }
 {
     let words = leaf_on(s);
-    let tallies = four_children::count_to(stream, context, Parent { words }, q);
+    let tallies = four_children::count_to(passed, Parent { words }, q);
     number_in(tallies[k as usize], number)
 }
 
@@ -294,7 +302,7 @@ pub extern "C" fn probe_tally(
         && square_fits(s)
         && (1 < side) & (q <= celltable::CHILDREN) & (k < celltable::CHILDREN)
     {
-        tally_number(stream, context, s, q, k, number)
+        tally_number(PassedStream { stream, context }, s, q, k, number)
     } else {
         0
     }

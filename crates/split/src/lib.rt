@@ -3,11 +3,10 @@
 #![tactic(auto)]
 
 ghost use Rattle.std.specs.Prelude.{◌≡◌, true, ◌+◌, ◌*◌, ◌≤◌, ◌<◌, length, get_or};
-ghost use Rattle.stream.specs.Table.{words_from, words_passed};
-ghost use Rattle.stream.specs.Grammar.{env_of, Passed};
+ghost use Rattle.stream.specs.Table.{words_from, words_in};
 ghost use Rattle.celltable.specs.Table.{put_child_at};
 ghost use Rattle.celltable.specs.Ranges.{square_range, cell_of};
-ghost use Rattle.ranges.specs.Held.{lent_passed};
+ghost use Rattle.ranges.specs.Held.{lent_of, lent_passed};
 ghost use Rattle.four_children.specs.Children.{streams_to};
 ghost use Rattle.four_children.specs.code.Numbers.{no_tally, worked_to, cells_by, FewEach};
 ghost use Rattle.tables.specs.Tables.{tree, bounds_of, tree_passed, tree_passed_mut};
@@ -20,7 +19,7 @@ use celltable::{CellWords, Cells, InUse, Parent};
 use drawing::Drawing;
 use four_children::Tally;
 use refusals::Refusal;
-use stream::{Context, Stream};
+use stream::{Context, PassedStream, Stream};
 use tables::Tree;
 
 // A split that no check refuses: the number of the first child, and the tallies of the four children.
@@ -56,21 +55,19 @@ fn judge_room(cells: usize, entries: usize, in_use: InUse, made: usize) -> Resul
 
 // The children of a leaf with this stream are worked out, then 11. `cells` is the length of the table of cells.
 fn judge_children(
-    stream: Stream,
-    context: Context,
+    passed: PassedStream,
     cells: usize,
     in_use: InUse,
     w: Parent,
 ) -> Result<Planned, Refusal>
-    requires { Passed stream.entries.now stream.first stream.count (env_of context) }
     ensures answer { result ≡ planned
-        (room_answer cells (length stream.entry.entries.now) in_use.cells in_use.entries
-        (length (streams_to (lent_passed context) (cell_of w.words) (words_passed stream) 4)))
-        (worked_to (lent_passed context) (cell_of w.words) (words_passed stream) 4) }
+        (room_answer cells (length passed.entry.stream.entries.now) in_use.cells in_use.entries
+        (length (streams_to (lent_of passed.entry.context) (cell_of w.words) (words_in passed.entry.stream) 4)))
+        (worked_to (lent_of passed.entry.context) (cell_of w.words) (words_in passed.entry.stream) 4) }
 {
-    let children = four_children::count_to(stream, context, w, celltable::CHILDREN);
+    let children = four_children::count_to(passed, w, celltable::CHILDREN);
     let made = entries_of(children);
-    let child = judge_room(cells, stream.entries.len(), in_use, made)?;
+    let child = judge_room(cells, passed.stream.entries.len(), in_use, made)?;
     Ok(Planned { child, children })
 }
 
@@ -96,8 +93,7 @@ fn judge_leaf(tree: Tree, context: Context, in_use: InUse, w: CellWords) -> Resu
         return Err(Refusal::Smallest);
     }
     judge_children(
-        stream,
-        context,
+        PassedStream { stream, context },
         tree.cells.len(),
         in_use,
         Parent { words: w },

@@ -5,7 +5,7 @@
 ghost use Rattle.std.specs.Prelude.{◌≡◌, false, ◌+◌, ◌*◌, ◌-◌, ◌≤◌, ◌<◌, length, None, Some, MatchOption};
 ghost use Rattle.stream.specs.Table.{words_at, words_from, put_at};
 ghost use Rattle.stream.specs.Grammar.{env_of, env_passed, corner_met, line_range, curve_range, shortcut_range, role_fits, used_range};
-ghost use Rattle.stream.specs.Grammar.{ContextReady, accepts};
+ghost use Rattle.stream.specs.Grammar.{ContextReady, Passed, accepts};
 ghost use Rattle.stream.specs.Entry.{is_curve, is_line, is_segment};
 ghost use Rattle.stream.specs.Kinds.{kind_number, kind_at};
 ghost use Rattle.stream.specs.code.Machine.{in_groups, with_area_n, area_fits_n, other_n};
@@ -129,6 +129,14 @@ pub struct Stream<'a> {
     pub entries: &'a [u32],
     pub first: usize,
     pub count: usize,
+}
+
+// A stream that has passed `check_stream` in this context.
+#[derive(Clone, Copy)]
+pub struct PassedStream<'a> {
+    pub stream: Stream<'a>,
+    pub context: Context<'a>,
+    pub ghost passed: { Passed stream.entries.now stream.first stream.count (env_of context) },
 }
 
 // Where a reader of a stream stands. `held`: an area, a line, a curve or a shortcut stands straight before; it says so by itself, since no value goes

@@ -32,13 +32,13 @@ module _ (x : Context) (q : Square) (s : Stream) (P : Passed s.entries.now s.fir
 pub loop-i-init : goal.loop-i-init
 loop-i-init c =
     let a = c.args in
-    counting_begin (env_of a.context) (lent_of a.context) (cell_in a.s) (reads a.context a.s a.parent c.requires.passed)
-    a.parent.entries.now a.parent.first a.parent.count c.requires.passed c.begun-m.result _ c.begun-m.ensures.pruner c.begun-m.ensures.waiting refl
+    counting_begin (env_of a.passed.context) (lent_of a.passed.context) (cell_in a.s) (reads a.passed.context a.s a.passed.stream a.passed.passed)
+    a.passed.stream.entries.now a.passed.stream.first a.passed.stream.count a.passed.passed c.begun-m.result _ c.begun-m.ensures.pruner c.begun-m.ensures.waiting refl
 
 pub note-requires : goal.note-requires
 note-requires c =
     let a = c.args in
-    let h = here a.context a.s a.parent c.requires.passed _ _ _ c.loop-i.invariant c.loop-i-test.true _ c.read_entry-w.ensures.answer in
+    let h = here a.passed.context a.s a.passed.stream a.passed.passed _ _ _ c.loop-i.invariant c.loop-i-test.true _ c.read_entry-w.ensures.answer in
     h.small
 
 pub go_on-requires : goal.go_on-requires
@@ -46,50 +46,50 @@ go_on-requires c =
     let a = c.args in
     record {
       square_in = c.requires.square_in;
-      asks = here a.context a.s a.parent c.requires.passed _ _ _ c.loop-i.invariant c.loop-i-test.true _ c.read_entry-w.ensures.answer;
+      asks = here a.passed.context a.s a.passed.stream a.passed.passed _ _ _ c.loop-i.invariant c.loop-i-test.true _ c.read_entry-w.ensures.answer;
     }
 
 pub loop-i-preserved : goal.loop-i-preserved
 loop-i-preserved c =
     let a = c.args in
     let wd = c.read_entry-w.result in
-    counting_turn (env_of a.context) (lent_of a.context) (cell_in a.s) (reads a.context a.s a.parent c.requires.passed) a.parent.entries.now
-    a.parent.first a.parent.count c.requires.passed c.loop-i.i c.loop-i.m c.loop-i.at c.loop-i.invariant c.loop-i-test.true _ wd a.s
-    (left_class a.context.xs.now a.context.ys.now a.s wd) (left_sign a.context.xs.now a.context.ys.now wd) c.read_entry-w.ensures.answer
+    counting_turn (env_of a.passed.context) (lent_of a.passed.context) (cell_in a.s) (reads a.passed.context a.s a.passed.stream a.passed.passed) a.passed.stream.entries.now
+    a.passed.stream.first a.passed.stream.count a.passed.passed c.loop-i.i c.loop-i.m c.loop-i.at c.loop-i.invariant c.loop-i-test.true _ wd a.s
+    (left_class a.passed.context.xs.now a.passed.context.ys.now a.s wd) (left_sign a.passed.context.xs.now a.passed.context.ys.now wd) c.read_entry-w.ensures.answer
     c.read_entry-w.type_inv.1.1.1.1.0.1 c.requires.s_value refl refl c.go_on.ensures.pruner c.go_on.ensures.waiting _ c.note.ensures.at
 
 pub note-requires-2 : goal.note-requires-2
 note-requires-2 c =
     let a = c.args in
-    let l = held a.context a.s a.parent c.requires.passed _ _ _ c.loop-i.invariant in
+    let l = held a.passed.context a.s a.passed.stream a.passed.passed _ _ _ c.loop-i.invariant in
     waits_small _ c.loop-i.m.waiting
-    (end_inside (env_of a.context) (lent_of a.context) (cell_in a.s) (reads a.context a.s a.parent c.requires.passed)
-    a.parent.entries.now a.parent.first a.parent.count c.requires.passed c.loop-i.i c.loop-i.m l c.loop-i-test.false)
+    (end_inside (env_of a.passed.context) (lent_of a.passed.context) (cell_in a.s) (reads a.passed.context a.s a.passed.stream a.passed.passed)
+    a.passed.stream.entries.now a.passed.stream.first a.passed.stream.count a.passed.passed c.loop-i.i c.loop-i.m l c.loop-i-test.false)
 
 pub weight-weight-requires : goal.weight-weight-requires
 weight-weight-requires c =
     let a = c.args in
-    let R = reads a.context a.s a.parent c.requires.passed in
-    let l = held a.context a.s a.parent c.requires.passed _ _ _ c.loop-i.invariant in
+    let R = reads a.passed.context a.s a.passed.stream a.passed.passed in
+    let l = held a.passed.context a.s a.passed.stream a.passed.passed _ _ _ c.loop-i.invariant in
     record {
-      inside = end_inside (env_of a.context) (lent_of a.context) (cell_in a.s) R a.parent.entries.now a.parent.first a.parent.count
-          c.requires.passed c.loop-i.i c.loop-i.m l c.loop-i-test.false;
-      weight_bound = end_room (env_of a.context) (lent_of a.context) (cell_in a.s) R a.parent.entries.now a.parent.first a.parent.count
-          c.requires.passed c.loop-i.i c.loop-i.m l c.loop-i-test.false;
+      inside = end_inside (env_of a.passed.context) (lent_of a.passed.context) (cell_in a.s) R a.passed.stream.entries.now a.passed.stream.first a.passed.stream.count
+          a.passed.passed c.loop-i.i c.loop-i.m l c.loop-i-test.false;
+      weight_bound = end_room (env_of a.passed.context) (lent_of a.passed.context) (cell_in a.s) R a.passed.stream.entries.now a.passed.stream.first a.passed.stream.count
+          a.passed.passed c.loop-i.i c.loop-i.m l c.loop-i-test.false;
     }
 
 pub returns : goal.returns
 returns c =
     let a = c.args in
-    let R = reads a.context a.s a.parent c.requires.passed in
-    let l = held a.context a.s a.parent c.requires.passed _ _ _ c.loop-i.invariant in
+    let R = reads a.passed.context a.s a.passed.stream a.passed.passed in
+    let l = held a.passed.context a.s a.passed.stream a.passed.passed _ _ _ c.loop-i.invariant in
     let weight = c.weight-weight.ensures.answer
-    ∙ end_weight (env_of a.context) (lent_of a.context) (cell_in a.s) R a.parent.entries.now a.parent.first a.parent.count
-    c.requires.passed c.loop-i.i c.loop-i.m l c.loop-i-test.false in
+    ∙ end_weight (env_of a.passed.context) (lent_of a.passed.context) (cell_in a.s) R a.passed.stream.entries.now a.passed.stream.first a.passed.stream.count
+    a.passed.passed c.loop-i.i c.loop-i.m l c.loop-i-test.false in
     record {
       weight = weight;
       starts = c.ended-starts.ensures.answer
-          ∙ counting_end (env_of a.context) (lent_of a.context) (cell_in a.s) R a.parent.entries.now a.parent.first a.parent.count
-          c.requires.passed c.loop-i.i c.loop-i.m c.loop-i.at c.loop-i.invariant c.loop-i-test.false _ c.note-2.ensures.at c.weight-weight.result
+          ∙ counting_end (env_of a.passed.context) (lent_of a.passed.context) (cell_in a.s) R a.passed.stream.entries.now a.passed.stream.first a.passed.stream.count
+          a.passed.passed c.loop-i.i c.loop-i.m c.loop-i.at c.loop-i.invariant c.loop-i-test.false _ c.note-2.ensures.at c.weight-weight.result
           weight;
     }

@@ -9,7 +9,7 @@ use Rattle.evaluate.proofs.read_stream.Given as goal
 
 abbrev pub invariant-loop-i : goal.invariant-loop-i
 invariant-loop-i l =
-    let v = l.context in
+    let v = l.s.context in
     record {
       above : l.stream.first ≤ l.i;
       below : l.i ≤ l.end;

@@ -16,7 +16,6 @@ use Rattle.four_children.proofs.count_one.Goals as goal
 pub count_child-n-requires : goal.count_child-n-requires
 count_child-n-requires c = let a = c.args in
     record {
-      passed = c.requires.passed;
       square_in = kid_square a.w.words a.w.on_grid a.q c.quarter-s.result c.quarter-s.ensures.answer;
       s_value = kid_back a.w.words a.w.on_grid a.q c.quarter-s.result c.quarter-s.ensures.answer;
     }
@@ -24,12 +23,12 @@ count_child-n-requires c = let a = c.args in
 pub returns : goal.returns
 returns c =
     let a = c.args in
-    let D = lent_of a.context in
-    let ws = words_in a.stream in record {
+    let D = lent_of a.passed.context in
+    let ws = words_in a.passed.stream in record {
       answer = c.tally_of.ensures.answer
           ∙ tally_is (elements_of_child D (cell_of a.w.words) ws a.q) c.count_child-n.result
-          (few_elements a.stream.entries.now a.context.areas.now a.context.xs.now a.context.ys.now a.context.bounds a.stream.first a.stream.count _
-          c.requires.passed)
+          (few_elements a.passed.stream.entries.now a.passed.context.areas.now a.passed.context.xs.now a.passed.context.ys.now a.passed.context.bounds a.passed.stream.first a.passed.stream.count _
+          a.passed.passed)
           (c.count_child-n.ensures.weight
           ∙ ap (λ (k : Cell). total element_size (elements_made D k ws))
           (kid_in a.w.words a.w.on_grid a.q c.quarter-s.result c.quarter-s.ensures.answer))

@@ -5,4 +5,4 @@ use Rattle.four_children.proofs.Worked.{Working}
 use Rattle.four_children.proofs.count_to.Given as goal
 
 abbrev pub invariant-loop-q : goal.invariant-loop-q
-invariant-loop-q l = Working (lent_of l.context) (cell_of l.w.words) (words_in l.stream) l.n l.q l.ts
+invariant-loop-q l = Working (lent_of l.passed.context) (cell_of l.w.words) (words_in l.passed.stream) l.n l.q l.ts

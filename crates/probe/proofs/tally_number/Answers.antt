@@ -19,11 +19,11 @@ invariant_of-count_to c =
 pub returns : goal.returns
 returns c =
     let a = c.args in
-    let v = a.context in
+    let v = a.passed.context in
     record {
       answer = read_back _ c.number_in.type_inv
           ∙ (c.number_in.ensures.answer
           ∙ (ap (λ (ts : List Tally). number_in (get_or ts a.k no_tally) a.number) c.count_to-tallies.ensures.answer
           ∙ ap (λ (w : CellWords). number_in (get_or (worked_to (lent v.areas.now v.xs.now v.ys.now v.bounds) (cell_of w)
-          (words_in a.stream) a.q) a.k no_tally) a.number) c.leaf_on-words.ensures.answer));
+          (words_in a.passed.stream) a.q) a.k no_tally) a.number) c.leaf_on-words.ensures.answer));
     }

@@ -4,8 +4,8 @@ use Rattle.stream.proofs.Passed.{passed}
 use Rattle.probe.proofs.Laws.{square_in_law, square_cell, check_used}
 use Rattle.probe.proofs.write_if_room.Goals as goal
 
-pub entries_made-n-requires-clause-passed : goal.entries_made-n-requires-clause-passed
-entries_made-n-requires-clause-passed c = passed _ _ _ _ _ c.requires.b_value
+pub invariant_of-entries_made : goal.invariant_of-entries_made
+invariant_of-entries_made c = record { passed = passed _ _ _ _ _ c.requires.b_value }
 
 pub overflow_add-used : goal.overflow_add-used
 overflow_add-used c =
