@@ -26,7 +26,7 @@ returns c =
     let a = c.args in
     let D = lent_of a.context in
     let ws = words_in a.stream in record {
-      answer = c.tally_of.ensures.answer
+      answer = c.from.ensures
           ∙ tally_is (elements_of_child D (cell_of a.w.words) ws a.q) c.count_child-n.result
           (few_elements a.stream.entries.now a.context.areas.now a.context.xs.now a.context.ys.now a.context.bounds a.stream.first a.stream.count _
           c.requires.passed)
