@@ -11,7 +11,7 @@ use Rattle.laws.proofs.Booleans.{and_left}
 use Rattle.cells.specs.Cells.{Position, at, Cell, cell, left, low, level, side, root, Quarter, along_x, along_y, child, quarter_by, quarter_of}
 use Rattle.celltable.specs.declared.CellWords.{CellWords}
 use Rattle.celltable.specs.declared.Cursor.{Cursor}
-use Rattle.celltable.specs.declared.Down.TheVariants.{Deeper, AtLeaf}
+use Rattle.std.specs.declared.ops.ControlFlow.TheVariants.{Continue, Break}
 use Rattle.std.specs.Prelude.{Option, None, Some}
 use Rattle.celltable.specs.declared.Leaf.{Leaf}
 use Rattle.celltable.specs.Table.{cell_at}
@@ -126,7 +126,7 @@ module _ (t : List ℕ) (used entries px py : ℕ) where
           → on_square w c ≡ a
           → numbers ≡ b
           → eqb w.child 0 ≡ d
-          → go_on (cond a (cond b (cond d (Some (AtLeaf (leaf_of i steps w))) (Some (Deeper (deeper_n (cursor_of i p steps c) w.child px py)))) None) None)
+          → go_on (cond a (cond b (cond d (Some (Break (leaf_of i steps w))) (Some (Continue (deeper_n (cursor_of i p steps c) w.child px py)))) None) None)
           (walk_n t used entries px py n)
           ≡ cond (cell_range t i used entries) (cond a (cond d (Some (leaf_of i steps w)) deeper) None) None
       go true true true e f k = rw (numbers_are i p steps c g o r e ∙ f)

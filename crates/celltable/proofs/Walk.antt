@@ -10,8 +10,8 @@ use Rattle.laws.proofs.Booleans.{and_left}
 use Rattle.celltable.specs.declared.CellWords.{CellWords}
 use Rattle.celltable.specs.declared.Cursor.{Cursor}
 use Rattle.celltable.specs.declared.Leaf.{Leaf}
-use Rattle.celltable.specs.declared.Down.{Down}
-use Rattle.celltable.specs.declared.Down.TheVariants.{Deeper, AtLeaf}
+use Rattle.std.specs.declared.ops.ControlFlow.{ControlFlow}
+use Rattle.std.specs.declared.ops.ControlFlow.TheVariants.{Continue, Break}
 use Rattle.std.specs.Prelude.{Option, None, Some}
 use Rattle.celltable.specs.Table.{cell_at}
 use Rattle.celltable.specs.Ranges.{child_range, half_at}
@@ -39,18 +39,18 @@ module _ (t : List ℕ) (used entries : ℕ) (c : Cursor) (px py : ℕ) (w : Cel
         met : None ≡ met_n t w used entries c px py
         met = rw (← r, k, ← q, h)
 
-    pub step_landed : f ≡ true → w.child ≡ 0 → Some (AtLeaf (leaf_of c.cell c.steps w)) ≡ step_n t used entries c px py
+    pub step_landed : f ≡ true → w.child ≡ 0 → Some (Break (leaf_of c.cell c.steps w)) ≡ step_n t used entries c px py
     unfolding met_n
     step_landed h l = met ∙ read_is
       where
-        met : Some (AtLeaf (leaf_of c.cell c.steps w)) ≡ met_n t w used entries c px py
+        met : Some (Break (leaf_of c.cell c.steps w)) ≡ met_n t w used entries c px py
         met = rw (← r, k, ← q, h, eq-eqb w.child 0 l)
 
-    pub step_deeper : (next : Cursor) → f ≡ true → (w.child ≡ 0 → ⊥) → next ≡ deeper_n c w.child px py → Some (Deeper next) ≡ step_n t used entries c px py
+    pub step_deeper : (next : Cursor) → f ≡ true → (w.child ≡ 0 → ⊥) → next ≡ deeper_n c w.child px py → Some (Continue next) ≡ step_n t used entries c px py
     unfolding met_n
     step_deeper next h l e = met ∙ read_is
       where
-        met : Some (Deeper next) ≡ met_n t w used entries c px py
+        met : Some (Continue next) ≡ met_n t w used entries c px py
         met = rw (← r, k, ← q, h, ne_eqb w.child 0 l, e)
 
 -- a cell whose numbers pass has children in range
@@ -59,8 +59,8 @@ pub numbers_child : (t : List ℕ) (used entries : ℕ) (c : Cursor) (w : CellWo
 numbers_child t used entries c w f q h = and_left (child_range w.child used) _ (sym q ∙ h)
 
 -- ---- the loop: what is left gives what the whole gives
-module _ (t : List ℕ) (used entries px py n : ℕ) (c : Cursor) (r : Option Down) (whole : Option Leaf) where
-  walk_step : (d : Option Down)
+module _ (t : List ℕ) (used entries px py n : ℕ) (c : Cursor) (r : Option (ControlFlow Leaf Cursor)) (whole : Option Leaf) where
+  walk_step : (d : Option (ControlFlow Leaf Cursor))
       → 0 < n
       → r ≡ step_n t used entries c px py
       → r ≡ d
@@ -75,13 +75,13 @@ module _ (t : List ℕ) (used entries px py n : ℕ) (c : Cursor) (r : Option Do
   pub walk_deeper : (c' : Cursor)
       → 0 < n
       → r ≡ step_n t used entries c px py
-      → r ≡ Some (Deeper c')
+      → r ≡ Some (Continue c')
       → walk_n t used entries px py n c ≡ whole
       → walk_n t used entries px py (n - 1) c' ≡ whole
-  walk_deeper c' h p q inv = walk_step (Some (Deeper c')) h p q inv
+  walk_deeper c' h p q inv = walk_step (Some (Continue c')) h p q inv
 
-  pub walk_landed : (l : Leaf) → 0 < n → r ≡ step_n t used entries c px py → r ≡ Some (AtLeaf l) → walk_n t used entries px py n c ≡ whole → Some l ≡ whole
-  walk_landed l h p q inv = walk_step (Some (AtLeaf l)) h p q inv
+  pub walk_landed : (l : Leaf) → 0 < n → r ≡ step_n t used entries c px py → r ≡ Some (Break l) → walk_n t used entries px py n c ≡ whole → Some l ≡ whole
+  walk_landed l h p q inv = walk_step (Some (Break l)) h p q inv
 
   pub walk_bad : 0 < n → r ≡ step_n t used entries c px py → r ≡ None → walk_n t used entries px py n c ≡ whole → None ≡ whole
   walk_bad h p q inv = walk_step None h p q inv
@@ -122,7 +122,7 @@ deeper_follows used first px py c u =
     upper : Bool
     upper = leb (c.y + c.side / 2) py
 
-step_follows : (t : List ℕ) (used entries px py : ℕ) (c c' : Cursor) (r : Option Down) → r ≡ step_n t used entries c px py → r ≡ Some (Deeper c') →
+step_follows : (t : List ℕ) (used entries px py : ℕ) (c c' : Cursor) (r : Option (ControlFlow Leaf Cursor)) → r ≡ step_n t used entries c px py → r ≡ Some (Continue c') →
     Follows c c' used
 unfolding met_n
 step_follows t used entries px py c c' r p q = go (stands_n c w) numbers (eqb w.child 0) refl refl (sym p ∙ q)
@@ -134,7 +134,7 @@ step_follows t used entries px py c c' r p q = go (stands_n c w) numbers (eqb w.
     numbers = numbers_n t used entries c w
 
     go : (a b d : Bool) → numbers ≡ b → eqb w.child 0 ≡ d
-        → cond a (cond b (cond d (Some (AtLeaf (leaf_of c.cell c.steps w))) (Some (Deeper (deeper_n c w.child px py)))) None) None ≡ Some (Deeper c')
+        → cond a (cond b (cond d (Some (Break (leaf_of c.cell c.steps w))) (Some (Continue (deeper_n c w.child px py)))) None) None ≡ Some (Continue c')
         → Follows c c' used
     go true true false e f k =
         let s : deeper_n c w.child px py ≡ c' = cc in
@@ -155,7 +155,7 @@ pub record Going (c : Cursor) (used n : ℕ) : Type 0 where
 pub going_start : (used : ℕ) → 1 ≤ used → Going start_n used 17
 going_start used h = record { in_use = h; east = omega arith; north = omega arith; counted = refl }
 
-pub going_on : (t : List ℕ) (used entries px py n : ℕ) (c c' : Cursor) (r : Option Down) → 0 < n → r ≡ step_n t used entries c px py → r ≡ Some (Deeper c')
+pub going_on : (t : List ℕ) (used entries px py n : ℕ) (c c' : Cursor) (r : Option (ControlFlow Leaf Cursor)) → 0 < n → r ≡ step_n t used entries c px py → r ≡ Some (Continue c')
     → Going c used n → Going c' used (n - 1)
 going_on t used entries px py n c c' r h p q g =
     let f : Follows c c' used = step_follows t used entries px py c c' r p q in

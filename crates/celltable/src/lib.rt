@@ -12,6 +12,7 @@ ghost use Rattle.celltable.specs.Descent.{quarter_at, descend_in};
 ghost use Rattle.celltable.specs.code.Numbers.{deeper_n, stands_n, parent_n, numbers_n, step_n, CursorIn};
 
 use geometry::class::Square;
+use std::ops::ControlFlow;
 
 // The side of cell 0, one past the last position. `records::GRID` is another number: the largest coordinate of a corner.
 pub const GRID: u32 = 65536;
@@ -115,13 +116,6 @@ pub struct Leaf {
     pub first: u32,
     pub count: u32,
     pub lines: u32,
-}
-
-// One step down: the next cursor, or the leaf.
-#[derive(Clone, Copy)]
-pub enum Down {
-    Deeper(Cursor),
-    AtLeaf(Leaf),
 }
 
 // ---- the table of cells
@@ -341,7 +335,7 @@ impl Cursor {
     }
 
     // The cell is read and tried; a leaf ends the way, another cell gives the cursor one level deeper.
-    fn step(self, cells: Cells, px: u32, py: u32) -> Option<Down>
+    fn step(self, cells: Cells, px: u32, py: u32) -> Option<ControlFlow<Leaf, Cursor>>
         requires cells_in { CellsIn cells.table.now cells.used }
         requires cursor_in { CursorIn self cells.used }
         ensures answer { result ≡ step_n cells.entry.table.now cells.entry.used cells.entry.entries self px py }
@@ -354,9 +348,9 @@ impl Cursor {
             return None;
         }
         if w.child != 0 {
-            return Some(Down::Deeper(self.deeper(w.child, px, py)));
+            return Some(ControlFlow::Continue(self.deeper(w.child, px, py)));
         }
-        Some(Down::AtLeaf(Leaf {
+        Some(ControlFlow::Break(Leaf {
             cell: self.cell,
             x: w.x,
             y: w.y,
@@ -385,10 +379,10 @@ impl Cells<'_> {
         };
         for k in 0..LONGEST_WAY {
             match c.step(self, x, y)? {
-                Down::Deeper(next) => {
+                ControlFlow::Continue(next) => {
                     c = next;
                 }
-                Down::AtLeaf(leaf) => {
+                ControlFlow::Break(leaf) => {
                     return Some(leaf);
                 }
             }

@@ -85,12 +85,8 @@ pub fn read_leaf(tree: Tree, x: u32, y: u32) -> Result<LeafRead, Refusal>
         used: tree.head[celltable::CELLS] as usize,
         entries: tree.head[celltable::ENTRIES] as usize,
     };
-    let Some(leaf) = cells.descend(x, y) else {
-        return Err(Refusal::Broken);
-    };
-    let Some(checked) = check_leaf(tree, cells.entries, leaf) else {
-        return Err(Refusal::Broken);
-    };
+    let leaf = cells.descend(x, y).ok_or(Refusal::Broken)?;
+    let checked = check_leaf(tree, cells.entries, leaf).ok_or(Refusal::Broken)?;
     if checked.lines != leaf.lines {
         return Err(Refusal::Broken);
     }
@@ -120,9 +116,7 @@ pub fn find_leaf(tree: Tree, x: u32, y: u32) -> Result<FoundLeaf, Refusal>
     if tree.drawing.xs.len() != tree.drawing.ys.len() {
         return Err(Refusal::Argument);
     }
-    let Some(at) = position_at(x, y) else {
-        return Err(Refusal::Argument);
-    };
+    let at = position_at(x, y).ok_or(Refusal::Argument)?;
     let read = read_leaf(tree, at.x, at.y)?;
     Ok(FoundLeaf::from(read))
 }

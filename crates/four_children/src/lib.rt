@@ -39,13 +39,16 @@ pub fn lines_in(weight: u64) -> usize
     (weight / 65536 % 65536) as usize
 }
 
-fn tally_of(k: Count) -> Tally
-    ensures answer { result ≡ tally_n k }
-{
-    Tally {
-        entries: entries_in(k.weight),
-        lines: lines_in(k.weight),
-        starts: k.starts,
+// The tally of a stream that was counted.
+impl From<Count> for Tally {
+    ghost from_gives = { λ k t. t ≡ tally_n k };
+
+    fn from(k: Count) -> Tally {
+        Tally {
+            entries: entries_in(k.weight),
+            lines: lines_in(k.weight),
+            starts: k.starts,
+        }
     }
 }
 
@@ -56,7 +59,7 @@ fn count_one(passed: PassedStream, w: Parent, q: u32) -> Tally
 {
     let s = w.quarter(q);
     let n = child_stream::count_child(passed, s);
-    tally_of(n)
+    Tally::from(n)
 }
 
 // The tallies before any child's pass.

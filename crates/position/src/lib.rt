@@ -159,9 +159,7 @@ pub fn position(tree: Tree, x: u32, y: u32) -> Result<Spot, Refusal>
     if tree.drawing.xs.len() != tree.drawing.ys.len() {
         return Err(Refusal::Argument);
     }
-    let Some(at) = find_leaf::position_at(x, y) else {
-        return Err(Refusal::Argument);
-    };
+    let at = find_leaf::position_at(x, y).ok_or(Refusal::Argument)?;
     // These two and not `read_at`: nothing was read before, and so the call takes 50 instructions fewer.
     let shown = leaf_anew(tree, at)?;
     let set = set_for(tree, shown, at);

@@ -4,15 +4,9 @@
 
 #![tactic(auto)]
 
-<<<<<<< HEAD
 ghost use Rattle.std.specs.Prelude.{◌≡◌, true, cond, ◌≤◌, ◌<◌, length, IfSome};
 ghost use Rattle.stream.specs.Grammar.{env, env_of, env_passed, bounds, check_stream, Passed};
 ghost use Rattle.probe.specs.Answers.{read_answer, square, leaf_on, square_fits, child_elements, child_room, number_of, answer_by, table_by, child_fits};
-=======
-ghost use Rattle.std.specs.Prelude.{◌≡◌, true, cond, ◌≤◌, ◌<◌, length};
-ghost use Rattle.stream.specs.Grammar.{env, env_of, env_passed, bounds, check_stream};
-ghost use Rattle.probe.specs.Answers.{read_answer, square, leaf_on, square_fits, child_elements, child_room, answer_by, table_by, child_fits};
->>>>>>> d7eb81cc26dc5e3016fba0c1f0b6475d2d351800
 ghost use Rattle.probe.specs.Answers.{number_in, tally_number, tally_answer};
 
 use celltable::{CellWords, Parent};
@@ -153,11 +147,7 @@ fn entries_made(passed: PassedStream, s: Square) -> usize
         result ≡ length (child_elements t.entries.now t.first t.count (env_of passed.entry.context) s) }
     ensures range { result < 65536 }
 {
-<<<<<<< HEAD
-    four_children::entries_in(child_stream::count_child(stream, context, s).weight)
-=======
-    (child_stream::count_child(passed, s).weight % 65536) as usize
->>>>>>> d7eb81cc26dc5e3016fba0c1f0b6475d2d351800
+    four_children::entries_in(child_stream::count_child(passed, s).weight)
 }
 
 // Writes the child's stream behind the entries in use, if it fits there: the number of its entries. The table is lent to be written, so it and the

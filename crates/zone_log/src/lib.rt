@@ -14,9 +14,6 @@ use position::Shown;
 use refusals::{Refusal, Refused};
 use tables::Tree;
 
-// One past the largest number that a word holds.
-const WORD_END: usize = 4294967296;
-
 // What shows at an index of a run, and its material.
 #[derive(Clone, Copy)]
 struct Met {
@@ -68,7 +65,7 @@ fn counted(count: Option<usize>, i: usize) -> Option<usize>
     ensures answer { result ≡ counted_n count i }
 {
     match count {
-        Some(n) if i < WORD_END => Some(n + 1),
+        Some(n) if u32::try_from(i).is_ok() => Some(n + 1),
         _ => None,
     }
 }

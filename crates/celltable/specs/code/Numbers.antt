@@ -2,8 +2,8 @@
 use Rattle.std.specs.Prelude.{ℕ, zero, suc, ◌+◌, ◌*◌, ◌/◌, ◌≤◌, ◌<◌, Bool, cond, ◌&&◌, ◌||◌, List, eqb, leb, Option, None, Some}
 use Rattle.celltable.specs.declared.CellWords.{CellWords}
 use Rattle.celltable.specs.declared.Cursor.{Cursor}
-use Rattle.celltable.specs.declared.Down.{Down}
-use Rattle.celltable.specs.declared.Down.TheVariants.{Deeper, AtLeaf}
+use Rattle.std.specs.declared.ops.ControlFlow.{ControlFlow}
+use Rattle.std.specs.declared.ops.ControlFlow.TheVariants.{Continue, Break}
 use Rattle.celltable.specs.declared.Leaf.{Leaf}
 use Rattle.celltable.specs.Table.{cell_at}
 use Rattle.celltable.specs.Ranges.{child_range, entry_range, half_at, parent_range}
@@ -37,21 +37,21 @@ abbrev pub numbers_n : List ℕ → (used entries : ℕ) → Cursor → CellWord
 numbers_n t used entries c w = child_range w.child used && (entry_range w.first w.count entries && parent_n t used c w)
 
 -- what a cell with the words w gives
-unfoldable pub met_n : List ℕ → CellWords → (used entries : ℕ) → Cursor → (px py : ℕ) → Option Down
+unfoldable pub met_n : List ℕ → CellWords → (used entries : ℕ) → Cursor → (px py : ℕ) → Option (ControlFlow Leaf Cursor)
 met_n t w used entries c px py =
     cond (stands_n c w)
     (cond (numbers_n t used entries c w)
-    (cond (eqb w.child 0) (Some (AtLeaf (leaf_of c.cell c.steps w))) (Some (Deeper (deeper_n c w.child px py))))
+    (cond (eqb w.child 0) (Some (Break (leaf_of c.cell c.steps w))) (Some (Continue (deeper_n c w.child px py))))
     None)
     None
 
 -- "Each step down picks one quarter and gives the next cell"
-abbrev pub step_n : List ℕ → (used entries : ℕ) → Cursor → (px py : ℕ) → Option Down
+abbrev pub step_n : List ℕ → (used entries : ℕ) → Cursor → (px py : ℕ) → Option (ControlFlow Leaf Cursor)
 step_n t used entries c px py = met_n t (cell_at t c.cell) used entries c px py
 
-abbrev pub go_on : Option Down → (Cursor → Option Leaf) → Option Leaf
-go_on (Some (Deeper c)) f = f c
-go_on (Some (AtLeaf l)) f = Some l
+abbrev pub go_on : Option (ControlFlow Leaf Cursor) → (Cursor → Option Leaf) → Option Leaf
+go_on (Some (Continue c)) f = f c
+go_on (Some (Break l)) f = Some l
 go_on None f = None
 
 -- over at most n cells

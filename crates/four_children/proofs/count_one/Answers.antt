@@ -25,7 +25,7 @@ returns c =
     let a = c.args in
     let D = lent_of a.passed.context in
     let ws = words_in a.passed.stream in record {
-      answer = c.tally_of.ensures.answer
+      answer = c.from.ensures
           ∙ tally_is (elements_of_child D (cell_of a.w.words) ws a.q) c.count_child-n.result
           (few_elements a.passed.stream.entries.now a.passed.context.areas.now a.passed.context.xs.now a.passed.context.ys.now a.passed.context.bounds a.passed.stream.first a.passed.stream.count _
           a.passed.passed)

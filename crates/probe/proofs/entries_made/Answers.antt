@@ -10,15 +10,8 @@ count_child-requires-clause-s_value c = square_cell _ c.requires.s_value
 
 pub returns-clause-answer : goal.returns-clause-answer
 returns-clause-answer c =
-<<<<<<< HEAD
-    let v = c.args.context in
-    let s = c.args.stream in
-    c.entries_in.ensures.answer
-    ∙ made_count s.entries.now s.first s.count v.areas.now v.xs.now v.ys.now v.bounds c.args.s
-    c.count_child.result.weight c.requires.passed c.count_child.ensures.weight
-=======
     let v = c.args.passed.context in
     let s = c.args.passed.stream in
-    made_count s.entries.now s.first s.count v.areas.now v.xs.now v.ys.now v.bounds c.args.s
+    c.entries_in.ensures.answer
+    ∙ made_count s.entries.now s.first s.count v.areas.now v.xs.now v.ys.now v.bounds c.args.s
     c.count_child.result.weight c.args.passed.passed c.count_child.ensures.weight
->>>>>>> d7eb81cc26dc5e3016fba0c1f0b6475d2d351800

@@ -21,12 +21,12 @@ returns-in_err-next c =
           c.loop-k.invariant.left;
     }
 
-pub returns-in-AtLeaf : goal.returns-in-AtLeaf
-returns-in-AtLeaf c =
+pub returns-in-Break : goal.returns-in-Break
+returns-in-Break c =
     let a = c.args in
     record {
-      answer = walk_landed a.self.table.now a.self.used a.self.entries a.x a.y (17 - c.loop-k.k) c.loop-k.c _ _ c.in-AtLeaf.leaf (omega arith)
-          c.in_ok-next.ensures.answer (ap Some c.in-AtLeaf.is) c.loop-k.invariant.left;
+      answer = walk_landed a.self.table.now a.self.used a.self.entries a.x a.y (17 - c.loop-k.k) c.loop-k.c _ _ c.in-Break.leaf (omega arith)
+          c.in_ok-next.ensures.answer (ap Some c.in-Break.is) c.loop-k.invariant.left;
     }
 
 pub loop-k-preserved : goal.loop-k-preserved
@@ -35,11 +35,11 @@ loop-k-preserved c =
     let next : 17 - c.loop-k.k - 1 ≡ 17 - (c.loop-k.k + 1) = omega arith in
     record {
       going = rw next at
-          (going_on a.self.table.now a.self.used a.self.entries a.x a.y (17 - c.loop-k.k) c.loop-k.c c.in-Deeper.next _ (omega arith)
-          c.in_ok-next.ensures.answer (ap Some c.in-Deeper.is) c.loop-k.invariant.going);
+          (going_on a.self.table.now a.self.used a.self.entries a.x a.y (17 - c.loop-k.k) c.loop-k.c c.in-Continue.next _ (omega arith)
+          c.in_ok-next.ensures.answer (ap Some c.in-Continue.is) c.loop-k.invariant.going);
       left = rw next at
-          (walk_deeper a.self.table.now a.self.used a.self.entries a.x a.y (17 - c.loop-k.k) c.loop-k.c _ _ c.in-Deeper.next (omega arith)
-          c.in_ok-next.ensures.answer (ap Some c.in-Deeper.is) c.loop-k.invariant.left);
+          (walk_deeper a.self.table.now a.self.used a.self.entries a.x a.y (17 - c.loop-k.k) c.loop-k.c _ _ c.in-Continue.next (omega arith)
+          c.in_ok-next.ensures.answer (ap Some c.in-Continue.is) c.loop-k.invariant.left);
     }
 
 pub returns : goal.returns
