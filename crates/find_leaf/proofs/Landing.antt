@@ -25,7 +25,7 @@ use Rattle.refusals.specs.declared.Refusal.TheVariants as Refusals
 use Rattle.find_leaf.specs.Leaf.{position_range, leaf_bounds, stream_found, leaf_in}
 use Rattle.find_leaf.specs.code.Numbers.{read_n, read_by, leaf_read}
 use Rattle.tables.proofs.Counts.{counts_fit}
-use Rattle.tables.proofs.Leaves.{leaf_told, leaf_none, leaf_stream_law}
+use Rattle.tables.proofs.Leaves.{leaf_some, leaf_none, leaf_stream_law}
 
 pub on_grid : (x y : ℕ) → position_range x y ≡ true → OnGrid (at x y)
 on_grid x y h =
@@ -137,7 +137,7 @@ module _ (t : Tree) where
         checked_is = rw ef at q
 
         passes_is : eqb c.lines l.lines ≡ passes_in l
-        passes_is = leaf_told t.entries l.first l.count l.lines (entries_used t.head) v c checked_is
+        passes_is = leaf_some t.entries l.first l.count l.lines (entries_used t.head) v c checked_is
 
         pub read_unfit : eqb c.lines l.lines ≡ false → Err Refusals.Broken ≡ leaf_read t x y
         read_unfit g = ap (read_by t) (leaf_unfit l h (sym e ∙ way_is) (sym passes_is ∙ g))

@@ -5,7 +5,7 @@
 #![tactic(auto)]
 
 ghost use Rattle.std.specs.Prelude.{◌≡◌, true, cond, ◌≤◌, ◌<◌, length, IfSome};
-ghost use Rattle.stream.specs.Grammar.{env, env_of, env_passed, bounds, check_stream, Passed};
+ghost use Rattle.stream.specs.Grammar.{env, env_of, env_passed, bounds, check_stream};
 ghost use Rattle.probe.specs.Answers.{read_answer, square, leaf_on, square_fits, child_elements, child_room, number_of, answer_by, table_by, child_fits};
 ghost use Rattle.probe.specs.Answers.{number_in, tally_number, tally_answer};
 
