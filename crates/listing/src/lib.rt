@@ -97,8 +97,8 @@ fn put_line(rows: &mut [u32], n: usize, l: Line)
 }
 
 // Writes the lines of all leaves of a depth of at most 4, in key order, and gives how many there are; deeper leaves are left out. Any tables may be
-// handed in: a corner whose leaf would be refused has no line. The table may be longer than the longest list; what it
-// holds behind the lines stays. A corner may have no line, so `n` is counted beside k.
+// handed in: a corner whose leaf would be refused has no line. The table may be longer than the longest list; what it holds behind the lines stays. A
+// corner may have no line, so `n` is counted beside `k`.
 pub fn list_leaves(tree: Tree, rows: &mut [u32]) -> usize
     requires { 1280 ≤ length rows.old }
     ensures answer { result ≡ length (listed (tree_passed tree)) }
