@@ -28,7 +28,8 @@ pub struct Starts {
     pub at: [i16; records::MOST_AREAS],
 }
 
-// The start number of the area that waits, behind those of the areas that stand. An area that goes again makes place for the next.
+// The start number of the area that waits, behind those of the areas that stand. An area that is taken out again makes place for the
+// next. The bound on the start number is a clause, as at `making::Waiting`.
 fn note(at: &mut [i16; records::MOST_AREAS], m: &Maker)
     requires { nat_abs (start_in m.now.waiting) ≤ 8192 }
     ensures at { at.new ≡ noted_n at.old m.now.pruner m.now.waiting }
@@ -83,6 +84,8 @@ pub fn count_child(passed: PassedStream, s: Square) -> Count
 }
 
 // Writes the child's stream to the free end of the table, which begins at entry `free`. It has `made` entries. Beyond them the table stays as it was.
+// The table is lent to be written, so no `PassedStream` can borrow it: two numbers name the stream, and that it passed, and that it ends before `free`, are
+// clauses. This pass is like that of `count_child`, as `writing::write_entry` is like `Maker::go_on`; the reason stands there.
 pub fn write_child(
     entries: &mut [u32],
     first: usize,

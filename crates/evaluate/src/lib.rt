@@ -58,7 +58,8 @@ fn line_adds(xs: &[u32], ys: &[u32], w: Words, at: Position) -> i64
     edge_of(xs, ys, w).adds(at)
 }
 
-// Whether an area with this winding passes.
+// Whether an area with this winding passes. The word of the rule becomes a `FillRule` here: `geometry` and `records` do not name each other, so that
+// neither can have the conversion.
 pub fn area_passes(areas: &[u32], n: usize, sum: i64) -> bool
     requires { n * 8 + 8 ≤ length areas.now }
     ensures answer { result ≡ pass_at areas.now n sum }
@@ -71,7 +72,8 @@ pub fn area_passes(areas: &[u32], n: usize, sum: i64) -> bool
     fill::fill_passes(rule, sum)
 }
 
-// The machine after an area with this winding.
+// The machine after an area with this winding. The role is compared in place, here and in `making` and `writing`: a call `is_paint(areas, n)` would ask
+// for the same bound and hide one comparison.
 fn after_area(areas: &[u32], m: Machine, n: u32, sum: i64) -> Machine
     requires n_bound { n < 64 }
     requires n_in_bounds { n * 8 + 8 ≤ length areas.now }
@@ -110,7 +112,8 @@ fn segment_adds(context: Context, w: Words, at: Position) -> i64
     }
 }
 
-// The winding of an area, and the entry behind its lines, curves and shortcuts.
+// The winding of an area, and the entry behind its lines, curves and shortcuts. `Reading` below has a machine where this has a sum: one generic struct,
+// or a pair, would name neither.
 #[derive(Clone, Copy)]
 pub struct Winding {
     pub sum: i64,
@@ -149,6 +152,7 @@ pub struct Reading {
 }
 
 // The machine after a delimiter or "passes". A line, a curve or a shortcut of an area that is not looked at leaves it as it is.
+// The last arm is "passes": `read_next` hands over no area, and a stream that has passed holds no unknown kind.
 fn moved(m: Machine, w: Words) -> Machine
     requires { m.depth < 4096 }
     ensures answer { (meant result ≡ moved_by w.kind (meant m)) × (result.depth ≤ m.depth + 1) }

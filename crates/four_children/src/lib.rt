@@ -104,7 +104,8 @@ pub fn count_to(passed: PassedStream, w: Parent, n: u32) -> [Tally; 4]
     ts
 }
 
-// Writes the stream of child q, which has `made` entries, from entry `free` on.
+// Writes the stream of child q, which has `made` entries, from entry `free` on. The table is lent to be written, so that the stream is named by two numbers
+// and the first two clauses stay clauses, as in `child_stream::write_child`.
 fn write_child(
     entries: &mut [u32],
     first: usize,

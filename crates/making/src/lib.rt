@@ -22,7 +22,9 @@ use geometry::class::{Class, Square};
 use pruner::{ItemClass, Pruner};
 use stream::{Context, Kind, Words};
 
-// What is made weighs 1 for each entry, LINE more for a line or a curve, AREA more for an area.
+// What is made weighs 1 for each entry, LINE more for a line or a curve, AREA more for an area. The three counts are one number, since `pruner` adds up
+// weights of any meaning; what reads a count takes it from the number by % and /. `writing::place_of` and `four_children::entries_in` are alike: neither
+// crate names the other, and a third function for one remainder would be no plainer.
 pub const LINE: u64 = 65536;
 
 pub const AREA: u64 = 4294967296;
@@ -31,6 +33,7 @@ pub const AREA: u64 = 4294967296;
 const AREA_ALONE: u64 = AREA + 1;
 
 // ---- what is left of a line, a curve or a shortcut in a square
+// That the sign is at most 1 is no ghost field: `shortcut_left` takes any word as a sign.
 #[derive(Clone, Copy)]
 pub struct Left {
     pub sign: i64,
@@ -62,7 +65,8 @@ fn shortcut_left(s: Square, w: Words) -> Left
     }
 }
 
-// Of an entry of another kind: nothing. (Put into its callers, so that no context is copied for each entry.)
+// What is left of entry w; nothing of an entry that is no line, curve or shortcut, since a public function answers for any entry. (Put into its callers,
+// so that no context is copied for each entry.)
 #[inline(always)]
 pub fn left_of(context: Context, s: Square, w: Words) -> Left
     requires corners_in_bounds { (context.bounds.corners ≤ length context.xs.now)
@@ -87,6 +91,7 @@ pub fn left_of(context: Context, s: Square, w: Words) -> Left
 // ---- the area that waits
 // An area that waits for its lines, curves and shortcuts: its number, its start number, and its weight, with that of what is left of them.
 // That the number is that of an area is no ghost field: it is about the table of areas, which is lent beside this.
+// Nor are the bounds on the start number and the weight: a step (`with`) may end beyond the bound that it asks for.
 #[derive(Clone, Copy, Debug, PartialEq, Eq)]
 pub struct Waiting {
     pub number: u32,
@@ -145,7 +150,7 @@ pub fn with_left(a: Option<Waiting>, left: Left) -> Option<Waiting>
     Some(a.with(left))
 }
 
-// After an entry that is no line, curve or shortcut.
+// The area that waits after an entry that is no line, curve or shortcut: that entry, if it is an area.
 pub fn waiting_from(w: Words) -> Option<Waiting>
     ensures answer { result ≡ waiting_from w }
 {
@@ -160,7 +165,8 @@ pub fn waiting_from(w: Words) -> Option<Waiting>
 }
 
 // ---- the pruner
-// Goes on after entry w: a delimiter, "passes", or an area, which only waits.
+// The pruner goes on after entry w: a delimiter, "passes", or an area, which only waits. Its bounds are clauses, as at `Pruner`: a step may end at the
+// bound that it asks for.
 pub fn moved(p: &mut Pruner, w: Words)
     requires weight_bound { (p.old.weight < 2 ^ 61) × (p.old.base < 2 ^ 61)
         × (skip_number (skip_of p.old.skip) < 4096) × (p.old.depth ≤ 8) }
@@ -212,7 +218,8 @@ impl Maker {
         }
     }
 
-    // Goes on to the next entry, w.
+    // Goes on to the next entry, w. `writing::write_entry` has these branches too, and writes: one function for both would take a table that may be absent
+    // and test that at each entry.
     #[inline(always)]
     pub fn go_on(&mut self, context: Context, s: Square, w: Words)
         requires square_in { SquareIn s }

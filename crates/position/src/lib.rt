@@ -48,7 +48,8 @@ pub struct Read {
 
 // ---- a leaf that was found
 // The shown set at a position, read from the stream of a leaf. It makes the stream and its context as `find_leaf::check_leaf` does, and then reads where that
-// one checks: two lines of each are alike, and one function for both would be no plainer.
+// one checks: two lines of each are alike, and one function for both would be no plainer. That the stream has passed is asked about a tree and a leaf that
+// come apart, so that it stays a clause here; `PassedStream` holds it from here on.
 fn set_in(tree: Tree, leaf: Leaf, at: Position) -> u64
     requires in_bounds { 3 ≤ length tree.drawing.plan.now }
     requires passed { Passed tree.entries.now leaf.first leaf.count (leaf_env (tree_of tree) leaf) }

@@ -20,7 +20,8 @@ use refusals::Refusal;
 // How many words an entry has.
 pub const ENTRY_WORDS: usize = 4;
 
-// Signed words: the start numbers 2,048 and -2,048, which all others lie between, and the signs 1 and -1.
+// Signed words: the start numbers 2,048 and -2,048, which all others lie between, and the signs 1 and -1. They are compared as words: the definitions of
+// specs (`start_range`, `shortcut_range`) do so, and each signed comparison would have to be led back to them. `evaluate` casts where it adds.
 pub const MOST_START: u32 = 2048;
 
 pub const LEAST_START: u32 = 4294965248;
@@ -34,7 +35,7 @@ pub const MOST_ENTRIES: usize = 65536;
 
 pub const MOST_IN_STREAM: usize = records::MOST_RECORDS;
 
-// The four words of an entry.
+// The four words of an entry. `kind` is the word as the table has it: before the check any number.
 #[derive(Clone, Copy)]
 pub struct Words {
     pub kind: u32,
@@ -65,7 +66,7 @@ impl From<Kind> for u32 {
 }
 
 impl Words {
-    // The kind of an entry, if its first word is that of one.
+    // The kind of an entry, if its first word is that of one. No `TryFrom`, as `records::Kind` has it: no refusal goes with an unknown kind here.
     pub fn named(self) -> Option<Kind>
         ensures answer { result ≡ kind_at self.kind }
     {
@@ -343,6 +344,8 @@ fn run_to(lines: usize, before: usize, from: usize, next: usize) -> Option<Run>
 }
 
 // The lines, curves and shortcuts from entry `from` on, where `before` stand before, if all are in range and few enough.
+// That the stream lies in its table is a clause here and in `scan_next` and `scan_all`, not a type: each also bounds how many entries are left, from its own
+// entry on, so that a struct would state one half of what each asks.
 fn scan_run(stream: Stream, from: usize, context: ReadyContext, before: usize) -> Option<Run>
     requires from_le_end { (from ≤ stream.first + stream.count)
         × (stream.first + stream.count ≤ from + 4096)

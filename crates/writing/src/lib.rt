@@ -1,5 +1,5 @@
-// Writes what a making makes, one entry at a time, to a table that is lent for it: the entries that stand in the end, and no more. An entry that goes
-// again is written only where another will stand in the end.
+// Writes what a making makes, one entry at a time, to a table that is lent for it: the entries that stand in the end, and no more. An entry that is
+// taken out again is written only where another will stand in the end.
 
 #![tactic(auto)]
 
@@ -67,7 +67,7 @@ fn line_words(w: Words) -> Words
     }
 }
 
-// Entry `at` is what is left of the line, the curve or the shortcut of entry w.
+// Entry `at` is what is left of the line, the curve or the shortcut of entry w. The bound on the sign is a clause, as at `making::Left`.
 fn put_kept(out: &mut [u32], at: usize, left: Left, w: Words)
     requires sign_bound { nat_abs left.sign ≤ 1 }
     ensures out { out.new ≡ kept_put left.class out.old at left.sign w }
@@ -105,7 +105,8 @@ pub fn put_segment(out: &mut [u32], m: &Maker, left: Left, w: Words)
     }
 }
 
-// The bare "passes", where the side begins.
+// The bare "passes", where the side begins. An entry of a kind alone is written out here, in `put_delimiter`, whose kind is a word of the table, and in
+// `root_stream::delimiter`: a public function of a kind would serve two of the three, so that it would be no plainer.
 fn put_bare(out: &mut [u32], p: &Pruner)
     ensures out { out.new ≡ bare_put out.old p.now }
 {
@@ -122,7 +123,7 @@ fn put_bare(out: &mut [u32], p: &Pruner)
     );
 }
 
-// The area that waits, behind what is written.
+// The area that waits, behind what is written. The bound on its start number is a clause, as at `Waiting`.
 fn put_named(out: &mut [u32], p: &Pruner, a: Waiting)
     requires start_bound { nat_abs a.start ≤ 8192 }
     ensures out { out.new ≡ named_put out.old p.now a }
@@ -184,7 +185,7 @@ fn put_delimiter(out: &mut [u32], before: u64, after: u64, w: Words)
     }
 }
 
-// A delimiter or "passes", w: what it makes is written, and the pruner goes on.
+// A delimiter or "passes", w: what it makes is written, and the pruner goes on. Its bounds are clauses, as at `Pruner`.
 fn put_mark(out: &mut [u32], p: &mut Pruner, w: Words)
     requires weight_bound { (p.old.weight < 2 ^ 61) × (p.old.base < 2 ^ 61)
         × (skip_number (skip_of p.old.skip) < 4096) × (p.old.depth ≤ 8) }
@@ -217,7 +218,7 @@ pub fn write_other(out: &mut [u32], areas: &[u32], m: &mut Maker, w: Words)
 {
     put_settled(out, areas, m);
     if w.is_segment() {
-        // Any other entry leaves the pruner.
+        // `write_entry` hands over no such entry, but a public function takes any: it leaves the pruner as it is.
         put_delimiter(out, m.weight(areas), m.pruner.weight, w);
     } else {
         m.settle(areas);
