@@ -14,7 +14,7 @@ ghost use Rattle.celltable.specs.code.Numbers.{deeper_n, stands_n, parent_n, num
 use geometry::class::Square;
 use std::ops::ControlFlow;
 
-// The side of cell 0, one past the last position. `records::GRID` is another number: the largest coordinate of a corner.
+// The side of cell 0, one past the last position. `records::GRID` is the same number with another meaning: the largest coordinate of a corner.
 pub const GRID: u32 = 65536;
 
 // The cells of a tree at most.
@@ -24,7 +24,7 @@ pub const MOST_CELLS: usize = 4096;
 pub const DEEPEST: u32 = 16;
 
 // The cells on the longest path down: cell 0, and one for each step.
-const LONGEST_WAY: u32 = DEEPEST + 1;
+const LONGEST_PATH: u32 = DEEPEST + 1;
 
 // The children of a cell.
 pub const CHILDREN: u32 = 4;
@@ -94,7 +94,8 @@ pub struct Cells<'a> {
 }
 
 // Where a path down stands: the number of the next cell and of the cell that it came from (0 for cell 0), the square that it has to be, and the steps so
-// far.
+// far. Here and in `Leaf` the three numbers of the square are fields by themselves, as in a cell's words: the definitions (`deeper_n`, `leaf_of`) build them
+// so.
 #[derive(Clone, Copy)]
 pub struct Cursor {
     pub cell: u32,
@@ -227,6 +228,8 @@ impl Cells<'_> {
     }
 
     // Whether the parent of cell i, whose words are w, is itself for cell 0, else a split cell that holds it as one of its four.
+    // That w are the words of cell i, here and twice below, is a clause: it is a fact about three values, the table, the number and the words, which stand in
+    // different structs.
     fn parent_fits(self, i: usize, w: CellWords) -> bool
         requires { w ≡ cell_at self.table.now i }
         ensures answer { result ≡ parent_range self.entry.table.now i self.entry.used }
@@ -252,6 +255,7 @@ impl Cells<'_> {
 }
 
 // Whether the numbers in use, in the head, are in range for tables of cells and of entries of these lengths.
+// The two tests are those of `tables::cells_held` and `entries_held`, which stand one layer above, each with its own promise.
 pub fn head_fits(head: &[u32], cells: usize, entries: usize) -> bool
     ensures answer { result ≡ head_range head.now cells entries }
 {
@@ -265,12 +269,12 @@ pub fn head_fits(head: &[u32], cells: usize, entries: usize) -> bool
 }
 
 // ---- the quarters of a cell
-// Where the low or the high half of a side begins, on the grid; `half_at` adds any two words.
+// Where the low or the high half of a side begins, on the grid, where the sum is a word; `half_at` takes any two words.
 fn half_of(at: u32, half: u32, high: bool) -> u32
     requires { at + half ≤ 65536 }
     ensures answer { result ≡ half_at at half high }
 {
-    if high { at + half } else { at }
+    half_at(at, half, high) as u32
 }
 
 impl Parent {
@@ -290,7 +294,7 @@ impl Parent {
 
 // ---- the path down
 impl Cursor {
-    // Whether a cell is on the square that the way expects.
+    // Whether a cell is on the square that the path expects. Number by number, since neither of the two has a `Square` as a field.
     fn stands_on(self, w: CellWords) -> bool
         ensures answer { result ≡ stands_n self w }
     {
@@ -316,7 +320,7 @@ impl Cursor {
         }
     }
 
-    // Whether the parent that a cell on the way names holds it. The cell that the way came from does.
+    // Whether the parent that a cell on the path names holds it. The cell that the path came from does.
     fn parent_holds(self, cells: Cells, w: CellWords) -> bool
         requires { w ≡ cell_at cells.table.now self.cell }
         ensures answer { result ≡ parent_n cells.entry.table.now cells.entry.used self w }
@@ -324,7 +328,7 @@ impl Cursor {
         w.parent == self.parent || cells.parent_fits(self.cell as usize, w)
     }
 
-    // Whether the children, the entries and the parent of a cell on the way are in range. On the square that the way expects it has a side and a
+    // Whether the children, the entries and the parent of a cell on the path are in range. On the square that the path expects it has a side and a
     // corner in range.
     fn numbers_fit(self, cells: Cells, w: CellWords) -> bool
         requires { w ≡ cell_at cells.table.now self.cell }
@@ -334,7 +338,7 @@ impl Cursor {
             & (entries_fit(w.first, w.count, cells.entries) & self.parent_holds(cells, w))
     }
 
-    // The cell is read and tried; a leaf ends the way, another cell gives the cursor one level deeper.
+    // The cell is read and tried; a leaf ends the path (Break), another cell gives the cursor one level deeper (Continue).
     fn step(self, cells: Cells, px: u32, py: u32) -> Option<ControlFlow<Leaf, Cursor>>
         requires cells_in { CellsIn cells.table.now cells.used }
         requires cursor_in { CursorIn self cells.used }
@@ -365,6 +369,7 @@ impl Cursor {
 
 impl Cells<'_> {
     // The leaf that holds (x, y), over at most 16 steps from cell 0. The numbers in use are the head's, and the head has passed.
+    // x and y are any words: a `Position` is in range, which the promise here does not ask.
     pub fn descend(self, x: u32, y: u32) -> Option<Leaf>
         requires { CellsIn self.table.now self.used }
         ensures answer { result ≡ descend_in self.entry.table.now self.entry.used self.entry.entries x y }
@@ -377,7 +382,8 @@ impl Cells<'_> {
             side: GRID,
             steps: 0,
         };
-        for k in 0..LONGEST_WAY {
+        // The invariant says by k how many cells are left.
+        for k in 0..LONGEST_PATH {
             match c.step(self, x, y)? {
                 ControlFlow::Continue(next) => {
                     c = next;

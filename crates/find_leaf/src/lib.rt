@@ -14,7 +14,8 @@ use stream::{Checked, Stream};
 use tables::Tree;
 
 // A leaf as it is reported: its number, low corner, side, depth, how many entries and lines it has, and whether it has no line, curve or shortcut.
-// `uniform` is an answer by itself, document 02's "yes or no" of the leaf reading, and says nothing of the other fields.
+// `uniform` is an answer by itself, document 02's "yes or no" of the leaf reading, and says nothing of the other fields. The corner and the side are three
+// fields and no `Square`: the call reports its eight words in this order, and the definitions (`report_n`) build them so.
 #[derive(Clone, Copy)]
 pub struct FoundLeaf {
     pub cell: u32,
@@ -73,7 +74,8 @@ fn check_leaf(tree: Tree, free: usize, leaf: Leaf) -> Option<Checked>
     stream::check_stream(stream, free, context)
 }
 
-// The leaf that holds (x, y), with what its stream holds. 12 over the numbers in use, the cells on the way, and the leaf's stream and line count.
+// The leaf that holds (x, y), which may be any words, with what its stream holds. Refused with 12 (Broken) where the numbers in use, a cell on the path, the
+// leaf's stream or its line count does not pass.
 pub fn read_leaf(tree: Tree, x: u32, y: u32) -> Result<LeafRead, Refusal>
     ensures answer { result ≡ leaf_read (tree_passed tree) x y }
 {

@@ -17,8 +17,8 @@ use child_stream::{Count, Starts};
 use stream::{Context, PassedStream};
 
 // What a child's stream has; document 01 asks for an "array of four child tallies (entries, lines, starts) passed and returned by value". `entries`
-// decides 11 and where the child's stream begins, `lines` is the child's line count. `starts` are those of that stream too (`EachPass`); no call reads
-// them today.
+// decides 11 and where the child's stream begins, `lines` is the child's line count. `starts` are those of that stream too (`EachPass`); none of the nine
+// calls reads them.
 #[derive(Clone, Copy)]
 pub struct Tally {
     pub entries: usize,
@@ -97,15 +97,15 @@ pub fn count_to(passed: PassedStream, w: Parent, n: u32) -> [Tally; 4]
 {
     let mut ts = no_tallies();
     for q in 0..n {
-        // the check does not cover a call's result that is laid in an array at once
+        // Tried: `ts = count_next(..)` with no name between; the check of borrows does not cover a call's result that is laid in an array.
         let next = count_next(ts, q, passed, w);
         ts = next;
     }
     ts
 }
 
-// Writes the stream of child q, which has `made` entries, from entry `free` on. The table is lent to be written, so that the stream is named by two numbers
-// and the first two clauses stay clauses, as in `child_stream::write_child`.
+// Writes the stream of child q, which has `made` entries, from entry `free` on. Here and in `write_four` the table of entries is lent to be written, so it,
+// `first` and `count` are no `Stream`, which lends it to be read; and so the stream's range and that it passes are clauses about the table at entry.
 fn write_child(
     entries: &mut [u32],
     first: usize,
@@ -146,6 +146,7 @@ pub fn write_four(
         (lent_passed context) (cell_of w.words) (words_from entries.old first count) 4) }
 {
     let mut at = free;
+    // Over indices, here and in `put_four`, and not by `iter` (as at `records::put_raw`).
     for q in 0..celltable::CHILDREN {
         let t = ts[q as usize];
         write_child(entries, first, count, at, t.entries, context, w, q);

@@ -32,7 +32,8 @@ pub struct Limits {
 }
 
 // What growing meets at a cell: a number that does not pass, a cell to pass over, or a leaf to split.
-// An enum of its own: the definitions speak of all three by name, and `Result<bool, Refusal>` would have `Ok(true)` for a leaf to split.
+// An enum of its own and no `Result<bool, Refusal>`: the definitions (`tried_cell`, `or_next`) and the theorems of a round take its three outcomes apart by
+// name.
 #[derive(Clone, Copy)]
 pub enum Tried {
     Bad,
@@ -40,7 +41,8 @@ pub enum Tried {
     Wanted,
 }
 
-// Where the sweep stands: the next cell, the cells and the entries in use, and the splits so far.
+// Where the sweep stands: the next cell, the cells and the entries in use, and the splits so far. The numbers in use are no `InUse`, and that they are at
+// most 4,096 is a clause and no ghost field: the definitions (`past_n`, `split_n`) build the sweep, and each would carry a proof of its bounds.
 #[derive(Clone, Copy)]
 pub struct Sweep {
     pub cell: u32,
@@ -133,7 +135,7 @@ fn ended_by(r: Refusal) -> Result<Option<Sweep>, Refusal>
     }
 }
 
-// The leaf is split; 12 over its stream comes before 11.
+// The leaf is split. A stream that does not pass, 12 (Broken), comes before too little room, 11.
 fn split_wanted(
     drawing: Drawing,
     head: &mut [u32],

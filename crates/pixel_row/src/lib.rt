@@ -101,9 +101,10 @@ fn fill_row(tree: Tree, row: u32, first: u32, out: &mut [u8]) -> Result<(), Refu
 {
     let n = out.len() / CHANNELS;
     let mut last = None;
+    // Over indices (as at `records::put_raw`).
     for i in 0..n {
-        // A match: with `map_err` the proof of the place that its closure adds did not close.
         let column = first + (i as u32);
+        // A match: with `map_err` the proof of the place that its closure adds did not close.
         match pixel_at(tree, last, PixelAt { row, column }) {
             Ok(pixel) => {
                 put_pixel(out, i, pixel.colour);

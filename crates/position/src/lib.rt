@@ -18,7 +18,8 @@ use stream::{PassedStream, Stream};
 use tables::Tree;
 
 // What shows at a position: the set of areas, the material of the front one, and the colour. And how far that reaches: whether the leaf's stream holds no
-// line, curve or shortcut, and the leaf's low corner and its side. `uniform` is an answer by itself, as in `FoundLeaf`.
+// line, curve or shortcut, and the leaf's low corner and its side. `uniform` is an answer by itself, as in `FoundLeaf`. The colour and the square are words
+// one by one and no `Colour` and `Square`: the call reports its words in this order, and the definitions (`spot_of`) build them so.
 #[derive(Clone, Copy)]
 pub struct Spot {
     pub set: u64,
@@ -47,9 +48,9 @@ pub struct Read {
 }
 
 // ---- a leaf that was found
-// The shown set at a position, read from the stream of a leaf. It makes the stream and its context as `find_leaf::check_leaf` does, and then reads where that
-// one checks: two lines of each are alike, and one function for both would be no plainer. That the stream has passed is asked about a tree and a leaf that
-// come apart, so that it stays a clause here; `PassedStream` holds it from here on.
+// The shown set at a position, read from the stream of a leaf. The stream and its context are made as in `find_leaf::check_leaf`, which checks where this
+// reads: one function for these two lines would hand out a pair and promise what each of the two is. That the stream has passed is asked about a tree and
+// a leaf that come apart, so it stays a clause here; `PassedStream` holds it from here on.
 fn set_in(tree: Tree, leaf: Leaf, at: Position) -> u64
     requires in_bounds { 3 ≤ length tree.drawing.plan.now }
     requires passed { Passed tree.entries.now leaf.first leaf.count (leaf_env (tree_of tree) leaf) }
@@ -138,8 +139,9 @@ fn set_for(tree: Tree, shown: Shown, at: Position) -> u64
     }
 }
 
-// What is read at a position, or 12, where `last` was read last. That it was (LastIn) is a fact about a tree and a value which come apart, so it stays a
-// clause.
+// What is read at a position, or 12, where `last` was read last. That it was (LastIn) is a clause here and in the callers (pixel_row, zone_log): a struct of
+// the tree, the last leaf and this fact as a ghost field would have to be handed out anew by each read, beside the set, with a promise that it lends the same
+// tables.
 pub fn read_at(tree: Tree, last: Option<Shown>, at: Position) -> Result<Read, Refusal>
     requires { LastIn (tree_of tree) last }
     ensures answer { result ≡ read_there (tree_passed tree) at.x at.y }

@@ -39,7 +39,8 @@ fn entries_of(ts: [Tally; 4]) -> usize
 }
 
 // ---- all checks, in their order
-// 11, where the four streams have `made` entries. `cells` and `entries` are the lengths of the tables.
+// The number of the first child, where the four cells and their streams, which have `made` entries, have room, else 11 (Room). `cells` and `entries` are
+// the lengths of the tables.
 fn judge_room(cells: usize, entries: usize, in_use: InUse, made: usize) -> Result<u32, Refusal>
     requires { made ≤ 65536 }
     ensures answer { result ≡ room_answer cells entries in_use.cells in_use.entries made }
@@ -53,7 +54,7 @@ fn judge_room(cells: usize, entries: usize, in_use: InUse, made: usize) -> Resul
     Ok(in_use.cells)
 }
 
-// The children of a leaf with this stream are worked out, then 11. `cells` is the length of the table of cells.
+// The children of a leaf with this stream are worked out; refused with 11 (Room) where they have none. `cells` is the length of the table of cells.
 fn judge_children(
     passed: PassedStream,
     cells: usize,
@@ -71,7 +72,7 @@ fn judge_children(
     Ok(Planned { child, children })
 }
 
-// 12 over the stream of a leaf, whose words are w, and its line count, 10, 11.
+// The leaf with the words w. Refusals, in this order: 12 (Broken) where its stream or its line count does not pass, 10 (Smallest), 11 (Room).
 fn judge_leaf(tree: Tree, context: Context, in_use: InUse, w: CellWords) -> Result<Planned, Refusal>
     requires { square_range w ≡ true }
     ensures answer { let t = tree_passed tree in let c = context.entry in result ≡ planned
@@ -100,7 +101,7 @@ fn judge_leaf(tree: Tree, context: Context, in_use: InUse, w: CellWords) -> Resu
     )
 }
 
-// 12 over cell i, 9, and then the leaf.
+// Cell i. Refusals, in this order: 12 (Broken) where its numbers do not pass, 9 (AlreadySplit), and those of the leaf.
 fn judge_cell(tree: Tree, i: usize, in_use: InUse) -> Result<Planned, Refusal>
     requires plan_long { 3 ≤ length tree.drawing.plan.now }
     requires i_lt_used { (i < in_use.cells) × (in_use.cells * 8 ≤ length tree.cells.now) }
@@ -175,6 +176,7 @@ fn make_split(
     ensures cells { cells.new ≡ cells_after (tree_passed_mut drawing head cells entries) i (Ok 0) }
     ensures entries { entries.new ≡ entries_after (tree_passed_mut drawing head cells entries) i (Ok 0) }
 {
+    // The numbers in use and the cell are read again as `judge` and `judge_cell` read them: `planned` of specs builds `Planned` without them.
     let in_use = InUse {
         cells: head[celltable::CELLS],
         entries: head[celltable::ENTRIES],
@@ -202,8 +204,9 @@ fn make_split(
 
 // Splits cell i: four cells of half its side, each with the stream that document 01 defines; answers the number of the first. Any tables may be
 // handed in. Refusals, in this order: 7, 8, 12, 9, 10, 11. Nothing is changed on a refusal.
-// Tables that are lent to be written are parameters by themselves, here and in `open` and `grow`: as fields, each contract would have to say of each
-// that the struct still lends the same table.
+// Tables that are lent to be written are parameters by themselves, here, in what is called from here (`make_split`, `put_cells`, and the functions of
+// `four_children` and of the crates below that write), in `open` and in `grow`: as fields, each contract would have to say of each that the struct still
+// lends the same table.
 pub fn split(
     drawing: Drawing,
     head: &mut [u32],

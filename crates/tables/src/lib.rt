@@ -19,8 +19,8 @@ pub struct Tree<'a> {
     pub entries: &'a [u32],
 }
 
-// Whether a table of cells of this length holds n cells in use, and below whether one of entries does: 1 to 4,096 of eight words, or up to 65,536 of four.
-// Two functions: one for both would take these three numbers as well.
+// Whether a table of cells of this length holds n cells in use: 1 to 4,096 of eight words each. Its own function beside `entries_held`: one for both would
+// take the least number, the most and the words of one as well.
 pub fn cells_held(n: u32, len: usize) -> bool
     ensures answer { result ≡ cells_held n len }
 {
@@ -28,13 +28,14 @@ pub fn cells_held(n: u32, len: usize) -> bool
     (1 <= n) & ((n <= len / celltable::CELL_WORDS) & (n <= celltable::MOST_CELLS))
 }
 
+// Whether a table of entries of this length holds n entries in use: up to 65,536 of four words each.
 pub fn entries_held(n: usize, len: usize) -> bool
     ensures answer { result ≡ entries_held n len }
 {
     (n <= len / stream::ENTRY_WORDS) & (n <= stream::MOST_ENTRIES)
 }
 
-// The numbers in use.
+// Writes the numbers in use.
 pub fn put_head(head: &mut [u32], cells: u32, entries: u32)
     requires { 2 ≤ length head.old }
     ensures head { head.new ≡ set (set head.old 0 cells) 1 entries }
@@ -43,7 +44,8 @@ pub fn put_head(head: &mut [u32], cells: u32, entries: u32)
     head[celltable::ENTRIES] = entries;
 }
 
-// The areas and corners in use, and the rows of a cell.
+// The areas and corners in use, and the rows of a cell. That a plan has three words at least and a head two is a clause, here and in split, find_leaf, grow
+// and position, and no ghost field: a caller may lend tables of any length, and whether they are long enough `counts_fit` answers by yes or no.
 fn bounds_in(plan: &[u32], low: u32, side: u32) -> Bounds
     requires { 3 ≤ length plan.now }
     ensures answer { result ≡ bounds (get_or plan.now 1 0) (get_or plan.now 2 0) low side }
@@ -56,7 +58,8 @@ fn bounds_in(plan: &[u32], low: u32, side: u32) -> Bounds
     }
 }
 
-// What the stream of a cell with these rows is read against.
+// What the stream of a cell with these rows is read against. The stream itself is made where it is read, by a literal: a function for it would take the
+// same three values, the table, the first entry and the number of entries.
 pub fn context_of(drawing: Drawing, low: u32, side: u32) -> Context
     requires { 3 ≤ length drawing.plan.now }
     ensures answer { result ≡ against drawing.entry low side }
@@ -70,7 +73,7 @@ pub fn context_of(drawing: Drawing, low: u32, side: u32) -> Context
 }
 
 impl Tree<'_> {
-    // The cells in use.
+    // The cells in use, or 0 where the head is too short for its two words.
     pub fn cells_used(self) -> u32
         ensures answer { result ≡ cells_used (tree_passed self).head }
     {
@@ -80,7 +83,8 @@ impl Tree<'_> {
         self.head[celltable::CELLS]
     }
 
-    // 12 over the numbers in use.
+    // Whether the numbers in use pass; where they do not, a call refuses with 12 (Broken). The numbers are read from the head where they are needed, and
+    // not handed out by one method as `InUse` or `Cells`: the ghost fields of these hold only after this check, so the method would have to require it.
     pub fn counts_fit(self) -> bool
         ensures answer { result ≡ counts_in (tree_passed self) }
     {

@@ -22,7 +22,7 @@ struct Met {
 }
 
 // ---- the positions
-// The lowest index whose position is out of range.
+// The lowest index whose position is out of range. The runs are gone over by index, here and in the two passes (as at `records::put_raw`).
 fn first_outside(px: &[u32], py: &[u32]) -> Option<usize>
     requires { length px.now ≡ length py.now }
     ensures answer { result ≡ outside_n px.now py.now }
@@ -102,6 +102,7 @@ fn write_log(tree: Tree, px: &[u32], py: &[u32], out: &mut [u32]) -> Result<(), 
         let at = Position { x: px[i], y: py[i] };
         let met = met_at(tree, last, at)?;
         if is_logged(last, met) {
+            // A cast and no `try_from`: that a word holds the index is proved (`Accepted`), so there is no failure to answer.
             out[count] = i as u32;
             count += 1;
         }
@@ -113,7 +114,8 @@ fn write_log(tree: Tree, px: &[u32], py: &[u32], out: &mut [u32]) -> Result<(), 
 // ---- the call
 // The zone log of a run of positions: index 0 and each index whose material differs from the one before, from the table's beginning on.
 // Any tables may be handed in. Refusals, in this order: 7, 12, 11. Nothing is changed on a refusal.
-// The run is two slices and not one of pairs: the C interface lends two tables.
+// The run is two slices and not one of pairs: the C interface lends two tables. That they are in range (RunIn) is a clause of the two private passes: a struct
+// of the two slices with it as a ghost field would be made once, behind the checks here, and taken apart at each index.
 pub fn zone_log(tree: Tree, px: &[u32], py: &[u32], out: &mut [u32]) -> Result<usize, Refused>
     ensures answer { result ≡ log_answer (tree_passed tree) px.now py.now (length out.old) }
     ensures out { out.new ≡ out_after (tree_passed tree) px.now py.now result out.old }

@@ -6,6 +6,9 @@
 // How to read a contract: `answer` says what is returned (`result`), and each further clause, named after a table, what that table holds afterwards.
 // `head.old` is what the table `head` holds when the call begins, `head.new` when it returns; `tree_lent plan .. entries` is all seven tables when
 // the call begins, `tree_lent_mut` the same where head, cells and entries are lent to be written, `drawing_lent plan areas xs ys` the drawing's four.
+// `records_lent records` is the drawing that the bytes of the file say as the call begins, `read_lent records plan areas xs ys` what reading it into these
+// tables answers, and `left_by verdict table words` what the table holds after that answer: the words from its beginning on and the rest as it was, or, where
+// it is a refusal, the table as it was.
 // A table with no clause is lent by `&`: read only.
 
 #![tactic(auto)]

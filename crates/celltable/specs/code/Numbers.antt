@@ -28,11 +28,11 @@ deeper_n c first px py =
 abbrev pub stands_n : Cursor → CellWords → Bool
 stands_n c w = eqb w.x c.x && (eqb w.y c.y && eqb w.side c.side)
 
--- the parent that a cell on the way names: the cell that the way came from, which holds it, or one that is tried
+-- the parent that a cell on the path names: the cell that the path came from, which holds it, or one that is tried
 abbrev pub parent_n : List ℕ → (used : ℕ) → Cursor → CellWords → Bool
 parent_n t used c w = eqb w.parent c.parent || parent_range t c.cell used
 
--- A cell on the square that the way expects has a side and a corner in range, so only its other numbers are tried.
+-- A cell on the square that the path expects has a side and a corner in range, so only its other numbers are tried.
 abbrev pub numbers_n : List ℕ → (used entries : ℕ) → Cursor → CellWords → Bool
 numbers_n t used entries c w = child_range w.child used && (entry_range w.first w.count entries && parent_n t used c w)
 
@@ -62,7 +62,7 @@ walk_n t used entries px py (suc n) c = go_on (step_n t used entries c px py) (w
 abbrev pub start_n : Cursor
 start_n = record { cell = 0; parent = 0; x = 0; y = 0; side = 65536; steps = 0 }
 
--- what holds of the cursor on its way: the cell is in use, the square lies in the grid, and at most 16 steps were made
+-- what holds of the cursor on its path: the cell is in use, the square lies in the grid, and at most 16 steps were made
 pub record CursorIn (c : Cursor) (used : ℕ) : Type 0 where
   pub in_use : c.cell < used
   pub east : c.x + c.side ≤ 65536
