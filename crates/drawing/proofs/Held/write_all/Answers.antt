@@ -14,7 +14,8 @@ unreachable-requires c =
     clash (ap is_good (sym c.in_default.is ∙ c.row.ensures.answer) ∙ copy_good _ _ _ _ _ _ _ _ c.loop-i-test.true c.loop-i.invariant.2)
 
 pub put-requires : goal.put-requires
-put-requires c = copy_room _ _ _ _ _ _ _ _ _ c.loop-i-test.true (sym c.in-Ok.is ∙ c.row.ensures.answer) c.loop-i.invariant.2
+put-requires c =
+    rw c.raw_of.ensures.answer (copy_room _ _ _ _ _ _ _ _ _ c.loop-i-test.true (sym c.in-Ok.is ∙ c.row.ensures.answer) c.loop-i.invariant.2)
 
 pub loop-i-preserved : goal.loop-i-preserved
 loop-i-preserved c =
