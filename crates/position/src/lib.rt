@@ -163,7 +163,8 @@ pub fn position(tree: Tree, x: u32, y: u32) -> Result<Spot, Refusal>
         return Err(Refusal::Argument);
     }
     let at = find_leaf::position_at(x, y).ok_or(Refusal::Argument)?;
-    // These two and not `read_at`: nothing was read before, and so the call takes 50 instructions fewer.
+    // These two and not `read_at`, which first asks whether the leaf read last holds the position: here none was, and with it each call took 50 instructions
+    // more.
     let shown = leaf_anew(tree, at)?;
     let set = set_for(tree, shown, at);
     let spot = spot_of(tree.drawing.areas, shown.leaf, shown.set.is_some(), set);
