@@ -53,7 +53,7 @@ fn judge_room(tree: Tree, counts: Counts) -> Result<Planned, Refusal>
 {
     let drawing = tree.drawing;
     let bounds = root_bounds(counts);
-    // The counting answers the number of entries and, above it, the number of lines and curves.
+    // The counting answers a weight: the number of entries, above it that of lines and curves among them, and above that the areas' share, not used here.
     let size = root_stream::count_open(drawing, counts.records, bounds);
     let n = four_children::entries_in(size);
     if !has_room(tree.head.len(), tree.cells.len(), tree.entries.len(), n) {
@@ -66,17 +66,13 @@ fn judge_room(tree: Tree, counts: Counts) -> Result<Planned, Refusal>
     })
 }
 
-// All checks, in their order: 7, 12, 11.
+// All checks, in their order: 7, 12, 11. That of the drawing tries 7 first, and answers 12 for all else.
 fn judge(tree: Tree) -> Result<Planned, Refusal>
     ensures answer { let t = tree_passed tree in Plans t (open_answer t) result }
 {
-    let drawing = tree.drawing;
-    if drawing.xs.len() != drawing.ys.len() {
-        return Err(Refusal::Argument);
-    }
-    match drawing.check() {
+    match tree.drawing.check() {
         Ok(counts) => judge_room(tree, counts),
-        Err(_) => Err(Refusal::Broken),
+        Err(refused) => Err(refused.refusal),
     }
 }
 

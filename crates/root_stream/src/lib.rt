@@ -20,7 +20,8 @@ use making::Maker;
 use records::Kind;
 use stream::{Bounds, Context, Kind as EntryKind, Words};
 
-// The areas and the corners before a record, and the first corner of the contour in progress.
+// The areas and the corners before a record, and the first corner of the contour in progress. That a corner is 2,048 at most is a clause of each function:
+// the definitions of specs build this struct (`source_at`), so with a ghost field each of them would carry a proof.
 #[derive(Clone, Copy, Debug, PartialEq, Eq)]
 pub struct Source {
     pub area: u32,
@@ -56,11 +57,12 @@ impl Source {
             Kind::Next => edge_from(behind, self.corner, self.first),
             Kind::Open => delimiter(EntryKind::Open),
             Kind::Bar => delimiter(EntryKind::Bar),
+            // A control corner stands behind the corner that takes it, and so is never asked for; the definition `entry_n` has this arm for it.
             Kind::Close | Kind::Control => delimiter(EntryKind::Close),
         }
     }
 
-    // Behind that entry.
+    // The areas and corners before the record that stands behind that entry.
     fn after(self, kind: Kind, behind: Option<Kind>) -> Source
         requires { (self.area ≤ 64) × (self.corner ≤ 2048) }
         ensures answer { result ≡ after_n self (kind_number kind) (number_in behind) }
@@ -137,6 +139,7 @@ fn delimiter(kind: EntryKind) -> Words
 }
 
 // ---- the stream of cell 0
+// The side of cell 0 is `celltable::GRID`, of a crate that lies above this one; `records::GRID` is the same number.
 fn root_square() -> Square
     ensures answer { result ≡ square_of root }
 {
@@ -147,7 +150,8 @@ fn root_square() -> Square
     }
 }
 
-// What cell 0's stream weighs (crate `making`).
+// What cell 0's stream weighs (crate `making`). The bounds and the number of records come of one `Counts`. A `Counts` here would be no plainer: the caller
+// lends the bounds of cell 0 as it does everywhere, and the clause `Opened` says that the two agree.
 pub fn count_open(drawing: Drawing, records: usize, bounds: Bounds) -> u64
     requires { Opened (tables_of drawing) records bounds }
     ensures answer { result ≡ total element_size (elements_opened (drawing_passed drawing)) }
@@ -162,7 +166,7 @@ pub fn count_open(drawing: Drawing, records: usize, bounds: Bounds) -> u64
     let mut m = Maker::begun();
     let mut source = Source::begun();
     let mut i = 0;
-    // A curve takes two records, so no `for` over the records goes on by one.
+    // Not a `for` over the records, since a curve takes two of them.
     while let Some(kind) = kind_at(drawing.plan, i, records) {
         let behind = kind_at(drawing.plan, i + 1, records);
         let w = source.entry(kind, behind);
@@ -173,7 +177,8 @@ pub fn count_open(drawing: Drawing, records: usize, bounds: Bounds) -> u64
     m.weight(drawing.areas)
 }
 
-// Writes cell 0's stream to the table's first entries. It has `made` of them. Beyond them the table stays as it was.
+// Writes cell 0's stream, which has `made` entries, to the first of the table. The caller lends the whole table, and it is cut here, so that the contract
+// can say that what stands behind those entries stays as it was.
 pub fn write_open(
     entries: &mut [u32],
     made: usize,
@@ -197,7 +202,7 @@ pub fn write_open(
     let mut m = Maker::begun();
     let mut source = Source::begun();
     let mut i = 0;
-    // A curve takes two records, so no `for` over the records goes on by one.
+    // The loop of `count_open` but for the step, which here lends the table to be written; the two share `kind_at`, `entry`, `after` and `stride`.
     while let Some(kind) = kind_at(drawing.plan, i, records) {
         let behind = kind_at(drawing.plan, i + 1, records);
         let w = source.entry(kind, behind);
