@@ -304,7 +304,7 @@ static inline const char *zones_refusal_text(uint32_t number) {
 /* 6  MEMORY, STACK, THRESHOLD AND DEPTH LIMIT
  *
  * Memory. Tables at the limits (struct zones_memory) take 1,214,484 bytes: plan 16,396, areas 2,048, xs and ys 8,192
- * each, head 8, cells 131,072, entries 1,048,576. The archive has 44 KB of code and constants and no variable. Shorter
+ * each, head 8, cells 131,072, entries 1,048,576. The archive has 41 KB of code and constants and no variable. Shorter
  * tables serve smaller drawings (ZONES_TABLES, in section 8); where they are too short for a whole tree, it is cut
  * less, and as right. The samples, grown with the advised numbers below: what is in use, and the bytes of tables just
  * so long:
@@ -319,9 +319,9 @@ static inline const char *zones_refusal_text(uint32_t number) {
  * recursive and no frame depends on the tables: what was measured is the longest path through the object code, so
  * other drawings take no more.
  *
- *     zones_read     476     zones_split    8408     zones_position   1061
- *     zones_write    700     zones_grow     8456     zones_pixel_row  1861
- *     zones_open    2360     zones_find_leaf 837     zones_zone_log   1541
+ *     zones_read     464     zones_split    7077     zones_position   1061
+ *     zones_write    608     zones_grow     7141     zones_pixel_row  1829
+ *     zones_open    1072     zones_find_leaf 837     zones_zone_log   1461
  *
  * What memcpy and memset take comes on top. In a program that binds a shared C library lazily, the first call of
  * either runs the dynamic linker on this stack, another 3 to 4 KB.
