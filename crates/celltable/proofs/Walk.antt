@@ -122,8 +122,8 @@ deeper_follows used first px py c u =
     upper : Bool
     upper = leb (c.y + c.side / 2) py
 
-step_follows : (t : List ℕ) (used entries px py : ℕ) (c c' : Cursor) (r : Option (ControlFlow Leaf Cursor)) → r ≡ step_n t used entries c px py → r ≡ Some (Continue c') →
-    Follows c c' used
+step_follows : (t : List ℕ) (used entries px py : ℕ) (c c' : Cursor) (r : Option (ControlFlow Leaf Cursor))
+    → r ≡ step_n t used entries c px py → r ≡ Some (Continue c') → Follows c c' used
 unfolding met_n
 step_follows t used entries px py c c' r p q = go (stands_n c w) numbers (eqb w.child 0) refl refl (sym p ∙ q)
   where
@@ -155,7 +155,8 @@ pub record Going (c : Cursor) (used n : ℕ) : Type 0 where
 pub going_start : (used : ℕ) → 1 ≤ used → Going start_n used 17
 going_start used h = record { in_use = h; east = omega arith; north = omega arith; counted = refl }
 
-pub going_on : (t : List ℕ) (used entries px py n : ℕ) (c c' : Cursor) (r : Option (ControlFlow Leaf Cursor)) → 0 < n → r ≡ step_n t used entries c px py → r ≡ Some (Continue c')
+pub going_on : (t : List ℕ) (used entries px py n : ℕ) (c c' : Cursor) (r : Option (ControlFlow Leaf Cursor))
+    → 0 < n → r ≡ step_n t used entries c px py → r ≡ Some (Continue c')
     → Going c used n → Going c' used (n - 1)
 going_on t used entries px py n c c' r h p q g =
     let f : Follows c c' used = step_follows t used entries px py c c' r p q in

@@ -201,6 +201,7 @@ fn read_next(stream: Stream, i: usize, context: Context, m: Machine, at: Positio
         stream.entry.entries.now i (end_passed stream) m result }
 {
     let w = stream::read_entry(stream.entries, i);
+    // the number is compared, as in `Words::is_curve`
     if w.kind == u32::from(Kind::Area) {
         read_area(stream, i, context, m, w, at)
     } else {

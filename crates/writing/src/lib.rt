@@ -13,7 +13,8 @@ ghost use Rattle.evaluate.specs.code.Numbers.{line_of};
 ghost use Rattle.geometry.specs.code.Reach.{SquareIn};
 ghost use Rattle.stream.specs.Grammar.{env_of};
 ghost use Rattle.making.specs.code.Numbers.{left_class, left_sign, waiting_n, waiting_from, settled_n, moved_n, pruned_n, AreaIn, Inside, Room, Asks};
-ghost use Rattle.writing.specs.code.Numbers.{put_below, place_of, kept_put, segment_put, named_put, bare_put, class_put, settled_put, mark_put, mark_on, delimiter_put};
+ghost use Rattle.writing.specs.code.Numbers.{put_below, place_of, kept_put, segment_put, named_put, bare_put, class_put, settled_put};
+ghost use Rattle.writing.specs.code.Numbers.{mark_put, mark_on, delimiter_put};
 ghost use Rattle.writing.specs.code.Numbers.{one_put};
 
 use geometry::class::{Class, Square};

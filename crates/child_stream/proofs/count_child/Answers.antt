@@ -33,7 +33,8 @@ pub loop-i-init : goal.loop-i-init
 loop-i-init c =
     let a = c.args in
     counting_begin (env_of a.passed.context) (lent_of a.passed.context) (cell_in a.s) (reads a.passed.context a.s a.passed.stream a.passed.passed)
-    a.passed.stream.entries.now a.passed.stream.first a.passed.stream.count a.passed.passed c.begun-m.result _ c.begun-m.ensures.pruner c.begun-m.ensures.waiting refl
+    a.passed.stream.entries.now a.passed.stream.first a.passed.stream.count a.passed.passed c.begun-m.result _ c.begun-m.ensures.pruner
+    c.begun-m.ensures.waiting refl
 
 pub note-requires : goal.note-requires
 note-requires c =
@@ -53,9 +54,11 @@ pub loop-i-preserved : goal.loop-i-preserved
 loop-i-preserved c =
     let a = c.args in
     let wd = c.read_entry-w.result in
-    counting_turn (env_of a.passed.context) (lent_of a.passed.context) (cell_in a.s) (reads a.passed.context a.s a.passed.stream a.passed.passed) a.passed.stream.entries.now
+    counting_turn (env_of a.passed.context) (lent_of a.passed.context) (cell_in a.s) (reads a.passed.context a.s a.passed.stream a.passed.passed)
+    a.passed.stream.entries.now
     a.passed.stream.first a.passed.stream.count a.passed.passed c.loop-i.i c.loop-i.m c.loop-i.at c.loop-i.invariant c.loop-i-test.true _ wd a.s
-    (left_class a.passed.context.xs.now a.passed.context.ys.now a.s wd) (left_sign a.passed.context.xs.now a.passed.context.ys.now wd) c.read_entry-w.ensures.answer
+    (left_class a.passed.context.xs.now a.passed.context.ys.now a.s wd) (left_sign a.passed.context.xs.now a.passed.context.ys.now wd)
+    c.read_entry-w.ensures.answer
     c.read_entry-w.type_inv.1.1.1.1.0.1 c.requires.s_value refl refl c.go_on.ensures.pruner c.go_on.ensures.waiting _ c.note.ensures.at
 
 pub note-requires-2 : goal.note-requires-2
@@ -72,9 +75,11 @@ weight-weight-requires c =
     let R = reads a.passed.context a.s a.passed.stream a.passed.passed in
     let l = held a.passed.context a.s a.passed.stream a.passed.passed _ _ _ c.loop-i.invariant in
     record {
-      inside = end_inside (env_of a.passed.context) (lent_of a.passed.context) (cell_in a.s) R a.passed.stream.entries.now a.passed.stream.first a.passed.stream.count
+      inside = end_inside (env_of a.passed.context) (lent_of a.passed.context) (cell_in a.s) R a.passed.stream.entries.now a.passed.stream.first
+          a.passed.stream.count
           a.passed.passed c.loop-i.i c.loop-i.m l c.loop-i-test.false;
-      weight_bound = end_room (env_of a.passed.context) (lent_of a.passed.context) (cell_in a.s) R a.passed.stream.entries.now a.passed.stream.first a.passed.stream.count
+      weight_bound = end_room (env_of a.passed.context) (lent_of a.passed.context) (cell_in a.s) R a.passed.stream.entries.now a.passed.stream.first
+          a.passed.stream.count
           a.passed.passed c.loop-i.i c.loop-i.m l c.loop-i-test.false;
     }
 
@@ -89,7 +94,8 @@ returns c =
     record {
       weight = weight;
       starts = c.ended-starts.ensures.answer
-          ∙ counting_end (env_of a.passed.context) (lent_of a.passed.context) (cell_in a.s) R a.passed.stream.entries.now a.passed.stream.first a.passed.stream.count
+          ∙ counting_end (env_of a.passed.context) (lent_of a.passed.context) (cell_in a.s) R a.passed.stream.entries.now a.passed.stream.first
+          a.passed.stream.count
           a.passed.passed c.loop-i.i c.loop-i.m c.loop-i.at c.loop-i.invariant c.loop-i-test.false _ c.note-2.ensures.at c.weight-weight.result
           weight;
     }

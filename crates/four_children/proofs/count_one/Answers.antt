@@ -27,7 +27,8 @@ returns c =
     let ws = words_in a.passed.stream in record {
       answer = c.from.ensures
           ∙ tally_is (elements_of_child D (cell_of a.w.words) ws a.q) c.count_child-n.result
-          (few_elements a.passed.stream.entries.now a.passed.context.areas.now a.passed.context.xs.now a.passed.context.ys.now a.passed.context.bounds a.passed.stream.first a.passed.stream.count _
+          (few_elements a.passed.stream.entries.now a.passed.context.areas.now a.passed.context.xs.now a.passed.context.ys.now
+          a.passed.context.bounds a.passed.stream.first a.passed.stream.count _
           a.passed.passed)
           (c.count_child-n.ensures.weight
           ∙ ap (λ (k : Cell). total element_size (elements_made D k ws))

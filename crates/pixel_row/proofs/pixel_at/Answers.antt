@@ -43,6 +43,7 @@ pixel_from-requires c =
     let g = known_at T q.x q.y (sample_x c.args.place.column 0) (sample_y c.args.place.row 0) c.in_ok-read.read.set s
     c.sample.ensures.x c.sample.ensures.y
     (read_says T q.x q.y _ c.in_ok-read.ensures.answer) in
-    sampling_turn T c.args.place.row c.args.place.column 16 0 c.in_ok-read.read.set c.args.before s no_channels c.channel_sums-sums.result c.channel_sums-sums.result
+    sampling_turn T c.args.place.row c.args.place.column 16 0 c.in_ok-read.read.set c.args.before s no_channels c.channel_sums-sums.result
+    c.channel_sums-sums.result
     (omega arith) (sampling_begin T c.args.place.row c.args.place.column 16 c.args.before c.requires) g
     c.channel_sums-sums.ensures.answer c.channel_sums-sums.ensures.range (plus_none c.channel_sums-sums.result)

@@ -40,5 +40,6 @@ returns c =
     let z : c.loop-i.i ≡ 16 = omega (arith, v.to, k) in
     let w = rw z at v in
     record {
-      answer = sampling_done (tree_of c.args.tree) c.args.place.row c.args.place.column c.loop-i.last c.loop-i.sum c.mean-colour.result w c.mean-colour.ensures.answer;
+      answer = sampling_done (tree_of c.args.tree) c.args.place.row c.args.place.column c.loop-i.last c.loop-i.sum c.mean-colour.result w
+          c.mean-colour.ensures.answer;
     }

@@ -29,17 +29,29 @@ loop-kind-init c =
 pub kind_at-requires : goal.kind_at-requires
 kind_at-requires c =
     let a = c.args in
-    record { records_in_bounds = (base (tables_of a.drawing) a.records a.bounds c.requires.opened).long; is_kind = is_kind _ _ _ _ _ c.loop-kind.invariant.ahead }
+    record {
+      records_in_bounds = (base (tables_of a.drawing) a.records a.bounds c.requires.opened).long;
+      is_kind = is_kind _ _ _ _ _ c.loop-kind.invariant.ahead;
+    }
 
 pub overflow_add-i : goal.overflow_add-i
 overflow_add-i c =
     let a = c.args in
-    record { fits = omega (arith, (base (tables_of a.drawing) a.records a.bounds c.requires.opened).few, (some_here a.drawing.plan.now a.records c.loop-kind.i c.kind_at.ensures.answer c.in-Some.is)) }
+    record {
+      fits = omega (
+        arith,
+        (base (tables_of a.drawing) a.records a.bounds c.requires.opened).few,
+        (some_here a.drawing.plan.now a.records c.loop-kind.i c.kind_at.ensures.answer c.in-Some.is),
+      );
+    }
 
 pub kind_at-behind-requires : goal.kind_at-behind-requires
 kind_at-behind-requires c =
     let a = c.args in
-    record { records_in_bounds = (base (tables_of a.drawing) a.records a.bounds c.requires.opened).long; is_kind = is_kind_behind _ _ _ _ _ c.loop-kind.invariant.ahead (some_here _ _ _ c.kind_at.ensures.answer c.in-Some.is) }
+    record {
+      records_in_bounds = (base (tables_of a.drawing) a.records a.bounds c.requires.opened).long;
+      is_kind = is_kind_behind _ _ _ _ _ c.loop-kind.invariant.ahead (some_here _ _ _ c.kind_at.ensures.answer c.in-Some.is);
+    }
 
 pub entry-w-requires : goal.entry-w-requires
 entry-w-requires c =
@@ -70,7 +82,14 @@ after-source-requires c =
 pub overflow_add-i-in-Some : goal.overflow_add-i-in-Some
 overflow_add-i-in-Some c =
     let a = c.args in
-    record { fits = omega (arith, (base (tables_of a.drawing) a.records a.bounds c.requires.opened).few, (some_here a.drawing.plan.now a.records c.loop-kind.i c.kind_at.ensures.answer c.in-Some.is), c.stride-i.ensures.range) }
+    record {
+      fits = omega (
+        arith,
+        (base (tables_of a.drawing) a.records a.bounds c.requires.opened).few,
+        (some_here a.drawing.plan.now a.records c.loop-kind.i c.kind_at.ensures.answer c.in-Some.is),
+        c.stride-i.ensures.range,
+      );
+    }
 
 pub loop-kind-preserved : goal.loop-kind-preserved
 loop-kind-preserved c =

@@ -27,7 +27,8 @@ pub returns-then-at-min : goal.returns-then-at-min
 returns-then-at-min c =
     let a = c.args in record {
       answer =
-          left_of_box a.ends.low.x a.ends.low.y a.control.x a.control.y a.ends.high.x a.ends.high.y (fits_says _ _ _ _ _ _ c.requires.y2_value) c.requires.y0_le_y2
+          left_of_box a.ends.low.x a.ends.low.y a.control.x a.control.y a.ends.high.x a.ends.high.y (fits_says _ _ _ _ _ _ c.requires.y2_value)
+          c.requires.y0_le_y2
           a.at.x a.at.y (omega arith) (omega arith)
           (omega arith);
     }
@@ -49,7 +50,8 @@ pub returns : goal.returns
 returns c =
     let a = c.args in record {
       answer = c.curve_side.ensures.answer
-          ∙ on_row a.ends.low.x a.ends.low.y a.control.x a.control.y a.ends.high.x a.ends.high.y (fits_says _ _ _ _ _ _ c.requires.y2_value) c.requires.y0_le_y2 a.at.x
+          ∙ on_row a.ends.low.x a.ends.low.y a.control.x a.control.y a.ends.high.x a.ends.high.y (fits_says _ _ _ _ _ _ c.requires.y2_value)
+          c.requires.y0_le_y2 a.at.x
           a.at.y (omega arith)
           (omega arith);
     }

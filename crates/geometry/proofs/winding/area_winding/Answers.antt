@@ -44,4 +44,6 @@ loop-end-preserved c =
     )
 
 pub returns : goal.returns
-returns c = let a = c.args in record { answer = area_done a.xs.now a.ys.now a.at.x a.at.y a.ends.now _ c.loop-end.end-index _ _ (omega arith) c.loop-end.invariant.1 }
+returns c =
+    let a = c.args in
+    record { answer = area_done a.xs.now a.ys.now a.at.x a.at.y a.ends.now _ c.loop-end.end-index _ _ (omega arith) c.loop-end.invariant.1 }

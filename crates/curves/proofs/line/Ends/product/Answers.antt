@@ -34,12 +34,13 @@ overflow_mul-result-2 c = fits_as (second c) (right_fits c.args.self.ends_in c.a
 whole : (c : After-difference-4) → let s = c.args in
     to_z w64 (of_z w64 (to_z w64 (of_z w64 c.difference.result) *ℤ to_z w64 (of_z w64 c.difference-2.result)))
     +ℤ to_z w64 (of_z w64 (to_z w64 (of_z w64 c.difference-3.result) *ℤ to_z w64 (of_z w64 c.difference-4.result)))
-    ≡ sub_ℕ (plus s.self.low.x s.self.low.y s.self.high.x s.self.high.y s.at.x s.at.y) (minus s.self.low.x s.self.low.y s.self.high.x s.self.high.y s.at.x s.at.y)
+    ≡ sub_ℕ (plus s.self.low.x s.self.low.y s.self.high.x s.self.high.y s.at.x s.at.y)
+    (minus s.self.low.x s.self.low.y s.self.high.x s.self.high.y s.at.x s.at.y)
 whole c = let s = c.args in
     ap₂ ◌+ℤ◌ (reads (first c.before.before) (left_fits c.args.self.ends_in c.args.at.inside))
     (reads (second c) (right_fits c.args.self.ends_in c.args.at.inside))
-    ∙ add_sub (s.self.low.x * s.self.high.y + s.at.x * s.self.low.y) (s.self.low.x * s.self.low.y + s.at.x * s.self.high.y) (s.at.y * s.self.high.x + s.self.low.y * s.self.low.x) (s.at.y *
-    s.self.low.x + s.self.low.y * s.self.high.x)
+    ∙ add_sub (s.self.low.x * s.self.high.y + s.at.x * s.self.low.y) (s.self.low.x * s.self.low.y + s.at.x * s.self.high.y)
+    (s.at.y * s.self.high.x + s.self.low.y * s.self.low.x) (s.at.y * s.self.low.x + s.self.low.y * s.self.high.x)
 
 pub overflow_add-result : goal.overflow_add-result
 overflow_add-result c = fits_as (whole c) (product_fits c.args.self.ends_in c.args.at.inside)
