@@ -51,7 +51,7 @@ impl Square {
         ensures answer { result ≡ edge_class e self }
     {
         let rows = e.rows();
-        let lo = rows.start.max(self.y);
+        let lo = rows.first.max(self.y);
         let hi = rows.end.min(self.y + self.side);
         if hi <= lo {
             return Class::Dropped;

@@ -1,12 +1,13 @@
 // A drawn edge: where it counts, its sign, its rows, and what it adds to a winding.
-ghost use Rattle.std.specs.Prelude.{◌≡◌};
+ghost use Rattle.std.specs.Prelude.{◌≡◌, true};
+ghost use Rattle.curves.specs.Curves.{curve_fits};
+ghost use Rattle.curves.specs.code.Reach.{EndsIn};
 ghost use Rattle.geometry.specs.code.Reach.{EdgeIn};
-ghost use Rattle.geometry.specs.Edges.{counts, sign, first_row, end_row};
+ghost use Rattle.geometry.specs.Edges.{bent_counts, counts, sign, first_row, end_row};
 ghost use Rattle.geometry.specs.Windings.{adds};
 
 use curves::line::Ends;
 use curves::{Point, Position, curve};
-use std::ops::Range;
 
 // An edge drawn from one corner to another: a curve where it has a control corner, else straight. Contracts ask its range (EdgeIn), which no ghost field
 // holds: `edge_of` of specs builds edges of any tables, and would carry a proof; so do `edge_between` and `curve_from`.
@@ -17,23 +18,61 @@ pub struct Edge {
     pub control: Option<Point>,
 }
 
+// The rows of an edge: the first, and the one past the last; none where they are equal. It is no `Range`, which is not `Copy`.
+#[derive(Clone, Copy, Debug, PartialEq, Eq)]
+pub struct Rows {
+    pub first: u32,
+    pub end: u32,
+}
+
+// Whether the curve drawn from `from` by the control corner to `to` counts at `at`.
+pub fn bent_counts(from: Point, control: Point, to: Point, at: Position) -> bool
+    requires ends_in { EndsIn from.x from.y to.x to.y }
+    requires y1_value { curve_fits from.x from.y control.x control.y to.x to.y ≡ true }
+    ensures answer { result ≡ bent_counts from.x from.y control.x control.y to.x to.y at.x at.y }
+{
+    if from.y <= to.y {
+        curve::curve_counts(
+            Ends {
+                low: from,
+                high: to,
+            },
+            control,
+            at,
+        )
+    } else {
+        curve::curve_counts(
+            Ends {
+                low: to,
+                high: from,
+            },
+            control,
+            at,
+        )
+    }
+}
+
 impl Edge {
-    // Whether an edge counts at `at`.
+    // Whether an edge counts at `at`. A line has a call for each direction, and a curve goes its own way: with one choice of the ends for all three, a pixel
+    // over a stream of lines took 1.6 times the instructions.
     #[tactic(auto, unfolding(crate::specs::Edges::counts))]
     #[inline(always)]
     pub fn counts(self, at: Position) -> bool
         requires { EdgeIn self }
         ensures answer { result ≡ counts self at.x at.y }
     {
-        let (low, high) = if self.from.y <= self.to.y {
-            (self.from, self.to)
-        } else {
-            (self.to, self.from)
-        };
-        let ends = Ends { low, high };
         match self.control {
-            Some(control) => curve::curve_counts(ends, control, at),
-            None => ends.line_counts(at),
+            Some(control) => bent_counts(self.from, control, self.to, at),
+            None if self.from.y <= self.to.y => Ends {
+                low: self.from,
+                high: self.to,
+            }
+            .line_counts(at),
+            None => Ends {
+                low: self.to,
+                high: self.from,
+            }
+            .line_counts(at),
         }
     }
 
@@ -42,7 +81,13 @@ impl Edge {
     pub fn sign(self) -> i64
         ensures answer { result ≡ sign self }
     {
-        i64::from(self.from.y < self.to.y) - i64::from(self.to.y < self.from.y)
+        if self.from.y < self.to.y {
+            1
+        } else if self.to.y < self.from.y {
+            -1
+        } else {
+            0
+        }
     }
 
     // What an edge adds to the winding at `at`.
@@ -55,10 +100,13 @@ impl Edge {
     }
 
     // The rows of an edge; none where it is level.
-    pub fn rows(self) -> Range<u32>
-        ensures first { result.start ≡ first_row self }
+    pub fn rows(self) -> Rows
+        ensures first { result.first ≡ first_row self }
         ensures end { result.end ≡ end_row self }
     {
-        self.from.y.min(self.to.y)..self.from.y.max(self.to.y)
+        Rows {
+            first: self.from.y.min(self.to.y),
+            end: self.from.y.max(self.to.y),
+        }
     }
 }
