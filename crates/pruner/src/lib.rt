@@ -8,7 +8,7 @@ ghost use Rattle.pruning.specs.Sides.{item, push, activate, pop};
 ghost use Rattle.pruning.specs.code.Pruner.{going};
 ghost use Rattle.pruning.specs.code.Counters.{ct, count_step, count_left, count_right};
 ghost use Rattle.pruning.specs.code.Weights.{sized, sized_items, size_of};
-ghost use Rattle.pruner.specs.code.Numbers.{counted, skip_of, skip_number, frame_of, frames_of, no_frame, class_of, kind_of};
+ghost use Rattle.pruner.specs.code.Numbers.{counted, skip_of, skip_number, frame_of, frames_of, no_frame, class_of, numbered_class, kind_of};
 
 // The groups that can be open.
 const MOST_GROUPS: usize = 8;
@@ -29,6 +29,20 @@ pub enum ItemClass {
     Fails,
     Passes,
     Neither,
+}
+
+// The class that a number says: 0 fails, 1 passes, any other is neither.
+impl From<u32> for ItemClass {
+    ghost from_gives = { λ n c. class_of c ≡ numbered_class n };
+
+    #[tactic(auto, unfolding(crate::specs::code::Numbers::numbered_class))]
+    fn from(number: u32) -> ItemClass {
+        match number {
+            0 => ItemClass::Fails,
+            1 => ItemClass::Passes,
+            _ => ItemClass::Neither,
+        }
+    }
 }
 
 // An open group. `start`: the weight of what was written at its `(`. `outer`: where the side around it begins.

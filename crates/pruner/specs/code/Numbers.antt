@@ -1,5 +1,5 @@
 -- The one-pass pruner (`Rattle.pruning.specs.code.Counters`) as the numbers that the code holds. `Rattle.pruner.proofs.Laws` says that it is the same.
-use Rattle.std.specs.Prelude.{Bool, cond, List, [], ◌∷◌, ℕ, zero, suc, get_or, Option, Some, None}
+use Rattle.std.specs.Prelude.{Bool, cond, List, [], ◌∷◌, ℕ, zero, suc, eqb, get_or, Option, Some, None}
 use Rattle.pruning.specs.Sides.{Kind, paint, clip}
 use Rattle.pruning.specs.Items as Items
 use Rattle.pruning.specs.Items.{fails, passes, other}
@@ -54,6 +54,10 @@ abbrev pub class_of : ItemClass → Items.Class
 class_of Fails = fails
 class_of Passes = passes
 class_of Neither = other
+
+-- the class that a number says: 0 fails, 1 passes, any other is neither
+abbrev pub numbered_class : ℕ → Items.Class
+numbered_class n = cond (eqb n 0) fails (cond (eqb n 1) passes other)
 
 abbrev pub kind_of : Bool → Kind
 kind_of is_paint = cond is_paint paint clip
