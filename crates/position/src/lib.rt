@@ -100,7 +100,7 @@ pub fn is_inside(leaf: Leaf, x: u32, y: u32) -> bool
 }
 
 // The leaf that holds a position, with the set that shows in it where it is uniform, or 12: it is looked for and its stream is tried.
-fn leaf_anew(tree: Tree, at: Position) -> Result<Shown, Refusal>
+pub fn leaf_anew(tree: Tree, at: Position) -> Result<Shown, Refusal>
     ensures answer { result ≡ shown_there (tree_passed tree) at.x at.y }
 {
     let read = find_leaf::read_leaf(tree, at.x, at.y)?;
@@ -117,7 +117,7 @@ fn leaf_anew(tree: Tree, at: Position) -> Result<Shown, Refusal>
 }
 
 // The leaf that holds a position, or 12, where `last` was read last: it serves all positions of its square.
-fn leaf_for(tree: Tree, last: Option<Shown>, at: Position) -> Result<Shown, Refusal>
+pub fn leaf_for(tree: Tree, last: Option<Shown>, at: Position) -> Result<Shown, Refusal>
     requires { LastIn (tree_of tree) last }
     ensures answer { result ≡ shown_there (tree_passed tree) at.x at.y }
 {
@@ -128,7 +128,7 @@ fn leaf_for(tree: Tree, last: Option<Shown>, at: Position) -> Result<Shown, Refu
 }
 
 // The shown set at a position in the leaf that holds it: a stream is read only where the leaf is not uniform.
-fn set_for(tree: Tree, shown: Shown, at: Position) -> u64
+pub fn set_for(tree: Tree, shown: Shown, at: Position) -> u64
     requires { Readable (tree_of tree) shown at.x at.y }
     ensures answer { result ≡ set_read (tree_passed tree) shown.leaf at.x at.y }
     ensures painted { Painted (tree_passed tree).areas result }

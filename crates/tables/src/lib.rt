@@ -46,7 +46,7 @@ pub fn put_head(head: &mut [u32], cells: u32, entries: u32)
 
 // The areas and corners in use, and the rows of a cell. That a plan has three words at least and a head two is a clause, here and in split, find_leaf, grow
 // and position, and no ghost field: a caller may lend tables of any length, and whether they are long enough `counts_fit` answers by yes or no.
-fn bounds_in(plan: &[u32], low: u32, side: u32) -> Bounds
+pub fn bounds_in(plan: &[u32], low: u32, side: u32) -> Bounds
     requires { 3 ≤ length plan.now }
     ensures answer { result ≡ bounds (get_or plan.now 1 0) (get_or plan.now 2 0) low side }
 {
