@@ -34,7 +34,7 @@ use Rattle.evaluate.specs.Reading.{element_for}
 use Rattle.evaluate.specs.code.Numbers.{line_of, line_met, segment_of, segment_range}
 
 -- a sign that is not 1 is −1
-other_sign : (p : ℕ) → sign_range p ≡ true → (p ≡ 1 → ⊥) → p ≡ 4294967295
+pub other_sign : (p : ℕ) → sign_range p ≡ true → (p ≡ 1 → ⊥) → p ≡ 4294967295
 other_sign p h g = eqb-true p 4294967295 (sym (ap (λ b. b || eqb p 4294967295) (ne_eqb p 1 g)) ∙ h)
 
 -- ---- start numbers as words

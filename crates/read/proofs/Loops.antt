@@ -70,11 +70,11 @@ good_at b i (suc j) (suc n) h l =
     subst (λ (k : ℕ). is_good (decoded_raw (raw_at b k)) ≡ true) (omega arith)
     (good_at b (i + 1) j n (and_right (is_good (decoded_raw (raw_at b i))) _ h) (omega arith))
 
-fill_good : (b : List ℕ) (n i : ℕ) → i < n → all_good (decoded_from b 0 n) ≡ true → is_good (decoded_raw (raw_at b i)) ≡ true
+pub fill_good : (b : List ℕ) (n i : ℕ) → i < n → all_good (decoded_from b 0 n) ≡ true → is_good (decoded_raw (raw_at b i)) ≡ true
 fill_good b n i l h = subst (λ (k : ℕ). is_good (decoded_raw (raw_at b k)) ≡ true) (omega arith) (good_at b 0 i n h l)
 
 -- a good record is what its named bytes say
-named_good : (r : Raw) → is_good (decoded_raw r) ≡ true → decoded_raw r ≡ Ok (named r)
+pub named_good : (r : Raw) → is_good (decoded_raw r) ≡ true → decoded_raw r ≡ Ok (named r)
 named_good r = go (decoded_raw r) refl
   where
     go : (d : Decoded) → decoded_raw r ≡ d → is_good d ≡ true → decoded_raw r ≡ Ok (named r)

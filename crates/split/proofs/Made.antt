@@ -36,7 +36,7 @@ module _ (t : Tree) (i : ℕ) (A : Accepted t i) (ts : List Tally) (T : ts ≡ w
   pub made_halves : 1 < w.side
   made_halves = rw ew A.able.halves
 
-  made_tallies : ts ≡ worked_to (lent t.areas t.xs t.ys (bounds_of t.plan w)) (cell_of w) (words_from t.entries w.first w.count) 4
+  pub made_tallies : ts ≡ worked_to (lent t.areas t.xs t.ys (bounds_of t.plan w)) (cell_of w) (words_from t.entries w.first w.count) 4
   made_tallies = rw ew T
 
   pub made_few : FewEach ts

@@ -42,7 +42,7 @@ lines_done t i e n whole h k = omega (arith, ap lines_in (words_none t i e h), k
 
 -- an entry that stops no scan is no line, curve or shortcut
 module _ (areas : List ℕ) (used : ℕ) (s n : Scan) (w : Words) (alive : other_n areas used s w ≡ Some n) where
-  alive_other : is_segment w.kind ≡ false
+  pub alive_other : is_segment w.kind ≡ false
   alive_other = go (is_segment w.kind) refl
     where
       go : (b : Bool) → is_segment w.kind ≡ b → b ≡ false
