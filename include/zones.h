@@ -304,7 +304,7 @@ static inline const char *zones_refusal_text(uint32_t number) {
 /* 6  MEMORY, STACK, THRESHOLD AND DEPTH LIMIT
  *
  * Memory. Tables at the limits (struct zones_memory) take 1,214,484 bytes: plan 16,396, areas 2,048, xs and ys 8,192
- * each, head 8, cells 131,072, entries 1,048,576. The archive has 41 KB of code and constants and no variable. Shorter
+ * each, head 8, cells 131,072, entries 1,048,576. The archive has 40 KB of code and constants and no variable. Shorter
  * tables serve smaller drawings (ZONES_TABLES, in section 8); where they are too short for a whole tree, it is cut
  * less, and as right. The samples, grown with the advised numbers below: what is in use, and the bytes of tables just
  * so long:
@@ -319,9 +319,9 @@ static inline const char *zones_refusal_text(uint32_t number) {
  * recursive and no frame depends on the tables: what was measured is the longest path through the object code, so
  * other drawings take no more.
  *
- *     zones_read     464     zones_split    7077     zones_position   1061
- *     zones_write    608     zones_grow     7141     zones_pixel_row  1829
- *     zones_open    1072     zones_find_leaf 837     zones_zone_log   1461
+ *     zones_read     312     zones_split    7080     zones_position   1061
+ *     zones_write    408     zones_grow     7144     zones_pixel_row  1829
+ *     zones_open     888     zones_find_leaf 837     zones_zone_log   1461
  *
  * What memcpy and memset take comes on top. In a program that binds a shared C library lazily, the first call of
  * either runs the dynamic linker on this stack, another 3 to 4 KB.
@@ -333,24 +333,24 @@ static inline const char *zones_refusal_text(uint32_t number) {
  *
  *      | pit                       | berms                     | full                      | mine
  *      |cells  entr.   pos.  pixel |cells  entr.   pos.  pixel |cells  entr.   pos.  pixel |cells  entr.   pos.  pixel
- * none |    1     72   6146  32746 |    1    117  16369  97394 |    1     72   8399  54481 |    1   1247 136684 532317
- *   16 |   17    427   2887  15339 |   29    936   3555  20114 |   53   1590   3263  20879 |  429  38480   5897  21414
- *    8 |   45    962   1968   9894 |   73   1656   2362  12309 |  229   3849   2364  13862 | 1065  65158   4623  16608
- *    4 |   89   1390   1857   8536 |  253   4228   1819   9619 |  905   8523   1822   9640 | 1081f 65452   4333  13182
- *    2 |  329   3180   1566   6328 |  673   7615   1692   8091 | 2661  15606   1411   4388 | 1129f 65467   4109  12713
- *    1 | 1453   7811   1398   5741 | 2005  14840   1496   7039 | 4093f 20713   1350   3801 | 1145f 65382   4043  12102
- *    0 | 4093f 18119   1181   3769 | 4093f 24055   1271   4605 | 4093f 20187   1286   3479 | 1149f 65514   3828  12713
+ * none |    1     72   6206  31552 |    1    117  16514  98553 |    1     72   8074  50284 |    1   1247 140419 570687
+ *   16 |   17    427   2843  14399 |   29    936   3525  19040 |   53   1590   3138  18945 |  429  38480   5865  20699
+ *    8 |   45    962   1923   9094 |   73   1656   2319  11387 |  229   3849   2282  12498 | 1065  65158   4587  16022
+ *    4 |   89   1390   1815   7820 |  253   4228   1782   8819 |  905   8523   1771   8585 | 1081f 65452   4296  12234
+ *    2 |  329   3180   1533   5723 |  673   7615   1657   7386 | 2661  15606   1386   3871 | 1129f 65467   4068  11810
+ *    1 | 1453   7811   1372   5168 | 2005  14840   1468   6396 | 4093f 20713   1330   3341 | 1145f 65382   4001  11261
+ *    0 | 4093f 18119   1169   3385 | 4093f 24055   1256   4206 | 4093f 20187   1270   3060 | 1149f 65514   3775  11810
  *
  * Then over depth limits, with threshold 2:
  *
  *      | pit                       | berms                     | full                      | mine
  *      |cells  entr.   pos.  pixel |cells  entr.   pos.  pixel |cells  entr.   pos.  pixel |cells  entr.   pos.  pixel
- *    4 |  153   2016   1600   7590 |  121   2680   1818   9116 |  293   4399   1922  11537 |  317  31278   5910  26248
- *    5 |  249   2763   1571   6494 |  229   4096   1722   8338 | 1057   9329   1497   4993 |  973  60736   4170  12713
- *    6 |  301   3040   1567   6328 |  373   5493   1703   8091 | 2661  15606   1411   4388 | 1129f 65467   4109  12713
- *    7 |  317   3126   1566   6328 |  553   6889   1694   8091 | 2661  15606   1411   4388 | 1129f 65467   4109  12713
- *    8 |  329   3180   1566   6328 |  673   7615   1692   8091 | 2661  15606   1411   4388 | 1129f 65467   4109  12713
- *   10 |  333   3186   1566   6328 |  681   7641   1692   8091 | 2661  15606   1411   4388 | 1129f 65467   4109  12713
+ *    4 |  153   2016   1566   6913 |  121   2680   1782   8412 |  293   4399   1866  10343 |  317  31278   5872  25759
+ *    5 |  249   2763   1537   5878 |  229   4096   1686   7630 | 1057   9329   1467   4431 |  973  60736   4129  11810
+ *    6 |  301   3040   1534   5723 |  373   5493   1668   7386 | 2661  15606   1386   3871 | 1129f 65467   4068  11810
+ *    7 |  317   3126   1533   5723 |  553   6889   1659   7386 | 2661  15606   1386   3871 | 1129f 65467   4068  11810
+ *    8 |  329   3180   1533   5723 |  673   7615   1657   7386 | 2661  15606   1386   3871 | 1129f 65467   4068  11810
+ *   10 |  333   3186   1533   5723 |  681   7641   1657   7386 | 2661  15606   1386   3871 | 1129f 65467   4068  11810
  *
  * - In tables at the limits: threshold 2, depth limit 8. Below 2 the tables fill up for little; a large drawing fills
  *   them at any threshold up to 4, and what is cut then is cut evenly, as growing goes from the large cells down.
