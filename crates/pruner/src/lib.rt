@@ -231,3 +231,15 @@ impl Pruner {
         }
     }
 }
+
+// The pruner after an item of a paint side or of a clip side, whose class is said by a number: 0 fails, 1 passes, any other is neither.
+pub fn after_item(pruner: Pruner, paint: bool, class: u32, weight: u64) -> Pruner
+    requires weight_bound { pruner.weight + weight < 2 ^ 62 }
+    requires base_bound { pruner.base < 2 ^ 62 }
+    ensures answer { counted result ≡
+        count_step sized_items size_of (counted pruner) (item (kind_of paint) (sized (numbered_class class) weight)) }
+{
+    let mut after = pruner;
+    after.after_item(paint, class.into(), weight);
+    after
+}
